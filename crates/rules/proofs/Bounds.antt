@@ -1,0 +1,127 @@
+-- Of every sound state: the packets held are no more than the places, and every eligibility fits 32 bits. Assumes nothing.
+use Prim.Native.Nat.{ℕ, _+_, _*_, _≤_, _<_}
+use native.Mathlib.Omega.{arith}
+use native.Mathlib.Nat.{mul-le-mul-right}
+use mathlib.Core.Path.{_≡_, refl, sym, ap, subst}
+use mathlib.Core.Bool.{Bool, true, false, cond}
+use mathlib.Core.Logic.{⊎-elim}
+use mathlib.Core.List.{List, [], _∷_}
+use lib.Dec.{eqb}
+use lib.ListN.{length, List·getD-eq-default}
+use borrow.Author.Tests.{eqb-true, eqb-false}
+use Rattle.rules.specs.Limits.{max-gap, max-reserved, clock-end, beyond-32-bits}
+use Rattle.rules.specs.Model.{Connection, Past, Packet, State, no-connection, no-past, past, figures}
+use Rattle.rules.specs.Admission.{reservation}
+use Rattle.rules.specs.Service.{of, eligibilities}
+use Rattle.rules.specs.SoundState.{Sound-with-link, Sound}
+use Rattle.rules.specs.Calls.{eligibility-now}
+use Rattle.rules.proofs.Lists.{All, all-map, total}
+use Rattle.rules.proofs.Sums.{split, same, sum-le, only, only-at, only-off, total-by}
+use Rattle.rules.proofs.Rows.{all-by-connection, length-map}
+use Rattle.rules.proofs.Standing.{stands-below}
+use Rattle.rules.proofs.SoundTick.{facts}
+use Rattle.rules.proofs.Queue.{queue-chained, chained-far, next-near}
+
+-- ---- rows, sorted by connection
+
+count-of : (c : ℕ) (rs : List Packet) → total (λ p. only (p .connection) 1 c) rs ≡ length (of c rs)
+count-of c [] = refl
+count-of c (r ∷ rs) = go (eqb (r .connection) c) refl (count-of c rs)
+  where
+    go : (t : Bool) → eqb (r .connection) c ≡ t → total (λ p. only (p .connection) 1 c) rs ≡ length (of c rs)
+        → only (r .connection) 1 c + total (λ p. only (p .connection) 1 c) rs ≡ length (cond t (r ∷ of c rs) (of c rs))
+    go true e k = omega (arith, only-at (r .connection) 1 (eqb-true (r .connection) c e))
+    go false e k = omega (arith, only-off (r .connection) 1 (eqb-false (r .connection) c e))
+
+length-total : {A : Type 0} (xs : List A) → length xs ≡ total (λ _. 1) xs
+length-total [] = refl
+length-total (x ∷ xs) = omega (arith, length-total xs)
+
+module _ (s : State) (S : Sound-with-link s) where
+  below : All (λ p. p .connection < length (s .connections)) (s .held)
+  below = all-map (λ p f. stands-below (s .connections) (p .connection) (f .standing)) (s .held) (S .fit)
+
+  -- each connection holds at most its reservation, and all reservations together are within their limit
+  held-le : length (s .held) ≤ max-reserved
+  held-le =
+      omega (
+        arith,
+        S .reserved-le,
+        length-total (s .held),
+        total-by (λ p. p .connection) (λ _. 1) (length (s .connections)) (s .held) below,
+        sum-le (length (s .connections)) {f = λ c. total (λ p. only (p .connection) 1 c) (s .held)} {g = λ c. reservation (s .link) (figures s c)}
+            (λ c l. omega (arith, count-of c (s .held), S .room c l)),
+      )
+
+  -- one connection's rows are no more than all
+  of-le : (c : ℕ) (rs : List Packet) → length (of c rs) ≤ length rs
+  of-le c [] = omega arith
+  of-le c (r ∷ rs) = go (eqb (r .connection) c) (of-le c rs)
+    where
+      go : (t : Bool) → length (of c rs) ≤ length rs → length (cond t (r ∷ of c rs) (of c rs)) ≤ length (r ∷ rs)
+      go true k = omega arith
+      go false k = omega arith
+
+  -- so no eligibility lies further beyond the clock than a gap for each place
+  far : ℕ
+  far = clock-end + max-reserved * max-gap
+
+  reach : (c : ℕ) → c < length (s .connections) → s .clock + length (eligibilities c (s .held)) * figures s c .gap ≤ far
+  unfolding far
+  reach c l =
+      omega (
+        arith,
+        S .clock-le,
+        mul-le-mul-right {m = length (eligibilities c (s .held))} {n = max-reserved} (figures s c .gap)
+            (omega (arith, length-map (λ (p : Packet). p .eligibility) (of c (s .held)), of-le c (s .held), held-le)),
+        facts s S c l .gap-le,
+      )
+
+  queue-far : (c : ℕ) → c < length (s .connections) → All (λ e. e ≤ far) (eligibilities c (s .held)) × (past s c .last ≤ far)
+  queue-far c l =
+      let k = chained-far (figures s c .gap) (s .clock) (past s c) (eligibilities c (s .held)) (queue-chained (figures s c) (s .clock) (past s c) (eligibilities c (s .held)) (S .queue c l)) in
+      (all-map (λ e h. omega (arith, reach c l)) (eligibilities c (s .held)) (k .0), omega (arith, k .1, reach c l))
+
+  -- a number that does not stand has nothing remembered, and no gap
+  last-far : (c : ℕ) → past s c .last ≤ far
+  last-far c =
+      ⊎-elim
+      (λ l. omega (arith, ap (λ (h : Past). h .last) (List·getD-eq-default (s .pasts) no-past {n = c} (omega (arith, S .one-past-each)))))
+      (λ l. queue-far c l .1)
+      (split (length (s .connections)) c)
+
+  gap-le-max : (c : ℕ) → figures s c .gap ≤ max-gap
+  gap-le-max c =
+      ⊎-elim
+      (λ l. omega (arith, ap (λ (x : Connection). x .gap) (List·getD-eq-default (s .connections) no-connection {n = c} l)))
+      (λ l. facts s S c l .gap-le)
+      (split (length (s .connections)) c)
+
+  linked-fit : All (λ p. p .eligibility < beyond-32-bits) (s .held) × ((c : ℕ) → (past s c .last < beyond-32-bits) × (eligibility-now s c < beyond-32-bits))
+  unfolding far
+  linked-fit = (
+    all-by-connection (length (s .connections)) (λ e. e < beyond-32-bits) (s .held) below
+        (λ c l. all-map (λ e k. omega arith) (eligibilities c (s .held)) (queue-far c l .0)),
+    λ c. (omega (arith, last-far c), omega (arith, next-near (figures s c) (past s c) (s .clock), last-far c, gap-le-max c, S .clock-le)),
+  )
+
+-- ---- with or without a link
+
+pub rows-fit-places : (s : State) → Sound s → length (s .held) ≤ max-reserved
+rows-fit-places s S =
+    ⊎-elim
+    (λ z. omega (arith, ap (λ (r : State). length (r .held)) (S .with-no-link z)))
+    (λ n. held-le s (S .with-one n))
+    (same (s .link .levels) 0)
+
+pub eligibilities-fit-32 : (s : State) → Sound s
+    → All (λ p. p .eligibility < beyond-32-bits) (s .held) × ((c : ℕ) → (past s c .last < beyond-32-bits) × (eligibility-now s c < beyond-32-bits))
+eligibilities-fit-32 s S =
+    ⊎-elim
+    (λ z.
+    subst
+    (λ (r : State). All (λ p. p .eligibility < beyond-32-bits) (r .held) × ((c : ℕ) → (past r c .last < beyond-32-bits) × (eligibility-now r c < beyond-32-bits)))
+    (sym (S .with-no-link z))
+    (tt, λ c. (omega arith, omega (arith, next-near no-connection no-past 0))))
+    (λ n. linked-fit s (S .with-one n))
+    (same (s .link .levels) 0)

@@ -1,0 +1,214 @@
+-- The three steps of a tick keep a busy stretch; the horizon of eligibility moves after the clock. Assumes nothing.
+use Prim.Native.Nat.{ℕ, zero, suc, _+_, _≤_, _<_}
+use native.Mathlib.Omega.{arith}
+use mathlib.Core.Path.{_≡_, refl, ap}
+use mathlib.Core.Logic.{_⊎_, inl, inr, ⊎-elim}
+use mathlib.Core.List.{List}
+use mathlib.Core.Option.{Option, none, some}
+use Rattle.rules.specs.Words.{upto}
+use Rattle.rules.specs.Model.{Link, Connection, Packet, State, nth}
+use Rattle.rules.specs.Admission.{bound, cost}
+use Rattle.rules.specs.Service.{first, without, level-of, takes, with-line, after-unit, line-left}
+use Rattle.rules.specs.SoundState.{Fits}
+use Rattle.rules.proofs.Lists.{All, all-map, all-zip, all-sub, all-every, Sub, sub-refl, total-le, total-sub, total-add, total-zero, total-none}
+use Rattle.rules.proofs.Sums.{split, upto-yes, upto-no, upto-le, upto-mono, upto-add}
+use Rattle.rules.proofs.Rows.{first-all, total-without, sub-without}
+use Rattle.rules.proofs.Line.{left-idle, left-taken, left-unit, left-last}
+use Rattle.rules.proofs.Choice.{Chosen}
+use Rattle.rules.proofs.SoundTick.{taken-serves}
+use Rattle.rules.proofs.Window.{between, weight}
+use Rattle.rules.proofs.Busy.{due, demand, cost-of, Line, Regular, fit-held, Busy, due-full, due-none, due-off, served-idle, served-is}
+
+-- ---- step 1: an idle line takes the chosen packet
+
+module _ (s : State) (acc : List Packet) (R : Regular s acc) where
+  pub taken-line : (o : Option Packet) → Chosen (level-of s) (s .clock) (s .held) o → Line (with-line s (takes o .0) (takes o .1)) 0
+  taken-line none k = inl refl
+  taken-line (some p) k = inr (taken-serves s (fit-held s acc R) p k)
+
+  pub taken-busy : (m : ℕ) (o : Option Packet) → Chosen (level-of s) (s .clock) (s .held) o → s .to-go ≡ 0
+      → Busy s acc m (s .clock) → 0 < demand s m (s .clock)
+      → Busy (with-line s (takes o .0) (takes o .1)) acc m (s .clock) × (0 < takes o .1)
+  unfolding taken-serves
+  taken-busy m none k z B h =
+      absurd
+      (omega (arith, total-none (due (s .link) (s .connections) m (s .clock)) (s .held) (all-map (λ q lt. due-off (s .link) (s .connections) m (s .clock) q (λ le. absurd (omega arith))) (s .held) k)))
+  taken-busy m (some p) k z B h = go (split (level-of s (p .connection)) m)
+    where
+      f : Fits (s .connections) p
+      f = first-all (p .connection) (Fits (s .connections)) (s .held) p (k .2) (fit-held s acc R)
+
+      go : (level-of s (p .connection) ≤ m) ⊎ (m < level-of s (p .connection)) → Busy (with-line s (p .connection) (p .len)) acc m (s .clock) × (0 < p .len)
+      go (inl lv) = (
+        record {
+          from = B .from;
+          started = B .started;
+          since = B .since;
+          work =
+              omega (
+                arith,
+                B .work,
+                served-idle s m z,
+                left-idle s z,
+                left-taken s p,
+                served-is (with-line s (p .connection) (p .len)) m 0 (taken-serves s (fit-held s acc R) p k),
+                due-full (s .link) (s .connections) m (s .clock) p lv (k .0),
+              );
+          in-time = B .in-time;
+        },
+        f .some-len,
+      )
+      -- the least urgent due packet has a level up to m, and the chosen one none above it
+      go (inr lv) =
+          absurd
+          (omega (
+            arith,
+            total-none (due (s .link) (s .connections) m (s .clock)) (s .held)
+                (all-map (λ q le. due-off (s .link) (s .connections) m (s .clock) q (λ e. omega (arith, le e .no-lower))) (s .held) (k .1)),
+          ))
+
+-- ---- steps 2 and 3: a unit goes, and the clock moves on; the horizon stays
+
+module _ (s : State) (acc : List Packet) (m : ℕ) where
+  going : ℕ
+  going = upto (level-of s (s .serving)) m (cost-of (s .link) (first (s .serving) (s .held)))
+
+  pub unit-busy : (u : ℕ) → s .to-go ≡ u → 0 < u → Line s 0 → (B : Busy s acc m (s .clock)) → s .clock + 2 ≤ B .from + bound (s .link) m
+      → Busy (after-unit s u .next) acc m (s .clock)
+  unfolding going
+  unit-busy u e pos (inl z) B h = absurd (omega arith)
+  unit-busy zero e pos (inr r) B h = absurd (omega arith)
+  unit-busy (suc zero) e pos (inr r) B h = record {
+    from = B .from;
+    started = omega (arith, B .started);
+    since = all-sub (λ p. level-of s (p .connection) ≤ m → p .eligibility ≤ s .clock → B .from ≤ p .eligibility) (sub-without (s .serving) (sub-refl (s .held))) (B .since);
+    work =
+        omega (
+          arith,
+          B .work,
+          served-is s m 0 r,
+          left-last s (without (s .serving) (s .held)) (s .serving),
+          ap (λ (v : ℕ). line-left (with-line s (s .serving) v)) e,
+          total-without (s .serving) (due (s .link) (s .connections) m (s .clock)) (s .held) (r .it) (r .is-first),
+        );
+    in-time = omega arith;
+  }
+  unit-busy (suc (suc u)) e pos (inr r) B h = record {
+    from = B .from;
+    started = omega (arith, B .started);
+    since = B .since;
+    work =
+        omega (
+          arith,
+          B .work,
+          left-unit s (s .held) (s .serving) u,
+          ap (λ (v : ℕ). line-left (with-line s (s .serving) v)) e,
+          upto-yes 1 (suc u) going (omega arith),
+          upto-yes 1 (s .to-go) going (omega arith),
+        );
+    in-time = omega arith;
+  }
+
+-- nothing of the levels up to m is due: level m is busy from now at the earliest
+pub restart : (s : State) (acc : List Packet) (m t : ℕ) → All (Fits (s .connections)) (s .held) → demand s m t ≡ 0
+    → line-left s < cost (s .link) (s .link .largest) → 0 < bound (s .link) m → Busy s acc m t
+restart s acc m t f z l d = record {
+  from = s .clock;
+  started = omega arith;
+  since =
+      all-zip (λ p k y lv e. absurd (due-none (s .link) (s .connections) m t p k y lv e)) (s .held) f
+      (total-zero (due (s .link) (s .connections) m t) (s .held) z);
+  work = omega arith;
+  in-time = omega arith;
+}
+
+-- ---- the horizon moves up to the clock: what turns eligible came
+
+module _ (l : Link) (cs : List Connection) (m t : ℕ) where
+  due-next : (p : Packet) → due l cs m (t + 1) p ≤ due l cs m t p + weight l cs m (t + 1) (t + 1) p
+  due-next p = go (split (nth cs (p .connection) .level) m) (split (p .eligibility) t)
+    where
+      level : ℕ
+      level = nth cs (p .connection) .level
+
+      x : ℕ
+      x = cost l (p .len)
+
+      go : (level ≤ m) ⊎ (m < level) → (p .eligibility ≤ t) ⊎ (t < p .eligibility) → due l cs m (t + 1) p ≤ due l cs m t p + weight l cs m (t + 1) (t + 1) p
+      go (inr lv) e = omega (arith, upto-no level m (upto (p .eligibility) (t + 1) x) lv)
+      go (inl lv) (inl e) =
+          omega (
+            arith,
+            upto-yes level m (upto (p .eligibility) (t + 1) x) lv,
+            upto-le (p .eligibility) (t + 1) x,
+            upto-yes level m (upto (p .eligibility) t x) lv,
+            upto-yes (p .eligibility) t x e,
+          )
+      go (inl lv) (inr e) =
+          omega (
+            arith,
+            upto-yes level m (upto (p .eligibility) (t + 1) x) lv,
+            upto-yes level m (between (t + 1) (t + 1) x p) lv,
+            upto-yes (t + 1) (p .eligibility) (upto (p .eligibility) (t + 1) x) (omega arith),
+          )
+
+between-next : (b t x : ℕ) (p : Packet) → b ≤ t + 1 → between b t x p + between (t + 1) (t + 1) x p ≤ between b (t + 1) x p
+between-next b t x p h = go (split b (p .eligibility)) (split (p .eligibility) t)
+  where
+    go : (b ≤ p .eligibility) ⊎ (p .eligibility < b) → (p .eligibility ≤ t) ⊎ (t < p .eligibility) → between b t x p + between (t + 1) (t + 1) x p ≤ between b (t + 1) x p
+    go (inr i) e = omega (arith, upto-no b (p .eligibility) (upto (p .eligibility) t x) i, upto-no (t + 1) (p .eligibility) (upto (p .eligibility) (t + 1) x) (omega arith))
+    go (inl i) (inl e) =
+        omega (
+          arith,
+          upto-no (t + 1) (p .eligibility) (upto (p .eligibility) (t + 1) x) (omega arith),
+          upto-yes b (p .eligibility) (upto (p .eligibility) (t + 1) x) i,
+          upto-yes (p .eligibility) (t + 1) x (omega arith),
+          upto-le b (p .eligibility) (upto (p .eligibility) t x),
+          upto-le (p .eligibility) t x,
+        )
+    go (inl i) (inr e) =
+        omega (
+          arith,
+          upto-le (t + 1) (p .eligibility) (upto (p .eligibility) (t + 1) x),
+          upto-yes b (p .eligibility) (upto (p .eligibility) (t + 1) x) i,
+          upto-yes b (p .eligibility) (upto (p .eligibility) t x) i,
+          upto-no (p .eligibility) t x e,
+        )
+
+weight-next : (l : Link) (cs : List Connection) (m b t : ℕ) (p : Packet) → b ≤ t + 1 → weight l cs m b t p + weight l cs m (t + 1) (t + 1) p ≤ weight l cs m b (t + 1) p
+weight-next l cs m b t p h =
+    omega (
+      arith,
+      upto-add (nth cs (p .connection) .level) m (between b t (cost l (p .len)) p) (between (t + 1) (t + 1) (cost l (p .len)) p),
+      upto-mono (nth cs (p .connection) .level) m
+          {x = between b t (cost l (p .len)) p + between (t + 1) (t + 1) (cost l (p .len)) p}
+          {y = between b (t + 1) (cost l (p .len)) p}
+          (λ _. between-next b t (cost l (p .len)) p h),
+    )
+
+pub advance : (s : State) (acc : List Packet) (m t : ℕ) → s .clock ≡ t + 1 → Sub (s .held) acc → Busy s acc m t → Busy s acc m (t + 1)
+advance s acc m t c sub B = record {
+  from = B .from;
+  started = B .started;
+  since = all-map (λ p f lv e. ⊎-elim (λ i. f lv i) (λ i. omega (arith, B .started)) (split (p .eligibility) t)) (s .held) (B .since);
+  work =
+      omega (
+        arith,
+        B .work,
+        total-le (owing (t + 1)) (λ p. owing t p + turning p) (s .held) (all-every (due-next (s .link) (s .connections) m t) (s .held)),
+        total-add (owing t) turning (s .held),
+        total-sub turning sub,
+        total-le (λ p. came t p + turning p) (came (t + 1)) acc (all-every (λ p. weight-next (s .link) (s .connections) m (B .from) t p (omega (arith, B .started))) acc),
+        total-add (came t) turning acc,
+      );
+  in-time = B .in-time;
+}
+  where
+    owing : ℕ → Packet → ℕ
+    owing u = due (s .link) (s .connections) m u
+
+    came : ℕ → Packet → ℕ
+    came u = weight (s .link) (s .connections) m (B .from) u
+
+    turning : Packet → ℕ
+    turning = weight (s .link) (s .connections) m (t + 1) (t + 1)

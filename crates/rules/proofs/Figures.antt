@@ -1,0 +1,86 @@
+-- What the limits of a link and of a connection say as plain facts; nothing else opens them, nor `reservation`, `cost`, `level-sum`. Assumes nothing.
+use Prim.Native.Nat.{ℕ, zero, suc, _+_, _≤_, _<_}
+use native.Mathlib.Omega.{arith}
+use mathlib.Core.Path.{_≡_, refl}
+use mathlib.Core.Bool.{true, _&&_}
+use mathlib.Core.List.{List, [], _∷_}
+use lib.Dec.{leb}
+use lib.ListN.{getD}
+use borrow.Author.Tests.{leb-true}
+use Rattle.rules.specs.Words.{within}
+use Rattle.rules.specs.Limits.{max-levels, max-largest, max-bound, max-gap}
+use Rattle.rules.specs.Model.{Link, Connection}
+use Rattle.rules.specs.Admission.{rising, link-within, level-within, figures-within, bound, count, reservation, cost, load, level-sum}
+use Rattle.rules.proofs.Tests.{never, and-true, within-true}
+
+-- ---- the link
+
+rising-low : (low n : ℕ) (ds : List ℕ) → rising low n ds ≡ true → (k : ℕ) → k < n → low ≤ getD ds k 0
+rising-low low zero ds e k l = absurd (omega arith)
+rising-low low (suc n) [] e k l = never e
+rising-low low (suc n) (d ∷ ds) e zero l = leb-true low d (and-true (leb low d) (leb d max-bound && rising (suc d) n ds) e .0)
+rising-low low (suc n) (d ∷ ds) e (suc k) l =
+    let a = and-true (leb low d) (leb d max-bound && rising (suc d) n ds) e in
+    let b = and-true (leb d max-bound) (rising (suc d) n ds) (a .1) in
+    omega (arith, leb-true low d (a .0), rising-low (suc d) n ds (b .1) k (omega arith))
+
+pub record Link-facts (l : Link) : Type 0 where
+  pub some-level : 1 ≤ l .levels
+  pub some-largest : 1 ≤ l .largest
+  pub largest-le : (m : ℕ) → 1 ≤ m → m ≤ l .levels → l .largest ≤ bound l m
+
+pub link-facts : (l : Link) → link-within l ≡ true → Link-facts l
+unfolding link-within
+link-facts l e =
+    let a = and-true (within 1 max-levels (l .levels)) (within 1 max-largest (l .largest) && rising (l .largest) (l .levels) (l .bounds)) e in
+    let b = and-true (within 1 max-largest (l .largest)) (rising (l .largest) (l .levels) (l .bounds)) (a .1) in
+    record {
+      some-level = within-true 1 max-levels (l .levels) (a .0) .0;
+      some-largest = within-true 1 max-largest (l .largest) (b .0) .0;
+      largest-le = low (b .1);
+    }
+  where
+    low : rising (l .largest) (l .levels) (l .bounds) ≡ true → (m : ℕ) → 1 ≤ m → m ≤ l .levels → l .largest ≤ bound l m
+    low r zero p q = absurd (omega arith)
+    low r (suc m) p q = rising-low (l .largest) (l .levels) (l .bounds) r m q
+
+-- ---- a connection
+
+pub record Connection-facts (l : Link) (c : Connection) : Type 0 where
+  pub low-level : 1 ≤ c .level
+  pub high-level : c .level ≤ l .levels
+  pub some-gap : 1 ≤ c .gap
+  pub gap-le : c .gap ≤ max-gap
+  pub size-le : c .size ≤ l .largest
+
+pub connection-facts : (l : Link) (c : Connection) → level-within l c ≡ true → figures-within l c ≡ true → Connection-facts l c
+unfolding level-within figures-within
+connection-facts l c e f =
+    let a = and-true (within 1 max-gap (c .gap)) (within 1 (l .largest) (c .size)) f in
+    let v = within-true 1 (l .levels) (c .level) e in
+    let g = within-true 1 max-gap (c .gap) (a .0) in
+    record { low-level = v .0; high-level = v .1; some-gap = g .0; gap-le = g .1; size-le = within-true 1 (l .largest) (c .size) (a .1) .1 }
+
+-- ---- the reservation, the cost and the sum
+
+pub reservation-is : (l : Link) (c : Connection) → reservation l c ≡ count c (bound l (c .level))
+unfolding reservation
+reservation-is l c = refl
+
+-- a packet takes something of the line, and a longer one no less
+pub cost-pos : (l : Link) (len : ℕ) → 1 ≤ len → 1 ≤ cost l len
+unfolding cost
+cost-pos l len h = h
+
+pub cost-mono : (l : Link) {a b : ℕ} → a ≤ b → cost l a ≤ cost l b
+unfolding cost
+cost-mono l h = h
+
+pub sum-is : (l : Link) (cs : List Connection) (m : ℕ) → level-sum l cs m ≡ load l cs m (bound l m) + cost l (l .largest)
+unfolding level-sum
+sum-is l cs m = refl
+
+-- the largest packet alone fits every bound
+pub cost-largest : (l : Link) → link-within l ≡ true → (m : ℕ) → 1 ≤ m → m ≤ l .levels → cost l (l .largest) ≤ bound l m
+unfolding cost
+cost-largest l e m p q = link-facts l e .largest-le m p q

@@ -1,0 +1,145 @@
+-- An accepted offer keeps the invariant: the new packet is spaced from its connection's earlier ones, and not eligible before now. Assumes nothing.
+use Prim.Native.Nat.{ℕ, _≤_, _<_}
+use native.Mathlib.Omega.{arith}
+use mathlib.Core.Path.{_≡_, refl, sym, ap, _∙_, subst}
+use mathlib.Core.Logic.{_⊎_, inl, inr}
+use mathlib.Core.List.{List, [], _∷_, _++_, append-assoc}
+use lib.ListN.{length, getD, set}
+use lib.Seq.{getD-set-same, getD-set-other}
+use Rattle.rules.specs.Words.{upto}
+use Rattle.rules.specs.Model.{Past, no-past, Packet, State, past, figures}
+use Rattle.rules.specs.Admission.{cost}
+use Rattle.rules.specs.Service.{next-eligibility, remember, Spaced, of, eligibilities, level-of}
+use Rattle.rules.specs.SoundState.{Fits, In-service, Sound}
+use Rattle.rules.specs.Calls.{eligibility-now, packet, placed}
+use Rattle.rules.specs.Runs.{History}
+use Rattle.rules.proofs.Lists.{all-map, all-snoc, sub-snoc, total-snoc}
+use Rattle.rules.proofs.Sums.{same, upto-yes}
+use Rattle.rules.proofs.Rows.{first-append, of-append, eligibilities-snoc-same, eligibilities-snoc-other}
+use Rattle.rules.proofs.Spacing.{memory, memory-snoc, not-before, next-spaced}
+use Rattle.rules.proofs.Standing.{stands-below}
+use Rattle.rules.proofs.Line.{left-same}
+use Rattle.rules.proofs.Verdicts.{Offer-done}
+use Rattle.rules.proofs.Window.{weight}
+use Rattle.rules.proofs.Busy.{due, served, Line, Regular, Busy, served-idle, served-is}
+use Rattle.rules.proofs.Invariant.{whats, Invariant}
+
+-- ---- the line and the levels: a packet that is not eligible before now is added behind
+
+module _ (s : State) (acc : List Packet) (p : Packet) (hs : List Past) where
+  abbrev behind : State
+  behind = record {
+    link = s .link;
+    connections = s .connections;
+    pasts = hs;
+    clock = s .clock;
+    held = s .held ++ p ∷ [];
+    serving = s .serving;
+    to-go = s .to-go;
+  }
+
+  behind-service : (k : ℕ) → In-service s k → In-service behind k
+  behind-service k r = record {
+    it = r .it;
+    is-first = first-append (s .serving) (s .held) (p ∷ []) (r .it) (r .is-first);
+    eligible = r .eligible;
+    some-to-go = r .some-to-go;
+    to-go-le = r .to-go-le;
+  }
+
+  behind-line : (k : ℕ) → Line s k → Line behind k
+  behind-line k (inl z) = inl z
+  behind-line k (inr r) = inr (behind-service k r)
+
+  behind-served : (m : ℕ) → Line s 1 → served behind m ≡ served s m
+  unfolding behind-service
+  behind-served m (inl z) = served-idle behind m z ∙ sym (served-idle s m z)
+  behind-served m (inr r) = served-is behind m 1 (behind-service 1 r) ∙ sym (served-is s m 1 r)
+
+  behind-busy : (m : ℕ) → s .clock ≤ p .eligibility → Line s 1 → Busy s acc m (s .clock) → Busy behind (acc ++ p ∷ []) m (s .clock)
+  behind-busy m late l B = record {
+    from = B .from;
+    started = B .started;
+    since =
+        all-snoc (λ q. level-of s (q .connection) ≤ m → q .eligibility ≤ s .clock → B .from ≤ q .eligibility) (s .held) p (B .since)
+        (λ lv e. omega (arith, B .started));
+    work =
+        omega (
+          arith,
+          B .work,
+          total-snoc (due (s .link) (s .connections) m (s .clock)) (s .held) p,
+          total-snoc (weight (s .link) (s .connections) m (B .from) (s .clock)) acc p,
+          ap (λ (x : ℕ). upto (level-of s (p .connection)) m x)
+              (upto-yes (B .from) (p .eligibility) (upto (p .eligibility) (s .clock) (cost (s .link) (p .len))) (omega (arith, B .started))),
+          behind-served m l,
+          left-same s behind refl,
+        );
+    in-time = B .in-time;
+  }
+
+-- ---- the packets accepted
+
+module _ (s : State) (acc : List Packet) (c len tag : ℕ) (one-past-each : length (s .pasts) ≡ length (s .connections)) (R : Regular s acc) (D : Offer-done s c len) where
+  p : Packet
+  p = packet s c len tag
+
+  new : Past
+  new = remember (past s c) (eligibility-now s c)
+
+  below : c < length (s .connections)
+  below = stands-below (s .connections) c (D .standing)
+
+  spaced-placed : (d : ℕ) → d < length (s .connections) → (c ≡ d) ⊎ (c ≡ d → ⊥) → Spaced (figures s d) (eligibilities d (acc ++ p ∷ []))
+  unfolding p
+  spaced-placed d l (inl e) =
+      subst (λ (j : ℕ). Spaced (figures s j) (eligibilities j (acc ++ p ∷ []))) e
+      (rw (eligibilities-snoc-same c acc p refl)
+      (subst (λ (h : Past). Spaced (figures s c) (eligibilities c acc ++ next-eligibility (figures s c) h (s .clock) ∷ [])) (sym (R .remembered c below))
+      (next-spaced (figures s c) (eligibilities c acc) (s .clock) (R .spaced c below))))
+  spaced-placed d l (inr e) = rw (eligibilities-snoc-other d acc p e) (R .spaced d l)
+
+  remembered-placed : (d : ℕ) → d < length (s .connections) → (c ≡ d) ⊎ (c ≡ d → ⊥) → getD (set (s .pasts) c new) d no-past ≡ memory (eligibilities d (acc ++ p ∷ []))
+  unfolding p new
+  remembered-placed d l (inl e) =
+      subst (λ (j : ℕ). getD (set (s .pasts) c new) j no-past ≡ memory (eligibilities j (acc ++ p ∷ []))) e
+      (getD-set-same (s .pasts) c new no-past (omega (arith, one-past-each, below))
+      ∙ ap (λ (h : Past). remember h (eligibility-now s c)) (R .remembered c below)
+      ∙ sym (memory-snoc (eligibilities c acc) (eligibility-now s c))
+      ∙ ap memory (sym (eligibilities-snoc-same c acc p refl)))
+  remembered-placed d l (inr e) =
+      getD-set-other (s .pasts) c d new no-past (λ i. e (sym i))
+      ∙ R .remembered d l
+      ∙ ap memory (sym (eligibilities-snoc-other d acc p e))
+
+  placed-regular : Regular (placed s c len tag) (acc ++ packet s c len tag ∷ [])
+  unfolding p new
+  placed-regular = record {
+    fit = all-snoc (Fits (s .connections)) acc p (R .fit) (record { standing = D .standing; some-len = D .some-len; len-le = D .len-le });
+    spaced = λ d l. spaced-placed d l (same c d);
+    remembered = λ d l. remembered-placed d l (same c d);
+    part = sub-snoc p (R .part);
+  }
+
+module _ (h : History) (I : Invariant h) where
+  open History h using (now as s, accepted as acc, departed as gone)
+
+  pub placed-keeps : (c len tag : ℕ) → length (s .pasts) ≡ length (s .connections) → Offer-done s c len → Sound (placed s c len tag)
+      → Invariant (record { accepted = acc ++ packet s c len tag ∷ []; departed = gone; now = placed s c len tag })
+  placed-keeps c len tag e D T = record {
+    sound = T;
+    regular = placed-regular s acc c len tag e (I .regular) D;
+    line = behind-line s acc p hs 1 (I .line);
+    busy = λ m low high. behind-busy s acc p hs m (not-before (figures s c) (past s c) (s .clock)) (I .line) (I .busy m low high);
+    conserved = λ d.
+        of-append d acc (p ∷ [])
+        ∙ ap (λ (l : List Packet). l ++ of d (p ∷ [])) (I .conserved d)
+        ∙ append-assoc (of d (whats gone)) (of d (s .held)) (of d (p ∷ []))
+        ∙ ap (λ (l : List Packet). of d (whats gone) ++ l) (sym (of-append d (s .held) (p ∷ [])));
+    on-time = all-map (λ d k. record { admitted = k .admitted; in-time = k .in-time }) gone (I .on-time);
+  }
+    where
+      p : Packet
+      p = packet s c len tag
+
+      hs : List Past
+      hs = set (s .pasts) c (remember (past s c) (eligibility-now s c))

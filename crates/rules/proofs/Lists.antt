@@ -1,0 +1,115 @@
+-- Lists: a property of every element, a relation of every earlier to every later element, sublists, and sums of weights. Assumes nothing.
+use Prim.Native.Nat.{ℕ, _+_, _*_, _≤_}
+use native.Mathlib.Omega.{arith}
+use mathlib.Core.Path.{_≡_, refl}
+use mathlib.Core.List.{List, [], _∷_, _++_}
+pub use Rattle.rules.specs.Words.{All, Pairs}
+
+module _ {A : Type 0} where
+  pub all-map : {P Q : A → Type 0} → ((x : A) → P x → Q x) → (xs : List A) → All P xs → All Q xs
+  all-map f [] h = tt
+  all-map f (x ∷ xs) h = (f x (h .0), all-map f xs (h .1))
+
+  pub all-zip : {P Q R : A → Type 0} → ((x : A) → P x → Q x → R x) → (xs : List A) → All P xs → All Q xs → All R xs
+  all-zip f [] h k = tt
+  all-zip f (x ∷ xs) h k = (f x (h .0) (k .0), all-zip f xs (h .1) (k .1))
+
+  pub all-snoc : (P : A → Type 0) (xs : List A) (y : A) → All P xs → P y → All P (xs ++ y ∷ [])
+  all-snoc P [] y h p = (p, tt)
+  all-snoc P (x ∷ xs) y h p = (h .0, all-snoc P xs y (h .1) p)
+
+  pub pairs-snoc : (R : A → A → Type 0) (xs : List A) (y : A) → Pairs R xs → All (λ x. R x y) xs → Pairs R (xs ++ y ∷ [])
+  pairs-snoc R [] y h p = (tt, tt)
+  pairs-snoc R (x ∷ xs) y h p = (all-snoc (R x) xs y (h .0) (p .0), pairs-snoc R xs y (h .1) (p .1))
+
+  pub pairs-map : (P : A → Type 0) {R S : A → A → Type 0} → ((x y : A) → P x → R x y → S x y) → (xs : List A) → All P xs → Pairs R xs → Pairs S xs
+  pairs-map P f [] h k = tt
+  pairs-map P f (x ∷ xs) h k = (all-map (λ y r. f x y (h .0) r) xs (k .0), pairs-map P f xs (h .1) (k .1))
+
+  pub all-init : (P : A → Type 0) (xs : List A) (y : A) → All P (xs ++ y ∷ []) → All P xs × P y
+  all-init P [] y h = (tt, h .0)
+  all-init P (x ∷ xs) y h = let k = all-init P xs y (h .1) in ((h .0, k .0), k .1)
+
+  pub pairs-init : (R : A → A → Type 0) (xs : List A) (y : A) → Pairs R (xs ++ y ∷ []) → Pairs R xs × All (λ x. R x y) xs
+  pairs-init R [] y h = (tt, tt)
+  pairs-init R (x ∷ xs) y h =
+      let k = pairs-init R xs y (h .1) in
+      let a = all-init (R x) xs y (h .0) in
+      ((a .0, k .0), (a .1, k .1))
+
+  pub all-front : (P : A → Type 0) (xs ys : List A) → All P (xs ++ ys) → All P xs
+  all-front P [] ys h = tt
+  all-front P (x ∷ xs) ys h = (h .0, all-front P xs ys (h .1))
+
+  pub pairs-front : (R : A → A → Type 0) (xs ys : List A) → Pairs R (xs ++ ys) → Pairs R xs
+  pairs-front R [] ys h = tt
+  pairs-front R (x ∷ xs) ys h = (all-front (R x) xs ys (h .0), pairs-front R xs ys (h .1))
+
+  pub data Sub : List A → List A → Type 0 where
+    nil : Sub [] []
+    skip : {xs ys : List A} (y : A) → Sub xs ys → Sub xs (y ∷ ys)
+    keep : {xs ys : List A} (x : A) → Sub xs ys → Sub (x ∷ xs) (x ∷ ys)
+
+  pub sub-snoc : {xs ys : List A} (a : A) → Sub xs ys → Sub (xs ++ a ∷ []) (ys ++ a ∷ [])
+  sub-snoc a nil = keep a nil
+  sub-snoc a (skip y s) = skip y (sub-snoc a s)
+  sub-snoc a (keep x s) = keep x (sub-snoc a s)
+
+  pub sub-refl : (xs : List A) → Sub xs xs
+  sub-refl [] = nil
+  sub-refl (x ∷ xs) = keep x (sub-refl xs)
+
+  pub all-sub : (P : A → Type 0) {xs ys : List A} → Sub xs ys → All P ys → All P xs
+  all-sub P nil h = tt
+  all-sub P (skip y s) h = all-sub P s (h .1)
+  all-sub P (keep x s) h = (h .0, all-sub P s (h .1))
+
+  -- ---- the sum of a weight over a list
+  abbrev pub total : (A → ℕ) → List A → ℕ
+  total w [] = 0
+  total w (x ∷ xs) = w x + total w xs
+
+  pub total-snoc : (w : A → ℕ) (xs : List A) (y : A) → total w (xs ++ y ∷ []) ≡ total w xs + w y
+  total-snoc w [] y = omega arith
+  total-snoc w (x ∷ xs) y = omega (arith, total-snoc w xs y)
+
+  pub total-le : (w v : A → ℕ) (xs : List A) → All (λ x. w x ≤ v x) xs → total w xs ≤ total v xs
+  total-le w v [] h = omega arith
+  total-le w v (x ∷ xs) h = omega (arith, total-le w v xs (h .1))
+
+  pub total-eq : (w v : A → ℕ) (xs : List A) → All (λ x. w x ≡ v x) xs → total w xs ≡ total v xs
+  total-eq w v [] h = refl
+  total-eq w v (x ∷ xs) h = omega (arith, total-eq w v xs (h .1))
+
+  pub total-add : (w v : A → ℕ) (xs : List A) → total (λ x. w x + v x) xs ≡ total w xs + total v xs
+  total-add w v [] = omega arith
+  total-add w v (x ∷ xs) = omega (arith, total-add w v xs)
+
+  pub total-sub : (w : A → ℕ) {xs ys : List A} → Sub xs ys → total w xs ≤ total w ys
+  total-sub w nil = omega arith
+  total-sub w (skip y s) = omega (arith, total-sub w s)
+  total-sub w (keep x s) = omega (arith, total-sub w s)
+
+  -- a weight that sums to 0 is 0 at every element
+  pub total-zero : (w : A → ℕ) (xs : List A) → total w xs ≡ 0 → All (λ x. w x ≡ 0) xs
+  total-zero w [] e = tt
+  total-zero w (x ∷ xs) e = (omega arith, total-zero w xs (omega arith))
+
+  -- each element weighs at most what all do
+  pub total-each : (w : A → ℕ) (xs : List A) → All (λ x. w x ≤ total w xs) xs
+  total-each w [] = tt
+  total-each w (x ∷ xs) = (omega arith, all-map (λ y h. omega arith) xs (total-each w xs))
+
+  -- a weight that is 0 at every element sums to 0
+  pub total-none : (w : A → ℕ) (xs : List A) → All (λ x. w x ≡ 0) xs → total w xs ≡ 0
+  total-none w [] h = refl
+  total-none w (x ∷ xs) h = omega (arith, total-none w xs (h .1))
+
+  pub total-mul : (w : A → ℕ) (k : ℕ) (xs : List A) → total (λ x. w x * k) xs ≡ total w xs * k
+  total-mul w k [] = omega arith
+  total-mul w k (x ∷ xs) = omega (arith, total-mul w k xs)
+
+  -- what holds of everything holds of each element
+  pub all-every : {P : A → Type 0} → ((x : A) → P x) → (xs : List A) → All P xs
+  all-every f [] = tt
+  all-every f (x ∷ xs) = (f x, all-every f xs)

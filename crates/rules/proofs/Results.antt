@@ -1,0 +1,214 @@
+-- THE PROOFS of the statements in specs/Promises, each under its name in small letters. Assumes nothing.
+use Prim.Native.Nat.{ℕ, zero, suc, _+_, _≤_, _<_}
+use native.Mathlib.Omega.{arith}
+use mathlib.Core.Path.{_≡_, refl, sym, ap, _∙_, subst}
+use mathlib.Core.Bool.{Bool, true, cond, not}
+use mathlib.Core.Logic.{inl}
+use mathlib.Core.List.{List, [], _∷_, _++_, append-assoc, append-nil}
+use mathlib.Core.Option.{Option, none, some}
+use lib.Dec.{eqb}
+use lib.ListN.{length, getElem?}
+use borrow.Author.Tests.{eq-eqb}
+use Rattle.rules.specs.Words.{push, within}
+use Rattle.rules.specs.Limits.{clock-end}
+use Rattle.rules.specs.Model.{Link, Connection, Packet, State, Call, link, admit, offer, tick, figures}
+use Rattle.rules.specs.Admission.{stands, bound, reservation}
+use Rattle.rules.specs.Service.{Spaced, of, started, after-unit}
+use Rattle.rules.specs.SoundState.{Sound}
+use Rattle.rules.specs.SoundTest.{sound}
+use Rattle.rules.specs.Calls.{verdicts, verdict, eligibility-now, done, refused-number, settle, answer}
+use Rattle.rules.specs.Runs.{History, taken, logged, after, run-from, nothing-yet, run, bound-of, allowed, offer-tick, offer-ticks-from, offer-ticks, Keeps-its-gap}
+use Rattle.rules.specs.Promises.{Demand-1-refusals, Test-is-exact, Verdict-1-exactly, No-link-means-zero, Sound-is-kept, Runs-are-sound, Rows-fit, Eligibilities-fit, Conservation, Left-by, Demand-3-first, Demand-3-second}
+use Rattle.rules.proofs.Sums.{cond-is}
+use Rattle.rules.proofs.Tests.{and-true, and-intro, not-true-false, never-number}
+use Rattle.rules.proofs.Rows.{of-append}
+use Rattle.rules.proofs.Spacing.{spaced-front}
+use Rattle.rules.proofs.Standing.{stands-below}
+use Rattle.rules.proofs.Verdicts.{settled, refused-leaves}
+use Rattle.rules.proofs.SoundExact.{exact}
+use Rattle.rules.proofs.SoundKept.{kept}
+use Rattle.rules.proofs.Every.{fresh-invariant, invariant}
+use Rattle.rules.proofs.InTime.{conserved-lists, left-in-time}
+use Rattle.rules.proofs.Bounds.{rows-fit-places, eligibilities-fit-32}
+use Rattle.rules.proofs.Room.{not-for-room, welcome}
+use Rattle.rules.proofs.Keeper.{stays, All-taken, all-taken, on-arrival, has-room}
+
+-- ---- demand 1
+
+unit-done : (s : State) (u : ℕ) → after-unit s u .verdict ≡ 0
+unit-done s zero = refl
+unit-done s (suc zero) = refl
+unit-done s (suc (suc u)) = refl
+
+done-verdict : (k : Call) (s : State) → done k s .verdict ≡ 0
+done-verdict (link l) s = refl
+done-verdict (admit x) s = refl
+done-verdict (offer c len tag) s = refl
+done-verdict tick s = unit-done (started s) (started s .to-go)
+
+answer-verdict : (k : Call) (s : State) → answer k s .verdict ≡ verdict k s
+answer-verdict k s = go (verdict k s)
+  where
+    go : (v : ℕ) → settle k s v .verdict ≡ v
+    go zero = done-verdict k s
+    go (suc v) = refl
+
+pub demand-1-refusals : Demand-1-refusals
+demand-1-refusals k s =
+    settled (λ a. (a .verdict ≡ 0 → ⊥) → (a .next ≡ s) × (a .departed ≡ none) × (a .number ≡ refused-number k)) k s (verdict k s)
+    (λ _ n. absurd (n (done-verdict k s)))
+    (λ v _. (refused-leaves k s (suc v), refl, refl))
+
+-- ---- the sound state
+
+pub test-is-exact : Test-is-exact
+test-is-exact s = exact s
+
+pub verdict-1-exactly : Verdict-1-exactly
+unfolding verdicts
+verdict-1-exactly k s = (to, from)
+  where
+    other : {A : Type 0} {n : ℕ} → suc (suc n) ≡ 1 → A
+    other i = absurd (omega arith)
+
+    to : answer k s .verdict ≡ 1 → Sound s → ⊥
+    to e S =
+        never-number 1 (verdicts k s)
+        (λ _. ap not (exact s .1 S), (other, (other, (other, (other, (other, (other, (other, (other, (other, (other, (other, (other, tt)))))))))))))
+        (omega arith) (sym (answer-verdict k s) ∙ e)
+
+    from : (Sound s → ⊥) → answer k s .verdict ≡ 1
+    from n = answer-verdict k s ∙ cond-is 1 _ (ap not (not-true-false (sound s) (λ e. n (exact s .0 e))))
+
+pub no-link-means-zero : No-link-means-zero
+no-link-means-zero s z = (λ S. S .with-no-link z, λ e. subst Sound (sym e) (fresh-invariant .sound))
+
+pub sound-is-kept : Sound-is-kept
+sound-is-kept k s S = kept k s S
+
+pub runs-are-sound : Runs-are-sound
+runs-are-sound ks = invariant ks .sound
+
+pub rows-fit : Rows-fit
+rows-fit s S = rows-fit-places s S
+
+pub eligibilities-fit : Eligibilities-fit
+eligibilities-fit s S = eligibilities-fit-32 s S
+
+-- ---- conservation, and the first sentence of demand 3
+
+pub conservation : Conservation
+conservation ks c = conserved-lists (run ks) (invariant ks) c
+
+pub demand-3-first : Demand-3-first
+demand-3-first ks c i p is over = left-in-time (run ks) (invariant ks) c i p is over
+
+-- ---- the second sentence
+
+run-append : (pre ks : List Call) (h : History) → run-from h (pre ++ ks) ≡ run-from (run-from h pre) ks
+run-append [] ks h = refl
+run-append (k ∷ pre) ks h = run-append pre ks (after h k)
+
+ticks-append : (c : ℕ) (pre ks : List Call) (h : History) (ts : List ℕ)
+    → offer-ticks-from c h ts (pre ++ ks) ≡ offer-ticks-from c (run-from h pre) (offer-ticks-from c h ts pre) ks
+ticks-append c [] ks h ts = refl
+ticks-append c (k ∷ pre) ks h ts = ticks-append c pre ks (after h k) (push ts (offer-tick c (h .now) k))
+
+push-grows : {A : Type 0} (xs : List A) (o : Option A) → (ys : List A) × (push xs o ≡ xs ++ ys)
+push-grows xs none = ([], sym (append-nil xs))
+push-grows xs (some x) = (x ∷ [], refl)
+
+accepted-grows : (ks : List Call) (h : History) → (more : List Packet) × (run-from h ks .accepted ≡ h .accepted ++ more)
+accepted-grows [] h = ([], sym (append-nil (h .accepted)))
+accepted-grows (k ∷ ks) h =
+    let a = push-grows (h .accepted) (taken k (h .now) (answer k (h .now))) in
+    let b = accepted-grows ks (after h k) in
+    (a .0 ++ b .0, b .1 ∙ ap (λ (l : List Packet). l ++ b .0) (a .1) ∙ append-assoc (h .accepted) (a .0) (b .0))
+
+find-here : {A : Type 0} (xs : List A) (y : A) (ys : List A) → getElem? (xs ++ y ∷ ys) (length xs) ≡ some y
+find-here [] y ys = refl
+find-here (x ∷ xs) y ys = find-here xs y ys
+
+module _ (earlier : List Call) (c len tag : ℕ) (word : Keeps-its-gap c (earlier ++ offer c len tag ∷ [])) (ok : allowed (run earlier .now) c len ≡ true) where
+  open History (run earlier) using (now as s, accepted as acc)
+
+  abbrev it : Call
+  it = offer c len tag
+
+  below : c < length (s .connections)
+  below = stands-below (s .connections) c (and-true (stands (s .connections) c) (within 1 (figures s c .size) len) ok .0)
+
+  ts : List ℕ
+  ts = offer-ticks c earlier
+
+  -- the offers before this one and this one keep the spacing of c
+  spaced : Spaced (figures s c) (ts ++ s .clock ∷ [])
+  unfolding ts
+  spaced =
+      subst (λ (b : Bool). Spaced (figures s c) (push ts (cond b (some (s .clock)) none))) (and-intro (eqb c c) (allowed s c len) (eq-eqb c c refl) ok)
+      (subst (λ (x : Connection). Spaced x (push ts (offer-tick c s it))) (stays c (it ∷ []) (run earlier) (invariant earlier) below .alike)
+      (subst (λ (h : History). Spaced (figures (h .now) c) (push ts (offer-tick c s it))) (run-append earlier (it ∷ []) nothing-yet)
+      (subst (Spaced (figures (run (earlier ++ it ∷ []) .now) c)) (ticks-append c earlier (it ∷ []) nothing-yet []) word)))
+
+  taken-so-far : All-taken c (run earlier) ts
+  unfolding ts
+  taken-so-far = all-taken c earlier nothing-yet [] fresh-invariant (inl refl) (spaced-front (figures s c) ts (s .clock ∷ []) spaced)
+
+  arrival : eligibility-now s c ≡ s .clock
+  arrival = on-arrival c (run earlier) (invariant earlier) ts taken-so-far len tag ok spaced
+
+  free-place : length (of c (s .held)) < reservation (s .link) (figures s c)
+  free-place = has-room c (run earlier) (invariant earlier) ts taken-so-far len tag ok spaced
+
+  module _ (running : s .clock < clock-end) where
+    welcomed : verdict it s ≡ 0
+    welcomed = welcome (run earlier) (invariant earlier) c len tag ok free-place running
+
+    packet-now : Packet
+    packet-now = record { connection = c; len = len; tag = tag; arrival = s .clock; eligibility = s .clock }
+
+    logged-it : after (run earlier) it .accepted ≡ acc ++ packet-now ∷ []
+    unfolding packet-now
+    logged-it =
+        ap (λ (v : ℕ). logged (run earlier) it (settle it s v) .accepted) welcomed
+        ∙ ap (λ (e : ℕ). acc ++ record { connection = c; len = len; tag = tag; arrival = s .clock; eligibility = e } ∷ []) arrival
+
+    module _ (later : List Call) where
+      -- it is the next accepted packet of c, whatever follows
+      found : getElem? (of c (run (earlier ++ it ∷ later) .accepted)) (length (of c acc)) ≡ some packet-now
+      unfolding packet-now
+      found =
+          let g = accepted-grows later (after (run earlier) it) in
+          ap (λ (l : List Packet). getElem? (of c l) (length (of c acc)))
+          (ap (λ (h : History). h .accepted) (run-append earlier (it ∷ later) nothing-yet)
+          ∙ g .1
+          ∙ ap (λ (l : List Packet). l ++ g .0) logged-it
+          ∙ append-assoc acc (packet-now ∷ []) (g .0))
+          ∙ ap (λ (l : List Packet). getElem? l (length (of c acc))) (of-append c acc (packet-now ∷ g .0))
+          ∙ ap (λ (l : List Packet). getElem? (of c acc ++ l) (length (of c acc)))
+          (cond-is (packet-now ∷ of c (g .0)) (of c (g .0)) (eq-eqb c c refl))
+          ∙ find-here (of c acc) packet-now (of c (g .0))
+
+      same-bound : bound-of (run (earlier ++ it ∷ later) .now) c ≡ bound-of s c
+      same-bound =
+          let k = stays c (it ∷ later) (run earlier) (invariant earlier) below in
+          ap (λ (h : History). bound-of (h .now) c) (run-append earlier (it ∷ later) nothing-yet)
+          ∙ ap (λ (l : Link). bound l (figures (run-from (run earlier) (it ∷ later) .now) c .level)) (k .same-link)
+          ∙ ap (λ (x : Connection). bound (s .link) (x .level)) (k .alike)
+
+      leaves : s .clock + bound-of s c ≤ run (earlier ++ it ∷ later) .now .clock
+          → Left-by (run (earlier ++ it ∷ later)) c (length (of c acc)) packet-now (s .clock + bound-of s c)
+      unfolding packet-now
+      leaves over =
+          subst (λ (d : ℕ). Left-by (run (earlier ++ it ∷ later)) c (length (of c acc)) packet-now (s .clock + d)) same-bound
+          (demand-3-first (earlier ++ it ∷ later) c (length (of c acc)) packet-now found (omega (arith, same-bound)))
+
+pub demand-3-second : Demand-3-second
+unfolding packet-now
+demand-3-second earlier later c len tag word ok = record {
+  never-for-room = λ e. not-for-room (run earlier) (invariant earlier) c len tag ok (free-place earlier c len tag word ok) (sym (answer-verdict (offer c len tag) (run earlier .now)) ∙ e);
+  accepted = λ running. answer-verdict (offer c len tag) (run earlier .now) ∙ welcomed earlier c len tag word ok running;
+  on-arrival = λ running.
+      ap (λ (v : ℕ). settle (offer c len tag) (run earlier .now) v .number) (welcomed earlier c len tag word ok running) ∙ arrival earlier c len tag word ok;
+  in-time = λ running over. leaves earlier c len tag word ok running later over;
+}

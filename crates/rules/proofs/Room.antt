@@ -1,0 +1,131 @@
+-- Room for a line that keeps its gap: its packets held and the new one lie within one bound, so they are no more than its reservation. Assumes nothing.
+use Prim.Native.Nat.{ℕ, _+_, _-_, _≤_, _<_}
+use native.Mathlib.Omega.{arith}
+use mathlib.Core.Path.{_≡_, refl, ap, _∙_, subst}
+use mathlib.Core.Bool.{true, not}
+use mathlib.Core.List.{List, [], _∷_, _++_, map, append-assoc}
+use lib.ListN.{length}
+use borrow.Author.Tests.{ne-eqb, lt-leb}
+use Rattle.rules.specs.Words.{within, upto}
+use Rattle.rules.specs.Limits.{clock-end}
+use Rattle.rules.specs.Model.{Packet, offer, figures}
+use Rattle.rules.specs.Admission.{stands, reservation}
+use Rattle.rules.specs.Service.{Spaced, of, eligibilities, level-of}
+use Rattle.rules.specs.Calls.{verdicts, verdict}
+use Rattle.rules.specs.Runs.{History, bound-of, allowed}
+use Rattle.rules.proofs.Lists.{All, all-map, all-zip, total-snoc}
+use Rattle.rules.proofs.Sums.{upto-yes}
+use Rattle.rules.proofs.Tests.{and-true, all-false, never-number}
+use Rattle.rules.proofs.Rows.{to-of, map-append, length-map, all-map-of}
+use Rattle.rules.proofs.Spacing.{among, inside, spaced-back, spaced-before, window-law}
+use Rattle.rules.proofs.Standing.{stands-below}
+use Rattle.rules.proofs.Figures.{Connection-facts, reservation-is}
+use Rattle.rules.proofs.Invariant.{whats, Invariant, facts-of, some-bound}
+use Rattle.rules.proofs.InTime.{held-in-time}
+use Rattle.rules.proofs.SoundExact.{exact}
+
+-- all of these lie within b .. t
+all-among : (b t : ℕ) (es : List ℕ) → All (λ e. (b ≤ e) × (e ≤ t)) es → length es ≤ among b t es
+all-among b t [] h = omega arith
+all-among b t (e ∷ es) h = omega (arith, all-among b t es (h .1), upto-yes e t 1 (h .0 .1), upto-yes b e (upto e t 1) (h .0 .0))
+
+module _ (h : History) (I : Invariant h) (c : ℕ) (standing : stands (h .now .connections) c ≡ true)
+    (keeps : Spaced (figures (h .now) c) (eligibilities c (h .accepted) ++ h .now .clock ∷ [])) where
+  open History h using (now as s, accepted as acc, departed as gone)
+
+  below : c < length (s .connections)
+  below = stands-below (s .connections) c standing
+
+  es : List ℕ
+  es = eligibilities c (s .held)
+
+  -- the packets held and the new one keep the spacing
+  held-spaced : Spaced (figures s c) (es ++ s .clock ∷ [])
+  unfolding es
+  held-spaced =
+      spaced-back (figures s c) (eligibilities c (whats gone)) (eligibilities c (s .held) ++ s .clock ∷ [])
+      (subst (Spaced (figures s c))
+      (ap (λ (l : List ℕ). l ++ s .clock ∷ [])
+      (ap (λ (ps : List Packet). map (λ p. p .eligibility) ps) (I .conserved c) ∙ map-append (λ (p : Packet). p .eligibility) (of c (whats gone)) (of c (s .held)))
+      ∙ append-assoc (eligibilities c (whats gone)) (eligibilities c (s .held)) (s .clock ∷ []))
+      keeps)
+
+  some-d : 0 < bound-of s c
+  some-d = let F = facts-of s (I .sound) in some-bound s (I .sound) (level-of s c) (F .each c below .low-level) (F .each c below .high-level)
+
+  -- none of them is older than the bound, and none is later than now
+  recent : All (λ e. (s .clock + 1 - bound-of s c ≤ e) × (e ≤ s .clock)) es
+  unfolding es
+  recent =
+      all-zip (λ e k l. (omega arith, omega arith)) (eligibilities c (s .held))
+      (all-map-of (λ p. p .eligibility) (λ e. s .clock < e + bound-of s c) (of c (s .held))
+      (all-map (λ q k. k .1) (of c (s .held)) (to-of c (λ q. s .clock < q .eligibility + bound-of s c) (s .held) (held-in-time h I c below))))
+      (spaced-before (figures s c) (facts-of s (I .sound) .each c below .some-gap) (eligibilities c (s .held)) (s .clock) held-spaced)
+
+  pub room : length (of c (s .held)) < reservation (s .link) (figures s c)
+  unfolding es
+  room =
+      omega (
+        arith,
+        reservation-is (s .link) (figures s c),
+        length-map (λ (p : Packet). p .eligibility) (of c (s .held)),
+        all-among (s .clock + 1 - bound-of s c) (s .clock) es recent,
+        total-snoc (inside (s .clock + 1 - bound-of s c) (s .clock)) es (s .clock),
+        upto-yes (s .clock + 1 - bound-of s c) (s .clock) (upto (s .clock) (s .clock) 1) (omega (arith, some-d)),
+        upto-yes (s .clock) (s .clock) 1 (omega arith),
+        window-law (figures s c) (s .clock) (es ++ s .clock ∷ []) (s .clock + 1 - bound-of s c) (bound-of s c)
+            (facts-of s (I .sound) .each c below .some-gap) held-spaced (omega (arith, some-d)),
+      )
+
+-- ---- so it is never refused for room, and accepted while the clock runs
+
+module _ (h : History) (I : Invariant h) (c len tag : ℕ) (ok : allowed (h .now) c len ≡ true) (room : length (of c (h .now .held)) < reservation (h .now .link) (figures (h .now) c)) where
+  open History h using (now as s)
+
+  ok-parts : (stands (s .connections) c ≡ true) × (within 1 (figures s c .size) len ≡ true)
+  ok-parts = and-true (stands (s .connections) c) (within 1 (figures s c .size) len) ok
+
+  pub not-for-room : verdict (offer c len tag) s ≡ 12 → ⊥
+  unfolding verdicts
+  not-for-room e =
+      never-number 12 (verdicts (offer c len tag) s)
+      (λ i. absurd (omega arith), (λ i. absurd (omega arith), (λ i. absurd (omega arith), (λ i. absurd (omega arith), (λ i. absurd (omega arith), (λ i. absurd (omega arith), (λ i. absurd (omega arith), (λ i. absurd (omega arith), (λ i. absurd (omega arith), (λ i. absurd (omega arith), (λ i. absurd (omega arith), (λ i. lt-leb _ _ room, (λ i. absurd (omega arith), tt)))))))))))))
+      (omega arith) e
+
+  pub welcome : s .clock < clock-end → verdict (offer c len tag) s ≡ 0
+  unfolding verdicts
+  welcome running =
+      all-false (verdicts (offer c len tag) s) (
+        ap not (exact s .1 (I .sound)),
+        (
+          ne-eqb (s .link .levels) 0 (λ z. omega (arith, F .low-level, F .high-level)),
+          (
+            refl,
+            (
+              refl,
+              (
+                refl,
+                (
+                  refl,
+                  (
+                    refl,
+                    (
+                      refl,
+                      (
+                        refl,
+                        (
+                          ap not (ok-parts .0),
+                          (ap not (ok-parts .1), (lt-leb _ _ room, (lt-leb clock-end (s .clock) running, tt))),
+                        ),
+                      ),
+                    ),
+                  ),
+                ),
+              ),
+            ),
+          ),
+        ),
+      )
+    where
+      F : Connection-facts (s .link) (figures s c)
+      F = facts-of s (I .sound) .each c (stands-below (s .connections) c (ok-parts .0))

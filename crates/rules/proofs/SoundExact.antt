@@ -1,0 +1,209 @@
+-- The test of a sound state is true exactly of a sound state. Assumes nothing.
+use Prim.Native.Nat.{ℕ, zero, suc, _<_}
+use native.Mathlib.Omega.{arith}
+use mathlib.Core.Path.{_≡_, refl, sym, ap, _∙_}
+use mathlib.Core.Bool.{Bool, true, false, cond, _&&_, _||_}
+use mathlib.Core.Logic.{_⊎_, inl, inr, _↔_}
+use mathlib.Core.List.{List, [], _∷_}
+use mathlib.Core.Option.{Option, none, some}
+use lib.Dec.{leb, eqb}
+use lib.ListN.{length, replicate}
+use borrow.Author.Tests.{leb-true, le-leb, eqb-true, eqb-false, eq-eqb, ne-eqb}
+use Rattle.rules.specs.Words.{within, every, each}
+use Rattle.rules.specs.Limits.{max-levels, max-connections, clock-end}
+use Rattle.rules.specs.Model.{Link, Connection, Past, Packet, State, no-link, fresh, nth, past, figures}
+use Rattle.rules.specs.Admission.{link-within, level-within, figures-within, stands, reservation, passes}
+use Rattle.rules.specs.Service.{of, eligibilities, first}
+use Rattle.rules.specs.SoundState.{Fits, Dated, Idle, In-service, Sound-with-link, Sound}
+use Rattle.rules.specs.SoundTest.{all-zero, nothing-used, connection-sound, admissions-sound, row-sound, latest, paced, remembered, queue-sound, rows-sound, serves, line-sound, sound}
+use Rattle.rules.proofs.Lists.{All, all-map}
+use Rattle.rules.proofs.Sums.{cond-is}
+use Rattle.rules.proofs.Tests.{never, and-true, and-intro, or-true, or-intro, within-true, within-intro, every-true, every-intro, each-true, each-intro}
+use Rattle.rules.proofs.LevelTest.{test-holds, holds-test}
+use Rattle.rules.proofs.Queue.{Kept-past, Chained, queue-chained, chained-queue}
+use Rattle.rules.proofs.Scan.{paced-chain, chain-paced}
+use Rattle.rules.proofs.Standing.{stands-below}
+
+-- ---- with no link set
+
+nil-of : {A : Type 0} (xs : List A) → length xs ≡ 0 → xs ≡ []
+nil-of [] e = refl
+nil-of (x ∷ xs) e = absurd (omega arith)
+
+zeros-of : (n : ℕ) (ds : List ℕ) → length ds ≡ n → each (λ d. eqb d 0) ds ≡ true → ds ≡ replicate n 0
+zeros-of zero ds e z = nil-of ds e
+zeros-of (suc n) [] e z = absurd (omega arith)
+zeros-of (suc n) (d ∷ ds) e z =
+    let k = and-true (eqb d 0) (each (λ x. eqb x 0) ds) z in
+    let i : d ≡ 0 = eqb-true d 0 (k .0) in
+    let r : ds ≡ replicate n 0 = zeros-of n ds (omega arith) (k .1) in
+    cc
+
+blank-link : (n most : ℕ) (ds : List ℕ) → n ≡ 0 → most ≡ 0 → ds ≡ replicate max-levels 0 → _≡_ {A = Link} (record { levels = n; largest = most; bounds = ds }) no-link
+blank-link n most ds e f g = rw (e, f, g)
+
+blank-state : (l : Link) (cs : List Connection) (hs : List Past) (t : ℕ) (ps : List Packet) (w u : ℕ)
+    → l ≡ no-link → cs ≡ [] → hs ≡ [] → t ≡ 0 → ps ≡ [] → w ≡ 0 → u ≡ 0
+    → _≡_ {A = State} (record { link = l; connections = cs; pasts = hs; clock = t; held = ps; serving = w; to-go = u }) fresh
+blank-state l cs hs t ps w u a b c d e f g = rw (a, b, c, d, e, f, g)
+
+module _ (s : State) where
+  fresh-of : s .link .levels ≡ 0 → nothing-used s ≡ true → s ≡ fresh
+  unfolding nothing-used
+  fresh-of z h =
+      let a = and-true (all-zero (s .link)) _ h in
+      let l = and-true (eqb (s .link .largest) 0) _ (a .0) in
+      let b = and-true (eqb (length (s .link .bounds)) max-levels) _ (l .1) in
+      let c = and-true (eqb (length (s .connections)) 0) _ (a .1) in
+      let d = and-true (eqb (length (s .pasts)) 0) _ (c .1) in
+      let e = and-true (eqb (s .clock) 0) _ (d .1) in
+      let f = and-true (eqb (length (s .held)) 0) _ (e .1) in
+      let g = and-true (eqb (s .serving) 0) (eqb (s .to-go) 0) (f .1) in
+      let e1 : s .link .largest ≡ 0 = eqb-true _ 0 (l .0) in
+      let e2 : s .link .bounds ≡ replicate max-levels 0 = zeros-of max-levels (s .link .bounds) (eqb-true _ max-levels (b .0)) (b .1) in
+      let e3 : s .connections ≡ [] = nil-of (s .connections) (eqb-true _ 0 (c .0)) in
+      let e4 : s .pasts ≡ [] = nil-of (s .pasts) (eqb-true _ 0 (d .0)) in
+      let e5 : s .clock ≡ 0 = eqb-true _ 0 (e .0) in
+      let e6 : s .held ≡ [] = nil-of (s .held) (eqb-true _ 0 (f .0)) in
+      let e7 : s .serving ≡ 0 = eqb-true _ 0 (g .0) in
+      let e8 : s .to-go ≡ 0 = eqb-true _ 0 (g .1) in
+      blank-state (s .link) (s .connections) (s .pasts) (s .clock) (s .held) (s .serving) (s .to-go) (blank-link (s .link .levels) (s .link .largest) (s .link .bounds) z e1 e2) e3 e4 e5 e6 e7 e8
+
+nothing-of-fresh : nothing-used fresh ≡ true
+unfolding nothing-used
+nothing-of-fresh = refl
+
+-- ---- the rows
+
+row-true : (cs : List Connection) (t : ℕ) (p : Packet) → row-sound cs t p ≡ true → Fits cs p × Dated t p
+row-true cs t p h =
+    let a = and-true (stands cs (p .connection)) _ h in
+    let b = and-true (within 1 (nth cs (p .connection) .size) (p .len)) _ (a .1) in
+    let c = and-true (leb (p .arrival) t) (leb (p .arrival) (p .eligibility)) (b .1) in
+    let w = within-true 1 (nth cs (p .connection) .size) (p .len) (b .0) in
+    (record { standing = a .0; some-len = w .0; len-le = w .1 }, record { arrived = leb-true _ _ (c .0); not-before = leb-true _ _ (c .1) })
+
+row-intro : (cs : List Connection) (t : ℕ) (p : Packet) → Fits cs p → Dated t p → row-sound cs t p ≡ true
+row-intro cs t p f d =
+    and-intro (stands cs (p .connection)) _ (f .standing)
+    (and-intro (within 1 (nth cs (p .connection) .size) (p .len)) _ (within-intro 1 (nth cs (p .connection) .size) (p .len) (f .some-len) (f .len-le))
+    (and-intro (leb (p .arrival) t) (leb (p .arrival) (p .eligibility)) (le-leb _ _ (d .arrived)) (le-leb _ _ (d .not-before))))
+
+kept-true : (t : ℕ) (h : Past) (o : Option ℕ) → remembered t h o ≡ true → Kept-past t h o
+kept-true t h none e =
+    let k = and-true (leb (h .last) t) (h .sent || eqb (h .last) 0) e in
+    (leb-true _ _ (k .0), λ i. eqb-true _ 0 (or-true (h .sent) (eqb (h .last) 0) (k .1) i))
+kept-true t h (some x) e = let k = and-true (h .sent) (eqb x (h .last)) e in (k .0, eqb-true x (h .last) (k .1))
+
+kept-intro : (t : ℕ) (h : Past) (o : Option ℕ) → Kept-past t h o → remembered t h o ≡ true
+kept-intro t h none k = and-intro (leb (h .last) t) (h .sent || eqb (h .last) 0) (le-leb _ _ (k .0)) (or-intro (h .sent) (eqb (h .last) 0) (λ i. eq-eqb _ 0 (k .1 i)))
+kept-intro t h (some x) k = and-intro (h .sent) (eqb x (h .last)) (k .0) (eq-eqb x (h .last) (k .1))
+
+-- ---- the line
+
+module _ (s : State) where
+  line-true : line-sound s ≡ true → Idle s ⊎ In-service s 0
+  unfolding line-sound
+  line-true h = go (eqb (s .to-go) 0) refl h
+    where
+      serving : (o : Option Packet) → first (s .serving) (s .held) ≡ o → serves o (s .to-go) (s .clock) ≡ true → In-service s 0
+      serving none i e = never e
+      serving (some p) i e =
+          let k = and-true (within 1 (p .len) (s .to-go)) (leb (p .eligibility) (s .clock)) e in
+          let w = within-true 1 (p .len) (s .to-go) (k .0) in
+          record { it = p; is-first = i; eligible = leb-true _ _ (k .1); some-to-go = w .0; to-go-le = omega arith }
+
+      go : (t : Bool) → eqb (s .to-go) 0 ≡ t → cond t (eqb (s .serving) 0) (serves (first (s .serving) (s .held)) (s .to-go) (s .clock)) ≡ true → Idle s ⊎ In-service s 0
+      go true i e = inl (eqb-true _ 0 i, eqb-true _ 0 e)
+      go false i e = inr (serving (first (s .serving) (s .held)) refl e)
+
+  line-intro : Idle s ⊎ In-service s 0 → line-sound s ≡ true
+  unfolding line-sound
+  line-intro (inl z) = cond-is (eqb (s .serving) 0) (serves (first (s .serving) (s .held)) (s .to-go) (s .clock)) (eq-eqb (s .to-go) 0 (z .0)) ∙ eq-eqb (s .serving) 0 (z .1)
+  line-intro (inr r) =
+      cond-is (eqb (s .serving) 0) (serves (first (s .serving) (s .held)) (s .to-go) (s .clock)) (ne-eqb (s .to-go) 0 (λ i. omega (arith, r .some-to-go)))
+      ∙ ap (λ (o : Option Packet). serves o (s .to-go) (s .clock)) (r .is-first)
+      ∙ and-intro (within 1 (r .it .len) (s .to-go)) (leb (r .it .eligibility) (s .clock)) (within-intro 1 (r .it .len) (s .to-go) (r .some-to-go) (omega (arith, r .to-go-le))) (le-leb _ _ (r .eligible))
+
+-- ---- with a link set
+
+module _ (s : State) where
+  linked-true : (admissions-sound s && (rows-sound s && line-sound s)) ≡ true → Sound-with-link s
+  unfolding admissions-sound rows-sound
+  linked-true h =
+      let x = and-true (admissions-sound s) (rows-sound s && line-sound s) h in
+      let y = and-true (rows-sound s) (line-sound s) (x .1) in
+      let a = and-true (link-within (s .link)) _ (x .0) in
+      let b = and-true (leb (length (s .connections)) max-connections) _ (a .1) in
+      let c = and-true (eqb (length (s .pasts)) (length (s .connections))) _ (b .1) in
+      let d = and-true (every (length (s .connections)) (λ i. connection-sound (s .link) (figures s i))) _ (c .1) in
+      let e = and-true (passes (s .link) (s .connections)) _ (d .1) in
+      let f = and-true (leb (s .clock) clock-end) _ (y .0) in
+      let g = and-true (each (row-sound (s .connections) (s .clock)) (s .held)) _ (f .1) in
+      let i = and-true (paced (s .connections) (s .clock) [] (s .held)) _ (g .1) in
+      let rows = all-map (λ p k. row-true (s .connections) (s .clock) p k) (s .held) (each-true (row-sound (s .connections) (s .clock)) (s .held) (g .0)) in
+      let own : (j : ℕ) → j < length (s .connections) → (level-within (s .link) (figures s j) ≡ true) × (figures-within (s .link) (figures s j) ≡ true)
+      = λ j l. and-true (level-within (s .link) (figures s j)) (figures-within (s .link) (figures s j)) (every-true (length (s .connections)) (λ k. connection-sound (s .link) (figures s k)) (d .0) j l) in
+      let line : (j : ℕ) → j < length (s .connections) → (leb (length (of j (s .held))) (reservation (s .link) (figures s j)) ≡ true) × (remembered (s .clock) (past s j) (latest (eligibilities j (s .held))) ≡ true)
+      = λ j l. and-true _ _ (every-true (length (s .connections)) (queue-sound s) (i .1) j l) in
+      record {
+        link-in = a .0;
+        levels-in = λ j l. own j l .0;
+        figures-in = λ j l. own j l .1;
+        few = leb-true _ _ (b .0);
+        one-past-each = eqb-true _ _ (c .0);
+        tested = test-holds (s .link) (s .connections) (e .0);
+        reserved-le = leb-true _ _ (e .1);
+        clock-le = leb-true _ _ (f .0);
+        fit = all-map (λ p k. k .0) (s .held) rows;
+        dated = all-map (λ p k. k .1) (s .held) rows;
+        room = λ j l. leb-true _ _ (line j l .0);
+        queue = λ j l.
+            chained-queue (figures s j) (s .clock) (past s j) (eligibilities j (s .held))
+            (record { chain = paced-chain (s .connections) (s .clock) [] (s .held) (i .0) j; kept = kept-true (s .clock) (past s j) (latest (eligibilities j (s .held))) (line j l .1) });
+        line = line-true s (y .1);
+      }
+
+  linked-intro : Sound-with-link s → (admissions-sound s && (rows-sound s && line-sound s)) ≡ true
+  unfolding admissions-sound rows-sound
+  linked-intro S =
+      and-intro (admissions-sound s) (rows-sound s && line-sound s)
+      (and-intro (link-within (s .link)) _ (S .link-in)
+      (and-intro (leb (length (s .connections)) max-connections) _ (le-leb _ _ (S .few))
+      (and-intro (eqb (length (s .pasts)) (length (s .connections))) _ (eq-eqb _ _ (S .one-past-each))
+      (and-intro (every (length (s .connections)) (λ i. connection-sound (s .link) (figures s i))) _
+      (every-intro (length (s .connections)) (λ i. connection-sound (s .link) (figures s i))
+      (λ j l. and-intro (level-within (s .link) (figures s j)) (figures-within (s .link) (figures s j)) (S .levels-in j l) (S .figures-in j l)))
+      (and-intro (passes (s .link) (s .connections)) _ (holds-test (s .link) (s .connections) (S .tested)) (le-leb _ _ (S .reserved-le)))))))
+      (and-intro (rows-sound s) (line-sound s)
+      (and-intro (leb (s .clock) clock-end) _ (le-leb _ _ (S .clock-le))
+      (and-intro (each (row-sound (s .connections) (s .clock)) (s .held)) _
+      (each-intro (row-sound (s .connections) (s .clock)) (s .held) (all-rows (s .held) (S .fit) (S .dated)))
+      (and-intro (paced (s .connections) (s .clock) [] (s .held)) _
+      (chain-paced (s .connections) (s .clock) [] (s .held) (all-map (λ p f. stands-below (s .connections) (p .connection) (f .standing)) (s .held) (S .fit)) (λ j l. chained j l .chain))
+      (every-intro (length (s .connections)) (queue-sound s) (λ j l. and-intro _ _ (le-leb _ _ (S .room j l)) (kept-intro (s .clock) (past s j) (latest (eligibilities j (s .held))) (chained j l .kept)))))))
+      (line-intro s (S .line)))
+    where
+      chained : (j : ℕ) → j < length (s .connections) → Chained (figures s j .gap) (s .clock) (past s j) (eligibilities j (s .held))
+      chained j l = queue-chained (figures s j) (s .clock) (past s j) (eligibilities j (s .held)) (S .queue j l)
+
+      all-rows : (ps : List Packet) → All (Fits (s .connections)) ps → All (Dated (s .clock)) ps → All (λ p. row-sound (s .connections) (s .clock) p ≡ true) ps
+      all-rows [] f d = tt
+      all-rows (p ∷ ps) f d = (row-intro (s .connections) (s .clock) p (f .0) (d .0), all-rows ps (f .1) (d .1))
+
+  pub exact : sound s ≡ true ↔ Sound s
+  unfolding sound
+  exact = (to, from)
+    where
+      to : sound s ≡ true → Sound s
+      to h = record {
+        with-no-link = λ z. fresh-of s z (sym (cond-is (nothing-used s) _ (eq-eqb (s .link .levels) 0 z)) ∙ h);
+        with-one = λ n. linked-true (sym (cond-is (nothing-used s) _ (ne-eqb (s .link .levels) 0 n)) ∙ h);
+      }
+
+      from : Sound s → sound s ≡ true
+      from S = go (eqb (s .link .levels) 0) refl
+        where
+          go : (t : Bool) → eqb (s .link .levels) 0 ≡ t → cond t (nothing-used s) (admissions-sound s && (rows-sound s && line-sound s)) ≡ true
+          go true i = ap nothing-used (S .with-no-link (eqb-true _ 0 i)) ∙ nothing-of-fresh
+          go false i = linked-intro (S .with-one (eqb-false _ 0 i))

@@ -1,0 +1,77 @@
+-- An offer that is accepted on a sound state leaves a sound one. Assumes nothing.
+use Prim.Native.Nat.{ℕ, _≤_, _<_}
+use native.Mathlib.Omega.{arith}
+use mathlib.Core.Path.{_≡_, refl, sym, ap, _∙_, subst}
+use mathlib.Core.Logic.{_⊎_, inl, inr, ⊎-elim}
+use mathlib.Core.List.{[], _∷_, _++_}
+use lib.ListN.{length, getD, set, length-append, length-set}
+use lib.Seq.{getD-set-same, getD-set-other}
+use Rattle.rules.specs.Model.{Past, no-past, Packet, State, past, figures}
+use Rattle.rules.specs.Admission.{reservation}
+use Rattle.rules.specs.Service.{of, eligibilities, remember}
+use Rattle.rules.specs.SoundState.{Fits, Dated, Queue, Sound-with-link}
+use Rattle.rules.specs.Calls.{eligibility-now, packet, placed}
+use Rattle.rules.proofs.Lists.{all-snoc}
+use Rattle.rules.proofs.Sums.{same}
+use Rattle.rules.proofs.Rows.{first-append, of-snoc-same, of-snoc-other, eligibilities-snoc-same, eligibilities-snoc-other}
+use Rattle.rules.proofs.Spacing.{not-before}
+use Rattle.rules.proofs.Standing.{stands-below}
+use Rattle.rules.proofs.Queue.{queue-chained, chained-queue, chained-snoc}
+use Rattle.rules.proofs.Verdicts.{Offer-done}
+
+module _ (s : State) (S : Sound-with-link s) (c len tag : ℕ) (D : Offer-done s c len) where
+  below : c < length (s .connections)
+  below = stands-below (s .connections) c (D .standing)
+
+  new : Past
+  new = remember (past s c) (eligibility-now s c)
+
+  p : Packet
+  p = packet s c len tag
+
+  queue-placed : (d : ℕ) → d < length (s .connections) → (c ≡ d) ⊎ (c ≡ d → ⊥)
+      → Queue (figures s d) (s .clock) (getD (set (s .pasts) c new) d no-past) (eligibilities d (s .held ++ p ∷ []))
+  unfolding new p
+  queue-placed d l (inl e) =
+      subst (λ (j : ℕ). Queue (figures s j) (s .clock) (getD (set (s .pasts) c new) j no-past) (eligibilities j (s .held ++ p ∷ []))) e
+      (rw (eligibilities-snoc-same c (s .held) p refl, getD-set-same (s .pasts) c new no-past (omega (arith, S .one-past-each, below)))
+      (chained-queue (figures s c) (s .clock) new (eligibilities c (s .held) ++ eligibility-now s c ∷ [])
+      (chained-snoc (figures s c) (s .clock) (past s c) (eligibilities c (s .held)) (queue-chained (figures s c) (s .clock) (past s c) (eligibilities c (s .held)) (S .queue c below)))))
+  queue-placed d l (inr e) =
+      rw (eligibilities-snoc-other d (s .held) p e, getD-set-other (s .pasts) c d new no-past (λ i. e (sym i))) (S .queue d l)
+
+  room-placed : (d : ℕ) → d < length (s .connections) → (c ≡ d) ⊎ (c ≡ d → ⊥) → length (of d (s .held ++ p ∷ [])) ≤ reservation (s .link) (figures s d)
+  unfolding p
+  room-placed d l (inl e) =
+      subst (λ (j : ℕ). length (of j (s .held ++ p ∷ [])) ≤ reservation (s .link) (figures s j)) e
+      (omega (arith, D .room, ap length (of-snoc-same c (s .held) p refl), length-append (of c (s .held)) (p ∷ [])))
+  room-placed d l (inr e) = omega (arith, S .room d l, ap length (of-snoc-other d (s .held) p e))
+
+  pub sound-placed : Sound-with-link (placed s c len tag)
+  unfolding new p
+  sound-placed = record {
+    link-in = S .link-in;
+    levels-in = S .levels-in;
+    figures-in = S .figures-in;
+    few = S .few;
+    one-past-each = length-set (s .pasts) c _ ∙ S .one-past-each;
+    tested = S .tested;
+    reserved-le = S .reserved-le;
+    clock-le = S .clock-le;
+    fit = all-snoc (Fits (s .connections)) (s .held) p (S .fit) (record { standing = D .standing; some-len = D .some-len; len-le = D .len-le });
+    dated = all-snoc (Dated (s .clock)) (s .held) p (S .dated) (record { arrived = omega arith; not-before = not-before (figures s c) (past s c) (s .clock) });
+    room = λ d l. room-placed d l (same c d);
+    queue = λ d l. queue-placed d l (same c d);
+    line =
+        ⊎-elim (λ z. inl z)
+        (λ r.
+        inr
+        (record {
+          it = r .it;
+          is-first = first-append (s .serving) (s .held) (p ∷ []) (r .it) (r .is-first);
+          eligible = r .eligible;
+          some-to-go = r .some-to-go;
+          to-go-le = r .to-go-le;
+        }))
+        (S .line);
+  }

@@ -1,0 +1,113 @@
+-- A tick on a sound state leaves a sound one. Assumes nothing.
+use Prim.Native.Nat.{ℕ, zero, suc, _+_, _≤_, _<_}
+use native.Mathlib.Omega.{arith}
+use mathlib.Core.Path.{_≡_, refl, sym, ap, _∙_, subst}
+use mathlib.Core.Logic.{_⊎_, inl, inr, ⊎-elim}
+use mathlib.Core.List.{List, _∷_, map}
+use mathlib.Core.Option.{Option, none, some}
+use lib.ListN.{length}
+use Rattle.rules.specs.Limits.{clock-end}
+use Rattle.rules.specs.Model.{Packet, State, past, figures}
+use Rattle.rules.specs.Service.{of, eligibilities, first, without, level-of, chosen, with-line, later, takes, line-after-start, after-unit, ticked}
+use Rattle.rules.specs.SoundState.{Fits, Dated, Queue, Idle, In-service, Sound-with-link}
+use Rattle.rules.proofs.Lists.{All, all-map, all-sub, Pairs, Sub, sub-refl}
+use Rattle.rules.proofs.Sums.{same}
+use Rattle.rules.proofs.Rows.{first-all, sub-without, of-first, of-other, pairs-by-connection}
+use Rattle.rules.proofs.Spacing.{spaced-rises}
+use Rattle.rules.proofs.Standing.{stands-below}
+use Rattle.rules.proofs.Figures.{Connection-facts, connection-facts}
+use Rattle.rules.proofs.Line.{start-idle, start-busy}
+use Rattle.rules.proofs.Queue.{queue-chained, chained-queue, chained-later, chained-tail}
+use Rattle.rules.proofs.Choice.{Rising, Chosen, chosen-law}
+
+-- the packet that is chosen comes into service whole
+unfoldable pub taken-serves : (s : State) → All (Fits (s .connections)) (s .held) → (p : Packet) → Chosen (level-of s) (s .clock) (s .held) (some p)
+    → In-service (with-line s (p .connection) (p .len)) 0
+taken-serves s F p k =
+    let f : Fits (s .connections) p = first-all (p .connection) (Fits (s .connections)) (s .held) p (k .2) F in
+    record { it = p; is-first = k .2; eligible = k .0; some-to-go = f .some-len; to-go-le = omega arith }
+
+module _ (s : State) (S : Sound-with-link s) where
+  pub facts : (c : ℕ) → c < length (s .connections) → Connection-facts (s .link) (figures s c)
+  facts c l = connection-facts (s .link) (figures s c) (S .levels-in c l) (S .figures-in c l)
+
+  -- each connection's rows rise, so no row overtakes one of its own connection
+  pub rows-rise : Pairs Rising (s .held)
+  rows-rise =
+      pairs-by-connection (length (s .connections)) (λ a b. a < b) (s .held) (all-map (λ p f. stands-below (s .connections) (p .connection) (f .standing)) (s .held) (S .fit))
+      (λ c l. spaced-rises (figures s c) (facts c l .some-gap) (eligibilities c (s .held)) (S .queue c l .rise))
+
+  pub choice-holds : Chosen (level-of s) (s .clock) (s .held) (chosen s)
+  choice-holds = chosen-law (level-of s) (s .clock) (s .held) rows-rise
+
+  module _ (running : s .clock < clock-end) where
+    -- some of the rows, a tick later
+    sound-later : (held : List Packet) (serving to-go : ℕ)
+        → Sub held (s .held)
+        → ((c : ℕ) → length (of c held) ≤ length (of c (s .held)))
+        → ((c : ℕ) → c < length (s .connections) → Queue (figures s c) (s .clock) (past s c) (eligibilities c held))
+        → Idle (later s held serving to-go) ⊎ In-service (later s held serving to-go) 0
+        → Sound-with-link (later s held serving to-go)
+    sound-later held serving to-go sub fewer queue line = record {
+      link-in = S .link-in;
+      levels-in = S .levels-in;
+      figures-in = S .figures-in;
+      few = S .few;
+      one-past-each = S .one-past-each;
+      tested = S .tested;
+      reserved-le = S .reserved-le;
+      clock-le = omega (arith, running);
+      fit = all-sub (Fits (s .connections)) sub (S .fit);
+      dated = all-sub (Dated (s .clock + 1)) sub (all-map (λ p d. record { arrived = omega (arith, d .arrived); not-before = d .not-before }) (s .held) (S .dated));
+      room = λ c l. omega (arith, fewer c, S .room c l);
+      queue = λ c l.
+          chained-queue (figures s c) (s .clock + 1) (past s c) (eligibilities c held)
+          (chained-later (figures s c .gap) (s .clock) (past s c) (eligibilities c held) (queue-chained (figures s c) (s .clock) (past s c) (eligibilities c held) (queue c l)));
+      line = line;
+    }
+
+    -- the packet in service has sent its last unit
+    sound-departed : (w : ℕ) → In-service (with-line s w 1) 0 → Sound-with-link (later s (without w (s .held)) 0 0)
+    sound-departed w r =
+        sound-later (without w (s .held)) 0 0 (sub-without w (sub-refl (s .held))) (λ c. fewer c (same w c)) (λ c l. shorter c l (same w c)) (inl (refl, refl))
+      where
+        shorter : (c : ℕ) → c < length (s .connections) → (w ≡ c) ⊎ (w ≡ c → ⊥) → Queue (figures s c) (s .clock) (past s c) (eligibilities c (without w (s .held)))
+        shorter c l (inl e) =
+            subst (λ (d : ℕ). Queue (figures s c) (s .clock) (past s c) (eligibilities c (without d (s .held)))) (sym e)
+            (chained-queue (figures s c) (s .clock) (past s c) (eligibilities c (without c (s .held)))
+            (chained-tail (figures s c .gap) (s .clock) (past s c) (r .it .eligibility) (eligibilities c (without c (s .held))) (r .eligible)
+            (queue-chained (figures s c) (s .clock) (past s c) (r .it .eligibility ∷ eligibilities c (without c (s .held)))
+            (subst (λ (ps : List Packet). Queue (figures s c) (s .clock) (past s c) (map (λ p. p .eligibility) ps))
+            (of-first c (s .held) (r .it) (ap (λ (d : ℕ). first d (s .held)) (sym e) ∙ r .is-first)) (S .queue c l)))))
+        shorter c l (inr e) = rw (of-other w c (s .held) e) (S .queue c l)
+
+        fewer : (c : ℕ) → (w ≡ c) ⊎ (w ≡ c → ⊥) → length (of c (without w (s .held))) ≤ length (of c (s .held))
+        fewer c (inl e) =
+            subst (λ (d : ℕ). length (of d (without w (s .held))) ≤ length (of d (s .held))) e
+            (omega (arith, ap length (of-first w (s .held) (r .it) (r .is-first))))
+        fewer c (inr e) = omega (arith, ap length (of-other w c (s .held) e))
+
+    sound-unit : (w u : ℕ) → Idle (with-line s w u) ⊎ In-service (with-line s w u) 0 → Sound-with-link (after-unit (with-line s w u) u .next)
+    sound-unit w zero k = sound-later (s .held) 0 0 (sub-refl (s .held)) (λ c. omega arith) (S .queue) (inl (refl, refl))
+    sound-unit w (suc zero) (inl z) = absurd (omega (arith, z .0))
+    sound-unit w (suc zero) (inr r) = sound-departed w r
+    sound-unit w (suc (suc u)) (inl z) = absurd (omega (arith, z .0))
+    sound-unit w (suc (suc u)) (inr r) =
+        sound-later (s .held) w (suc u) (sub-refl (s .held)) (λ c. omega arith) (S .queue)
+        (inr (record { it = r .it; is-first = r .is-first; eligible = omega (arith, r .eligible); some-to-go = omega arith; to-go-le = omega (arith, r .to-go-le) }))
+
+    sound-start : (u : ℕ) → s .to-go ≡ u
+        → Idle (with-line s (line-after-start s u .0) (line-after-start s u .1)) ⊎ In-service (with-line s (line-after-start s u .0) (line-after-start s u .1)) 0
+    sound-start zero e = subst (λ (l : ℕ × ℕ). Idle (with-line s (l .0) (l .1)) ⊎ In-service (with-line s (l .0) (l .1)) 0) (sym (start-idle s)) (go (chosen s) choice-holds)
+      where
+        go : (o : Option Packet) → Chosen (level-of s) (s .clock) (s .held) o → Idle (with-line s (takes o .0) (takes o .1)) ⊎ In-service (with-line s (takes o .0) (takes o .1)) 0
+        go none k = inl (refl, refl)
+        go (some p) k = inr (taken-serves s (S .fit) p k)
+    sound-start (suc u) e =
+        subst (λ (l : ℕ × ℕ). Idle (with-line s (l .0) (l .1)) ⊎ In-service (with-line s (l .0) (l .1)) 0) (sym (start-busy s u))
+        (⊎-elim (λ z. absurd (omega (arith, z .0)))
+        (λ r. inr (record { it = r .it; is-first = r .is-first; eligible = r .eligible; some-to-go = omega arith; to-go-le = omega (arith, r .to-go-le) }))
+        (S .line))
+
+    pub sound-ticked : Sound-with-link (ticked s .next)
+    sound-ticked = sound-unit (line-after-start s (s .to-go) .0) (line-after-start s (s .to-go) .1) (sound-start (s .to-go) refl)

@@ -1,0 +1,105 @@
+-- What a verdict 0 says, call by call; nothing else opens the table `verdicts` but the examples and the welcome of an offer. Assumes nothing.
+use Prim.Native.Nat.{ℕ, zero, suc, _≤_, _<_}
+use native.Mathlib.Omega.{arith}
+use mathlib.Core.Path.{_≡_, refl}
+use mathlib.Core.Bool.{Bool, true, false, cond}
+use mathlib.Core.List.{List, [], _∷_, _++_}
+use lib.Dec.{eqb}
+use lib.ListN.{length}
+use borrow.Author.Tests.{eqb-true, eqb-false, leb-false, ltb-false, not-false}
+use Rattle.rules.specs.Limits.{max-connections, max-reserved, clock-end}
+use Rattle.rules.specs.Model.{Link, Connection, State, Call, link, admit, offer, tick, Answer, figures}
+use Rattle.rules.specs.Admission.{link-within, level-within, figures-within, stands, reservation, reserved, passes}
+use Rattle.rules.specs.Service.{of}
+use Rattle.rules.specs.Calls.{verdicts, verdict, done, refused, settle}
+use Rattle.rules.proofs.Lists.{All}
+use Rattle.rules.proofs.Tests.{passed, within-true}
+
+-- an answer is what is done at verdict 0, or a refusal
+pub settled : (Q : Answer → Type 0) (k : Call) (s : State) (v : ℕ) → (v ≡ 0 → Q (done k s)) → ((w : ℕ) → Q (refused k s (suc w))) → Q (settle k s v)
+settled Q k s zero f g = f refl
+settled Q k s (suc w) f g = g w
+
+-- a refusal changes nothing
+pub refused-leaves : (k : Call) (s : State) (v : ℕ) → refused k s v .next ≡ s
+refused-leaves k s v = refl
+
+-- the test of the row with number v
+abbrev test-of : ℕ → List (ℕ × Bool) → Bool
+test-of v [] = false
+test-of v (r ∷ rs) = cond (eqb (r .0) v) (r .1) (test-of v rs)
+
+none-holds : (v : ℕ) (rs : List (ℕ × Bool)) → All (λ r. r .1 ≡ false) rs → test-of v rs ≡ false
+none-holds v [] h = refl
+none-holds v (r ∷ rs) h = go (eqb (r .0) v) (none-holds v rs (h .1))
+  where
+    go : (b : Bool) → test-of v rs ≡ false → cond b (r .1) (test-of v rs) ≡ false
+    go true k = h .0
+    go false k = k
+
+-- at verdict 0 the test of no row holds
+not-given : (k : Call) (s : State) → verdict k s ≡ 0 → (v : ℕ) → test-of v (verdicts k s) ≡ false
+unfolding verdicts
+not-given k s e v = none-holds v (verdicts k s) (passed (verdicts k s) (omega arith) e)
+
+-- ---- each call done
+
+pub record Link-done (s : State) (l : Link) : Type 0 where
+  pub unset : s .link .levels ≡ 0
+  pub link-in : link-within l ≡ true
+
+pub link-done : (s : State) (l : Link) → verdict (link l) s ≡ 0 → Link-done s l
+unfolding verdicts
+link-done s l e = record {
+  unset = eqb-true _ _ (not-false _ (not-given (link l) s e 3));
+  link-in = not-false _ (not-given (link l) s e 4);
+}
+
+pub record Admit-done (s : State) (x : Connection) : Type 0 where
+  pub set : s .link .levels ≡ 0 → ⊥
+  pub level-in : level-within (s .link) x ≡ true
+  pub figures-in : figures-within (s .link) x ≡ true
+  pub few : length (s .connections) < max-connections
+  pub tests-hold : passes (s .link) (s .connections ++ x ∷ []) ≡ true
+  pub reserved-le : reserved (s .link) (s .connections ++ x ∷ []) ≤ max-reserved
+
+pub admit-done : (s : State) (x : Connection) → verdict (admit x) s ≡ 0 → Admit-done s x
+unfolding verdicts
+admit-done s x e = record {
+  set = eqb-false _ _ (not-given (admit x) s e 2);
+  level-in = not-false _ (not-given (admit x) s e 5);
+  figures-in = not-false _ (not-given (admit x) s e 6);
+  few = leb-false _ _ (not-given (admit x) s e 7);
+  tests-hold = not-false _ (not-given (admit x) s e 8);
+  reserved-le = ltb-false _ _ (not-given (admit x) s e 9);
+}
+
+pub record Offer-done (s : State) (c len : ℕ) : Type 0 where
+  pub set : s .link .levels ≡ 0 → ⊥
+  pub standing : stands (s .connections) c ≡ true
+  pub some-len : 1 ≤ len
+  pub len-le : len ≤ figures s c .size
+  pub room : length (of c (s .held)) < reservation (s .link) (figures s c)
+  pub running : s .clock < clock-end
+
+pub offer-done : (s : State) (c len tag : ℕ) → verdict (offer c len tag) s ≡ 0 → Offer-done s c len
+unfolding verdicts
+offer-done s c len tag e =
+    let w = within-true 1 (figures s c .size) len (not-false _ (not-given (offer c len tag) s e 11)) in
+    let r = not-given (offer c len tag) s e 12 in
+    record {
+      set = eqb-false _ _ (not-given (offer c len tag) s e 2);
+      standing = not-false _ (not-given (offer c len tag) s e 10);
+      some-len = w .0;
+      len-le = w .1;
+      room = omega (arith, leb-false);
+      running = leb-false _ _ (not-given (offer c len tag) s e 13);
+    }
+
+pub record Tick-done (s : State) : Type 0 where
+  pub set : s .link .levels ≡ 0 → ⊥
+  pub running : s .clock < clock-end
+
+pub tick-done : (s : State) → verdict tick s ≡ 0 → Tick-done s
+unfolding verdicts
+tick-done s e = record { set = eqb-false _ _ (not-given tick s e 2); running = leb-false _ _ (not-given tick s e 13) }

@@ -1,0 +1,88 @@
+-- Who may come in: the limits, the window count, the reservation and the level test.
+-- Document 01, "Link, connections, places" and "The level test". Assumes nothing.
+use Prim.Native.Nat.{ℕ, zero, suc, _+_, _*_, _-_, _/_}
+use mathlib.Core.Bool.{Bool, true, false, cond, _&&_}
+use mathlib.Core.List.{List, [], _∷_}
+use lib.Dec.{leb, ltb, eqb}
+use lib.ListN.{length, getD}
+use Rattle.rules.specs.Words.{within, upto, sum}
+use Rattle.rules.specs.Limits.{max-levels, max-largest, max-bound, max-gap}
+use Rattle.rules.specs.Model.{Link, Connection, nth}
+
+-- ---- "Link, connections, places"
+
+-- bounds that rise strictly from `low` on, n of them, none above its limit; past the n-th each is 0
+abbrev pub rising : ℕ → ℕ → List ℕ → Bool
+rising low zero [] = true
+rising low zero (d ∷ ds) = eqb d 0 && rising low zero ds
+rising low (suc n) [] = false
+rising low (suc n) (d ∷ ds) = leb low d && (leb d max-bound && rising (suc d) n ds)
+
+-- Link: 1 to 8 levels, S from 1 to its limit, the first bound at least S
+unfoldable pub link-within : Link → Bool
+link-within l = within 1 max-levels (l .levels) && (within 1 max-largest (l .largest) && rising (l .largest) (l .levels) (l .bounds))
+
+-- Connection: level 1 to n
+unfoldable pub level-within : Link → Connection → Bool
+level-within l c = within 1 (l .levels) (c .level)
+
+-- .. gap X from 1 to its limit, size from 1 to S
+unfoldable pub figures-within : Link → Connection → Bool
+figures-within l c = within 1 max-gap (c .gap) && within 1 (l .largest) (c .size)
+
+-- numbered from 0 in order of acceptance: the number that comes next, and whether number c stands
+abbrev pub next-number : List Connection → ℕ
+next-number cs = length cs
+
+unfoldable pub stands : List Connection → ℕ → Bool
+stands cs c = ltb c (length cs)
+
+-- the delay bound d of level m
+abbrev pub bound : Link → ℕ → ℕ
+bound l zero = 0
+bound l (suc m) = getD (l .bounds) m 0
+
+-- how many packets of a connection may be eligible within w ticks: w divided by X, rounded up
+unfoldable pub count : Connection → ℕ → ℕ
+count c w = (w + (c .gap - 1)) / c .gap
+
+-- Reservation: the count within d of the connection's level, in packets
+unfoldable pub reservation : Link → Connection → ℕ
+reservation l c = count c (bound l (c .level))
+
+-- all reservations together
+abbrev pub reserved : Link → List Connection → ℕ
+reserved l cs = sum (length cs) (λ c. reservation l (nth cs c))
+
+-- ---- "The level test"
+
+-- what a packet of a length takes of the line, in ticks: the line sends one unit in one tick
+unfoldable pub cost : Link → ℕ → ℕ
+cost l len = len
+
+-- over all connections of levels 1 to m, the count within d times size
+abbrev pub load : Link → List Connection → ℕ → ℕ → ℕ
+load l cs m d = sum (length cs) (λ c. upto (nth cs c .level) m (count (nth cs c) d * cost l (nth cs c .size)))
+
+-- .. add S
+unfoldable pub level-sum : Link → List Connection → ℕ → ℕ
+level-sum l cs m = load l cs m (bound l m) + cost l (l .largest)
+
+-- the lowest level whose sum is above its bound, and by how many units; both 0 where every sum is at most its bound
+pub record Short : Type 0 where
+  pub level : ℕ
+  pub units : ℕ
+
+-- the k levels from m on
+abbrev pub short-from : Link → List Connection → ℕ → ℕ → Short
+short-from l cs m zero = record { level = 0; units = 0 }
+short-from l cs m (suc k) =
+    cond (leb (level-sum l cs m) (bound l m)) (short-from l cs (suc m) k) (record { level = m; units = level-sum l cs m - bound l m })
+
+-- every level 1 to n
+unfoldable pub level-test : Link → List Connection → Short
+level-test l cs = short-from l cs 1 (l .levels)
+
+-- the test holds
+abbrev pub passes : Link → List Connection → Bool
+passes l cs = eqb (level-test l cs .level) 0

@@ -1,0 +1,140 @@
+-- The four calls: their verdicts as one table, and what each does where the verdict is 0. Document 01, "Verdict numbers". Assumes nothing.
+use Prim.Native.Nat.{ℕ, zero, suc}
+use mathlib.Core.Bool.{Bool, false, not}
+use mathlib.Core.List.{List, [], _∷_, _++_}
+use mathlib.Core.Option.{none}
+use lib.Dec.{leb, ltb, eqb}
+use lib.ListN.{length, set}
+use Rattle.rules.specs.Words.{within, first-number}
+use Rattle.rules.specs.Limits.{max-connections, max-reserved, clock-end, no-connection-number}
+use Rattle.rules.specs.Model.{Link, Connection, Packet, State, Call, link, admit, offer, tick, Answer, no-past, past, figures}
+use Rattle.rules.specs.Admission.{link-within, level-within, figures-within, next-number, stands, reservation, reserved, passes}
+use Rattle.rules.specs.Service.{next-eligibility, remember, of, ticked}
+use Rattle.rules.specs.SoundTest.{sound}
+
+-- ---- the column "Call": a test that is asked of these calls alone
+
+abbrev pub at-link : (Link → Bool) → Call → Bool
+at-link f (link l) = f l
+at-link f (admit x) = false
+at-link f (offer c len tag) = false
+at-link f tick = false
+
+abbrev pub at-admit : (Connection → Bool) → Call → Bool
+at-admit f (link l) = false
+at-admit f (admit x) = f x
+at-admit f (offer c len tag) = false
+at-admit f tick = false
+
+abbrev pub at-offer : (ℕ → ℕ → Bool) → Call → Bool
+at-offer f (link l) = false
+at-offer f (admit x) = false
+at-offer f (offer c len tag) = f c len
+at-offer f tick = false
+
+abbrev pub at-offer-or-tick : Bool → Call → Bool
+at-offer-or-tick b (link l) = false
+at-offer-or-tick b (admit x) = false
+at-offer-or-tick b (offer c len tag) = b
+at-offer-or-tick b tick = b
+
+abbrev pub at-all-but-link : Bool → Call → Bool
+at-all-but-link b (link l) = false
+at-all-but-link b (admit x) = b
+at-all-but-link b (offer c len tag) = b
+at-all-but-link b tick = b
+
+-- ---- the table, in the document's order: number, call, given exactly when
+
+unfoldable pub verdicts : Call → State → List (ℕ × Bool)
+verdicts k s =
+    -- the state is not sound
+    (1, not (sound s))
+    -- no link set
+    ∷ (2, at-all-but-link (eqb (s .link .levels) 0) k)
+    -- a link is set already
+    ∷ (3, at-link (λ l. not (eqb (s .link .levels) 0)) k)
+    -- a link limit is broken
+    ∷ (4, at-link (λ l. not (link-within l)) k)
+    -- level not 1 to n
+    ∷ (5, at-admit (λ x. not (level-within (s .link) x)) k)
+    -- gap or size outside its limits
+    ∷ (6, at-admit (λ x. not (figures-within (s .link) x)) k)
+    -- all connections stand
+    ∷ (7, at-admit (λ x. leb max-connections (length (s .connections))) k)
+    -- a level test fails, with the new one counted
+    ∷ (8, at-admit (λ x. not (passes (s .link) (s .connections ++ x ∷ []))) k)
+    -- reservations would pass their limit
+    ∷ (9, at-admit (λ x. ltb max-reserved (reserved (s .link) (s .connections ++ x ∷ []))) k)
+    -- no such connection
+    ∷ (10, at-offer (λ c len. not (stands (s .connections) c)) k)
+    -- length 0 or above the connection's size
+    ∷ (11, at-offer (λ c len. not (within 1 (figures s c .size) len)) k)
+    -- it holds as many packets as its reservation
+    ∷ (12, at-offer (λ c len. leb (reservation (s .link) (figures s c)) (length (of c (s .held)))) k)
+    -- the clock has ended
+    ∷ (13, at-offer-or-tick (leb clock-end (s .clock)) k)
+    ∷ []
+
+-- number 1 first, otherwise the lowest that applies; 0: done
+abbrev pub verdict : Call → State → ℕ
+verdict k s = first-number (verdicts k s)
+
+-- ---- what a call does
+
+abbrev pub linked : State → Link → State
+linked s l = record { link = l; connections = s .connections; pasts = s .pasts; clock = s .clock; held = s .held; serving = s .serving; to-go = s .to-go }
+
+abbrev pub joined : State → Connection → State
+joined s x = record {
+  link = s .link;
+  connections = s .connections ++ x ∷ [];
+  pasts = s .pasts ++ no-past ∷ [];
+  clock = s .clock;
+  held = s .held;
+  serving = s .serving;
+  to-go = s .to-go;
+}
+
+-- the eligibility of an offer to connection c now
+abbrev pub eligibility-now : State → ℕ → ℕ
+eligibility-now s c = next-eligibility (figures s c) (past s c) (s .clock)
+
+abbrev pub packet : State → ℕ → ℕ → ℕ → Packet
+packet s c len tag = record { connection = c; len = len; tag = tag; arrival = s .clock; eligibility = eligibility-now s c }
+
+abbrev pub placed : State → ℕ → ℕ → ℕ → State
+placed s c len tag = record {
+  link = s .link;
+  connections = s .connections;
+  pasts = set (s .pasts) c (remember (past s c) (eligibility-now s c));
+  clock = s .clock;
+  held = s .held ++ packet s c len tag ∷ [];
+  serving = s .serving;
+  to-go = s .to-go;
+}
+
+abbrev pub done : Call → State → Answer
+done (link l) s = record { verdict = 0; number = 0; departed = none; next = linked s l }
+done (admit x) s = record { verdict = 0; number = next-number (s .connections); departed = none; next = joined s x }
+done (offer c len tag) s = record { verdict = 0; number = eligibility-now s c; departed = none; next = placed s c len tag }
+done tick s = ticked s
+
+-- a refused admission gives connection 255, a refused offer eligibility 0
+abbrev pub refused-number : Call → ℕ
+refused-number (link l) = 0
+refused-number (admit x) = no-connection-number
+refused-number (offer c len tag) = 0
+refused-number tick = 0
+
+-- a verdict other than 0 changes nothing, and no packet leaves
+abbrev pub refused : Call → State → ℕ → Answer
+refused k s v = record { verdict = v; number = refused-number k; departed = none; next = s }
+
+abbrev pub settle : Call → State → ℕ → Answer
+settle k s zero = done k s
+settle k s (suc v) = refused k s (suc v)
+
+-- THE RULES: the answer to a call on any state at all
+abbrev pub answer : Call → State → Answer
+answer k s = settle k s (verdict k s)

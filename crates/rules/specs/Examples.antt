@@ -1,0 +1,111 @@
+-- Document 01, "Table of proved examples", P1 to P10, as one table under one statement. Assumes nothing.
+use Prim.Native.Nat.{ℕ}
+use mathlib.Core.Path.{_≡_}
+use mathlib.Core.List.{List, [], _∷_, _++_, map}
+use lib.ListN.{replicate}
+use Rattle.rules.specs.Model.{State, Call, link, admit, offer, tick}
+use Rattle.rules.specs.Admission.{reservation, level-sum}
+use Rattle.rules.specs.Calls.{answer}
+use Rattle.rules.specs.Runs.{Departure, run}
+
+-- what is seen of a call: its verdict, its number, and for an admission the level sums with the newcomer counted and its reservation;
+-- and the finishes once so many ticks have followed
+pub record Seen : Type 0 where
+  pub verdict : ℕ
+  pub number : ℕ
+  pub sums : List ℕ
+  pub reservations : List ℕ
+  pub finishes : List ℕ
+
+-- the calls from fresh, the call that is looked at, the ticks that follow
+pub record Case : Type 0 where
+  pub before : List Call
+  pub call : Call
+  pub ticks : ℕ
+  pub expected : Seen
+
+abbrev pub sums-at : State → Call → List ℕ
+sums-at s (link l) = []
+sums-at s (admit x) = level-sum (s .link) (s .connections ++ x ∷ []) 1 ∷ level-sum (s .link) (s .connections ++ x ∷ []) 2 ∷ []
+sums-at s (offer c len tag) = []
+sums-at s tick = []
+
+abbrev pub reservations-at : State → Call → List ℕ
+reservations-at s (link l) = []
+reservations-at s (admit x) = reservation (s .link) x ∷ []
+reservations-at s (offer c len tag) = []
+reservations-at s tick = []
+
+unfoldable pub seen : Case → Seen
+seen x =
+    let s = run (x .before) .now in
+    record {
+      verdict = answer (x .call) s .verdict;
+      number = answer (x .call) s .number;
+      sums = sums-at s (x .call);
+      reservations = reservations-at s (x .call);
+      finishes = map (λ (d : Departure). d .finish) (run (x .before ++ x .call ∷ replicate (x .ticks) tick) .departed);
+    }
+
+-- Link A: S 4, bounds 10, 20
+abbrev pub link-a : Call
+link-a = link (record { levels = 2; largest = 4; bounds = 10 ∷ 20 ∷ 0 ∷ 0 ∷ 0 ∷ 0 ∷ 0 ∷ 0 ∷ [] })
+
+-- an admission with level, gap and size
+abbrev pub line : ℕ → ℕ → ℕ → Call
+line level gap size = admit (record { level = level; gap = gap; size = size })
+
+abbrev pub admission : List Call → Call → ℕ → ℕ → List ℕ → ℕ → Case
+admission before call verdict number sums reserve = record {
+  before = before;
+  call = call;
+  ticks = 0;
+  expected = record { verdict = verdict; number = number; sums = sums; reservations = reserve ∷ []; finishes = [] };
+}
+
+abbrev pub service : List Call → Call → ℕ → ℕ → ℕ → List ℕ → Case
+service before call ticks verdict number finishes = record {
+  before = before;
+  call = call;
+  ticks = ticks;
+  expected = record { verdict = verdict; number = number; sums = []; reservations = []; finishes = finishes };
+}
+
+abbrev pub after-p1 : List Call
+after-p1 = link-a ∷ line 1 10 4 ∷ []
+
+abbrev pub after-p2 : List Call
+after-p2 = after-p1 ++ line 2 20 4 ∷ []
+
+abbrev pub after-p3 : List Call
+after-p3 = after-p2 ++ line 1 9 1 ∷ []
+
+abbrev pub after-p5 : List Call
+after-p5 = after-p3 ++ line 2 20 1 ∷ []
+
+abbrev pub after-p8 : List Call
+after-p8 = after-p2 ++ offer 1 4 71 ∷ tick ∷ offer 0 4 72 ∷ []
+
+abbrev pub table : List Case
+table =
+    -- P1, P2, P3
+    admission (link-a ∷ []) (line 1 10 4) 0 0 (8 ∷ 12 ∷ []) 1
+    ∷ admission after-p1 (line 2 20 4) 0 1 (8 ∷ 16 ∷ []) 1
+    ∷ admission after-p2 (line 1 9 1) 0 2 (10 ∷ 19 ∷ []) 2
+    -- P4 instead of P3: 12 at level 1
+    ∷ admission after-p2 (line 1 9 2) 8 255 (12 ∷ 22 ∷ []) 2
+    -- P5, and P6 the same again: 20 and 21 at level 2
+    ∷ admission after-p3 (line 2 20 1) 0 3 (10 ∷ 20 ∷ []) 1
+    ∷ admission after-p5 (line 2 20 1) 8 255 (10 ∷ 21 ∷ []) 1
+    -- P7: passes level 1 with 8, fails level 2 with 24
+    ∷ admission (link-a ∷ line 2 20 4 ∷ line 2 20 4 ∷ line 2 20 4 ∷ []) (line 1 10 4) 8 255 (8 ∷ 24 ∷ []) 1
+    -- P8: offer 1 at 0, one tick, offer 0 at 1: eligible at 1, finishes 4 and 8
+    ∷ service (after-p2 ++ offer 1 4 71 ∷ tick ∷ []) (offer 0 4 72) 7 0 1 (4 ∷ 8 ∷ [])
+    -- P9: a second such offer on 0 at clock 1
+    ∷ service after-p8 (offer 0 4 73) 7 12 0 (4 ∷ 8 ∷ [])
+    -- P10: offer 0, length 1, at clock 8: eligible 11, finish 12
+    ∷ service (after-p8 ++ replicate 7 tick) (offer 0 1 74) 4 0 11 (4 ∷ 8 ∷ 12 ∷ [])
+    ∷ []
+
+abbrev pub Worked-examples : Type 0
+Worked-examples = map seen table ≡ map (λ (x : Case). x .expected) table

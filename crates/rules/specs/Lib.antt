@@ -1,0 +1,12 @@
+-- Read in this order: Words, Limits, Model, Admission, Service, SoundState, SoundTest, Calls, Runs, Promises, Examples.
+pub mod Words
+pub mod Limits
+pub mod Model
+pub mod Admission
+pub mod Service
+pub mod SoundState
+pub mod SoundTest
+pub mod Calls
+pub mod Runs
+pub mod Promises
+pub mod Examples

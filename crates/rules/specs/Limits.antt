@@ -1,0 +1,34 @@
+-- The limits of document 01, each a name of its own, so that a request can move it in one place. Assumes nothing.
+use Prim.Native.Nat.{ℕ}
+
+-- "Link, connections, places": levels of a link, units of the largest packet, ticks of a delay bound and of a gap
+abbrev pub max-levels : ℕ
+max-levels = 8
+
+abbrev pub max-largest : ℕ
+max-largest = 2_048
+
+abbrev pub max-bound : ℕ
+max-bound = 32_768
+
+abbrev pub max-gap : ℕ
+max-gap = 65_535
+
+-- connections; packets that all reservations together may reach, which is also the rows of the places table
+abbrev pub max-connections : ℕ
+max-connections = 64
+
+abbrev pub max-reserved : ℕ
+max-reserved = 512
+
+-- the clock's end
+abbrev pub clock-end : ℕ
+clock-end = 4_000_000_000
+
+-- one more than a 32-bit number can be
+abbrev pub beyond-32-bits : ℕ
+beyond-32-bits = 4_294_967_296
+
+-- "Verdict numbers": the connection that a refused admission gives
+abbrev pub no-connection-number : ℕ
+no-connection-number = 255

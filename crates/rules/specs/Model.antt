@@ -1,0 +1,59 @@
+-- What the rules speak of: the state of a hub, the calls on it and their answers. Document 01, "Link, connections, places". Assumes nothing.
+use Prim.Native.Nat.{ℕ}
+use mathlib.Core.Bool.{false}
+use mathlib.Core.List.{List, []}
+use mathlib.Core.Option.{Option}
+use lib.ListN.{getD, replicate}
+use Rattle.rules.specs.Limits.{max-levels}
+pub use Rattle.rules.specs.declared.Link.{Link}
+pub use Rattle.rules.specs.declared.Connection.{Connection}
+pub use Rattle.rules.specs.declared.Past.{Past}
+pub use Rattle.rules.specs.declared.Packet.{Packet}
+
+-- `link` has 0 levels while none is set. `connections` by number, `pasts` beside them. `held` in the order offered. The packet in service is the first
+-- held one of connection `serving`, with `to-go` units to go; `to-go` is 0 while the line is idle
+pub record State : Type 0 where
+  pub link : Link
+  pub connections : List Connection
+  pub pasts : List Past
+  pub clock : ℕ
+  pub held : List Packet
+  pub serving : ℕ
+  pub to-go : ℕ
+
+-- the four calls; an offer names its connection, its length and its tag
+pub data Call : Type 0 where
+  link : Link → Call
+  admit : Connection → Call
+  offer : ℕ → ℕ → ℕ → Call
+  tick : Call
+
+-- `number`: the connection that an admission gives, the eligibility that an offer gives, else 0. `departed`: the packet that a tick sends off, if it does
+pub record Answer : Type 0 where
+  pub verdict : ℕ
+  pub number : ℕ
+  pub departed : Option Packet
+  pub next : State
+
+abbrev pub no-link : Link
+no-link = record { levels = 0; largest = 0; bounds = replicate max-levels 0 }
+
+abbrev pub no-connection : Connection
+no-connection = record { level = 0; gap = 0; size = 0 }
+
+abbrev pub no-past : Past
+no-past = record { sent = false; last = 0 }
+
+-- the fresh hub: everything is zero
+abbrev pub fresh : State
+fresh = record { link = no-link; connections = []; pasts = []; clock = 0; held = []; serving = 0; to-go = 0 }
+
+-- connection c, and what is remembered of it
+abbrev pub nth : List Connection → ℕ → Connection
+nth cs c = getD cs c no-connection
+
+abbrev pub past : State → ℕ → Past
+past s c = getD (s .pasts) c no-past
+
+abbrev pub figures : State → ℕ → Connection
+figures s c = nth (s .connections) c

@@ -1,0 +1,99 @@
+-- THE STATEMENTS, apart from their proofs: each is proved in proofs/Results under the same name in small letters. Assumes nothing.
+use Prim.Native.Nat.{ℕ, _+_, _≤_, _<_}
+use mathlib.Core.Path.{_≡_}
+use mathlib.Core.Bool.{true}
+use mathlib.Core.Logic.{_↔_}
+use mathlib.Core.List.{List, [], _∷_, _++_, map}
+use mathlib.Core.Option.{none, some}
+use lib.ListN.{length, getElem?}
+use Rattle.rules.specs.Words.{All}
+use Rattle.rules.specs.Limits.{max-reserved, clock-end, beyond-32-bits}
+use Rattle.rules.specs.Model.{Packet, State, Call, offer, fresh, past}
+use Rattle.rules.specs.Service.{of}
+use Rattle.rules.specs.SoundState.{Sound}
+use Rattle.rules.specs.SoundTest.{sound}
+use Rattle.rules.specs.Calls.{answer, refused-number, eligibility-now}
+use Rattle.rules.specs.Runs.{History, run, departures, bound-of, allowed, Keeps-its-gap}
+
+-- ---- demand 1: any call on any state ends with an answer or a numbered refusal (`answer` is a function); a refused call changes nothing
+
+abbrev pub Demand-1-refusals : Type 0
+Demand-1-refusals =
+    (k : Call) (s : State)
+    → (answer k s .verdict ≡ 0 → ⊥)
+    → (answer k s .next ≡ s) × (answer k s .departed ≡ none) × (answer k s .number ≡ refused-number k)
+
+-- ---- the sound state (document 01, "A sound state")
+
+-- the test that computes is true exactly of a sound state
+abbrev pub Test-is-exact : Type 0
+Test-is-exact = (s : State) → sound s ≡ true ↔ Sound s
+
+-- verdict 1 is given exactly where the state is not sound, whatever the call
+abbrev pub Verdict-1-exactly : Type 0
+Verdict-1-exactly = (k : Call) (s : State) → answer k s .verdict ≡ 1 ↔ (Sound s → ⊥)
+
+-- with no link set, sound means everything zero
+abbrev pub No-link-means-zero : Type 0
+No-link-means-zero = (s : State) → s .link .levels ≡ 0 → Sound s ↔ s ≡ fresh
+
+-- a call on a sound state leaves a sound one
+abbrev pub Sound-is-kept : Type 0
+Sound-is-kept = (k : Call) (s : State) → Sound s → Sound (answer k s .next)
+
+-- so every state of a run is sound
+abbrev pub Runs-are-sound : Type 0
+Runs-are-sound = (ks : List Call) → Sound (run ks .now)
+
+-- a sound state holds no more packets than the places table has rows
+abbrev pub Rows-fit : Type 0
+Rows-fit = (s : State) → Sound s → length (s .held) ≤ max-reserved
+
+-- each eligibility that can arise fits 32 bits: those held, those remembered, and the next of each connection
+abbrev pub Eligibilities-fit : Type 0
+Eligibilities-fit =
+    (s : State) → Sound s
+    → All (λ p. p .eligibility < beyond-32-bits) (s .held)
+    × ((c : ℕ) → (past s c .last < beyond-32-bits) × (eligibility-now s c < beyond-32-bits))
+
+-- ---- conservation: for each connection, accepted = departed followed by held, as lists
+
+abbrev pub Conservation : Type 0
+Conservation =
+    (ks : List Call) (c : ℕ)
+    → of c (run ks .accepted) ≡ map (λ d. d .what) (departures c (run ks .departed)) ++ of c (run ks .now .held)
+
+-- ---- demand 3, first sentence: from a fresh hub, through any calls, each accepted packet has left by its eligibility plus its level's bound,
+-- whatever the other lines do. The i-th accepted packet of c is the i-th departure of c once the clock is there, with a finish no later
+
+pub record Left-by (h : History) (c i : ℕ) (p : Packet) (deadline : ℕ) : Type 0 where
+  pub finish : ℕ
+  pub is-departure : getElem? (departures c (h .departed)) i ≡ some (record { what = p; finish = finish })
+  pub in-time : finish ≤ deadline
+
+abbrev pub Demand-3-first : Type 0
+Demand-3-first =
+    (ks : List Call) (c i : ℕ) (p : Packet)
+    → getElem? (of c (run ks .accepted)) i ≡ some p
+    → p .eligibility + bound-of (run ks .now) c ≤ run ks .now .clock
+    → Left-by (run ks) c i p (p .eligibility + bound-of (run ks .now) c)
+
+-- ---- demand 3, second sentence: a line that keeps its gap is never refused for room and leaves within the bound of its arrival.
+-- Any calls `earlier`, an offer of c of allowed length, any calls `later`; c has kept its gap up to this offer
+
+pub record Kept-promise (earlier later : List Call) (c len tag : ℕ) : Type 0 where
+  pub never-for-room : answer (offer c len tag) (run earlier .now) .verdict ≡ 12 → ⊥
+  pub accepted : run earlier .now .clock < clock-end → answer (offer c len tag) (run earlier .now) .verdict ≡ 0
+  pub on-arrival : run earlier .now .clock < clock-end → answer (offer c len tag) (run earlier .now) .number ≡ run earlier .now .clock
+  pub in-time : run earlier .now .clock < clock-end
+      → run earlier .now .clock + bound-of (run earlier .now) c ≤ run (earlier ++ offer c len tag ∷ later) .now .clock
+      → Left-by (run (earlier ++ offer c len tag ∷ later)) c (length (of c (run earlier .accepted)))
+      (record { connection = c; len = len; tag = tag; arrival = run earlier .now .clock; eligibility = run earlier .now .clock })
+      (run earlier .now .clock + bound-of (run earlier .now) c)
+
+abbrev pub Demand-3-second : Type 0
+Demand-3-second =
+    (earlier later : List Call) (c len tag : ℕ)
+    → Keeps-its-gap c (earlier ++ offer c len tag ∷ [])
+    → allowed (run earlier .now) c len ≡ true
+    → Kept-promise earlier later c len tag

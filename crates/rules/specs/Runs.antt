@@ -1,0 +1,92 @@
+-- A run: any list of calls from the fresh hub, with its history. Assumes nothing.
+use Prim.Native.Nat.{ℕ, zero, suc, _+_}
+use mathlib.Core.Bool.{Bool, cond, _&&_}
+use mathlib.Core.List.{List, [], _∷_}
+use mathlib.Core.Option.{Option, none, some}
+use lib.Dec.{eqb}
+use Rattle.rules.specs.Words.{within, push}
+use Rattle.rules.specs.Model.{Packet, State, Call, link, admit, offer, tick, Answer, fresh, figures}
+use Rattle.rules.specs.Admission.{stands, bound}
+use Rattle.rules.specs.Service.{Spaced}
+use Rattle.rules.specs.Calls.{answer}
+
+pub record Departure : Type 0 where
+  pub what : Packet
+  pub finish : ℕ
+
+-- the accepted packets and the departures, each in order, and the state
+pub record History : Type 0 where
+  pub accepted : List Packet
+  pub departed : List Departure
+  pub now : State
+
+-- the packet that an answer says was accepted: an offer's, at verdict 0, with the eligibility that the answer gives
+abbrev pub if-done : {A : Type 0} → ℕ → A → Option A
+if-done zero x = some x
+if-done (suc v) x = none
+
+abbrev pub taken : Call → State → Answer → Option Packet
+taken (link l) s a = none
+taken (admit x) s a = none
+taken (offer c len tag) s a = if-done (a .verdict) (record { connection = c; len = len; tag = tag; arrival = s .clock; eligibility = a .number })
+taken tick s a = none
+
+-- "One tick": a packet departs with finish t + 1
+abbrev pub leaving : State → Option Packet → Option Departure
+leaving s none = none
+leaving s (some p) = some (record { what = p; finish = s .clock + 1 })
+
+-- the history with an answer added
+abbrev pub logged : History → Call → Answer → History
+logged h k a = record {
+  accepted = push (h .accepted) (taken k (h .now) a);
+  departed = push (h .departed) (leaving (h .now) (a .departed));
+  now = a .next;
+}
+
+abbrev pub after : History → Call → History
+after h k = logged h k (answer k (h .now))
+
+abbrev pub run-from : History → List Call → History
+run-from h [] = h
+run-from h (k ∷ ks) = run-from (after h k) ks
+
+abbrev pub nothing-yet : History
+nothing-yet = record { accepted = []; departed = []; now = fresh }
+
+abbrev pub run : List Call → History
+run ks = run-from nothing-yet ks
+
+-- the departures of connection c, in order
+abbrev pub departures : ℕ → List Departure → List Departure
+departures c [] = []
+departures c (d ∷ ds) = cond (eqb (d .what .connection) c) (d ∷ departures c ds) (departures c ds)
+
+-- the delay bound of connection c's level
+abbrev pub bound-of : State → ℕ → ℕ
+bound-of s c = bound (s .link) (figures s c .level)
+
+-- ---- a line that keeps its gap
+
+-- an offer to c of allowed length; one given 10 is no connection's offer ("Verdict numbers")
+abbrev pub allowed : State → ℕ → ℕ → Bool
+allowed s c len = stands (s .connections) c && within 1 (figures s c .size) len
+
+-- the tick of such an offer
+abbrev pub offer-tick : ℕ → State → Call → Option ℕ
+offer-tick c s (link l) = none
+offer-tick c s (admit x) = none
+offer-tick c s (offer d len tag) = cond (eqb d c && allowed s c len) (some (s .clock)) none
+offer-tick c s tick = none
+
+abbrev pub offer-ticks-from : ℕ → History → List ℕ → List Call → List ℕ
+offer-ticks-from c h ts [] = ts
+offer-ticks-from c h ts (k ∷ ks) = offer-ticks-from c (after h k) (push ts (offer-tick c (h .now) k)) ks
+
+-- the ticks of all of them in a run, in order
+abbrev pub offer-ticks : ℕ → List Call → List ℕ
+offer-ticks c ks = offer-ticks-from c nothing-yet [] ks
+
+-- they are never closer than the spacing of c asks
+abbrev pub Keeps-its-gap : ℕ → List Call → Type 0
+Keeps-its-gap c ks = Spaced (figures (run ks .now) c) (offer-ticks c ks)

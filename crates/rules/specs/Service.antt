@@ -1,0 +1,103 @@
+-- When a packet may go, which goes next, and one tick of the line. Document 01, "Eligibility" and "One tick". Assumes nothing.
+use Prim.Native.Nat.{ℕ, zero, suc, _+_, _≤_, max}
+use mathlib.Core.Bool.{Bool, true, cond, _&&_, _||_}
+use mathlib.Core.List.{List, [], _∷_, map}
+use mathlib.Core.Option.{Option, none, some}
+use lib.Dec.{leb, ltb, eqb}
+use Rattle.rules.specs.Words.{Pairs}
+use Rattle.rules.specs.Model.{Connection, Past, Packet, State, Answer, figures}
+
+-- ---- "Eligibility"
+
+-- a connection's first accepted packet: on arrival. Each later one: the greater of its arrival and the eligibility before it plus X
+unfoldable pub next-eligibility : Connection → Past → ℕ → ℕ
+next-eligibility c h now = cond (h .sent) (max now (h .last + c .gap)) now
+
+-- what is remembered once a packet with the eligibility e is accepted
+unfoldable pub remember : Past → ℕ → Past
+remember h e = record { sent = true; last = e }
+
+-- the spacing that this gives a connection's eligibilities, in order: each at least X after every one before it
+unfoldable pub Spaced : Connection → List ℕ → Type 0
+Spaced c es = Pairs (λ a b. a + c .gap ≤ b) es
+
+-- ---- packets by connection
+
+-- the packets of connection c, in order
+abbrev pub of : ℕ → List Packet → List Packet
+of c [] = []
+of c (p ∷ ps) = cond (eqb (p .connection) c) (p ∷ of c ps) (of c ps)
+
+-- their eligibilities
+abbrev pub eligibilities : ℕ → List Packet → List ℕ
+eligibilities c ps = map (λ p. p .eligibility) (of c ps)
+
+-- the first of them
+abbrev pub first : ℕ → List Packet → Option Packet
+first c [] = none
+first c (p ∷ ps) = cond (eqb (p .connection) c) (some p) (first c ps)
+
+-- the packets with that one removed: the later rows move up
+abbrev pub without : ℕ → List Packet → List Packet
+without c [] = []
+without c (p ∷ ps) = cond (eqb (p .connection) c) ps (p ∷ without c ps)
+
+-- ---- "One tick", step 1: the choice
+
+-- of p, offered earlier, and q: p goes first at a lower level number, or at the same with an eligibility no later
+abbrev pub goes-first : (ℕ → ℕ) → Packet → Packet → Bool
+goes-first level p q =
+    ltb (level (p .connection)) (level (q .connection))
+    || (eqb (level (p .connection)) (level (q .connection)) && leb (p .eligibility) (q .eligibility))
+
+abbrev pub better : (ℕ → ℕ) → Packet → Option Packet → Option Packet
+better level p none = some p
+better level p (some q) = cond (goes-first level p q) (some p) (some q)
+
+-- among the packets with eligibility at most t: lowest level number, then earliest eligibility, then earliest offered
+abbrev pub choice : (ℕ → ℕ) → ℕ → List Packet → Option Packet
+choice level t [] = none
+choice level t (p ∷ ps) = cond (leb (p .eligibility) t) (better level p (choice level t ps)) (choice level t ps)
+
+-- the level of connection c
+abbrev pub level-of : State → ℕ → ℕ
+level-of s c = figures s c .level
+
+abbrev pub chosen : State → Option Packet
+chosen s = choice (level-of s) (s .clock) (s .held)
+
+-- ---- "One tick", the three steps
+
+-- the state with the line given anew: the connection in service, and its units to go
+abbrev pub with-line : State → ℕ → ℕ → State
+with-line s serving to-go = record { link = s .link; connections = s .connections; pasts = s .pasts; clock = s .clock; held = s .held; serving = serving; to-go = to-go }
+
+-- .. and with the packets held given anew, one tick later
+abbrev pub later : State → List Packet → ℕ → ℕ → State
+later s held serving to-go = record { link = s .link; connections = s .connections; pasts = s .pasts; clock = s .clock + 1; held = held; serving = serving; to-go = to-go }
+
+-- the line takes a packet whole, or stays idle
+abbrev pub takes : Option Packet → ℕ × ℕ
+takes none = (0, 0)
+takes (some p) = (p .connection, p .len)
+
+-- 1. an idle line takes the chosen packet; nothing interrupts one that is in service. Given the units to go: the line then
+abbrev pub line-after-start : State → ℕ → ℕ × ℕ
+line-after-start s zero = takes (chosen s)
+line-after-start s (suc u) = (s .serving, suc u)
+
+abbrev pub started : State → State
+started s = let l = line-after-start s (s .to-go) in with-line s (l .0) (l .1)
+
+-- 2. a unit of the packet in service goes; with its last unit it departs, its row is removed and the line is idle. 3. the clock moves on
+abbrev pub after-unit : State → ℕ → Answer
+after-unit s zero = record { verdict = 0; number = 0; departed = none; next = later s (s .held) 0 0 }
+after-unit s (suc zero) = record { verdict = 0; number = 0; departed = first (s .serving) (s .held); next = later s (without (s .serving) (s .held)) 0 0 }
+after-unit s (suc (suc u)) = record { verdict = 0; number = 0; departed = none; next = later s (s .held) (s .serving) (suc u) }
+
+abbrev pub ticked : State → Answer
+ticked s = after-unit (started s) (started s .to-go)
+
+-- the ticks for which the line is still taken by what is on it
+unfoldable pub line-left : State → ℕ
+line-left s = s .to-go

@@ -1,0 +1,101 @@
+-- A sound state, clause by clause. Document 01, "A sound state"; its first clause, the length of the places table, is the table's own and stands with
+-- the code. Assumes nothing.
+use Prim.Native.Nat.{ℕ, _+_, _≤_, _<_}
+use mathlib.Core.Path.{_≡_}
+use mathlib.Core.Bool.{true, false}
+use mathlib.Core.Logic.{_⊎_}
+use mathlib.Core.List.{List, [], _∷_}
+use mathlib.Core.Option.{some}
+use lib.ListN.{length}
+use Rattle.rules.specs.Words.{All}
+use Rattle.rules.specs.Limits.{max-connections, max-reserved, clock-end}
+use Rattle.rules.specs.Model.{Connection, Past, Packet, State, fresh, nth, past, figures}
+use Rattle.rules.specs.Admission.{link-within, level-within, figures-within, stands, bound, reservation, reserved, level-sum}
+use Rattle.rules.specs.Service.{Spaced, of, eligibilities, first}
+
+-- ---- the held rows, each by itself
+
+-- it names a standing connection and has a length from 1 to its size
+pub record Fits (cs : List Connection) (p : Packet) : Type 0 where
+  pub standing : stands cs (p .connection) ≡ true
+  pub some-len : 1 ≤ p .len
+  pub len-le : p .len ≤ nth cs (p .connection) .size
+
+-- arrival at most the clock, eligibility at least the arrival
+pub record Dated (t : ℕ) (p : Packet) : Type 0 where
+  pub arrived : p .arrival ≤ t
+  pub not-before : p .arrival ≤ p .eligibility
+
+-- ---- the rows of one connection, by their eligibilities in row order. X its gap, t the clock
+
+-- the last row's is `last`
+abbrev pub Ends-at : ℕ → List ℕ → Type 0
+Ends-at last [] = Unit {0}
+Ends-at last (e ∷ []) = e ≡ last
+Ends-at last (e ∷ f ∷ es) = Ends-at last (f ∷ es)
+
+-- the first beyond the clock is at most X beyond it
+abbrev pub First-near : ℕ → ℕ → List ℕ → Type 0
+First-near X t [] = Unit {0}
+First-near X t (e ∷ es) = (t < e → e ≤ t + X) × (e ≤ t → First-near X t es)
+
+-- after a: each exactly X after the one before
+abbrev pub In-steps : ℕ → ℕ → List ℕ → Type 0
+In-steps X a [] = Unit {0}
+In-steps X a (e ∷ es) = (e ≡ a + X) × In-steps X e es
+
+-- each later than the first beyond the clock exactly X after the one before
+abbrev pub Later-exact : ℕ → ℕ → List ℕ → Type 0
+Later-exact X t [] = Unit {0}
+Later-exact X t (e ∷ es) = (t < e → In-steps X e es) × (e ≤ t → Later-exact X t es)
+
+pub record Queue (c : Connection) (t : ℕ) (h : Past) (es : List ℕ) : Type 0 where
+  pub rise : Spaced c es
+  pub last-row : Ends-at (h .last) es
+  pub first-beyond : First-near (c .gap) t es
+  pub later-beyond : Later-exact (c .gap) t es
+  pub none-beyond : All (λ e. e ≤ t) es → h .last ≤ t
+  pub none-accepted : h .sent ≡ false → (es ≡ []) × (h .last ≡ 0)
+
+-- ---- the line
+
+-- a packet in service: the first row of its connection, eligible, with 1 to its length units to go (at least k fewer, where k is not 0)
+pub record In-service-of (held : List Packet) (serving to-go t k : ℕ) : Type 0 where
+  pub it : Packet
+  pub is-first : first serving held ≡ some it
+  pub eligible : it .eligibility ≤ t
+  pub some-to-go : 1 ≤ to-go
+  pub to-go-le : to-go + k ≤ it .len
+
+abbrev pub In-service : State → ℕ → Type 0
+In-service s k = In-service-of (s .held) (s .serving) (s .to-go) (s .clock) k
+
+-- an idle line: everything unused is zero
+abbrev pub Idle : State → Type 0
+Idle s = (s .to-go ≡ 0) × (s .serving ≡ 0)
+
+-- ---- the state
+
+pub record Sound-with-link (s : State) : Type 0 where
+  -- link, connections, tests and reservations are within the rules
+  pub link-in : link-within (s .link) ≡ true
+  pub levels-in : (c : ℕ) → c < length (s .connections) → level-within (s .link) (figures s c) ≡ true
+  pub figures-in : (c : ℕ) → c < length (s .connections) → figures-within (s .link) (figures s c) ≡ true
+  pub few : length (s .connections) ≤ max-connections
+  pub one-past-each : length (s .pasts) ≡ length (s .connections)
+  pub tested : (m : ℕ) → 1 ≤ m → m ≤ s .link .levels → level-sum (s .link) (s .connections) m ≤ bound (s .link) m
+  pub reserved-le : reserved (s .link) (s .connections) ≤ max-reserved
+  -- the clock is at most its end
+  pub clock-le : s .clock ≤ clock-end
+  -- each held row
+  pub fit : All (Fits (s .connections)) (s .held)
+  pub dated : All (Dated (s .clock)) (s .held)
+  -- no connection holds more than its reservation, and its rows are in order
+  pub room : (c : ℕ) → c < length (s .connections) → length (of c (s .held)) ≤ reservation (s .link) (figures s c)
+  pub queue : (c : ℕ) → c < length (s .connections) → Queue (figures s c) (s .clock) (past s c) (eligibilities c (s .held))
+  -- the line
+  pub line : Idle s ⊎ In-service s 0
+
+pub record Sound (s : State) : Type 0 where
+  pub with-no-link : s .link .levels ≡ 0 → s ≡ fresh
+  pub with-one : (s .link .levels ≡ 0 → ⊥) → Sound-with-link s

@@ -1,0 +1,30 @@
+// The four records that the rules and the code share, declared once so that a contract needs no conversion. The rules themselves stand in specs/.
+
+// Document 01, "Link, connections, places": n levels, the largest packet S, a delay bound for each level, level 1 first.
+pub struct Link {
+    pub levels: u32,
+    pub largest: u32,
+    pub bounds: [u32; 8],
+}
+
+// The same section: a connection as it was admitted.
+pub struct Connection {
+    pub level: u32,
+    pub gap: u32,
+    pub size: u32,
+}
+
+// What is remembered of a connection's accepted packets: whether there was one, and the eligibility of the last.
+pub struct Past {
+    pub sent: bool,
+    pub last: u32,
+}
+
+// The same section: a held packet.
+pub struct Packet {
+    pub connection: u32,
+    pub len: u32,
+    pub tag: u32,
+    pub arrival: u32,
+    pub eligibility: u32,
+}
