@@ -78,6 +78,10 @@ pub sum-le : (n : ℕ) {f g : ℕ → ℕ} → ((i : ℕ) → i < n → f i ≤ 
 sum-le zero k = omega arith
 sum-le (suc n) k = omega (arith, sum-le n (λ i h. k i (omega arith)), k n (omega arith))
 
+pub sum-eq : (n : ℕ) {f g : ℕ → ℕ} → ((i : ℕ) → i < n → f i ≡ g i) → sum n f ≡ sum n g
+sum-eq zero k = refl
+sum-eq (suc n) k = omega (arith, sum-eq n (λ i h. k i (omega arith)), k n (omega arith))
+
 pub sum-add : (n : ℕ) (f g : ℕ → ℕ) → sum n (λ i. f i + g i) ≡ sum n f + sum n g
 sum-add zero f g = omega arith
 sum-add (suc n) f g = omega (arith, sum-add n f g)

@@ -1,0 +1,199 @@
+-- What a sound hub gives a call, and how a refusal and each call done meet the contract. Assumes nothing.
+use Prim.Native.Nat.{ℕ, suc, _+_, _*_, _≤_, _<_}
+use native.Mathlib.Omega.{arith}
+use mathlib.Core.Path.{_≡_, refl, sym, ap, _∙_, subst}
+use mathlib.Core.Bool.{Bool, true, false, cond, not, _&&_}
+use mathlib.Core.List.{List, [], _∷_, _++_}
+use lib.Dec.{eqb}
+use borrow.Author.Tests.{ne-eqb}
+use lib.ListN.{length, getD, set, drop, length-append, length-map, List·getD-map}
+use lib.Seq.{getD-append-seam, drop-length}
+use Rattle.rules.specs.declared.Link.{Link}
+use Rattle.rules.specs.declared.Connection.{Connection}
+use Rattle.rules.specs.declared.Past.{Past}
+use Rattle.rules.specs.declared.Packet.{Packet}
+use Rattle.rules.specs.Words.{sum}
+use Rattle.rules.specs.Limits.{max-connections, max-reserved, clock-end, beyond-32-bits}
+use Rattle.rules.specs.Model.{State, Call, link, admit, offer, tick, Answer, nth, no-past, past, figures}
+use Rattle.rules.specs.Admission.{reservation, reserved}
+use Rattle.rules.specs.Service.{next-eligibility, remember, of, ticked}
+use Rattle.rules.specs.SoundState.{Sound-with-link, Sound}
+use Rattle.rules.specs.SoundTest.{sound, line-sound, rows-sound, admissions-sound}
+use Rattle.rules.specs.Calls.{verdict, done, refused, refused-number, settle, answer, eligibility-now, placed}
+use Rattle.rules.proofs.Tests.{and-true}
+use Rattle.rules.proofs.Sums.{sum-eq, cond-is}
+use Rattle.rules.proofs.Standing.{nth-old, stands-below}
+use Rattle.rules.proofs.Line.{tick-leaves}
+use Rattle.rules.proofs.SoundExact.{exact}
+use Rattle.rules.proofs.Bounds.{rows-fit-places, eligibilities-fit-32}
+use Rattle.rules.proofs.SoundKept.{done-sound}
+use Rattle.rules.proofs.Verdicts.{admit-done, Offer-done, offer-done}
+use Rattle.tables.specs.Table.{formed}
+use Rattle.tables.specs.Places.{places-length, packet-of, rows, places}
+use Rattle.tables.proofs.TableLaws.{formed-length}
+use Rattle.tables.proofs.PlacesLaws.{table-back, rows-end}
+use Rattle.lines.specs.declared.Member.{Member}
+use Rattle.lines.specs.Members.{members-length, member-of, no-member, member-in, members, connections, pasts, connection-of, past-of, written-members, members-formed}
+use Rattle.lines.specs.Within.{Within, gap-only}
+use Rattle.lines.proofs.MemberLaws.{member-is, connections-length, members-rows}
+use Rattle.lines.proofs.FigureLaws.{sum-more}
+use Rattle.lines.proofs.WrittenLaws.{members-written}
+use Rattle.sound.specs.SoundTables.{places-formed, sound-tables}
+use Rattle.service.specs.declared.Hub.{Hub}
+use Rattle.service.specs.declared.Told.{Told}
+use Rattle.service.specs.View.{view, told-of, refusal}
+use Rattle.service.specs.Ready.{Ready}
+use Rattle.service.proofs.ReadyLaws.{ready}
+use Rattle.calls.specs.Acts.{sound-hub, members-of, places-of, Acts}
+
+-- ---- what a sound hub says
+
+pub record Tested (h : Hub) (cs t : List ℕ) : Type 0 where
+  pub state : sound (view h cs t) ≡ true
+  pub members-shape : members-formed cs ≡ true
+  pub places-shape : formed packet-of places-length t ≡ true
+
+module _ (h : Hub) (cs t : List ℕ) (ok : sound-hub h cs t ≡ true) where
+  pub tested : Tested h cs t
+  unfolding sound-hub sound-tables places-formed
+  tested =
+      let a = and-true (places-formed t) _ ok in
+      let b = and-true (members-formed cs) (sound (view h cs t)) (a .1) in
+      record { state = b .1; members-shape = b .0; places-shape = a .0 }
+
+  pub is-sound : Sound (view h cs t)
+  is-sound = exact (view h cs t) .0 (tested .state)
+
+  -- both tables are what is written of what is read
+  pub members-kept : cs ≡ members-of (view h cs t)
+  members-kept = members-written cs (tested .members-shape)
+
+  pub places-kept : t ≡ places-of (view h cs t)
+  places-kept = table-back t (tested .places-shape)
+
+  pub members-size : length cs ≡ members-length
+  unfolding members-formed
+  members-size = formed-length member-of members-length cs (and-true (formed member-of members-length cs) _ (tested .members-shape) .0)
+
+  pub places-size : length t ≡ places-length
+  places-size = formed-length packet-of places-length t (tested .places-shape)
+
+  -- a refusal: the rules leave the state, and writing what was read gives the tables back
+  pub refuses : (k : Call) (v w n : ℕ) (r : Told) → verdict k (view h cs t) ≡ v → v ≡ suc w → n ≡ refused-number k → r ≡ refusal h v n → Acts k h cs t r cs t
+  refuses k v w n r e f g i =
+      let j : suc w ≡ verdict k (view h cs t) = sym f ∙ sym e in
+      record {
+        answers = i ∙ ap (λ (u : ℕ). refusal h u n) f ∙ ap (refusal h (suc w)) g ∙ ap (λ (u : ℕ). told-of (settle k (view h cs t) u)) j;
+        connections = members-kept ∙ ap (λ (u : ℕ). members-of (settle k (view h cs t) u .next)) j;
+        table = places-kept ∙ ap (λ (u : ℕ). places-of (settle k (view h cs t) u .next)) j;
+      }
+
+  -- a call done
+  pub acts : (k : Call) (r : Told) (cs′ t′ : List ℕ) → verdict k (view h cs t) ≡ 0
+      → r ≡ told-of (done k (view h cs t)) → cs′ ≡ members-of (done k (view h cs t) .next) → t′ ≡ places-of (done k (view h cs t) .next)
+      → Acts k h cs t r cs′ t′
+  acts k r cs′ t′ e a b c = record {
+    answers = a ∙ ap (λ (w : ℕ). told-of (settle k (view h cs t) w)) (sym e);
+    connections = b ∙ ap (λ (w : ℕ). members-of (settle k (view h cs t) w .next)) (sym e);
+    table = c ∙ ap (λ (w : ℕ). places-of (settle k (view h cs t) w .next)) (sym e);
+  }
+
+  -- ---- a tick
+
+  module _ (n : h .link .levels ≡ 0 → ⊥) where
+    linked : Sound-with-link (view h cs t)
+    linked = is-sound .with-one n
+
+    pub ready-to-tick : h .clock < clock-end → Ready h cs t
+    unfolding sound members-formed
+    ready-to-tick r =
+        ready h cs t (tested .places-shape) (and-true (formed member-of members-length cs) _ (tested .members-shape) .0)
+        (and-true (rows-sound (view h cs t)) (line-sound (view h cs t))
+        (and-true (admissions-sound (view h cs t)) _ (sym (cond-is _ (admissions-sound (view h cs t) && (rows-sound (view h cs t) && line-sound (view h cs t))) (ne-eqb (h .link .levels) 0 n)) ∙ tested .state) .1) .1)
+        r
+
+    -- ---- the figures
+
+    pub figures-in-limits : Within (h .link) (connections cs)
+    figures-in-limits = record { link-in = linked .link-in; figures-in = linked .figures-in }
+
+    pub few-members-of : (k : ℕ) → k ≡ length (members cs) → k ≤ max-connections
+    few-members-of k e = omega (arith, linked .few, connections-length cs)
+
+  pub tick-members : cs ≡ members-of (ticked (view h cs t) .next)
+  tick-members =
+      let l = tick-leaves (view h cs t) in
+      members-kept ∙ ap (λ (xs : List Connection). written-members xs (pasts cs)) (sym (l .connections)) ∙ ap (written-members (ticked (view h cs t) .next .connections)) (sym (l .pasts))
+
+-- ---- an admission
+
+pub admit-room : (h : Hub) (cs t : List ℕ) (x : Connection) (n : ℕ) → verdict (admit x) (view h cs t) ≡ 0 → n ≡ length (members cs) → n < max-connections
+admit-room h cs t x n e f = omega (arith, admit-done (view h cs t) x e .few, connections-length cs)
+
+-- reservations with a newcomer
+
+pub reserved-newcomer : (l : Link) (cs : List Connection) (x : Connection) (a b : ℕ) → a ≡ reserved l cs → b ≡ reservation l x → a + b ≡ reserved l (cs ++ x ∷ [])
+reserved-newcomer l cs x a b e f =
+    sum-more (length cs) a b (λ (c : ℕ). reservation l (nth (cs ++ x ∷ []) c))
+    (e ∙ sum-eq (length cs) (λ c k. ap (reservation l) (sym (nth-old cs x c k))))
+    (f ∙ ap (reservation l) (sym (getD-append-seam cs x [] _)))
+    ∙ ap (λ (k : ℕ). sum k (λ (c : ℕ). reservation l (nth (cs ++ x ∷ []) c))) (sym (length-append cs (x ∷ [])))
+
+-- ---- an offer
+
+-- how many packets of c the rows have, row by row
+pub one-more : (c : ℕ) (l : List Packet) (p : Packet) (ps : List Packet) → l ≡ p ∷ ps → length (of c l) ≡ cond (eqb (p .connection) c) 1 0 + length (of c ps)
+one-more c l p ps e = ap (λ (q : List Packet). length (of c q)) e ∙ go (eqb (p .connection) c)
+  where
+    go : (b : Bool) → length (cond b (p ∷ of c ps) (of c ps)) ≡ cond b 1 0 + length (of c ps)
+    go true = omega arith
+    go false = omega arith
+
+pub bit-le : (a b : ℕ) → cond (eqb a b) 1 0 ≤ 1
+bit-le a b = go (eqb a b)
+  where
+    go : (u : Bool) → cond u 1 0 ≤ 1
+    go true = omega arith
+    go false = omega arith
+
+pub all-counted : (c : ℕ) (ps : List Packet) (n i : ℕ) → i ≡ length ps → n + length (of c (drop i ps)) ≡ length (of c ps) → n ≡ length (of c ps)
+all-counted c ps n i e h = omega (arith, ap (λ (l : List Packet). length (of c l)) (ap (λ (j : ℕ). drop j ps) e ∙ drop-length ps))
+
+module _ (h : Hub) (cs t : List ℕ) (ok : sound-hub h cs t ≡ true) (c len tag : ℕ) (good : verdict (offer c len tag) (view h cs t) ≡ 0) where
+  did : Offer-done (view h cs t) c len
+  did = offer-done (view h cs t) c len tag good
+
+  pub offer-below : c < length (members cs)
+  offer-below = omega (arith, stands-below (connections cs) c (did .standing), connections-length cs)
+
+  -- the places are enough for one more
+  pub offer-room : 5 * length (rows t) + 5 ≤ places-length
+  offer-room =
+      omega (
+        arith,
+        rows-fit-places (placed (view h cs t) c len tag) (done-sound (offer c len tag) (view h cs t) (is-sound h cs t ok) good),
+        length-append (rows t) (record { connection = c; len = len; tag = tag; arrival = h .clock; eligibility = eligibility-now (view h cs t) c } ∷ []),
+      )
+
+  -- the eligibility of the row read
+  pub offer-eligibility : (m : Member) (e : ℕ) → m ≡ member-in cs c → e ≡ next-eligibility (gap-only (m .gap)) (record { sent = not (eqb (m .sent) 0); last = m .last }) (h .clock) → e ≡ eligibility-now (view h cs t) c
+  unfolding next-eligibility
+  offer-eligibility m e i j =
+      j
+      ∙ ap (λ (m : Member). next-eligibility (connection-of m) (past-of m) (h .clock)) (i ∙ sym (member-is cs c offer-below))
+      ∙ ap (λ (x : Connection). next-eligibility x (past-of (getD (members cs) c no-member)) (h .clock)) (sym (List·getD-map connection-of (members cs) c no-member))
+      ∙ ap (λ (y : Past). next-eligibility (figures (view h cs t) c) y (h .clock)) (sym (List·getD-map past-of (members cs) c no-member))
+
+  pub offer-fits : eligibility-now (view h cs t) c < beyond-32-bits
+  offer-fits = eligibilities-fit-32 (view h cs t) (is-sound h cs t ok) .1 c .1
+
+  pub offer-acts : (r : Told) (e : ℕ) (cs′ t′ : List ℕ) → e ≡ eligibility-now (view h cs t) c → r ≡ refusal h 0 e
+      → cs′ ≡ written-members (connections cs) (set (pasts cs) c (record { sent = true; last = e }))
+      → t′ ≡ places (rows t ++ record { connection = c; len = len; tag = tag; arrival = h .clock; eligibility = e } ∷ [])
+      → Acts (offer c len tag) h cs t r cs′ t′
+  unfolding remember
+  offer-acts r e cs′ t′ i j k l =
+      acts h cs t ok (offer c len tag) r cs′ t′ good
+      (j ∙ ap (refusal h 0) i)
+      (k ∙ ap (λ (u : ℕ). written-members (connections cs) (set (pasts cs) c (record { sent = true; last = u }))) i)
+      (l ∙ ap (λ (u : ℕ). places (rows t ++ record { connection = c; len = len; tag = tag; arrival = h .clock; eligibility = u } ∷ [])) i)

@@ -1,0 +1,71 @@
+use borrow.Author.Needs.{needs}
+use Rattle.calls.proofs.ActLaws as A
+use Rattle.calls.proofs.VerdictLaws as W
+use Rattle.rules.specs.Model.{link, admit, offer, tick}
+use mathlib.Core.Path.{refl}
+use Rattle.service.specs.View.{view}
+use borrow.Author.Needs.{needs}
+use Rattle.calls.proofs.tick_tested.Statement.{statement}
+use Rattle.calls.proofs.tick_tested.Tie as tie
+use Rattle.calls.proofs.tick_tested.Reads as reads
+use Rattle.calls.proofs.tick_tested.Lts as lts
+use Rattle.calls.proofs.say.Reads as say-reads
+use Rattle.service.proofs.run_tick.Reads as run-tick-reads
+
+-- src/lib.rt:61:9
+say-requires : tie.Need-say-requires
+say-requires c κs = search needs
+
+-- src/lib.rt:61:9
+returns : tie.Need-returns
+returns c =
+    let a = c .before .before .before .before .before .args in
+    let ok = c .before .before .before .before .before .pre in
+    let st = A.tested (a .h) (a .cs .now) (a .t .now) ok .state in
+    let s = view (a .h) (a .cs .now) (a .t .now) in
+    A.refuses (a .h) (a .cs .now) (a .t .now) ok tick 2 1 0 (c .say .result) (W.tick-unset s st (c .before .if1 .taken)) refl refl (c .say .ensures)
+
+-- src/lib.rt:64:9
+say-requires-2 : tie.Need-say-requires-2
+say-requires-2 c κs = search needs
+
+-- src/lib.rt:64:9
+returns-2 : tie.Need-returns-2
+returns-2 c =
+    let a = c .before .before .before .before .before .before .before .args in
+    let ok = c .before .before .before .before .before .before .before .pre in
+    let st = A.tested (a .h) (a .cs .now) (a .t .now) ok .state in
+    let s = view (a .h) (a .cs .now) (a .t .now) in
+    A.refuses (a .h) (a .cs .now) (a .t .now) ok tick 13 12 0 (c .say2 .result) (W.tick-ended s st (c .before .before .before .if1 .left) (search needs)) refl refl (c .say2 .ensures)
+
+-- src/lib.rt:66:5
+run-tick-requires : tie.Need-run-tick-requires
+run-tick-requires c κs =
+    let a = c .before .before .before .before .before .before .before .args in
+    A.ready-to-tick (a .h) (a .cs .now) (a .t .now) (c .before .before .before .before .before .before .before .pre) (c .before .before .before .if1 .left) (search needs)
+
+-- src/lib.rt:56:1
+same-length : tie.Need-same-length
+same-length c = search needs
+
+-- src/lib.rt:56:1
+returns-3 : tie.Need-returns-3
+returns-3 c =
+    let a = c .before .before .before .before .before .before .before .before .before .before .args in
+    let ok = c .before .before .before .before .before .before .before .before .before .before .pre in
+    let st = A.tested (a .h) (a .cs .now) (a .t .now) ok .state in
+    let s = view (a .h) (a .cs .now) (a .t .now) in
+    A.acts (a .h) (a .cs .now) (a .t .now) ok tick (c .before .before .run-tick .result) (a .cs .now) (c .before .before .run-tick .last .1 .1 .0)
+    (W.tick-good s st (c .before .before .before .before .before .before .if1 .left) (search needs)) (c .before .before .run-tick .ensures .0) (A.tick-members (a .h) (a .cs .now) (a .t .now) ok) (c .before .before .run-tick .ensures .1)
+
+pub tick-tested-spec : {M : Type 1} → statement M
+tick-tested-spec =
+    tie.close
+    (tie.spec
+    say-requires
+    returns
+    say-requires-2
+    returns-2
+    run-tick-requires
+    same-length
+    returns-3)

@@ -1,0 +1,30 @@
+-- THE CONTRACT of a call on a sound state: nothing but the rules, on the state that the hub and its two tables are read as. Assumes nothing.
+use Prim.Native.Nat.{ℕ}
+use mathlib.Core.Path.{_≡_}
+use mathlib.Core.Bool.{Bool}
+use mathlib.Core.List.{List}
+use Rattle.rules.specs.Model.{State, Call}
+use Rattle.rules.specs.Calls.{answer}
+use Rattle.tables.specs.Places.{places}
+use Rattle.lines.specs.Members.{written-members}
+use Rattle.sound.specs.SoundTables.{sound-tables}
+use Rattle.service.specs.declared.Hub.{Hub}
+use Rattle.service.specs.declared.Told.{Told}
+use Rattle.service.specs.View.{view, told-of}
+
+-- document 01, "A sound state", of the hub and its tables as they are handed in
+unfoldable pub sound-hub : Hub → List ℕ → List ℕ → Bool
+sound-hub h cs t = sound-tables (h .link) cs t (h .clock) (h .serving) (h .units)
+
+-- a state written back: the table of connections, and the places table
+abbrev pub members-of : State → List ℕ
+members-of s = written-members (s .connections) (s .pasts)
+
+abbrev pub places-of : State → List ℕ
+places-of s = places (s .held)
+
+-- handed the hub h and the tables cs and t, the call answers r and leaves cs′ and t′: what the rules' answer says, written back
+pub record Acts (k : Call) (h : Hub) (cs t : List ℕ) (r : Told) (cs′ t′ : List ℕ) : Type 0 where
+  pub answers : r ≡ told-of (answer k (view h cs t))
+  pub connections : cs′ ≡ members-of (answer k (view h cs t) .next)
+  pub table : t′ ≡ places-of (answer k (view h cs t) .next)

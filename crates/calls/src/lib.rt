@@ -1,0 +1,201 @@
+// The four calls on a state that has been tested: same rules, no second test. A run that has tested once uses these.
+ghost use mathlib.Core.Path.{_≡_};
+ghost use mathlib.Core.Bool.{true, cond};
+ghost use Prim.Native.Nat.{ℕ};
+ghost use lib.Dec.{eqb};
+ghost use lib.ListN.{length};
+ghost use Rattle.rules.specs.Model.{link, admit, offer, tick};
+ghost use Rattle.rules.specs.Service.{of};
+ghost use Rattle.rules.specs.Calls.{verdict};
+ghost use Rattle.tables.specs.Places.{rows};
+ghost use Rattle.lines.specs.Members.{members};
+ghost use Rattle.service.specs.View.{view, refusal};
+ghost use Rattle.calls.specs.Acts.{sound-hub, Acts};
+use rules::Connection;
+use rules::Link;
+use rules::Packet;
+use service::Hub;
+use service::Told;
+
+const MAX_CONNECTIONS: usize = 64;
+
+const MAX_RESERVED: u64 = 512;
+
+const CLOCK_END: u32 = 4000000000;
+
+const NO_CONNECTION: u32 = 255;
+
+// An answer with no packet.
+pub fn say(h: Hub, verdict: u32, number: u32) -> Told
+    ensures { λ r. ⌜ r ≡ refusal h verdict number ⌝ }
+{
+    Told {
+        verdict: verdict,
+        number: number,
+        gone: false,
+        packet: tables::no_packet(),
+        hub: h,
+    }
+}
+
+// A link is set, once.
+pub fn link_tested(h: Hub, cs: &[u32], t: &[u32], l: Link) -> Told
+    requires { ⌜ sound-hub h (now cs) (now t) ≡ true ⌝ }
+    ensures { λ r. ⌜ Acts (link l) h (now (cs .entry)) (now (t .entry)) r (now (cs .entry)) (now (t .entry)) ⌝ }
+{
+    if h.link.levels != 0 {
+        return say(h, 3, 0);
+    }
+    if !sound::link_ok(l) {
+        return say(h, 4, 0);
+    }
+    let mut g = h;
+    g.link = l;
+    say(g, 0, 0)
+}
+
+// One tick.
+pub fn tick_tested(h: Hub, cs: &[u32], t: &mut [u32]) -> Told
+    requires { ⌜ sound-hub h (now cs) (now t) ≡ true ⌝ }
+    ensures { λ r. ⌜ Acts tick h (now (cs .entry)) (now (t .entry)) r (now (cs .entry)) (now (t .exit)) ⌝ }
+{
+    if h.link.levels == 0 {
+        return say(h, 2, 0);
+    }
+    if CLOCK_END <= h.clock {
+        return say(h, 13, 0);
+    }
+    service::run_tick(h, cs, t)
+}
+
+// The verdict of an admission.
+fn admit_verdict(h: Hub, cs: &[u32], t: &[u32], n: usize, x: Connection) -> u32
+    requires { ⌜ (sound-hub h (now cs) (now t) ≡ true) × (n ≡ length (members (now cs))) ⌝ }
+    ensures { λ r. ⌜ r ≡ verdict (admit x) (view h (now (cs .entry)) (now (t .entry))) ⌝ }
+{
+    let l = h.link;
+    if l.levels == 0 {
+        return 2;
+    }
+    if !sound::level_ok(l, x) {
+        return 5;
+    }
+    if !sound::figures_ok(l, x) {
+        return 6;
+    }
+    if MAX_CONNECTIONS <= n {
+        return 7;
+    }
+    let short = lines::level_test(l, cs, n, x);
+    if short.level != 0 {
+        return 8;
+    }
+    if MAX_RESERVED < lines::reserved_by(l, cs, n) + lines::reserve(l, x) {
+        return 9;
+    }
+    0
+}
+
+// A connection asks to be admitted.
+pub fn admit_tested(h: Hub, cs: &mut [u32], t: &[u32], x: Connection) -> Told
+    requires { ⌜ sound-hub h (now cs) (now t) ≡ true ⌝ }
+    ensures { λ r. ⌜ Acts (admit x) h (now (cs .entry)) (now (t .entry)) r (now (cs .exit)) (now (t .entry)) ⌝ }
+{
+    let n = tables::held(cs);
+    let v = admit_verdict(h, cs, t, n, x);
+    if v != 0 {
+        return say(h, v, NO_CONNECTION);
+    }
+    lines::add_member(cs, n, x);
+    say(h, 0, n as u32)
+}
+
+fn one_if_same(a: u32, b: u32) -> u64
+    ensures { λ r. ⌜ r ≡ cond (eqb a b) 1 0 ⌝ }
+{
+    if a == b {
+        return 1;
+    }
+    0
+}
+
+// How many packets connection c holds.
+fn held_by(t: &[u32], c: u32) -> u64
+    ensures { λ r. ⌜ r ≡ length (of c (rows (now (t .entry)))) ⌝ }
+{
+    let held = tables::held(t);
+    let mut n: u64 = 0;
+    let mut i: usize = 0;
+    while i < held {
+        let p = tables::row(t, i);
+        n += one_if_same(p.connection, c);
+        i += 1;
+    }
+    n
+}
+
+// The verdict of an offer.
+fn offer_verdict(h: Hub, cs: &[u32], t: &[u32], c: u32, len: u32, tag: u32) -> u32
+    requires { ⌜ sound-hub h (now cs) (now t) ≡ true ⌝ }
+    ensures { λ r. ⌜ r ≡ verdict (offer c len tag) (view h (now (cs .entry)) (now (t .entry))) ⌝ }
+{
+    let l = h.link;
+    if l.levels == 0 {
+        return 2;
+    }
+    let n = tables::held(cs);
+    let k = c as usize;
+    if n <= k {
+        return 10;
+    }
+    let x = lines::connection_at(cs, k);
+    if len < 1 {
+        return 11;
+    }
+    if x.size < len {
+        return 11;
+    }
+    if lines::reserve(l, x) <= held_by(t, c) {
+        return 12;
+    }
+    if CLOCK_END <= h.clock {
+        return 13;
+    }
+    0
+}
+
+// An offer that is accepted: behind the others, with its eligibility, which is remembered.
+fn accept(h: Hub, cs: &mut [u32], t: &mut [u32], c: u32, len: u32, tag: u32) -> Told
+    requires { ⌜ (sound-hub h (now cs) (now t) ≡ true) × (verdict (offer c len tag) (view h (now cs) (now t)) ≡ 0) ⌝ }
+    ensures { λ r. ⌜ Acts (offer c len tag) h (now (cs .entry)) (now (t .entry)) r (now (cs .exit)) (now (t .exit)) ⌝ }
+{
+    let k = c as usize;
+    let m = lines::member_at(cs, k);
+    let e = lines::next_eligibility(m.sent, m.last, m.gap, h.clock) as u32;
+    let held = tables::held(t);
+    tables::append(
+        t,
+        held,
+        Packet {
+            connection: c,
+            len: len,
+            tag: tag,
+            arrival: h.clock,
+            eligibility: e,
+        },
+    );
+    lines::put_past(cs, k, e);
+    say(h, 0, e)
+}
+
+// A packet is offered.
+pub fn offer_tested(h: Hub, cs: &mut [u32], t: &mut [u32], c: u32, len: u32, tag: u32) -> Told
+    requires { ⌜ sound-hub h (now cs) (now t) ≡ true ⌝ }
+    ensures { λ r. ⌜ Acts (offer c len tag) h (now (cs .entry)) (now (t .entry)) r (now (cs .exit)) (now (t .exit)) ⌝ }
+{
+    let v = offer_verdict(h, cs, t, c, len, tag);
+    if v != 0 {
+        return say(h, v, 0);
+    }
+    accept(h, cs, t, c, len, tag)
+}

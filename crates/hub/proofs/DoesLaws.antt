@@ -1,0 +1,47 @@
+-- A public call is the test and then the call on a tested state. Assumes nothing.
+use Prim.Native.Nat.{ℕ}
+use mathlib.Core.Path.{_≡_, refl, sym, ap, _∙_}
+use mathlib.Core.Bool.{Bool, true, false, cond}
+use mathlib.Core.List.{List}
+use Rattle.rules.specs.Model.{Call}
+use Rattle.rules.specs.Calls.{refused-number, answer}
+use Rattle.rules.proofs.Sums.{cond-is}
+use Rattle.sound.specs.SoundTables.{sound-tables}
+use Rattle.service.specs.declared.Hub.{Hub}
+use Rattle.service.specs.declared.Told.{Told}
+use Rattle.service.specs.View.{view, told-of, refusal}
+use Rattle.calls.specs.Acts.{sound-hub, members-of, places-of, Acts}
+use Rattle.hub.specs.Does.{tells, leaves-members, leaves-places, Does}
+
+module _ (k : Call) (h : Hub) (cs t : List ℕ) where
+  -- what the test says of the values handed to it
+  pub tested : (b r : Bool) → b ≡ sound-tables (h .link) cs t (h .clock) (h .serving) (h .units) → b ≡ r → sound-hub h cs t ≡ r
+  unfolding sound-hub
+  tested b r e f = sym e ∙ f
+
+  -- not sound: number 1, and nothing changes
+  pub refuses-unsound : sound-hub h cs t ≡ false → (r : Told) (n : ℕ) → n ≡ refused-number k → r ≡ refusal h 1 n → Does k h cs t r cs t
+  unfolding tells leaves-members leaves-places
+  refuses-unsound e r n f g = record {
+    answers = g ∙ ap (refusal h 1) f ∙ sym (cond-is (told-of (answer k (view h cs t))) (refusal h 1 (refused-number k)) e);
+    connections = sym (cond-is (members-of (answer k (view h cs t) .next)) cs e);
+    table = sym (cond-is (places-of (answer k (view h cs t) .next)) t e);
+  }
+
+  -- sound: what the tested call does
+  pub does : sound-hub h cs t ≡ true → (r : Told) (cs′ t′ : List ℕ) → Acts k h cs t r cs′ t′ → Does k h cs t r cs′ t′
+  unfolding tells leaves-members leaves-places
+  does e r cs′ t′ A = record {
+    answers = A .answers ∙ sym (cond-is (told-of (answer k (view h cs t))) (refusal h 1 (refused-number k)) e);
+    connections = A .connections ∙ sym (cond-is (members-of (answer k (view h cs t) .next)) cs e);
+    table = A .table ∙ sym (cond-is (places-of (answer k (view h cs t) .next)) t e);
+  }
+
+  -- and back: on a sound hub a public call does what the tested one does
+  pub acts-of : sound-hub h cs t ≡ true → (r : Told) (cs′ t′ : List ℕ) → Does k h cs t r cs′ t′ → Acts k h cs t r cs′ t′
+  unfolding tells leaves-members leaves-places
+  acts-of e r cs′ t′ D = record {
+    answers = D .answers ∙ cond-is (told-of (answer k (view h cs t))) (refusal h 1 (refused-number k)) e;
+    connections = D .connections ∙ cond-is (members-of (answer k (view h cs t) .next)) cs e;
+    table = D .table ∙ cond-is (places-of (answer k (view h cs t) .next)) t e;
+  }

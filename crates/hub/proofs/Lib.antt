@@ -1,0 +1,2 @@
+pub mod DoesLaws
+pub mod Results

@@ -1,0 +1,177 @@
+-- THE PROOFS of the statements in specs/Promises, each under its name in small letters. Assumes nothing.
+use Prim.Native.Nat.{ℕ, zero, suc, _+_, _≤_, _<_}
+use native.Mathlib.Omega.{arith}
+use mathlib.Core.Path.{_≡_, refl, sym, ap, _∙_, subst}
+use mathlib.Core.Bool.{Bool, true, false, cond}
+use mathlib.Core.List.{List, [], _∷_, _++_}
+use mathlib.Core.Option.{Option, none, some}
+use lib.ListN.{length, replicate, getElem?}
+use Rattle.rules.specs.declared.Packet.{Packet}
+use Rattle.rules.specs.Words.{push}
+use Rattle.rules.specs.Limits.{clock-end}
+use Rattle.rules.specs.Model.{State, Call, link, admit, offer, tick, Answer, fresh}
+use Rattle.rules.specs.Service.{of, first, after-unit, started}
+use Rattle.rules.specs.SoundState.{Sound}
+use Rattle.rules.specs.SoundTest.{sound}
+use Rattle.rules.specs.Calls.{verdict, done, refused, refused-number, answer}
+use Rattle.rules.specs.Runs.{Departure, History, taken, leaving, logged, after, run-from, nothing-yet, run, departures, bound-of, allowed, Keeps-its-gap}
+use Rattle.rules.specs.Promises.{Left-by}
+use Rattle.rules.proofs.Sums.{cond-is}
+use Rattle.rules.proofs.Tests.{and-intro}
+use Rattle.rules.proofs.Line.{tick-leaves}
+use Rattle.rules.proofs.Verdicts.{settled}
+use Rattle.rules.proofs.SoundExact.{exact}
+use Rattle.rules.proofs.SoundKept.{kept}
+use Rattle.rules.proofs.Every.{fresh-invariant}
+use Rattle.rules.proofs.Results.{demand-1-refusals, runs-are-sound, demand-3-first, demand-3-second}
+use Rattle.tables.specs.Table.{formed}
+use Rattle.tables.specs.Places.{places, places-length, packet-of}
+use Rattle.lines.specs.Members.{members-length, members-formed, written-members}
+use Rattle.lines.specs.StateRead.{state-read}
+use Rattle.lines.proofs.WrittenLaws.{Writable, writable, read-written, members-formed-back, places-formed-back}
+use Rattle.sound.specs.SoundTables.{places-formed, sound-tables}
+use Rattle.service.specs.declared.Hub.{Hub}
+use Rattle.service.specs.declared.Told.{Told}
+use Rattle.service.specs.Candidates.{is-some, packet-or-unused}
+use Rattle.service.specs.View.{view, hub-of, told-of, refusal}
+use Rattle.calls.specs.Acts.{sound-hub, members-of, places-of, Acts}
+use Rattle.calls.proofs.ActLaws.{is-sound, members-kept, places-kept}
+use Rattle.hub.specs.Does.{tells, leaves-members, leaves-places, Does}
+use Rattle.hub.specs.Sequence.{Notes, brought, went, call, calls-from, blank, calls, notes-of}
+use Rattle.hub.specs.Promises.{Same-outcome, One-outcome, Written-reads-back, Sound-is-written, Demand-1-of-the-code, Follows-the-rules, Noted-by, Demand-3-first-of-the-code, Demand-3-second-of-the-code}
+use Rattle.hub.proofs.DoesLaws.{acts-of}
+
+-- ---- one outcome
+
+pub one-outcome : One-outcome
+one-outcome k h cs t r r′ ds ds′ u u′ D E = record {
+  answer = D .answers ∙ sym (E .answers);
+  connections = D .connections ∙ sym (E .connections);
+  table = D .table ∙ sym (E .table);
+}
+
+-- ---- reading and writing
+
+pub written-reads-back : Written-reads-back
+unfolding sound-hub sound-tables places-formed
+written-reads-back s S =
+    let w = writable s S in
+    let e : view (hub-of s) (members-of s) (places-of s) ≡ s = read-written s w in (
+      e,
+      and-intro (formed packet-of places-length (places-of s)) _ (places-formed-back s w)
+          (and-intro (members-formed (members-of s)) (sound (view (hub-of s) (members-of s) (places-of s))) (members-formed-back (s .connections) (s .pasts) (w .each-past) (w .used) (w .few))
+          (ap sound e ∙ exact s .1 S)),
+    )
+
+pub sound-is-written : Sound-is-written
+sound-is-written h cs t ok = (is-sound h cs t ok, members-kept h cs t ok, places-kept h cs t ok)
+
+-- ---- demand 1
+
+pub demand-1-of-the-code : Demand-1-of-the-code
+unfolding tells leaves-members leaves-places
+demand-1-of-the-code k h cs t r cs′ t′ D n = go (sound-hub h cs t) refl (D .answers) (D .connections) (D .table)
+  where
+    go : (b : Bool) → sound-hub h cs t ≡ b
+        → r ≡ cond b (told-of (answer k (view h cs t))) (refusal h 1 (refused-number k))
+        → cs′ ≡ cond b (members-of (answer k (view h cs t) .next)) cs
+        → t′ ≡ cond b (places-of (answer k (view h cs t) .next)) t
+        → (r .hub ≡ h) × (cs′ ≡ cs) × (t′ ≡ t)
+    go false e a b c = (ap (λ (x : Told). x .hub) a, b, c)
+    go true e a b c =
+        let k = demand-1-refusals k (view h cs t) (λ z. n (ap (λ (x : Told). x .verdict) a ∙ z)) in (
+          ap (λ (x : Told). x .hub) a ∙ ap hub-of (k .0),
+          b ∙ ap members-of (k .0) ∙ sym (members-kept h cs t e),
+          c ∙ ap places-of (k .0) ∙ sym (places-kept h cs t e),
+        )
+
+-- ---- any calls follow the rules
+
+-- the departure that an answer tells, read by the caller and by the rules
+option-left : (s : State) (o : Option Packet) → cond (is-some o) (some (record { what = packet-or-unused o; finish = s .clock + 1 })) none ≡ leaving s o
+option-left s none = refl
+option-left s (some p) = refl
+
+unit-left : (s : State) (u : ℕ) → went (told-of (after-unit s u)) ≡ leaving s (after-unit s u .departed)
+unit-left s zero = refl
+unit-left s (suc zero) = option-left s (first (s .serving) (s .held))
+unit-left s (suc (suc u)) = refl
+
+-- a departure is dated by the clock alone
+same-date : (s : State) (o : Option Packet) → leaving (started s) o ≡ leaving s o
+same-date s none = refl
+same-date s (some p) = refl
+
+done-left : (k : Call) (s : State) → went (told-of (done k s)) ≡ leaving s (done k s .departed)
+done-left (link l) s = refl
+done-left (admit x) s = refl
+done-left (offer c len tag) s = refl
+done-left tick s = unit-left (started s) (started s .to-go) ∙ same-date s (done tick s .departed)
+
+answer-left : (k : Call) (s : State) → went (told-of (answer k s)) ≡ leaving s (answer k s .departed)
+answer-left k s = settled (λ a. went (told-of a) ≡ leaving s (a .departed)) k s (verdict k s) (λ _. done-left k s) (λ _. refl)
+
+answer-brought : (k : Call) (s : State) (a : Answer) → brought k (hub-of s) (told-of a) ≡ taken k s a
+answer-brought (link l) s a = refl
+answer-brought (admit x) s a = refl
+answer-brought (offer c len tag) s a = refl
+answer-brought tick s a = refl
+
+module _ (s : State) (S : Sound s) where
+  ok : sound-hub (hub-of s) (members-of s) (places-of s) ≡ true
+  ok = written-reads-back s S .1
+
+  back : view (hub-of s) (members-of s) (places-of s) ≡ s
+  back = written-reads-back s S .0
+
+  same-tells : (k : Call) → tells k (hub-of s) (members-of s) (places-of s) ≡ told-of (answer k s)
+  unfolding tells
+  same-tells k = cond-is _ (refusal (hub-of s) 1 (refused-number k)) ok ∙ ap (λ (r : State). told-of (answer k r)) back
+
+  same-members : (k : Call) → leaves-members k (hub-of s) (members-of s) (places-of s) ≡ members-of (answer k s .next)
+  unfolding leaves-members
+  same-members k = cond-is _ (members-of s) ok ∙ ap (λ (r : State). members-of (answer k r .next)) back
+
+  same-places : (k : Call) → leaves-places k (hub-of s) (members-of s) (places-of s) ≡ places-of (answer k s .next)
+  unfolding leaves-places
+  same-places k = cond-is _ (places-of s) ok ∙ ap (λ (r : State). places-of (answer k r .next)) back
+
+-- a call on what a state of the rules is written as
+follows-one : (h : History) (k : Call) → Sound (h .now) → call (notes-of h) k ≡ notes-of (after h k)
+follows-one h k S =
+    ap (λ (r : Told). record { accepted = push (h .accepted) (brought k (hub-of (h .now)) r); departed = push (h .departed) (went r); hub = r .hub; members = leaves-members k (hub-of (h .now)) (members-of (h .now)) (places-of (h .now)); places = leaves-places k (hub-of (h .now)) (members-of (h .now)) (places-of (h .now)) })
+    (same-tells (h .now) S k)
+    ∙ rw (same-members (h .now) S k, same-places (h .now) S k, answer-left k (h .now), answer-brought k (h .now) (answer k (h .now)))
+
+follows-from : (ks : List Call) (h : History) → Sound (h .now) → calls-from (notes-of h) ks ≡ notes-of (run-from h ks)
+follows-from [] h S = refl
+follows-from (k ∷ ks) h S = ap (λ (g : Notes). calls-from g ks) (follows-one h k S) ∙ follows-from ks (after h k) (kept k (h .now) S)
+
+blank-is : blank ≡ notes-of nothing-yet
+unfolding written-members places
+blank-is = refl
+
+pub follows-the-rules : Follows-the-rules
+follows-the-rules ks = ap (λ (g : Notes). calls-from g ks) blank-is ∙ follows-from ks nothing-yet (fresh-invariant .sound)
+
+-- ---- demand 3
+
+pub demand-3-first-of-the-code : Demand-3-first-of-the-code
+demand-3-first-of-the-code ks c i p is over =
+    let e = follows-the-rules ks in
+    let k = demand-3-first ks c i p (subst (λ (g : Notes). getElem? (of c (g .accepted)) i ≡ some p) e is) (subst (λ (g : Notes). p .eligibility + bound-of (run ks .now) c ≤ g .hub .clock) e over) in
+    record { finish = k .finish; is-departure = subst (λ (g : Notes). getElem? (departures c (g .departed)) i ≡ some (record { what = p; finish = k .finish })) (sym e) (k .is-departure); in-time = k .in-time }
+
+pub demand-3-second-of-the-code : Demand-3-second-of-the-code
+demand-3-second-of-the-code earlier c len tag word ok r cs t D =
+    let e = follows-the-rules earlier in
+    let k = demand-3-second earlier [] c len tag word ok in
+    let S = runs-are-sound earlier in
+    let a : r ≡ told-of (answer (offer c len tag) (run earlier .now)) = D .answers ∙ ap (λ (g : Notes). tells (offer c len tag) (g .hub) (g .members) (g .places)) e ∙ same-tells (run earlier .now) S (offer c len tag) in
+    let v = ap (λ (x : Told). x .verdict) a in
+    let clock : calls earlier .hub .clock ≡ run earlier .now .clock = ap (λ (g : Notes). g .hub .clock) e in (
+      λ z. k .never-for-room (sym v ∙ z),
+      λ l.
+          let running : run earlier .now .clock < clock-end = omega arith in
+          (v ∙ k .accepted running, ap (λ (x : Told). x .number) a ∙ k .on-arrival running ∙ sym clock),
+    )

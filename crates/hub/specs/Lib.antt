@@ -1,0 +1,3 @@
+pub mod Does
+pub mod Sequence
+pub mod Promises

@@ -1,0 +1,62 @@
+-- A sequence of public calls, each given what the last one left, and what a caller reads off the answers. Assumes nothing.
+use Prim.Native.Nat.{ℕ}
+use mathlib.Core.Bool.{Bool, true, false, cond}
+use mathlib.Core.List.{List, [], _∷_}
+use mathlib.Core.Option.{Option, none, some}
+use lib.ListN.{replicate}
+use Rattle.rules.specs.declared.Packet.{Packet}
+use Rattle.rules.specs.Words.{push}
+use Rattle.rules.specs.Model.{Call, link, admit, offer, tick, fresh}
+use Rattle.rules.specs.Runs.{Departure, History, if-done}
+use Rattle.tables.specs.Places.{places-length}
+use Rattle.lines.specs.Members.{members-length}
+use Rattle.service.specs.declared.Hub.{Hub}
+use Rattle.service.specs.declared.Told.{Told}
+use Rattle.service.specs.View.{hub-of}
+use Rattle.calls.specs.Acts.{members-of, places-of}
+use Rattle.hub.specs.Does.{tells, leaves-members, leaves-places}
+
+-- a caller's notes: the packets that were accepted and the departures, each read off the answers, and what the caller keeps between the calls
+pub record Notes : Type 0 where
+  pub accepted : List Packet
+  pub departed : List Departure
+  pub hub : Hub
+  pub members : List ℕ
+  pub places : List ℕ
+
+-- the packet that an answer says was accepted, the departure that it tells
+abbrev pub brought : Call → Hub → Told → Option Packet
+brought (link l) h r = none
+brought (admit x) h r = none
+brought (offer c len tag) h r = if-done (r .verdict) (record { connection = c; len = len; tag = tag; arrival = h .clock; eligibility = r .number })
+brought tick h r = none
+
+abbrev pub went : Told → Option Departure
+went r = cond (r .gone) (some (record { what = r .packet; finish = r .hub .clock })) none
+
+-- a call on what the last one left: `Does` leaves this answer and these tables, and no others
+abbrev pub call : Notes → Call → Notes
+call g k =
+    let r = tells k (g .hub) (g .members) (g .places) in
+    record {
+      accepted = push (g .accepted) (brought k (g .hub) r);
+      departed = push (g .departed) (went r);
+      hub = r .hub;
+      members = leaves-members k (g .hub) (g .members) (g .places);
+      places = leaves-places k (g .hub) (g .members) (g .places);
+    }
+
+abbrev pub calls-from : Notes → List Call → Notes
+calls-from g [] = g
+calls-from g (k ∷ ks) = calls-from (call g k) ks
+
+-- the fresh hub and two tables of zeros
+abbrev pub blank : Notes
+blank = record { accepted = []; departed = []; hub = hub-of fresh; members = replicate members-length 0; places = replicate places-length 0 }
+
+abbrev pub calls : List Call → Notes
+calls ks = calls-from blank ks
+
+-- the same notes of a run of the rules
+abbrev pub notes-of : History → Notes
+notes-of h = record { accepted = h .accepted; departed = h .departed; hub = hub-of (h .now); members = members-of (h .now); places = places-of (h .now) }

@@ -1,0 +1,70 @@
+// The hub of one output line: link, admit, offer, tick. Any hub value and any tables: an answer or a numbered refusal; a refused call changes nothing.
+// The caller keeps a `Hub`, a table of connections of 320 numbers and a places table of 2,560 numbers, all zero at first, and hands them to every call.
+ghost use mathlib.Core.Path.{_≡_};
+ghost use Rattle.rules.specs.Model.{fresh, link, admit, offer, tick};
+ghost use Rattle.service.specs.View.{hub-of};
+ghost use Rattle.hub.specs.Does.{Does};
+use rules::Connection;
+use rules::Link;
+use service::Hub;
+use service::Told;
+
+// The fresh hub; its two tables start as zeros.
+pub fn fresh_hub() -> Hub
+    ensures { λ r. ⌜ r ≡ hub-of fresh ⌝ }
+{
+    Hub {
+        link: Link {
+            levels: 0,
+            largest: 0,
+            bounds: [0; 8],
+        },
+        clock: 0,
+        serving: 0,
+        units: 0,
+    }
+}
+
+// Set the link: levels, the largest packet, a delay bound for each level. Verdicts 0, 1, 3, 4.
+pub fn link(h: Hub, cs: &[u32], t: &[u32], l: Link) -> Told
+    ensures { λ r. ⌜ Does (link l) h (now (cs .entry)) (now (t .entry)) r (now (cs .entry)) (now (t .entry)) ⌝ }
+{
+    let set = h.link;
+    if !sound::is_sound(set, cs, t, h.clock, h.serving, h.units) {
+        return calls::say(h, 1, 0);
+    }
+    calls::link_tested(h, cs, t, l)
+}
+
+// Admit a connection: its number, or 255. Verdicts 0, 1, 2, 5 to 9.
+pub fn admit(h: Hub, cs: &mut [u32], t: &[u32], x: Connection) -> Told
+    ensures { λ r. ⌜ Does (admit x) h (now (cs .entry)) (now (t .entry)) r (now (cs .exit)) (now (t .entry)) ⌝ }
+{
+    let set = h.link;
+    if !sound::is_sound(set, cs, t, h.clock, h.serving, h.units) {
+        return calls::say(h, 1, 255);
+    }
+    calls::admit_tested(h, cs, t, x)
+}
+
+// Offer a packet: its eligibility, or 0. Verdicts 0, 1, 2, 10 to 13.
+pub fn offer(h: Hub, cs: &mut [u32], t: &mut [u32], c: u32, len: u32, tag: u32) -> Told
+    ensures { λ r. ⌜ Does (offer c len tag) h (now (cs .entry)) (now (t .entry)) r (now (cs .exit)) (now (t .exit)) ⌝ }
+{
+    let set = h.link;
+    if !sound::is_sound(set, cs, t, h.clock, h.serving, h.units) {
+        return calls::say(h, 1, 0);
+    }
+    calls::offer_tested(h, cs, t, c, len, tag)
+}
+
+// One tick: the packet that departed, with finish at the hub's clock then, or none. Verdicts 0, 1, 2, 13.
+pub fn tick(h: Hub, cs: &[u32], t: &mut [u32]) -> Told
+    ensures { λ r. ⌜ Does tick h (now (cs .entry)) (now (t .entry)) r (now (cs .entry)) (now (t .exit)) ⌝ }
+{
+    let set = h.link;
+    if !sound::is_sound(set, cs, t, h.clock, h.serving, h.units) {
+        return calls::say(h, 1, 0);
+    }
+    calls::tick_tested(h, cs, t)
+}

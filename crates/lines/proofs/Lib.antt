@@ -1,0 +1,3 @@
+pub mod MemberLaws
+pub mod FigureLaws
+pub mod WrittenLaws

@@ -1,0 +1,152 @@
+-- Of a sound state: reading what is written gives it back, and both tables are formed, with nothing but zeros behind their rows. Assumes nothing.
+use Prim.Native.Nat.{ℕ, zero, suc, _+_, _*_, _-_, _≤_, _<_}
+use native.Mathlib.Omega.{arith}
+use mathlib.Core.Path.{_≡_, refl, sym, ap, _∙_, subst}
+use mathlib.Core.Bool.{Bool, true, false, cond, not, _&&_}
+use mathlib.Core.Logic.{_⊎_, inl, inr, ⊎-elim}
+use mathlib.Core.List.{List, [], _∷_, _++_, map}
+use lib.Dec.{eqb, leb}
+use lib.ListN.{length, getD, replicate}
+use borrow.Author.Tests.{le-leb, leb-true, eqb-true, eqb-false}
+use Rattle.rules.specs.declared.Connection.{Connection}
+use Rattle.rules.specs.declared.Past.{Past}
+use Rattle.rules.specs.declared.Packet.{Packet}
+use Rattle.rules.specs.Words.{All, within, each}
+use Rattle.rules.specs.Limits.{max-connections, max-reserved, max-gap}
+use Rattle.rules.specs.Model.{State, fresh, nth, figures}
+use Rattle.rules.specs.Admission.{figures-within}
+use Rattle.rules.specs.SoundState.{Sound-with-link, Sound}
+use Rattle.rules.proofs.Lists.{all-map, all-every}
+use Rattle.rules.proofs.Sums.{same}
+use Rattle.rules.proofs.Tests.{never, and-true, and-intro, within-true, each-true, each-intro}
+use Rattle.rules.proofs.Bounds.{rows-fit-places}
+use Rattle.tables.specs.declared.Five.{Five}
+use Rattle.tables.specs.Table.{read, write, padded, formed}
+use Rattle.tables.specs.Places.{rows, places, places-length, packet-of, five-of}
+use Rattle.tables.proofs.TableLaws.{read-back, formed-back, written-back}
+use Rattle.lines.specs.declared.Member.{Member}
+use Rattle.lines.specs.Members.{members-length, member-of, five-of-member, members, connection-of, past-of, connections, pasts, member, paired, written-members, members-formed}
+use Rattle.lines.specs.StateRead.{state-read}
+
+-- ---- a table of connections that is formed is what is written of what is read
+
+marked-back : (m : Member) → m .sent ≤ 1 → member (connection-of m) (past-of m) ≡ m
+marked-back m h = go (m .sent) h
+  where
+    go : (k : ℕ) → k ≤ 1 → member (record { level = m .level; gap = m .gap; size = m .size }) (record { sent = not (eqb k 0); last = m .last }) ≡ record { level = m .level; size = m .size; gap = m .gap; sent = k; last = m .last }
+    go zero h = refl
+    go (suc zero) h = refl
+    go (suc (suc k)) h = absurd (omega arith)
+
+paired-back : (ms : List Member) → All (λ m. m .sent ≤ 1) ms → paired (map connection-of ms) (map past-of ms) ≡ ms
+paired-back [] h = refl
+paired-back (m ∷ ms) h = rw (marked-back m (h .0), paired-back ms (h .1))
+
+pub members-written : (t : List ℕ) → members-formed t ≡ true → t ≡ written-members (connections t) (pasts t)
+unfolding members-formed members written-members
+members-written t h =
+    let k = and-true (formed member-of members-length t) (each (λ m. leb (m .sent) 1) (members t)) h in
+    written-back member-of five-of-member (λ a b c d e. refl) members-length t (k .0)
+    ∙ ap (padded five-of-member members-length) (sym (paired-back (members t) (all-map (λ m e. leb-true (m .sent) 1 e) (members t) (each-true (λ (m : Member). leb (m .sent) 1) (members t) (k .1)))))
+
+-- ---- and what is written is read back
+
+past-back : (x : Connection) (h : Past) → past-of (member x h) ≡ h
+past-back x h = go (h .sent)
+  where
+    go : (b : Bool) → _≡_ {A = Past} (record { sent = not (eqb (cond b 1 0) 0); last = h .last }) (record { sent = b; last = h .last })
+    go true = refl
+    go false = refl
+
+module _ where
+  connections-paired : (cs : List Connection) (hs : List Past) → length hs ≡ length cs → map connection-of (paired cs hs) ≡ cs
+  connections-paired [] hs e = refl
+  connections-paired (c ∷ cs) [] e = absurd (omega arith)
+  connections-paired (c ∷ cs) (h ∷ hs) e = ap (λ (l : List Connection). c ∷ l) (connections-paired cs hs (omega arith))
+
+  pasts-paired : (cs : List Connection) (hs : List Past) → length hs ≡ length cs → map past-of (paired cs hs) ≡ hs
+  pasts-paired [] [] e = refl
+  pasts-paired [] (h ∷ hs) e = absurd (omega arith)
+  pasts-paired (c ∷ cs) [] e = absurd (omega arith)
+  pasts-paired (c ∷ cs) (h ∷ hs) e = rw (past-back c h, pasts-paired cs hs (omega arith))
+
+  paired-few : (cs : List Connection) (hs : List Past) → length hs ≡ length cs → length (paired cs hs) ≡ length cs
+  paired-few [] hs e = refl
+  paired-few (c ∷ cs) [] e = absurd (omega arith)
+  paired-few (c ∷ cs) (h ∷ hs) e = ap suc (paired-few cs hs (omega arith))
+
+  paired-marked : (cs : List Connection) (hs : List Past) → All (λ m. leb (m .sent) 1 ≡ true) (paired cs hs)
+  paired-marked [] hs = tt
+  paired-marked (c ∷ cs) [] = tt
+  paired-marked (c ∷ cs) (h ∷ hs) = (go (h .sent), paired-marked cs hs)
+    where
+      go : (b : Bool) → leb (cond b 1 0) 1 ≡ true
+      go true = refl
+      go false = refl
+
+  paired-used : (cs : List Connection) (hs : List Past) → ((c : ℕ) → c < length cs → 0 < nth cs c .size) → All (λ m. 0 < m .size) (paired cs hs)
+  paired-used [] hs f = tt
+  paired-used (c ∷ cs) [] f = tt
+  paired-used (c ∷ cs) (h ∷ hs) f = (f 0 (omega arith), paired-used cs hs (λ i l. f (suc i) (omega arith)))
+
+module _ (cs : List Connection) (hs : List Past) (e : length hs ≡ length cs) (used : (c : ℕ) → c < length cs → 0 < nth cs c .size) (few : length cs ≤ max-connections) where
+  members-back : members (written-members cs hs) ≡ paired cs hs
+  unfolding members written-members
+  members-back = read-back member-of five-of-member (λ m. refl) (paired cs hs) (members-length - 5 * length (paired cs hs)) (paired-used cs hs used)
+
+  pub connections-back : connections (written-members cs hs) ≡ cs
+  connections-back = ap (map connection-of) members-back ∙ connections-paired cs hs e
+
+  pub pasts-back : pasts (written-members cs hs) ≡ hs
+  pasts-back = ap (map past-of) members-back ∙ pasts-paired cs hs e
+
+  pub members-formed-back : members-formed (written-members cs hs) ≡ true
+  unfolding members-formed written-members
+  members-formed-back =
+      and-intro (formed member-of members-length (written-members cs hs)) (each (λ m. leb (m .sent) 1) (members (written-members cs hs)))
+      (formed-back member-of five-of-member (λ m. refl) (paired cs hs) members-length (paired-used cs hs used) (omega (arith, paired-few cs hs e)))
+      (subst (λ (ms : List Member). each (λ m. leb (m .sent) 1) ms ≡ true) (sym members-back) (each-intro (λ (m : Member). leb (m .sent) 1) (paired cs hs) (paired-marked cs hs)))
+
+-- ---- a sound state
+
+pub record Writable (s : State) : Type 0 where
+  pub each-past : length (s .pasts) ≡ length (s .connections)
+  pub used : (c : ℕ) → c < length (s .connections) → 0 < figures s c .size
+  pub few : length (s .connections) ≤ max-connections
+  pub sent : All (λ p. 0 < p .len) (s .held)
+  pub fit : length (s .held) ≤ max-reserved
+
+linked-writable : (s : State) → Sound s → Sound-with-link s → Writable s
+unfolding figures-within
+linked-writable s T S = record {
+  each-past = S .one-past-each;
+  used = λ c l. within-true 1 (s .link .largest) (figures s c .size) (and-true (within 1 max-gap (figures s c .gap)) (within 1 (s .link .largest) (figures s c .size)) (S .figures-in c l) .1) .0;
+  few = S .few;
+  sent = all-map (λ p f. f .some-len) (s .held) (S .fit);
+  fit = rows-fit-places s T;
+}
+
+fresh-writable : Writable fresh
+fresh-writable = record { each-past = refl; used = λ c l. absurd (omega arith); few = omega arith; sent = tt; fit = omega arith }
+
+pub writable : (s : State) → Sound s → Writable s
+writable s S =
+    ⊎-elim
+    (λ z. subst Writable (sym (S .with-no-link z)) fresh-writable)
+    (λ n. linked-writable s S (S .with-one n))
+    (same (s .link .levels) 0)
+
+module _ (s : State) (W : Writable s) where
+  pub rows-back : rows (places (s .held)) ≡ s .held
+  unfolding rows places
+  rows-back = read-back packet-of five-of (λ p. refl) (s .held) (places-length - 5 * length (s .held)) (W .sent)
+
+  pub places-formed-back : formed packet-of places-length (places (s .held)) ≡ true
+  unfolding places
+  places-formed-back = formed-back packet-of five-of (λ p. refl) (s .held) places-length (W .sent) (omega (arith, W .fit))
+
+  -- READING WHAT IS WRITTEN gives the state back
+  pub read-written : state-read (s .link) (written-members (s .connections) (s .pasts)) (places (s .held)) (s .clock) (s .serving) (s .to-go) ≡ s
+  read-written =
+      rw
+      (connections-back (s .connections) (s .pasts) (W .each-past) (W .used) (W .few), pasts-back (s .connections) (s .pasts) (W .each-past) (W .used) (W .few), rows-back)

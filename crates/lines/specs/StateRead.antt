@@ -1,0 +1,19 @@
+-- How two lent tables and four values are read as a state of the rules. Assumes nothing.
+use Prim.Native.Nat.{ℕ}
+use mathlib.Core.List.{List}
+use Rattle.rules.specs.declared.Link.{Link}
+use Rattle.rules.specs.Model.{State}
+use Rattle.tables.specs.Places.{rows}
+use Rattle.lines.specs.Members.{connections, pasts}
+
+-- the link, the table of connections, the places table, the clock, the connection in service and its units to go
+abbrev pub state-read : Link → List ℕ → List ℕ → ℕ → ℕ → ℕ → State
+state-read l cs t clock serving to-go = record {
+  link = l;
+  connections = connections cs;
+  pasts = pasts cs;
+  clock = clock;
+  held = rows t;
+  serving = serving;
+  to-go = to-go;
+}

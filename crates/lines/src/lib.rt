@@ -1,0 +1,223 @@
+// The table of connections, and what is asked of its figures: reservations and the level test.
+ghost use mathlib.Core.Path.{_≡_};
+ghost use mathlib.Core.List.{[], _∷_, _++_};
+ghost use mathlib.Core.Bool.{true, not};
+ghost use Prim.Native.Nat.{ℕ, _+_, _*_, _-_, _/_, _<_, _≤_};
+ghost use lib.Dec.{eqb};
+ghost use lib.ListN.{length, set};
+ghost use Rattle.rules.specs.Limits.{max-largest, max-bound, max-connections, beyond-32-bits};
+ghost use Rattle.rules.specs.Model.{nth, no-past};
+ghost use Rattle.rules.specs.Admission.{bound, count, reservation, reserved, load, level-sum, level-test};
+ghost use Rattle.rules.specs.Service.{next-eligibility};
+ghost use Rattle.tables.specs.Table.{formed};
+ghost use Rattle.lines.specs.Members.{members-length, member-of, member-in, members, connections, pasts, written-members};
+ghost use Rattle.lines.specs.Within.{Within, most-share, share-of, short-of, gap-only};
+use rules::Connection;
+use rules::Link;
+use tables::Five;
+
+// The numbers of the table of connections: 64 rows of five.
+pub const MEMBERS: usize = 320;
+
+// A row of the table: a connection's figures, 1 if a packet of it was accepted else 0, and the last eligibility.
+pub struct Member {
+    pub level: u32,
+    pub size: u32,
+    pub gap: u32,
+    pub sent: u32,
+    pub last: u32,
+}
+
+// Row i of the table.
+pub fn member_at(cs: &[u32], i: usize) -> Member
+    requires { ⌜ 5 * i + 5 ≤ length (now cs) ⌝ }
+    ensures { λ r. ⌜ r ≡ member-in (now (cs .entry)) i ⌝ }
+{
+    let f = tables::five_at(cs, i);
+    Member {
+        level: f.a,
+        size: f.b,
+        gap: f.c,
+        sent: f.d,
+        last: f.e,
+    }
+}
+
+// A connection that was just admitted, behind the n that stand.
+pub fn add_member(cs: &mut [u32], n: usize, x: Connection)
+    requires { ⌜ (now cs ≡ written-members (connections (now cs)) (pasts (now cs))) × (n ≡ length (members (now cs))) × (n < max-connections) × (length (now cs) ≡ members-length) ⌝ }
+    ensures { λ r. ⌜ now (cs .exit) ≡ written-members (connections (now (cs .entry)) ++ x ∷ []) (pasts (now (cs .entry)) ++ no-past ∷ []) ⌝ }
+{
+    tables::put_five(
+        cs,
+        n,
+        Five {
+            a: x.level,
+            b: x.size,
+            c: x.gap,
+            d: 0,
+            e: 0,
+        },
+    );
+}
+
+// The level of connection c; 0 where there is none.
+pub fn level_of(cs: &[u32], c: u32) -> u32
+    requires { ⌜ formed member-of members-length (now cs) ≡ true ⌝ }
+    ensures { λ r. ⌜ r ≡ nth (connections (now (cs .entry))) c .level ⌝ }
+{
+    let k = c as usize;
+    if k < cs.len() / 5 {
+        return cs[5 * k];
+    }
+    0
+}
+
+// Connection c has had a packet accepted, with the eligibility e.
+pub fn put_past(cs: &mut [u32], c: usize, e: u32)
+    requires { ⌜ (now cs ≡ written-members (connections (now cs)) (pasts (now cs))) × (c < length (members (now cs))) × (length (now cs) ≡ members-length) ⌝ }
+    ensures { λ r. ⌜ now (cs .exit) ≡ written-members (connections (now (cs .entry))) (set (pasts (now (cs .entry))) c (record { sent = true; last = e })) ⌝ }
+{
+    cs[5 * c + 3] = 1;
+    cs[5 * c + 4] = e;
+}
+
+fn wide(x: u32) -> u64
+    ensures { λ r. ⌜ (r ≡ x) × (r < beyond-32-bits) ⌝ }
+{
+    x as u64
+}
+
+// The delay bound of a level; 0 where there is none.
+pub fn bound_of(l: Link, level: u32) -> u32
+    ensures { λ r. ⌜ r ≡ bound l level ⌝ }
+{
+    if level < 1 {
+        return 0;
+    }
+    if 8 < level {
+        return 0;
+    }
+    let k = (level - 1) as usize;
+    l.bounds[k]
+}
+
+// How many packets may be eligible within w ticks: w / gap, rounded up.
+pub fn count_in(x: Connection, w: u32) -> u64
+    requires { ⌜ 1 ≤ x .gap ⌝ }
+    ensures { λ r. ⌜ (r ≡ count x w) × (r ≤ w) ⌝ }
+{
+    (wide(w) + (wide(x.gap) - 1)) / wide(x.gap)
+}
+
+// The places reserved for a connection.
+pub fn reserve(l: Link, x: Connection) -> u64
+    requires { ⌜ 1 ≤ x .gap ⌝ }
+    ensures { λ r. ⌜ (r ≡ reservation l x) × (r < beyond-32-bits) ⌝ }
+{
+    let d = bound_of(l, x.level);
+    count_in(x, d)
+}
+
+// What a connection adds to the sum of level m with bound d.
+fn share(l: Link, x: Connection, m: u32, d: u32) -> u64
+    requires { ⌜ (1 ≤ x .gap) × (d ≤ max-bound) × (x .size ≤ max-largest) ⌝ }
+    ensures { λ r. ⌜ (r ≡ share-of l m d x) × (r ≤ most-share) ⌝ }
+{
+    if m < x.level {
+        return 0;
+    }
+    count_in(x, d) * wide(x.size)
+}
+
+// The connection in row i.
+pub fn connection_at(cs: &[u32], i: usize) -> Connection
+    requires { ⌜ i < length (members (now cs)) ⌝ }
+    ensures { λ r. ⌜ r ≡ nth (connections (now (cs .entry))) i ⌝ }
+{
+    let m = member_at(cs, i);
+    Connection {
+        level: m.level,
+        gap: m.gap,
+        size: m.size,
+    }
+}
+
+// The sum of level m over the first n connections.
+fn load_of(l: Link, cs: &[u32], n: usize, m: u32, d: u32) -> u64
+    requires { ⌜ (n ≡ length (members (now cs))) × (n ≤ max-connections) × (d ≤ max-bound) × Within l (connections (now cs)) ⌝ }
+    ensures { λ r. ⌜ (r ≡ load l (connections (now (cs .entry))) m d) × (r ≤ max-connections * most-share) ⌝ }
+{
+    let mut sum: u64 = 0;
+    let mut i: usize = 0;
+    while i < n {
+        let x = connection_at(cs, i);
+        sum += share(l, x, m, d);
+        i += 1;
+    }
+    sum
+}
+
+// The sum of level m with a newcomer counted.
+fn sum_at(l: Link, cs: &[u32], n: usize, x: Connection, m: u32) -> u64
+    requires { ⌜ (n ≡ length (members (now cs))) × (n ≤ max-connections) × (1 ≤ x .gap) × (x .size ≤ max-largest) × (m ≤ l .levels) × Within l (connections (now cs)) ⌝ }
+    ensures { λ r. ⌜ r ≡ level-sum l (connections (now (cs .entry)) ++ x ∷ []) m ⌝ }
+{
+    let d = bound_of(l, m);
+    load_of(l, cs, n, m, d) + share(l, x, m, d) + wide(l.largest)
+}
+
+// The lowest level that is short, and by how many units; 0 and 0 where none is.
+pub struct Shortage {
+    pub level: u32,
+    pub units: u64,
+}
+
+// The level test over the first n connections and a newcomer.
+pub fn level_test(l: Link, cs: &[u32], n: usize, x: Connection) -> Shortage
+    requires { ⌜ (n ≡ length (members (now cs))) × (n ≤ max-connections) × (1 ≤ x .gap) × (x .size ≤ max-largest) × Within l (connections (now cs)) ⌝ }
+    ensures { λ r. ⌜ short-of r ≡ level-test l (connections (now (cs .entry)) ++ x ∷ []) ⌝ }
+{
+    let mut m: u32 = 1;
+    while m <= l.levels {
+        let d = bound_of(l, m);
+        let sum = sum_at(l, cs, n, x, m);
+        if wide(d) < sum {
+            return Shortage {
+                level: m,
+                units: sum - wide(d),
+            };
+        }
+        m += 1;
+    }
+    Shortage { level: 0, units: 0 }
+}
+
+// All reservations of the first n connections together.
+pub fn reserved_by(l: Link, cs: &[u32], n: usize) -> u64
+    requires { ⌜ (n ≡ length (members (now cs))) × (n ≤ max-connections) × Within l (connections (now cs)) ⌝ }
+    ensures { λ r. ⌜ (r ≡ reserved l (connections (now (cs .entry)))) × (r ≤ max-connections * beyond-32-bits) ⌝ }
+{
+    let mut sum: u64 = 0;
+    let mut i: usize = 0;
+    while i < n {
+        let x = connection_at(cs, i);
+        sum += reserve(l, x);
+        i += 1;
+    }
+    sum
+}
+
+// The next eligibility of a connection: on arrival where no packet was accepted (flag 0), else the greater of now and the last one plus the gap.
+pub fn next_eligibility(flag: u32, last: u32, gap: u32, now: u32) -> u64
+    ensures { λ r. ⌜ r ≡ next-eligibility (gap-only gap) (record { sent = not (eqb flag 0); last = last }) now ⌝ }
+{
+    if flag == 0 {
+        return wide(now);
+    }
+    let free = wide(last) + wide(gap);
+    if free < wide(now) {
+        return wide(now);
+    }
+    free
+}

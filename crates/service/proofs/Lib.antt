@@ -1,0 +1,3 @@
+pub mod ChoiceLaws
+pub mod TickLaws
+pub mod ReadyLaws

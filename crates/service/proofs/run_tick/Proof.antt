@@ -1,0 +1,23 @@
+-- `service::run_tick` meets its contract: the steps, one after the other. Assumes nothing.
+use Rattle.service.proofs.TickLaws as L
+use borrow.Author.Needs.{needs}
+use Rattle.service.proofs.run_tick.Statement.{statement}
+use Rattle.service.proofs.run_tick.Tie as tie
+
+start-requires : tie.Need-start-requires
+start-requires c κs = search needs
+
+send-requires : tie.Need-send-requires
+send-requires c κs = let s = c .before .before .before .before .before in L.in-place-then (s .args .h) (s .args .cs .now) (s .args .t .now) (s .pre .in-place) (c .before .start .result) (c .before .start .ensures)
+
+same-length : tie.Need-same-length
+same-length c = search needs
+
+returns : tie.Need-returns
+returns c =
+    let a = c .before .before .before .before .before .before .before .before .args in
+    let g = c .before .before .before .before .start in
+    L.ticks (a .h) (a .cs .now) (a .t .now) (g .result) _ _ (g .ensures) (c .before .before .send .ensures)
+
+pub run-tick-spec : {M : Type 1} → statement M
+run-tick-spec = tie.close (tie.spec start-requires send-requires same-length returns)

@@ -1,0 +1,41 @@
+-- The choice as one pass upward: the best packet so far, and the next one of the rows. Document 01, "One tick", step 1. Assumes nothing.
+use Prim.Native.Nat.{ℕ}
+use mathlib.Core.Bool.{Bool, true, false, cond}
+use mathlib.Core.List.{List}
+use mathlib.Core.Option.{Option, none, some}
+use lib.Dec.{leb}
+use Rattle.rules.specs.declared.Packet.{Packet}
+use Rattle.rules.specs.Model.{nth}
+use Rattle.rules.specs.Service.{better}
+use Rattle.tables.specs.Places.{no-packet}
+use Rattle.lines.specs.Members.{connections}
+use Rattle.service.specs.declared.Best.{Best}
+
+-- the level of connection c, by the table of connections
+abbrev pub level-in : List ℕ → ℕ → ℕ
+level-in cs c = nth (connections cs) c .level
+
+-- a packet or nothing, as the code gives it: whether there is one, and it or an unused row
+abbrev pub is-some : Option Packet → Bool
+is-some none = false
+is-some (some p) = true
+
+abbrev pub packet-or-unused : Option Packet → Packet
+packet-or-unused none = no-packet
+packet-or-unused (some p) = p
+
+abbrev pub best-of : Option Packet → Best
+best-of o = record { found = is-some o; packet = packet-or-unused o }
+
+-- .. and as it is read
+abbrev pub option : Best → Option Packet
+option b = cond (b .found) (some (b .packet)) none
+
+-- p among "held packets with eligibility at most t"
+abbrev pub candidate : ℕ → Packet → Option Packet
+candidate t p = cond (leb (p .eligibility) t) (some p) none
+
+-- of two candidates, the first one offered earlier, the one that goes first
+abbrev pub ahead : (ℕ → ℕ) → Option Packet → Option Packet → Option Packet
+ahead level none o = o
+ahead level (some p) o = better level p o

@@ -1,0 +1,39 @@
+-- THE TIE: the state of the rules that a hub and two lent tables stand for, and an answer of the rules as the code gives it.
+-- Document 01, "Link, connections, places" and "One tick". Assumes nothing.
+use Prim.Native.Nat.{ℕ}
+use mathlib.Core.Path.{_≡_}
+use mathlib.Core.Bool.{Bool, false}
+use mathlib.Core.List.{List, []}
+use Rattle.rules.specs.declared.Packet.{Packet}
+use Rattle.rules.specs.Model.{State, Answer}
+use Rattle.rules.specs.Service.{later}
+use Rattle.tables.specs.Places.{places, no-packet}
+use Rattle.lines.specs.StateRead.{state-read}
+use Rattle.service.specs.declared.Hub.{Hub}
+use Rattle.service.specs.declared.Told.{Told}
+use Rattle.service.specs.Candidates.{is-some, packet-or-unused}
+
+-- the state that the hub, the table of connections and the places table stand for
+abbrev pub view : Hub → List ℕ → List ℕ → State
+view h cs t = state-read (h .link) cs t (h .clock) (h .serving) (h .units)
+
+-- the part of a state that no table holds
+abbrev pub hub-of : State → Hub
+hub-of s = record { link = s .link; clock = s .clock; serving = s .serving; units = s .to-go }
+
+-- an answer of the rules, as the code gives it
+abbrev pub told-of : Answer → Told
+told-of a = record { verdict = a .verdict; number = a .number; gone = is-some (a .departed); packet = packet-or-unused (a .departed); hub = hub-of (a .next) }
+
+-- "Verdict numbers": a verdict other than 0 changes nothing, and no packet leaves
+abbrev pub refusal : Hub → ℕ → ℕ → Told
+refusal h verdict number = record { verdict = verdict; number = number; gone = false; packet = no-packet; hub = h }
+
+-- step 3: "the clock becomes t + 1. The answer is the departed packet or nothing"
+abbrev pub passed-on : Hub → Bool → Packet → Told
+passed-on h gone packet =
+    record { verdict = 0; number = 0; gone = gone; packet = packet; hub = hub-of (later (view h [] []) [] (h .serving) (h .units)) }
+
+-- what is told, and the places table then, are those of an answer of the rules
+abbrev pub Gives : Answer → Told → List ℕ → Type 0
+Gives a r t = (r ≡ told-of a) × (t ≡ places (a .next .held))

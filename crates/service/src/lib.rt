@@ -1,0 +1,166 @@
+// One tick of the line: the choice of the next packet in one pass over the rows, and the three steps. Document 01, "One tick".
+ghost use mathlib.Core.Path.{_≡_};
+ghost use mathlib.Core.Bool.{true};
+ghost use mathlib.Core.List.{[]};
+ghost use Prim.Native.Nat.{_<_};
+ghost use Rattle.rules.specs.Limits.{clock-end};
+ghost use Rattle.rules.specs.Service.{choice, with-line, started, after-unit, ticked};
+ghost use Rattle.tables.specs.Table.{formed};
+ghost use Rattle.tables.specs.Places.{rows};
+ghost use Rattle.lines.specs.Members.{members-length, member-of};
+ghost use Rattle.service.specs.Candidates.{option, best-of, candidate, ahead, level-in};
+ghost use Rattle.service.specs.View.{view, hub-of, passed-on, Gives};
+ghost use Rattle.service.specs.Ready.{In-place, Ready};
+use rules::Link;
+use rules::Packet;
+
+// The part of the state that no table holds. While `units` is 0 the line is idle, and `serving` is 0 too.
+pub struct Hub {
+    pub link: Link,
+    pub clock: u32,
+    pub serving: u32,
+    pub units: u32,
+}
+
+// The answer of a call, and the hub after it. `packet` is the departed one where `gone` says so, else an unused row.
+pub struct Told {
+    pub verdict: u32,
+    pub number: u32,
+    pub gone: bool,
+    pub packet: Packet,
+    pub hub: Hub,
+}
+
+// The best packet of the rows walked so far, once one is found; an unused row before that.
+pub struct Best {
+    pub found: bool,
+    pub packet: Packet,
+}
+
+// The best so far, or p, which was offered later: p only if it is eligible and goes strictly before the best.
+fn best_with(cs: &[u32], best: Best, p: Packet, clock: u32) -> Best
+    requires { ⌜ (formed member-of members-length (now cs) ≡ true) × (best ≡ best-of (option best)) ⌝ }
+    ensures { λ r. ⌜ r ≡ best-of (ahead (level-in (now (cs .entry))) (option best) (candidate clock p)) ⌝ }
+{
+    if clock < p.eligibility {
+        return best;
+    }
+    let next = Best {
+        found: true,
+        packet: p,
+    };
+    if !best.found {
+        return next;
+    }
+    let best_level = lines::level_of(cs, best.packet.connection);
+    let level = lines::level_of(cs, p.connection);
+    if best_level < level {
+        return best;
+    }
+    if level < best_level {
+        return next;
+    }
+    if best.packet.eligibility <= p.eligibility {
+        return best;
+    }
+    next
+}
+
+// The packet that the line takes next, if one is eligible. One pass upward: a row of length 0 is the first that is unused.
+pub fn choose(cs: &[u32], t: &[u32], clock: u32) -> Best
+    requires { ⌜ formed member-of members-length (now cs) ≡ true ⌝ }
+    ensures { λ r. ⌜ r ≡ best-of (choice (level-in (now (cs .entry))) clock (rows (now (t .entry)))) ⌝ }
+{
+    let n = t.len() / 5;
+    let mut best = Best {
+        found: false,
+        packet: tables::no_packet(),
+    };
+    let mut i: usize = 0;
+    while i < n {
+        let p = tables::row(t, i);
+        if p.len == 0 {
+            return best;
+        }
+        best = best_with(cs, best, p, clock);
+        i += 1;
+    }
+    best
+}
+
+// The hub with the line given anew.
+fn with_line(h: Hub, serving: u32, units: u32) -> Hub
+    ensures { λ r. ⌜ r ≡ hub-of (with-line (view h [] []) serving units) ⌝ }
+{
+    let mut g = h;
+    g.serving = serving;
+    g.units = units;
+    g
+}
+
+// Step 1: an idle line takes the chosen packet. While one is in service nothing interrupts it, so no row is looked at.
+fn start(h: Hub, cs: &[u32], t: &[u32]) -> Hub
+    requires { ⌜ formed member-of members-length (now cs) ≡ true ⌝ }
+    ensures { λ r. ⌜ r ≡ hub-of (started (view h (now (cs .entry)) (now (t .entry)))) ⌝ }
+{
+    if h.units != 0 {
+        return h;
+    }
+    let best = choose(cs, t, h.clock);
+    // where none is found the packet is an unused row, and its zeros leave the line idle
+    with_line(h, best.packet.connection, best.packet.len)
+}
+
+// Step 3: the clock moves on. The answer is the departed packet or nothing.
+fn pass(g: Hub, gone: bool, packet: Packet) -> Told
+    requires { ⌜ g .clock < clock-end ⌝ }
+    ensures { λ r. ⌜ r ≡ passed-on g gone packet ⌝ }
+{
+    let mut later = g;
+    later.clock = g.clock + 1;
+    Told {
+        verdict: 0,
+        number: 0,
+        gone: gone,
+        packet: packet,
+        hub: later,
+    }
+}
+
+// Step 2 at a last unit: the packet in service departs, its row is removed and the line is idle.
+fn depart(g: Hub, t: &mut [u32]) -> Told
+    requires { ⌜ In-place g (now t) × (g .units ≡ 1) ⌝ }
+    ensures { λ r. ⌜ Gives (after-unit (view g [] (now (t .entry))) 1) r (now (t .exit)) ⌝ }
+{
+    let held = tables::held(t);
+    let i = tables::find(t, held, g.serving);
+    let p = tables::row(t, i);
+    tables::remove(t, held, i);
+    let freed = with_line(g, 0, 0);
+    pass(freed, true, p)
+}
+
+// Steps 2 and 3: a unit of the packet in service goes, and the clock moves on.
+fn send(g: Hub, t: &mut [u32]) -> Told
+    requires { ⌜ In-place g (now t) ⌝ }
+    ensures { λ r. ⌜ Gives (after-unit (view g [] (now (t .entry))) (g .units)) r (now (t .exit)) ⌝ }
+{
+    if g.units == 0 {
+        let idle = with_line(g, 0, 0);
+        return pass(idle, false, tables::no_packet());
+    }
+    if g.units == 1 {
+        return depart(g, t);
+    }
+    let sent = with_line(g, g.serving, g.units - 1);
+    pass(sent, false, tables::no_packet())
+}
+
+// One tick of a hub that is ready for it.
+pub fn run_tick(h: Hub, cs: &[u32], t: &mut [u32]) -> Told
+    requires { ⌜ Ready h (now cs) (now t) ⌝ }
+    ensures { λ r. ⌜ Gives (ticked (view h (now (cs .entry)) (now (t .entry)))) r (now (t .exit)) ⌝ }
+{
+    let g = start(h, cs, t);
+    send(g, t)
+}

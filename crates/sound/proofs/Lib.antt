@@ -1,0 +1,3 @@
+pub mod ChainLaws
+pub mod LimitLaws
+pub mod StateLaws

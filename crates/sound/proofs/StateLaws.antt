@@ -1,0 +1,223 @@
+-- The clauses on rows, line and tables, test by test in the order of the code. Assumes nothing.
+use Prim.Native.Nat.{ℕ, zero, suc, _+_, _*_, _≤_, _<_}
+use native.Mathlib.Omega.{arith}
+use mathlib.Core.Path.{_≡_, refl, sym, ap, _∙_, subst}
+use mathlib.Core.Bool.{Bool, true, false, cond, _&&_}
+use mathlib.Core.List.{List, [], _∷_}
+use mathlib.Core.Option.{Option, none, some}
+use lib.Dec.{leb, eqb}
+use lib.ListN.{length, getD, drop, length-map}
+use lib.Seq.{drop-length}
+use borrow.Author.Tests.{le-leb, lt-leb, lt-ltb, le-ltb, ltb-true, eq-eqb, ne-eqb}
+use Rattle.rules.specs.declared.Link.{Link}
+use Rattle.rules.specs.declared.Connection.{Connection}
+use Rattle.rules.specs.declared.Packet.{Packet}
+use Rattle.rules.specs.Words.{within, every, each}
+use Rattle.rules.specs.Limits.{max-levels, max-connections, max-reserved, clock-end}
+use Rattle.rules.specs.Model.{State, no-link, nth}
+use Rattle.rules.specs.Admission.{link-within, level-within, figures-within, stands, reserved, passes}
+use Rattle.rules.specs.Service.{first}
+use Rattle.rules.specs.SoundTest.{nothing-used, connection-sound, admissions-sound, row-sound, paced, queue-sound, rows-sound, serves, line-sound, sound}
+use Rattle.rules.proofs.Sums.{cond-is}
+use Rattle.rules.proofs.Tests.{and-true, every-true, within-intro}
+use Rattle.tables.specs.Table.{zeros, formed}
+use Rattle.tables.specs.Places.{places-length, packet-of, rows, row-at, place, no-packet}
+use Rattle.tables.proofs.TableLaws.{formed-length}
+use Rattle.tables.proofs.PlacesLaws.{row-is, rows-end, first-place, first-none}
+use Rattle.lines.specs.Members.{members-length, member-of, members, connections, pasts, connection-of, past-of, members-formed}
+use Rattle.lines.proofs.MemberLaws.{members-rows}
+use Rattle.lines.specs.Within.{Within}
+use Rattle.lines.specs.StateRead.{state-read}
+use Rattle.sound.specs.SoundTables.{places-formed, unused, Counted, linked-sound}
+use Rattle.sound.proofs.ChainLaws.{fails, goes-on, too-low, too-high}
+
+-- ---- a test of each element, one by one
+
+module _ {A : Type 0} (f : A → Bool) (l : List A) (x : A) (xs : List A) (e : l ≡ x ∷ xs) where
+  pub each-stop : f x ≡ false → false ≡ each f l
+  each-stop h = rw e (fails (f x) (each f xs) h)
+
+  pub each-pass : f x ≡ true → each f xs ≡ each f l
+  each-pass h = rw e (goes-on (f x) (each f xs) (each f xs) h refl)
+
+pub each-end : {A : Type 0} (f : A → Bool) (l : List A) → true ≡ each f (drop (length l) l)
+each-end f l = rw (drop-length l)
+
+-- ---- a row
+
+module _ (cs : List Connection) (t : ℕ) (p : Packet) where
+  pub row-unknown : length cs ≤ p .connection → false ≡ row-sound cs t p
+  unfolding stands
+  row-unknown h = fails (stands cs (p .connection)) _ (le-ltb (p .connection) (length cs) h)
+
+  module _ (s : p .connection < length cs) where
+    known : stands cs (p .connection) ≡ true
+    unfolding stands
+    known = lt-ltb (p .connection) (length cs) s
+
+    pub row-empty : p .len < 1 → false ≡ row-sound cs t p
+    row-empty h = goes-on (stands cs (p .connection)) _ false known (fails (within 1 (nth cs (p .connection) .size) (p .len)) _ (too-low 1 _ (p .len) h))
+
+    module _ (x : Connection) (e : x ≡ nth cs (p .connection)) (one : 1 ≤ p .len) where
+      pub row-long : x .size < p .len → false ≡ row-sound cs t p
+      row-long h =
+          goes-on (stands cs (p .connection)) _ false known
+          (fails (within 1 (nth cs (p .connection) .size) (p .len)) _ (too-high 1 (nth cs (p .connection) .size) (p .len) one (subst (λ (y : Connection). y .size < p .len) e h)))
+
+      module _ (fit : p .len ≤ x .size) where
+        fits : within 1 (nth cs (p .connection) .size) (p .len) ≡ true
+        fits = within-intro 1 (nth cs (p .connection) .size) (p .len) one (subst (λ (y : Connection). p .len ≤ y .size) e fit)
+
+        pub row-future : t < p .arrival → false ≡ row-sound cs t p
+        row-future h =
+            goes-on (stands cs (p .connection)) _ false known
+            (goes-on (within 1 (nth cs (p .connection) .size) (p .len)) _ false fits (fails (leb (p .arrival) t) _ (lt-leb (p .arrival) t h)))
+
+        pub row-rest : p .arrival ≤ t → leb (p .arrival) (p .eligibility) ≡ row-sound cs t p
+        row-rest h =
+            goes-on (stands cs (p .connection)) _ _ known
+            (goes-on (within 1 (nth cs (p .connection) .size) (p .len)) _ _ fits (goes-on (leb (p .arrival) t) _ _ (le-leb (p .arrival) t h) refl))
+
+-- ---- the line
+
+module _ (t : List ℕ) (clock w u : ℕ) where
+  pub line-idle : u ≡ 0 → eqb w 0 ≡ line-sound (state-read no-link [] t clock w u)
+  unfolding line-sound
+  line-idle e = sym (cond-is (eqb w 0) (serves (first w (rows t)) u clock) (eq-eqb u 0 e))
+
+  module _ (busy : u ≡ 0 → ⊥) where
+    serving : line-sound (state-read no-link [] t clock w u) ≡ serves (first w (rows t)) u clock
+    unfolding line-sound
+    serving = cond-is (eqb w 0) (serves (first w (rows t)) u clock) (ne-eqb u 0 busy)
+
+    pub line-none : length (rows t) ≤ place w (rows t) → false ≡ line-sound (state-read no-link [] t clock w u)
+    line-none h = sym (serving ∙ ap (λ (o : Option Packet). serves o u clock) (first-none w (rows t) h))
+
+    module _ (i : ℕ) (at : i ≡ place w (rows t)) (h : i < length (rows t)) (p : Packet) (is : p ≡ row-at t i) where
+      found : first w (rows t) ≡ some p
+      found =
+          first-place w (rows t) (omega arith)
+          ∙ ap (λ (j : ℕ). some (getD (rows t) j no-packet)) (sym at)
+          ∙ ap some (row-is t i h ∙ sym is)
+
+      pub line-short : p .len < u → false ≡ line-sound (state-read no-link [] t clock w u)
+      line-short l =
+          fails (within 1 (p .len) u) _ (too-high 1 (p .len) u (omega (arith, busy)) l)
+          ∙ sym (serving ∙ ap (λ (o : Option Packet). serves o u clock) found)
+
+      pub line-rest : u ≤ p .len → leb (p .eligibility) clock ≡ line-sound (state-read no-link [] t clock w u)
+      line-rest l =
+          goes-on (within 1 (p .len) u) _ _ (within-intro 1 (p .len) u (omega (arith, busy)) l) refl
+          ∙ sym (serving ∙ ap (λ (o : Option Packet). serves o u clock) found)
+
+-- ---- with no link set
+
+zeros-each : (ds : List ℕ) → zeros ds ≡ each (λ d. eqb d 0) ds
+zeros-each [] = refl
+zeros-each (d ∷ ds) = ap (λ (b : Bool). eqb d 0 && b) (zeros-each ds)
+
+-- ---- link, connections, tests and reservations: a table has one past beside each connection, so that clause always holds of what is read
+
+module _ (l : Link) (cs : List ℕ) where
+  abbrev all-figures : Bool
+  all-figures = every (length (connections cs)) (λ c. connection-sound l (nth (connections cs) c))
+
+  pub admissions-read : admissions-sound (state-read l cs [] 0 0 0)
+      ≡ (link-within l && (leb (length (connections cs)) max-connections && (all-figures && (passes l (connections cs) && leb (reserved l (connections cs)) max-reserved))))
+  unfolding admissions-sound
+  admissions-read =
+      rw (eq-eqb (length (pasts cs)) (length (connections cs)) (length-map (members cs) past-of ∙ sym (length-map (members cs) connection-of)))
+
+  -- once they hold, every sum over the connections is safe
+  pub figures-safe : link-within l ≡ true → all-figures ≡ true → Within l (connections cs)
+  figures-safe e f = record {
+    link-in = e;
+    figures-in = λ c h. and-true (level-within l (nth (connections cs) c)) (figures-within l (nth (connections cs) c)) (every-true (length (connections cs)) (λ c. connection-sound l (nth (connections cs) c)) f c h) .1;
+  }
+
+-- ---- the parts of a state that each clause looks at
+
+module _ (l : Link) (cs t : List ℕ) (clock w u : ℕ) where
+  pub admissions-alone : admissions-sound (state-read l cs [] 0 0 0) ≡ admissions-sound (state-read l cs t clock w u)
+  unfolding admissions-sound
+  admissions-alone = refl
+
+  pub rows-alone : rows-sound (state-read l cs t clock 0 0) ≡ rows-sound (state-read l cs t clock w u)
+  unfolding rows-sound
+  rows-alone = refl
+
+  pub line-alone : line-sound (state-read no-link [] t clock w u) ≡ line-sound (state-read l cs t clock w u)
+  unfolding line-sound
+  line-alone = refl
+
+  -- with no link set
+  pub unused-read : (n held : ℕ) → n ≡ length (members cs) → held ≡ length (rows t) → length (l .bounds) ≡ max-levels
+      → unused l n held clock w u ≡ nothing-used (state-read l cs t clock w u)
+  unfolding nothing-used
+  unused-read n held e f g =
+      rw (e, f, zeros-each (l .bounds), eq-eqb (length (l .bounds)) max-levels g, length-map (members cs) connection-of, length-map (members cs) past-of)
+      (regroup (eqb (l .largest) 0) (each (λ d. eqb d 0) (l .bounds)) (eqb (length (members cs)) 0) (eqb clock 0 && (eqb (length (rows t)) 0 && (eqb w 0 && eqb u 0))))
+    where
+      regroup : (a b c d : Bool) → (a && (b && (c && d))) ≡ ((a && (true && b)) && (c && (c && d)))
+      regroup true true true d = refl
+      regroup true true false d = refl
+      regroup true false c d = refl
+      regroup false b c d = refl
+
+-- ---- the clock and the rows
+
+module _ (l : Link) (cs t : List ℕ) (clock : ℕ) where
+  abbrev by-row : Bool
+  by-row = each (row-sound (connections cs) clock) (rows t)
+
+  abbrev by-connection : Bool
+  by-connection = paced (connections cs) clock [] (rows t) && every (length (connections cs)) (queue-sound (state-read l cs t clock 0 0))
+
+  pub rows-read : rows-sound (state-read l cs t clock 0 0) ≡ (leb clock clock-end && (by-row && by-connection))
+  unfolding rows-sound
+  rows-read = refl
+
+  -- each row is of a connection that stands
+  pub rows-known : by-row ≡ true → (k : ℕ) → k < length (rows t) → row-at t k .connection < length (members cs)
+  unfolding stands
+  rows-known h k i =
+      let p : Packet = row-at t k in
+      let r = each-at (row-sound (connections cs) clock) (rows t) no-packet h k i in
+      let s : row-sound (connections cs) clock p ≡ true = subst (λ (q : Packet). row-sound (connections cs) clock q ≡ true) (row-is t k i) r in
+      let z = ltb-true (p .connection) (length (connections cs)) (and-true (stands (connections cs) (p .connection)) _ s .0) in
+      omega (arith, length-map (members cs) connection-of)
+    where
+      each-at : (f : Packet → Bool) (ps : List Packet) (d : Packet) → each f ps ≡ true → (k : ℕ) → k < length ps → f (getD ps k d) ≡ true
+      each-at f [] d e k i = absurd (omega arith)
+      each-at f (q ∷ ps) d e zero i = and-true (f q) (each f ps) e .0
+      each-at f (q ∷ ps) d e (suc k) i = each-at f ps d (and-true (f q) (each f ps) e .1) k (omega arith)
+
+-- ---- the whole
+
+pub admissions-safe : (l : Link) (cs : List ℕ) → admissions-sound (state-read l cs [] 0 0 0) ≡ true → Within l (connections cs)
+admissions-safe l cs h =
+    let k = and-true (link-within l) _ (sym (admissions-read l cs) ∙ h) in
+    let f = and-true (leb (length (connections cs)) max-connections) _ (k .1) in
+    figures-safe l cs (k .0) (and-true (all-figures l cs) _ (f .1) .0)
+
+module _ (s : State) (r : Bool) where
+  pub sound-unlinked : s .link .levels ≡ 0 → r ≡ nothing-used s → r ≡ sound s
+  unfolding sound
+  sound-unlinked z e = e ∙ sym (cond-is (nothing-used s) (linked-sound s) (eq-eqb (s .link .levels) 0 z))
+
+  pub sound-linked : (s .link .levels ≡ 0 → ⊥) → r ≡ linked-sound s → r ≡ sound s
+  unfolding sound
+  sound-linked n e = e ∙ sym (cond-is (nothing-used s) (linked-sound s) (ne-eqb (s .link .levels) 0 n))
+
+-- formed tables have no more rows than they have room for
+pub counted : (cs t : List ℕ) (n held : ℕ) → members-formed cs ≡ true → places-formed t ≡ true → n ≡ length (rows cs) → held ≡ length (rows t) → Counted cs t n held
+unfolding members-formed places-formed
+counted cs t n held f g e k =
+    let a = formed-length member-of members-length cs (and-true (formed member-of members-length cs) _ f .0) in
+    let b = formed-length packet-of places-length t g in
+    record {
+      connections = e ∙ members-rows cs;
+      few-connections = omega (arith, rows-end cs);
+      rows = k;
+      few-rows = omega (arith, rows-end t);
+    }

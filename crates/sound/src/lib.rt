@@ -1,0 +1,338 @@
+// Whether a link, two lent tables and the line's numbers are a sound state: exactly, for any numbers and tables of any length.
+ghost use mathlib.Core.Path.{_≡_};
+ghost use mathlib.Core.Bool.{true, _&&_};
+ghost use mathlib.Core.List.{[], _∷_};
+ghost use Prim.Native.Nat.{ℕ, _*_, _<_, _≤_};
+ghost use lib.Dec.{leb};
+ghost use lib.ListN.{length};
+ghost use Rattle.rules.specs.Words.{every, each};
+ghost use Rattle.rules.specs.Limits.{max-levels, max-connections};
+ghost use Rattle.rules.specs.Model.{nth, no-link};
+ghost use Rattle.rules.specs.Admission.{rising, link-within, level-within, figures-within, passes};
+ghost use Rattle.rules.specs.SoundTest.{nothing-used, connection-sound, admissions-sound, row-sound, rows-sound, line-sound};
+ghost use Rattle.tables.specs.Places.{rows};
+ghost use Rattle.lines.specs.Members.{members, connections, members-formed};
+ghost use Rattle.lines.specs.Within.{Within};
+ghost use Rattle.lines.specs.StateRead.{state-read};
+ghost use Rattle.sound.specs.SoundTables.{places-formed, unused, Counted, linked-sound, sound-tables};
+use rules::Connection;
+use rules::Link;
+use rules::Packet;
+
+const MAX_LEVELS: u32 = 8;
+
+const MAX_LARGEST: u32 = 2048;
+
+const MAX_BOUND: u32 = 32768;
+
+const MAX_GAP: u32 = 65535;
+
+const MAX_CONNECTIONS: usize = 64;
+
+const MAX_RESERVED: u64 = 512;
+
+const CLOCK_END: u32 = 4000000000;
+
+// Bounds that rise strictly from `lowest` on, n of them, none above its limit, and zeros behind.
+fn bounds_ok(lowest: u32, n: usize, bounds: [u32; 8]) -> bool
+    requires { ⌜ n ≤ max-levels ⌝ }
+    ensures { λ r. ⌜ r ≡ rising lowest n bounds ⌝ }
+{
+    let mut low = lowest;
+    let mut i: usize = 0;
+    while i < n {
+        let d = bounds[i];
+        if d < low {
+            return false;
+        }
+        if MAX_BOUND < d {
+            return false;
+        }
+        low = d + 1;
+        i += 1;
+    }
+    tables::zero_from(&bounds, n)
+}
+
+// The limits of a link.
+pub fn link_ok(l: Link) -> bool
+    ensures { λ r. ⌜ r ≡ link-within l ⌝ }
+{
+    if l.levels < 1 {
+        return false;
+    }
+    if MAX_LEVELS < l.levels {
+        return false;
+    }
+    if l.largest < 1 {
+        return false;
+    }
+    if MAX_LARGEST < l.largest {
+        return false;
+    }
+    let bounds = l.bounds;
+    bounds_ok(l.largest, l.levels as usize, bounds)
+}
+
+// Level 1 to n.
+pub fn level_ok(l: Link, x: Connection) -> bool
+    ensures { λ r. ⌜ r ≡ level-within l x ⌝ }
+{
+    if x.level < 1 {
+        return false;
+    }
+    x.level <= l.levels
+}
+
+// Gap and size within their limits.
+pub fn figures_ok(l: Link, x: Connection) -> bool
+    ensures { λ r. ⌜ r ≡ figures-within l x ⌝ }
+{
+    if x.gap < 1 {
+        return false;
+    }
+    if MAX_GAP < x.gap {
+        return false;
+    }
+    if x.size < 1 {
+        return false;
+    }
+    x.size <= l.largest
+}
+
+fn connection_ok(l: Link, x: Connection) -> bool
+    ensures { λ r. ⌜ r ≡ connection-sound l x ⌝ }
+{
+    if !level_ok(l, x) {
+        return false;
+    }
+    figures_ok(l, x)
+}
+
+// All connections within their limits.
+fn connections_ok(l: Link, cs: &[u32], n: usize) -> bool
+    requires { ⌜ n ≡ length (members (now cs)) ⌝ }
+    ensures { λ r. ⌜ r ≡ every (length (connections (now (cs .entry)))) (λ c. connection-sound l (nth (connections (now (cs .entry))) c)) ⌝ }
+{
+    let mut i: usize = 0;
+    while i < n {
+        let x = lines::connection_at(cs, i);
+        if !connection_ok(l, x) {
+            return false;
+        }
+        i += 1;
+    }
+    true
+}
+
+// All level tests hold. Nobody new is counted: a connection of a level above all others adds to no sum.
+fn tests_ok(l: Link, cs: &[u32], n: usize) -> bool
+    requires { ⌜ (n ≡ length (members (now cs))) × (n ≤ max-connections) × Within l (connections (now cs)) ⌝ }
+    ensures { λ r. ⌜ r ≡ passes l (connections (now (cs .entry))) ⌝ }
+{
+    let nobody = Connection {
+        level: l.levels + 1,
+        gap: 1,
+        size: 0,
+    };
+    let short = lines::level_test(l, cs, n, nobody);
+    short.level == 0
+}
+
+// Link, connections, tests and reservations within the rules.
+fn admissions_ok(l: Link, cs: &[u32], n: usize) -> bool
+    requires { ⌜ n ≡ length (members (now cs)) ⌝ }
+    ensures { λ r. ⌜ r ≡ admissions-sound (state-read l (now (cs .entry)) [] 0 0 0) ⌝ }
+{
+    if !link_ok(l) {
+        return false;
+    }
+    if MAX_CONNECTIONS < n {
+        return false;
+    }
+    if !connections_ok(l, cs, n) {
+        return false;
+    }
+    if !tests_ok(l, cs, n) {
+        return false;
+    }
+    lines::reserved_by(l, cs, n) <= MAX_RESERVED
+}
+
+// A held row by itself: a standing connection, a length from 1 to its size, arrival, eligibility.
+fn row_ok(cs: &[u32], n: usize, clock: u32, p: Packet) -> bool
+    requires { ⌜ n ≡ length (members (now cs)) ⌝ }
+    ensures { λ r. ⌜ r ≡ row-sound (connections (now (cs .entry))) clock p ⌝ }
+{
+    let c = p.connection as usize;
+    if n <= c {
+        return false;
+    }
+    let x = lines::connection_at(cs, c);
+    if p.len < 1 {
+        return false;
+    }
+    if x.size < p.len {
+        return false;
+    }
+    if clock < p.arrival {
+        return false;
+    }
+    p.arrival <= p.eligibility
+}
+
+fn rows_ok(cs: &[u32], n: usize, t: &[u32], held: usize, clock: u32) -> bool
+    requires { ⌜ (n ≡ length (members (now cs))) × (held ≡ length (rows (now t))) ⌝ }
+    ensures { λ r. ⌜ r ≡ each (row-sound (connections (now (cs .entry))) clock) (rows (now (t .entry))) ⌝ }
+{
+    let mut i: usize = 0;
+    while i < held {
+        let p = tables::row(t, i);
+        if !row_ok(cs, n, clock, p) {
+            return false;
+        }
+        i += 1;
+    }
+    true
+}
+
+// An idle line serves nobody; else the first row of the connection in service is eligible and has so many units.
+fn line_ok(t: &[u32], held: usize, clock: u32, serving: u32, units: u32) -> bool
+    requires { ⌜ held ≡ length (rows (now t)) ⌝ }
+    ensures { λ r. ⌜ r ≡ line-sound (state-read no-link [] (now (t .entry)) clock serving units) ⌝ }
+{
+    if units == 0 {
+        return serving == 0;
+    }
+    let i = tables::find(t, held, serving);
+    if held <= i {
+        return false;
+    }
+    let p = tables::row(t, i);
+    if p.len < units {
+        return false;
+    }
+    p.eligibility <= clock
+}
+
+// With no link set, everything is zero.
+fn unused_ok(l: Link, n: usize, held: usize, clock: u32, serving: u32, units: u32) -> bool
+    ensures { λ r. ⌜ r ≡ unused l n held clock serving units ⌝ }
+{
+    if l.largest != 0 {
+        return false;
+    }
+    let bounds = l.bounds;
+    if !tables::zero_from(&bounds, 0) {
+        return false;
+    }
+    if n != 0 {
+        return false;
+    }
+    if clock != 0 {
+        return false;
+    }
+    if held != 0 {
+        return false;
+    }
+    if serving != 0 {
+        return false;
+    }
+    units == 0
+}
+
+// The places table has its length, and zeros behind its rows.
+fn places_ok(t: &[u32]) -> bool
+    ensures { λ r. ⌜ r ≡ places-formed (now (t .entry)) ⌝ }
+{
+    if t.len() != tables::PLACES {
+        return false;
+    }
+    let held = tables::held(t);
+    tables::zero_from(t, 5 * held)
+}
+
+// The marks of the first n connections are 0 or 1.
+fn marks_ok(cs: &[u32], n: usize) -> bool
+    requires { ⌜ n ≡ length (members (now cs)) ⌝ }
+    ensures { λ r. ⌜ r ≡ each (λ m. leb (m .sent) 1) (members (now (cs .entry))) ⌝ }
+{
+    let mut i: usize = 0;
+    while i < n {
+        let m = lines::member_at(cs, i);
+        if 1 < m.sent {
+            return false;
+        }
+        i += 1;
+    }
+    true
+}
+
+// The table of connections has its length, zeros behind its rows, and marks that are 0 or 1.
+fn members_ok(cs: &[u32]) -> bool
+    ensures { λ r. ⌜ r ≡ members-formed (now (cs .entry)) ⌝ }
+{
+    if cs.len() != lines::MEMBERS {
+        return false;
+    }
+    let n = tables::held(cs);
+    if !tables::zero_from(cs, 5 * n) {
+        return false;
+    }
+    marks_ok(cs, n)
+}
+
+// The clock, the rows by themselves, and the rows of each connection among themselves.
+fn held_ok(l: Link, cs: &[u32], n: usize, t: &[u32], held: usize, clock: u32) -> bool
+    requires { ⌜ Counted (now cs) (now t) n held × Within l (connections (now cs)) ⌝ }
+    ensures { λ r. ⌜ r ≡ rows-sound (state-read l (now (cs .entry)) (now (t .entry)) clock 0 0) ⌝ }
+{
+    if CLOCK_END < clock {
+        return false;
+    }
+    if !rows_ok(cs, n, t, held, clock) {
+        return false;
+    }
+    pace::queues_ok(l, cs, n, t, held, clock)
+}
+
+// With a link set.
+fn linked_ok(
+    l: Link,
+    cs: &[u32],
+    n: usize,
+    t: &[u32],
+    held: usize,
+    clock: u32,
+    serving: u32,
+    units: u32,
+) -> bool
+    requires { ⌜ Counted (now cs) (now t) n held ⌝ }
+    ensures { λ r. ⌜ r ≡ linked-sound (state-read l (now (cs .entry)) (now (t .entry)) clock serving units) ⌝ }
+{
+    if !admissions_ok(l, cs, n) {
+        return false;
+    }
+    if !held_ok(l, cs, n, t, held, clock) {
+        return false;
+    }
+    line_ok(t, held, clock, serving, units)
+}
+
+// Whether the link, the table of connections, the places table, the clock and the line are a sound state.
+pub fn is_sound(l: Link, cs: &[u32], t: &[u32], clock: u32, serving: u32, units: u32) -> bool
+    ensures { λ r. ⌜ r ≡ sound-tables l (now (cs .entry)) (now (t .entry)) clock serving units ⌝ }
+{
+    if !places_ok(t) {
+        return false;
+    }
+    if !members_ok(cs) {
+        return false;
+    }
+    let n = tables::held(cs);
+    let held = tables::held(t);
+    if l.levels == 0 {
+        return unused_ok(l, n, held, clock, serving, units);
+    }
+    linked_ok(l, cs, n, t, held, clock, serving, units)
+}

@@ -1,0 +1,200 @@
+-- Laws of the places table: rows put in and taken out, the first row of a connection, the loops over rows, and its shape. Assumes nothing.
+use mathlib.Core.Path.{_≡_, refl, sym, ap, _∙_, subst}
+use mathlib.Core.Bool.{Bool, true, false, cond, _&&_}
+use mathlib.Core.List.{List, [], _∷_, _++_, append-assoc, append-nil}
+use mathlib.Core.Option.{Option, none, some}
+use Prim.Native.Nat.{ℕ, zero, suc, _+_, _*_, _-_, _≤_, _<_}
+use native.Mathlib.Nat.{add-zero, add-assoc, le-of-suc-le-suc, not-suc-le-zero}
+use native.Mathlib.Omega.{arith}
+use native.Mathlib.Numerals.{unary-clauses, add-one}
+use lib.Dec.{eqb, leb, ltb}
+use borrow.Author.Tests.{eqb-true, eqb-false, eq-eqb, ne-eqb}
+use lib.ListN.{length, getD, set, take, drop, replicate, length-append, length-drop, length-replicate}
+use lib.Seq.{drop-cons, drop-length, getD-drop, paste-zero, paste-suc, paste, sets, sets-eq, take-paste, drop-paste, length-paste, drop-drop, take-at, drop-at}
+use Rattle.rules.specs.declared.Packet.{Packet}
+use Rattle.rules.specs.Service.{first, without}
+use Rattle.rules.proofs.Tests.{and-true}
+use Rattle.tables.specs.Table.{write, padded, zeros, formed}
+use Rattle.tables.specs.Places.{put, shifted, cut, place, rows, places, places-length, five-of, packet-of, no-packet, row-at}
+use Rattle.tables.proofs.TableLaws.{written-back, read-at, held-end, held-stop, held-more, length-write, write-append, take-rows, drop-rows, put-eq, five-more, length-padded, put-last}
+
+-- a packet put behind the rows
+put-behind : (ps : List Packet) (p : Packet) → 5 * length ps + 5 ≤ places-length → put (places ps) (length ps) p ≡ places (ps ++ p ∷ [])
+unfolding places
+put-behind ps p h = put-last packet-of five-of places-length ps p h
+
+length-cut : {A : Type 0} (xs : List A) (i : ℕ) → i < length xs → length (cut i xs) + 1 ≡ length xs
+length-cut [] i h = absurd (omega arith)
+length-cut (x ∷ xs) zero h = omega arith
+length-cut (x ∷ xs) (suc i) h = omega (arith, length-cut xs i (le-of-suc-le-suc h))
+
+-- row i taken out, the later ones moved up, the last one made zero
+pub cut-places : (ps : List Packet) (i : ℕ) → i < length ps → 5 * length ps ≤ places-length
+    → put (shifted (places ps) (5 * i) (5 * (length ps - i - 1))) (length ps - 1) no-packet ≡ places (cut i ps)
+unfolding places
+cut-places ps i l h =
+    let n : ℕ = places-length - 5 * length ps in
+    let m : ℕ = 5 * (length ps - i - 1) in
+    let z : List ℕ = replicate n 0 in
+    let t : List ℕ = write five-of ps ++ z in
+    let ys : List Packet = drop (suc i) ps in
+    let s : List ℕ = shifted t (5 * i) m in
+    let lt : length t ≡ places-length = length-padded packet-of five-of places-length ps h in
+    let ly : length (write five-of ys) ≡ m = omega (arith, length-write packet-of five-of ys, length-drop (suc i) ps) in
+    let a : 5 * (length ps - 1) ≡ 5 * i + m = omega arith in
+    let b : 5 * (length ps - 1) + 5 ≡ 5 * length ps = omega arith in
+    let k1 : 5 * i ≤ length t = omega arith in
+    let k3 : 5 * i + 5 ≡ 5 * suc i = omega arith in
+    let k4 : 5 * (length ps - 1) + 5 ≡ 5 * i + m + 5 = omega arith in
+    let k5 : 5 * i + m + 5 ≡ 5 * length ps = omega arith in
+    let k6 : 5 + n ≡ places-length - 5 * length (cut i ps) = omega (arith, length-cut ps i l) in
+    let k2 : m ≤ length (drop (5 * i + 5) t) = omega (arith, length-drop (5 * i + 5) t) in
+    let ls : length s ≡ length t = length-paste t (5 * i) (drop (5 * i + 5) t) m (omega arith) k2 in
+    let front : take (5 * (length ps - 1)) s ≡ write five-of (cut i ps) =
+    ap (λ (j : ℕ). take j s) a ∙ take-paste t (5 * i) (drop (5 * i + 5) t) m k1 k2
+    ∙ ap (λ (l : List ℕ). l ++ take m (drop (5 * i + 5) t)) (take-rows five-of z ps i (omega arith))
+    ∙ ap (λ (l : List ℕ). write five-of (take i ps) ++ take m l) (ap (λ (j : ℕ). drop j t) k3 ∙ drop-rows five-of z ps (suc i) l)
+    ∙ ap (λ (l : List ℕ). write five-of (take i ps) ++ l) (take-at (write five-of ys) z m ly)
+    ∙ sym (write-append packet-of five-of (take i ps) ys) in
+    let back : drop (5 * (length ps - 1) + 5) s ≡ z =
+    ap (λ (j : ℕ). drop j s) k4 ∙ sym (drop-drop 5 (5 * i + m) s)
+    ∙ ap (drop 5) (drop-paste t (5 * i) (drop (5 * i + 5) t) m k1 k2)
+    ∙ drop-drop 5 (5 * i + m) t
+    ∙ ap (λ (j : ℕ). drop j t) k5
+    ∙ drop-at (write five-of ps) z (5 * length ps) (length-write packet-of five-of ps) in
+    put-eq s (length ps - 1) (five-of no-packet) (omega arith)
+    ∙ ap (λ (l : List ℕ). l ++ (0 ∷ 0 ∷ 0 ∷ 0 ∷ 0 ∷ []) ++ drop (5 * (length ps - 1) + 5) s) front
+    ∙ ap (λ (l : List ℕ). write five-of (cut i ps) ++ (0 ∷ 0 ∷ 0 ∷ 0 ∷ 0 ∷ []) ++ l) back
+    ∙ append-assoc (write five-of (cut i ps)) (0 ∷ 0 ∷ 0 ∷ 0 ∷ 0 ∷ []) z
+    ∙ ap (λ (l : List ℕ). write five-of (cut i ps) ++ l) (five-more n (places-length - 5 * length (cut i ps)) k6)
+
+pub cut-table : (t : List ℕ) (held i : ℕ) → t ≡ places (rows t) → held ≡ length (rows t) → i < held → 5 * held ≤ places-length
+    → put (shifted t (5 * i) (5 * (held - i - 1))) (held - 1) no-packet ≡ places (cut i (rows t))
+cut-table t held i e n l h =
+    ap (λ (u : List ℕ). put (shifted u (5 * i) (5 * (held - i - 1))) (held - 1) no-packet) e
+    ∙ ap (λ (m : ℕ). put (shifted (places (rows t)) (5 * i) (5 * (m - i - 1))) (m - 1) no-packet) n
+    ∙ cut-places (rows t) i (omega arith) (omega arith)
+
+-- ---- the first row of a connection
+
+module _ (c : ℕ) where
+  pub without-cut : (ps : List Packet) → without c ps ≡ cut (place c ps) ps
+  without-cut [] = refl
+  without-cut (p ∷ ps) = go (eqb (p .connection) c) (without-cut ps)
+    where
+      go : (u : Bool) → without c ps ≡ cut (place c ps) ps → cond u ps (p ∷ without c ps) ≡ cut (cond u 0 (suc (place c ps))) (p ∷ ps)
+      go true h = refl
+      go false h = ap (λ (l : List Packet). p ∷ l) h
+
+  pub place-le : (ps : List Packet) → place c ps ≤ length ps
+  place-le [] = omega arith
+  place-le (p ∷ ps) = go (eqb (p .connection) c) (place-le ps)
+    where
+      go : (u : Bool) → place c ps ≤ length ps → cond u 0 (suc (place c ps)) ≤ length (p ∷ ps)
+      go true h = omega arith
+      go false h = omega arith
+
+  -- the first row of c is the one at its place
+  pub first-place : (ps : List Packet) → place c ps < length ps → first c ps ≡ some (getD ps (place c ps) no-packet)
+  first-place [] l = absurd (omega arith)
+  first-place (p ∷ ps) l = go (eqb (p .connection) c) l (first-place ps)
+    where
+      go : (u : Bool) → cond u 0 (suc (place c ps)) < length (p ∷ ps) → (place c ps < length ps → first c ps ≡ some (getD ps (place c ps) no-packet))
+          → cond u (some p) (first c ps) ≡ some (getD (p ∷ ps) (cond u 0 (suc (place c ps))) no-packet)
+      go true l h = refl
+      go false l h = h (le-of-suc-le-suc l)
+
+  pub first-held : (ps : List Packet) (p : Packet) → first c ps ≡ some p → place c ps < length ps
+  first-held [] p e = let z : _≡_ {A = ℕ} 0 1 = cc e in absurd (omega arith)
+  first-held (q ∷ ps) p e = go (eqb (q .connection) c) e (first-held ps p)
+    where
+      go : (u : Bool) → cond u (some q) (first c ps) ≡ some p → (first c ps ≡ some p → place c ps < length ps) → cond u 0 (suc (place c ps)) < length (q ∷ ps)
+      go true e h = omega arith
+      go false e h = let k = h e in omega arith
+
+-- ---- loops over the rows
+
+pub row-is : (t : List ℕ) (i : ℕ) → i < length (rows t) → getD (rows t) i no-packet ≡ row-at t i
+unfolding rows
+row-is t i h = read-at packet-of no-packet t i h
+
+pub rows-end : (t : List ℕ) → 5 * length (rows t) ≤ length t
+unfolding rows
+rows-end t = held-end packet-of t
+
+pub rows-stop : (t : List ℕ) (i : ℕ) → i ≤ length (rows t) → getD t (5 * i + 1) 0 ≡ 0 → i ≡ length (rows t)
+unfolding rows
+rows-stop t i h z = sym (held-stop packet-of t i h z)
+
+pub rows-more : (t : List ℕ) (i : ℕ) → 5 * i + 5 ≤ length t → (getD t (5 * i + 1) 0 ≡ 0 → ⊥) → i ≤ length (rows t) → i < length (rows t)
+unfolding rows
+rows-more t i l z h = held-more packet-of t i l z h
+
+-- the rows from i on are row i and those behind it
+pub rows-from : (t : List ℕ) (i : ℕ) → i < length (rows t) → drop i (rows t) ≡ row-at t i ∷ drop (suc i) (rows t)
+rows-from t i h = drop-cons (rows t) i no-packet h ∙ ap (λ (p : Packet). p ∷ drop (suc i) (rows t)) (row-is t i h)
+
+module _ (c : ℕ) (t : List ℕ) (i : ℕ) (h : i < length (rows t)) where
+  pub place-here : row-at t i .connection ≡ c → place c (drop i (rows t)) ≡ 0
+  place-here e = rw (rows-from t i h, eq-eqb (row-at t i .connection) c e)
+
+  pub place-next : (row-at t i .connection ≡ c → ⊥) → place c (drop i (rows t)) ≡ suc (place c (drop (i + 1) (rows t)))
+  place-next e = rw (add-one i, rows-from t i h, ne-eqb (row-at t i .connection) c e)
+
+pub place-end : (c : ℕ) (t : List ℕ) → place c (drop (length (rows t)) (rows t)) ≡ 0
+place-end c t = rw (drop-length (rows t))
+
+-- ---- zeros
+
+pub zero-at : (l : List ℕ) (i : ℕ) → zeros l ≡ true → getD l i 0 ≡ 0
+zero-at [] i h = refl
+zero-at (x ∷ l) zero h = eqb-true x 0 (and-true (eqb x 0) (zeros l) h .0)
+zero-at (x ∷ l) (suc i) h = zero-at l i (and-true (eqb x 0) (zeros l) h .1)
+
+pub zeros-stop : (t : List ℕ) (i : ℕ) → i < length t → (getD t i 0 ≡ 0 → ⊥) → false ≡ zeros (drop i t)
+zeros-stop t i h n = rw (drop-cons t i 0 h, ne-eqb (getD t i 0) 0 n)
+
+pub zeros-next : (t : List ℕ) (i : ℕ) → i < length t → getD t i 0 ≡ 0 → zeros (drop (i + 1) t) ≡ zeros (drop i t)
+zeros-next t i h n = rw (add-one i, drop-cons t i 0 h, eq-eqb (getD t i 0) 0 n)
+
+pub zeros-end : (t : List ℕ) → true ≡ zeros (drop (length t) t)
+zeros-end t = rw (drop-length t)
+
+-- ---- shifting
+
+pub shift-none : (t : List ℕ) (k : ℕ) → t ≡ shifted t k 0
+shift-none t k = paste-zero t k (drop (k + 5) t)
+
+shifted-beyond : (t : List ℕ) (k j : ℕ) → k + 5 + j < length t → getD (shifted t k j) (k + 5 + j) 0 ≡ getD (drop (k + 5) t) j 0
+shifted-beyond t k j h =
+    let e : k + 5 + j ≡ k + j + 5 = omega arith in
+    let d : drop (k + j) (shifted t k j) ≡ drop (k + j) t = drop-paste t k (drop (k + 5) t) j (omega arith) (simp length-drop (omega arith)) in
+    rw (getD-drop, e) (sym (getD-drop (k + j) (shifted t k j) 5 0) ∙ ap (λ (l : List ℕ). getD l 5 0) d ∙ getD-drop (k + j) t 5 0)
+
+pub shift-step : (t : List ℕ) (k j : ℕ) → k + 5 + j < length t → set (shifted t k j) (k + j) (getD (shifted t k j) (k + 5 + j) 0) ≡ shifted t k (j + 1)
+shift-step t k j h = rw (add-one, shifted-beyond t k j h) (paste-suc t k (drop (k + 5) t) j 0 (omega arith) (simp length-drop (omega arith)))
+
+-- ---- the shape of the table
+
+pub not-formed : {A : Type 0} (make : ℕ → ℕ → ℕ → ℕ → ℕ → A) (n : ℕ) (t : List ℕ) → (length t ≡ n → ⊥) → false ≡ formed make n t
+not-formed make n t h = rw (ne-eqb (length t) n h)
+
+pub rows-formed : (n m : ℕ) (t : List ℕ) → length t ≡ n → m ≡ length (rows t) → zeros (drop (5 * m) t) ≡ formed packet-of n t
+unfolding rows
+rows-formed n m t h e = rw (eq-eqb (length t) n h, e)
+
+pub table-back : (t : List ℕ) → formed packet-of places-length t ≡ true → t ≡ places (rows t)
+unfolding rows places
+table-back t h = written-back packet-of five-of (λ a b c d e. refl) places-length t h
+
+pub first-none : (c : ℕ) (ps : List Packet) → length ps ≤ place c ps → first c ps ≡ none
+first-none c [] l = refl
+first-none c (p ∷ ps) l = go (eqb (p .connection) c) l (first-none c ps)
+  where
+    go : (u : Bool) → length (p ∷ ps) ≤ cond u 0 (suc (place c ps)) → (length ps ≤ place c ps → first c ps ≡ none) → cond u (some p) (first c ps) ≡ none
+    go true l h = absurd (omega arith)
+    go false l h = h (le-of-suc-le-suc l)
+
+pub append-table : (t : List ℕ) (held : ℕ) (p : Packet) → t ≡ places (rows t) → held ≡ length (rows t) → 5 * held + 5 ≤ places-length → put t held p ≡ places (rows t ++ p ∷ [])
+append-table t held p e n h =
+    ap (λ (u : List ℕ). put u held p) e ∙ ap (λ (m : ℕ). put (places (rows t)) m p) n ∙ put-behind (rows t) p (omega arith)

@@ -1,0 +1,52 @@
+-- The places table: held packets, five numbers to a row (connection, length, tag, arrival, eligibility), in the order offered.
+-- Document 01, "Link, connections, places". Assumes nothing.
+use Prim.Native.Nat.{ℕ, suc, _+_, _*_}
+use mathlib.Core.Bool.{cond}
+use mathlib.Core.List.{List, [], _∷_, _++_}
+use lib.Dec.{eqb}
+use lib.ListN.{getD, take, drop}
+use lib.Seq.{paste}
+use Rattle.rules.specs.Limits.{max-reserved}
+use Rattle.rules.specs.declared.Packet.{Packet}
+use Rattle.tables.specs.declared.Five.{Five}
+use Rattle.tables.specs.Table.{put-numbers, read, padded}
+
+-- the numbers of the table: five for each place
+abbrev pub places-length : ℕ
+places-length = 5 * max-reserved
+
+abbrev pub packet-of : ℕ → ℕ → ℕ → ℕ → ℕ → Packet
+packet-of a b c d e = record { connection = a; len = b; tag = c; arrival = d; eligibility = e }
+
+abbrev pub five-of : Packet → Five
+five-of p = record { a = p .connection; b = p .len; c = p .tag; d = p .arrival; e = p .eligibility }
+
+abbrev pub no-packet : Packet
+no-packet = packet-of 0 0 0 0 0
+
+unfoldable pub rows : List ℕ → List Packet
+rows t = read packet-of t
+
+unfoldable pub places : List Packet → List ℕ
+places ps = padded five-of places-length ps
+
+-- row i of a table, used or not
+abbrev pub row-at : List ℕ → ℕ → Packet
+row-at t i = packet-of (getD t (5 * i) 0) (getD t (5 * i + 1) 0) (getD t (5 * i + 2) 0) (getD t (5 * i + 3) 0) (getD t (5 * i + 4) 0)
+
+-- the table with p as row i
+abbrev pub put : List ℕ → ℕ → Packet → List ℕ
+put t i p = put-numbers t i (five-of p)
+
+-- n numbers from k + 5 on, moved down to k
+abbrev pub shifted : List ℕ → ℕ → ℕ → List ℕ
+shifted t k n = paste t k (drop (k + 5) t) n
+
+-- without the i-th element
+abbrev pub cut : {A : Type 0} → ℕ → List A → List A
+cut i xs = take i xs ++ drop (suc i) xs
+
+-- the place of the first row of connection c; the number of rows where there is none
+abbrev pub place : ℕ → List Packet → ℕ
+place c [] = 0
+place c (p ∷ ps) = cond (eqb (p .connection) c) 0 (suc (place c ps))
