@@ -1,0 +1,10 @@
+pub mod NumberLaws
+pub mod FieldLaws
+pub mod MarkLaws
+pub mod FormatLaws
+pub mod WindowLaws
+pub mod DraftLaws
+pub mod LinkLaws
+pub mod TraceLaws
+pub mod AnswerLaws
+pub mod Laws

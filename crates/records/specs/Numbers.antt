@@ -1,0 +1,47 @@
+-- Document 01, "Trace and answer records": "numbers after it are little-endian".
+use mathlib.Core.Bool.{Bool, true, false}
+use mathlib.Core.List.{List, [], _∷_, _++_}
+use Prim.Native.Nat.{ℕ, zero, suc, _+_, _*_, _/_, _%_, _<_, _^_}
+use lib.ListN.{getD, drop}
+
+-- The first of two answers if the test holds, else the second.
+abbrev pub pick : {A : Type 0} → Bool → A → A → A
+pick true a b = a
+pick false a b = b
+
+-- The number v in w bytes, the low byte first.
+unfoldable pub little : ℕ → ℕ → List ℕ
+little zero v = []
+little (suc w) v = v % 256 ∷ little w (v / 256)
+
+-- The number in the w bytes from place `at` on, the low byte first. A byte past the end counts as 0.
+unfoldable pub number : ℕ → List ℕ → ℕ → ℕ
+number zero bs at = 0
+number (suc w) bs at = getD bs at 0 + 256 * number w bs (at + 1)
+
+-- The bytes of a list of numbers, one behind the other, each in its width.
+unfoldable pub put-fields : List ℕ → List ℕ → List ℕ
+put-fields [] xs = []
+put-fields (w ∷ ws) xs = little w (getD xs 0 0) ++ put-fields ws (drop 1 xs)
+
+-- The numbers that lie one behind the other from place `at` on, each in its width.
+unfoldable pub get-fields : List ℕ → List ℕ → ℕ → List ℕ
+get-fields [] bs at = []
+get-fields (w ∷ ws) bs at = number w bs at ∷ get-fields ws bs (at + w)
+
+-- All the widths together.
+unfoldable pub sum : List ℕ → ℕ
+sum [] = 0
+sum (w ∷ ws) = w + sum ws
+
+-- Each number fits its width, and there are as many numbers as widths.
+unfoldable pub Fit : List ℕ → List ℕ → Type 0
+Fit [] [] = Unit {0}
+Fit [] (x ∷ xs) = ⊥
+Fit (w ∷ ws) [] = ⊥
+Fit (w ∷ ws) (x ∷ xs) = (x < 256 ^ w) × Fit ws xs
+
+-- Each is a byte.
+unfoldable pub Bytes : List ℕ → Type 0
+Bytes [] = Unit {0}
+Bytes (b ∷ bs) = (b < 256) × Bytes bs
