@@ -1,25 +1,25 @@
 -- What a sound hub gives a call, and how a refusal and each call done meet the contract. Assumes nothing.
 use Prim.Native.Nat.{ℕ, suc, _+_, _*_, _≤_, _<_}
 use native.Mathlib.Omega.{arith}
-use mathlib.Core.Path.{_≡_, refl, sym, ap, _∙_, subst}
+use mathlib.Core.Path.{_≡_, sym, ap, _∙_}
 use mathlib.Core.Bool.{Bool, true, false, cond, not, _&&_}
 use mathlib.Core.List.{List, [], _∷_, _++_}
 use lib.Dec.{eqb}
 use borrow.Author.Tests.{ne-eqb}
-use lib.ListN.{length, getD, set, drop, length-append, length-map, List·getD-map}
+use lib.ListN.{length, getD, set, drop, length-append, List·getD-map}
 use lib.Seq.{getD-append-seam, drop-length}
 use Rattle.rules.specs.declared.Link.{Link}
 use Rattle.rules.specs.declared.Connection.{Connection}
 use Rattle.rules.specs.declared.Past.{Past}
 use Rattle.rules.specs.declared.Packet.{Packet}
 use Rattle.rules.specs.Words.{sum}
-use Rattle.rules.specs.Limits.{max-connections, max-reserved, clock-end, beyond-32-bits}
-use Rattle.rules.specs.Model.{State, Call, link, admit, offer, tick, Answer, nth, no-past, past, figures}
+use Rattle.rules.specs.Limits.{max-connections, clock-end, beyond-32-bits}
+use Rattle.rules.specs.Model.{Call, link, admit, offer, nth, figures}
 use Rattle.rules.specs.Admission.{reservation, reserved}
 use Rattle.rules.specs.Service.{next-eligibility, remember, of, ticked}
 use Rattle.rules.specs.SoundState.{Sound-with-link, Sound}
 use Rattle.rules.specs.SoundTest.{sound, line-sound, rows-sound, admissions-sound}
-use Rattle.rules.specs.Calls.{verdict, done, refused, refused-number, settle, answer, eligibility-now, placed}
+use Rattle.rules.specs.Calls.{verdict, done, refused-number, settle, eligibility-now, placed}
 use Rattle.rules.proofs.Tests.{and-true}
 use Rattle.rules.proofs.Sums.{sum-eq, cond-is}
 use Rattle.rules.proofs.Standing.{nth-old, stands-below}
@@ -31,11 +31,11 @@ use Rattle.rules.proofs.Verdicts.{admit-done, Offer-done, offer-done}
 use Rattle.tables.specs.Table.{formed}
 use Rattle.tables.specs.Places.{places-length, packet-of, rows, places}
 use Rattle.tables.proofs.TableLaws.{formed-length}
-use Rattle.tables.proofs.PlacesLaws.{table-back, rows-end}
+use Rattle.tables.proofs.PlacesLaws.{table-back}
 use Rattle.lines.specs.declared.Member.{Member}
 use Rattle.lines.specs.Members.{members-length, member-of, no-member, member-in, members, connections, pasts, connection-of, past-of, written-members, members-formed}
 use Rattle.lines.specs.Within.{Within, gap-only}
-use Rattle.lines.proofs.MemberLaws.{member-is, connections-length, members-rows}
+use Rattle.lines.proofs.MemberLaws.{member-is, connections-length}
 use Rattle.lines.proofs.FigureLaws.{sum-more}
 use Rattle.lines.proofs.WrittenLaws.{members-written}
 use Rattle.sound.specs.SoundTables.{places-formed, sound-tables}

@@ -1,7 +1,7 @@
 -- A public call is the test and then the call on a tested state. Assumes nothing.
 use Prim.Native.Nat.{ℕ}
-use mathlib.Core.Path.{_≡_, refl, sym, ap, _∙_}
-use mathlib.Core.Bool.{Bool, true, false, cond}
+use mathlib.Core.Path.{_≡_, sym, ap, _∙_}
+use mathlib.Core.Bool.{Bool, true, false}
 use mathlib.Core.List.{List}
 use Rattle.rules.specs.Model.{Call}
 use Rattle.rules.specs.Calls.{refused-number, answer}
@@ -35,13 +35,4 @@ module _ (k : Call) (h : Hub) (cs t : List ℕ) where
     answers = A .answers ∙ sym (cond-is (told-of (answer k (view h cs t))) (refusal h 1 (refused-number k)) e);
     connections = A .connections ∙ sym (cond-is (members-of (answer k (view h cs t) .next)) cs e);
     table = A .table ∙ sym (cond-is (places-of (answer k (view h cs t) .next)) t e);
-  }
-
-  -- and back: on a sound hub a public call does what the tested one does
-  pub acts-of : sound-hub h cs t ≡ true → (r : Told) (cs′ t′ : List ℕ) → Does k h cs t r cs′ t′ → Acts k h cs t r cs′ t′
-  unfolding tells leaves-members leaves-places
-  acts-of e r cs′ t′ D = record {
-    answers = D .answers ∙ cond-is (told-of (answer k (view h cs t))) (refusal h 1 (refused-number k)) e;
-    connections = D .connections ∙ cond-is (members-of (answer k (view h cs t) .next)) cs e;
-    table = D .table ∙ cond-is (places-of (answer k (view h cs t) .next)) t e;
   }

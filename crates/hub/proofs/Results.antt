@@ -3,22 +3,20 @@ use Prim.Native.Nat.{ℕ, zero, suc, _+_, _≤_, _<_}
 use native.Mathlib.Omega.{arith}
 use mathlib.Core.Path.{_≡_, refl, sym, ap, _∙_, subst}
 use mathlib.Core.Bool.{Bool, true, false, cond}
-use mathlib.Core.List.{List, [], _∷_, _++_}
+use mathlib.Core.List.{List, [], _∷_}
 use mathlib.Core.Option.{Option, none, some}
-use lib.ListN.{length, replicate, getElem?}
+use lib.ListN.{getElem?}
 use Rattle.rules.specs.declared.Packet.{Packet}
 use Rattle.rules.specs.Words.{push}
 use Rattle.rules.specs.Limits.{clock-end}
-use Rattle.rules.specs.Model.{State, Call, link, admit, offer, tick, Answer, fresh}
+use Rattle.rules.specs.Model.{State, Call, link, admit, offer, tick, Answer}
 use Rattle.rules.specs.Service.{of, first, after-unit, started}
 use Rattle.rules.specs.SoundState.{Sound}
 use Rattle.rules.specs.SoundTest.{sound}
-use Rattle.rules.specs.Calls.{verdict, done, refused, refused-number, answer}
-use Rattle.rules.specs.Runs.{Departure, History, taken, leaving, logged, after, run-from, nothing-yet, run, departures, bound-of, allowed, Keeps-its-gap}
-use Rattle.rules.specs.Promises.{Left-by}
+use Rattle.rules.specs.Calls.{verdict, done, refused-number, answer}
+use Rattle.rules.specs.Runs.{History, taken, leaving, after, run-from, nothing-yet, run, departures, bound-of}
 use Rattle.rules.proofs.Sums.{cond-is}
 use Rattle.rules.proofs.Tests.{and-intro}
-use Rattle.rules.proofs.Line.{tick-leaves}
 use Rattle.rules.proofs.Verdicts.{settled}
 use Rattle.rules.proofs.SoundExact.{exact}
 use Rattle.rules.proofs.SoundKept.{kept}
@@ -26,20 +24,17 @@ use Rattle.rules.proofs.Every.{fresh-invariant}
 use Rattle.rules.proofs.Results.{demand-1-refusals, runs-are-sound, demand-3-first, demand-3-second}
 use Rattle.tables.specs.Table.{formed}
 use Rattle.tables.specs.Places.{places, places-length, packet-of}
-use Rattle.lines.specs.Members.{members-length, members-formed, written-members}
-use Rattle.lines.specs.StateRead.{state-read}
-use Rattle.lines.proofs.WrittenLaws.{Writable, writable, read-written, members-formed-back, places-formed-back}
+use Rattle.lines.specs.Members.{members-formed, written-members}
+use Rattle.lines.proofs.WrittenLaws.{writable, read-written, members-formed-back, places-formed-back}
 use Rattle.sound.specs.SoundTables.{places-formed, sound-tables}
-use Rattle.service.specs.declared.Hub.{Hub}
 use Rattle.service.specs.declared.Told.{Told}
 use Rattle.service.specs.Candidates.{is-some, packet-or-unused}
 use Rattle.service.specs.View.{view, hub-of, told-of, refusal}
-use Rattle.calls.specs.Acts.{sound-hub, members-of, places-of, Acts}
+use Rattle.calls.specs.Acts.{sound-hub, members-of, places-of}
 use Rattle.calls.proofs.ActLaws.{is-sound, members-kept, places-kept}
-use Rattle.hub.specs.Does.{tells, leaves-members, leaves-places, Does}
+use Rattle.hub.specs.Does.{tells, leaves-members, leaves-places}
 use Rattle.hub.specs.Sequence.{Notes, brought, went, call, calls-from, blank, calls, notes-of}
-use Rattle.hub.specs.Promises.{Same-outcome, One-outcome, Written-reads-back, Sound-is-written, Demand-1-of-the-code, Follows-the-rules, Noted-by, Demand-3-first-of-the-code, Demand-3-second-of-the-code}
-use Rattle.hub.proofs.DoesLaws.{acts-of}
+use Rattle.hub.specs.Promises.{One-outcome, Written-reads-back, Sound-is-written, Demand-1-of-the-code, Follows-the-rules, Demand-3-first-of-the-code, Demand-3-second-of-the-code}
 
 -- ---- one outcome
 

@@ -2,10 +2,9 @@
 use Prim.Native.Nat.{ℕ, _+_, _≤_, _<_}
 use mathlib.Core.Path.{_≡_}
 use mathlib.Core.Bool.{true}
-use mathlib.Core.Logic.{_↔_}
 use mathlib.Core.List.{List, [], _∷_, _++_}
 use mathlib.Core.Option.{some}
-use lib.ListN.{length, getElem?}
+use lib.ListN.{getElem?}
 use Rattle.rules.specs.declared.Packet.{Packet}
 use Rattle.rules.specs.Limits.{clock-end}
 use Rattle.rules.specs.Model.{State, Call, offer}
@@ -17,7 +16,7 @@ use Rattle.service.specs.declared.Told.{Told}
 use Rattle.service.specs.View.{view, hub-of}
 use Rattle.calls.specs.Acts.{sound-hub, members-of, places-of}
 use Rattle.hub.specs.Does.{Does}
-use Rattle.hub.specs.Sequence.{Notes, calls, call, notes-of}
+use Rattle.hub.specs.Sequence.{Notes, calls, notes-of}
 
 -- document 01, "What the hub's answers must settle": any two answers and tables that a contract allows are equal
 pub record Same-outcome (r r′ : Told) (cs cs′ t t′ : List ℕ) : Type 0 where

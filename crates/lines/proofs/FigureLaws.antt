@@ -1,8 +1,7 @@
 -- Laws that the figures of connections give the code: bounds by level, counts, shares and sums. Assumes nothing.
 use mathlib.Core.Path.{_≡_, refl, sym, ap, _∙_, subst}
-use mathlib.Core.Bool.{Bool, true, false, cond, not, _&&_}
+use mathlib.Core.Bool.{true, not, _&&_}
 use mathlib.Core.List.{List, [], _∷_, _++_}
-use mathlib.Core.Logic.{_⊎_, inl, inr}
 use Prim.Native.Nat.{ℕ, zero, suc, _+_, _*_, _-_, _/_, _≤_, _<_}
 use native.Mathlib.Nat.{mul-le-mul-right, mul-le-mul-left, le-trans, div-lt-iff-lt-mul}
 use native.Mathlib.Omega.{arith}
@@ -13,10 +12,10 @@ use lib.ListN.{length, getD, List·getD-eq-default, length-append}
 use lib.Seq.{getD-append-seam}
 use Rattle.rules.specs.declared.Link.{Link}
 use Rattle.rules.specs.declared.Connection.{Connection}
-use Rattle.rules.specs.Words.{within, upto, sum}
+use Rattle.rules.specs.Words.{within, sum}
 use Rattle.rules.specs.Limits.{max-levels, max-largest, max-bound, max-gap}
 use Rattle.rules.specs.Model.{nth}
-use Rattle.rules.specs.Admission.{rising, link-within, figures-within, bound, count, cost, load, level-sum, Short, short-from, level-test}
+use Rattle.rules.specs.Admission.{rising, link-within, figures-within, bound, count, cost, load, level-sum, short-from, level-test}
 use Rattle.rules.specs.Service.{next-eligibility}
 use Rattle.rules.proofs.Tests.{never, and-true, within-true}
 use Rattle.rules.proofs.Sums.{upto-yes, upto-no, cond-is, sum-eq}

@@ -1,12 +1,12 @@
 -- Laws of the table of connections: its rows, its shape, and a past set in it. Assumes nothing.
-use mathlib.Core.Path.{_≡_, refl, sym, ap, _∙_, subst}
-use mathlib.Core.Bool.{Bool, true, false, cond, _&&_}
+use mathlib.Core.Path.{_≡_, refl, sym, ap, _∙_}
+use mathlib.Core.Bool.{true, cond}
 use mathlib.Core.List.{List, [], _∷_, _++_}
 use mathlib.Core.Logic.{_⊎_, inl, inr}
 use Prim.Native.Nat.{ℕ, zero, suc, _+_, _*_, _-_, _≤_, _<_}
 use native.Mathlib.Nat.{le-of-suc-le-suc}
 use native.Mathlib.Omega.{arith}
-use native.Mathlib.Numerals.{unary-clauses, add-one}
+use native.Mathlib.Numerals.{unary-clauses}
 use lib.Dec.{eqb}
 use borrow.Author.Tests.{eq-eqb}
 use lib.ListN.{length-map, length-set, List·getD-map, List·getD-eq-default, length, getD, set, drop, replicate}
@@ -21,7 +21,7 @@ use Rattle.tables.specs.Places.{rows, packet-of}
 use Rattle.tables.proofs.TableLaws.{read-same, written-back, read-at, held-end, put-last}
 use Rattle.tables.proofs.PlacesLaws.{zero-at}
 use Rattle.lines.specs.declared.Member.{Member}
-use Rattle.lines.specs.Members.{members-length, member-of, five-of-member, no-member, member-in, members, connection-of, past-of, connections, pasts, member, paired, written-members, members-formed}
+use Rattle.lines.specs.Members.{members-length, member-of, five-of-member, no-member, member-in, members, connection-of, past-of, connections, pasts, member, paired, written-members}
 
 pub nth-member : (cs : List ℕ) (c : ℕ) → nth (connections cs) c ≡ connection-of (getD (members cs) c no-member)
 nth-member cs c = List·getD-map connection-of (members cs) c no-member
@@ -65,12 +65,6 @@ member-is t i h = read-at member-of no-member t i h
 
 pub members-from : (t : List ℕ) (i : ℕ) → i < length (members t) → drop i (members t) ≡ member-in t i ∷ drop (suc i) (members t)
 members-from t i h = drop-cons (members t) i no-member h ∙ ap (λ (p : Member). p ∷ drop (suc i) (members t)) (member-is t i h)
-
-pub size-is : (cs : List ℕ) (c : ℕ) → c < length (members cs) → getD cs (5 * c + 1) 0 ≡ nth (connections cs) c .size
-size-is cs c l = rw (nth-member cs c, member-is cs c l)
-
-pub gap-is : (cs : List ℕ) (c : ℕ) → c < length (members cs) → getD cs (5 * c + 2) 0 ≡ nth (connections cs) c .gap
-gap-is cs c l = rw (nth-member cs c, member-is cs c l)
 
 pub connection-is : (cs : List ℕ) (c : ℕ) → c < length (members cs) → nth (connections cs) c ≡ connection-of (member-in cs c)
 connection-is cs c l = nth-member cs c ∙ ap connection-of (member-is cs c l)

@@ -1,27 +1,25 @@
 -- Of a sound state: reading what is written gives it back, and both tables are formed, with nothing but zeros behind their rows. Assumes nothing.
-use Prim.Native.Nat.{ℕ, zero, suc, _+_, _*_, _-_, _≤_, _<_}
+use Prim.Native.Nat.{ℕ, zero, suc, _*_, _-_, _≤_, _<_}
 use native.Mathlib.Omega.{arith}
 use mathlib.Core.Path.{_≡_, refl, sym, ap, _∙_, subst}
-use mathlib.Core.Bool.{Bool, true, false, cond, not, _&&_}
-use mathlib.Core.Logic.{_⊎_, inl, inr, ⊎-elim}
-use mathlib.Core.List.{List, [], _∷_, _++_, map}
+use mathlib.Core.Bool.{Bool, true, false, cond, not}
+use mathlib.Core.Logic.{⊎-elim}
+use mathlib.Core.List.{List, [], _∷_, map}
 use lib.Dec.{eqb, leb}
-use lib.ListN.{length, getD, replicate}
-use borrow.Author.Tests.{le-leb, leb-true, eqb-true, eqb-false}
+use lib.ListN.{length}
+use borrow.Author.Tests.{leb-true}
 use Rattle.rules.specs.declared.Connection.{Connection}
 use Rattle.rules.specs.declared.Past.{Past}
-use Rattle.rules.specs.declared.Packet.{Packet}
 use Rattle.rules.specs.Words.{All, within, each}
 use Rattle.rules.specs.Limits.{max-connections, max-reserved, max-gap}
 use Rattle.rules.specs.Model.{State, fresh, nth, figures}
 use Rattle.rules.specs.Admission.{figures-within}
 use Rattle.rules.specs.SoundState.{Sound-with-link, Sound}
-use Rattle.rules.proofs.Lists.{all-map, all-every}
+use Rattle.rules.proofs.Lists.{all-map}
 use Rattle.rules.proofs.Sums.{same}
-use Rattle.rules.proofs.Tests.{never, and-true, and-intro, within-true, each-true, each-intro}
+use Rattle.rules.proofs.Tests.{and-true, and-intro, within-true, each-true, each-intro}
 use Rattle.rules.proofs.Bounds.{rows-fit-places}
-use Rattle.tables.specs.declared.Five.{Five}
-use Rattle.tables.specs.Table.{read, write, padded, formed}
+use Rattle.tables.specs.Table.{padded, formed}
 use Rattle.tables.specs.Places.{rows, places, places-length, packet-of, five-of}
 use Rattle.tables.proofs.TableLaws.{read-back, formed-back, written-back}
 use Rattle.lines.specs.declared.Member.{Member}

@@ -1,24 +1,21 @@
 -- The limits of links and connections, test by test in the order of the code. Assumes nothing.
-use Prim.Native.Nat.{ℕ, zero, suc, _+_, _-_, _≤_, _<_}
+use Prim.Native.Nat.{ℕ, suc, _+_, _-_, _≤_, _<_}
 use native.Mathlib.Omega.{arith}
 use native.Mathlib.Numerals.{add-one}
-use mathlib.Core.Path.{_≡_, refl, sym, ap, _∙_, subst}
+use mathlib.Core.Path.{_≡_, refl, sym, ap, _∙_}
 use mathlib.Core.Bool.{Bool, true, false, _&&_}
-use mathlib.Core.List.{List, [], _∷_, _++_}
+use mathlib.Core.List.{List, [], _∷_}
 use lib.Dec.{leb, eqb}
 use lib.ListN.{length, getD, drop}
 use lib.Seq.{drop-cons}
 use borrow.Author.Tests.{le-leb, lt-leb}
 use Rattle.rules.specs.declared.Link.{Link}
 use Rattle.rules.specs.declared.Connection.{Connection}
-use Rattle.rules.specs.Words.{within, every}
+use Rattle.rules.specs.Words.{within}
 use Rattle.rules.specs.Limits.{max-levels, max-largest, max-bound, max-gap}
-use Rattle.rules.specs.Model.{nth}
-use Rattle.rules.specs.Admission.{rising, link-within, level-within, figures-within, bound, load, level-sum, Short, short-from, level-test, passes}
-use Rattle.rules.specs.SoundTest.{connection-sound}
-use Rattle.rules.proofs.Tests.{within-intro, every-true, and-true}
+use Rattle.rules.specs.Admission.{rising, link-within, level-within, figures-within}
+use Rattle.rules.proofs.Tests.{within-intro}
 use Rattle.tables.specs.Table.{zeros}
-use Rattle.lines.specs.Within.{Within}
 use Rattle.sound.proofs.ChainLaws.{fails, goes-on, too-low, too-high}
 
 -- ---- a connection

@@ -1,20 +1,20 @@
 -- Laws of the places table: rows put in and taken out, the first row of a connection, the loops over rows, and its shape. Assumes nothing.
-use mathlib.Core.Path.{_≡_, refl, sym, ap, _∙_, subst}
-use mathlib.Core.Bool.{Bool, true, false, cond, _&&_}
-use mathlib.Core.List.{List, [], _∷_, _++_, append-assoc, append-nil}
-use mathlib.Core.Option.{Option, none, some}
+use mathlib.Core.Path.{_≡_, refl, sym, ap, _∙_}
+use mathlib.Core.Bool.{Bool, true, false, cond}
+use mathlib.Core.List.{List, [], _∷_, _++_, append-assoc}
+use mathlib.Core.Option.{none, some}
 use Prim.Native.Nat.{ℕ, zero, suc, _+_, _*_, _-_, _≤_, _<_}
-use native.Mathlib.Nat.{add-zero, add-assoc, le-of-suc-le-suc, not-suc-le-zero}
+use native.Mathlib.Nat.{le-of-suc-le-suc}
 use native.Mathlib.Omega.{arith}
-use native.Mathlib.Numerals.{unary-clauses, add-one}
-use lib.Dec.{eqb, leb, ltb}
-use borrow.Author.Tests.{eqb-true, eqb-false, eq-eqb, ne-eqb}
-use lib.ListN.{length, getD, set, take, drop, replicate, length-append, length-drop, length-replicate}
-use lib.Seq.{drop-cons, drop-length, getD-drop, paste-zero, paste-suc, paste, sets, sets-eq, take-paste, drop-paste, length-paste, drop-drop, take-at, drop-at}
+use native.Mathlib.Numerals.{add-one}
+use lib.Dec.{eqb}
+use borrow.Author.Tests.{eqb-true, eq-eqb, ne-eqb}
+use lib.ListN.{length, getD, set, take, drop, replicate, length-drop}
+use lib.Seq.{drop-cons, drop-length, getD-drop, paste-zero, paste-suc, take-paste, drop-paste, length-paste, drop-drop, take-at, drop-at}
 use Rattle.rules.specs.declared.Packet.{Packet}
 use Rattle.rules.specs.Service.{first, without}
 use Rattle.rules.proofs.Tests.{and-true}
-use Rattle.tables.specs.Table.{write, padded, zeros, formed}
+use Rattle.tables.specs.Table.{write, zeros, formed}
 use Rattle.tables.specs.Places.{put, shifted, cut, place, rows, places, places-length, five-of, packet-of, no-packet, row-at}
 use Rattle.tables.proofs.TableLaws.{written-back, read-at, held-end, held-stop, held-more, length-write, write-append, take-rows, drop-rows, put-eq, five-more, length-padded, put-last}
 

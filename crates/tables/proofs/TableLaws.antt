@@ -1,20 +1,19 @@
 -- Laws of reading and writing a table. Assumes nothing.
-use mathlib.Core.Path.{_≡_, refl, sym, ap, _∙_, subst}
-use mathlib.Core.Bool.{Bool, true, false, cond, _&&_}
-use mathlib.Core.List.{List, [], _∷_, _++_, append-assoc, append-nil}
+use mathlib.Core.Path.{_≡_, refl, sym, ap, _∙_}
+use mathlib.Core.Bool.{Bool, true, false, cond}
+use mathlib.Core.List.{List, [], _∷_, _++_}
 use Prim.Native.Nat.{ℕ, zero, suc, _+_, _*_, _-_, _≤_, _<_}
-use native.Mathlib.Nat.{add-zero, add-assoc, le-of-suc-le-suc, not-suc-le-zero}
+use native.Mathlib.Nat.{le-of-suc-le-suc}
 use native.Mathlib.Omega.{arith}
 use native.Mathlib.Numerals.{unary-clauses}
-use lib.Dec.{eqb, ltb}
-use mathlib.Core.Logic.{_⊎_, inl, inr}
-use borrow.Author.Tests.{ltb-true, ltb-false, eqb-true, eqb-false, eq-eqb, ne-eqb}
-use lib.ListN.{length, getD, take, drop, replicate, length-append, length-drop, length-replicate, replicate-append-replicate}
+use lib.Dec.{eqb}
+use borrow.Author.Tests.{eqb-true, eqb-false, eq-eqb, ne-eqb}
+use lib.ListN.{length, getD, take, drop, replicate, length-append, length-drop, length-replicate}
 use lib.Seq.{sets, sets-eq, take-at, drop-at, drop-drop}
 use Rattle.rules.specs.Words.{All}
 use Rattle.rules.proofs.Tests.{and-true}
 use Rattle.tables.specs.declared.Five.{Five}
-use Rattle.tables.specs.Table.{numbers-at, put-numbers, read, write, padded, zeros, formed}
+use Rattle.tables.specs.Table.{put-numbers, read, write, padded, zeros, formed}
 
 pub zeros-are : (t : List ℕ) → zeros t ≡ true → t ≡ replicate (length t) 0
 zeros-are [] h = refl

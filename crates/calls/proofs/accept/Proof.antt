@@ -5,61 +5,43 @@ use native.Mathlib.Omega.{arith}
 use borrow.Author.Needs.{needs}
 use Rattle.calls.proofs.accept.Statement.{statement}
 use Rattle.calls.proofs.accept.Tie as tie
-use Rattle.calls.proofs.accept.Reads as reads
-use Rattle.calls.proofs.accept.Lts as lts
-use Rattle.calls.proofs.say.Reads as say-reads
-use Rattle.lines.proofs.member_at.Reads as member-at-reads
-use Rattle.lines.proofs.next_eligibility.Reads as next-eligibility-reads
-use Rattle.lines.proofs.put_past.Reads as put-past-reads
-use Rattle.tables.proofs.append.Reads as append-reads
-use Rattle.tables.proofs.held.Reads as held-reads
 
--- src/lib.rt:171:9
 member-at-requires : tie.Need-member-at-requires
 member-at-requires c κs =
     let a = c .before .before .before .args in
     omega (arith, A.offer-below (a .h) (a .cs .now) (a .t .now) (c .before .before .before .pre .0) (a .c) (a .len) (a .tag) (c .before .before .before .pre .1), M.members-end (a .cs .now))
 
--- src/lib.rt:172:13
 next-eligibility-requires : tie.Need-next-eligibility-requires
 next-eligibility-requires c κs = search needs
 
--- src/lib.rt:172:13
 cast-e : tie.Need-cast-e
 cast-e c =
     let a = c .before .before .before .before .before .args in
     let e = A.offer-eligibility (a .h) (a .cs .now) (a .t .now) (c .before .before .before .before .before .pre .0) (a .c) (a .len) (a .tag) (c .before .before .before .before .before .pre .1) (c .before .member-at .result) (c .next-eligibility .result) (c .before .member-at .ensures) (c .next-eligibility .ensures) in
     omega (arith, e, A.offer-fits (a .h) (a .cs .now) (a .t .now) (c .before .before .before .before .before .pre .0) (a .c) (a .len) (a .tag) (c .before .before .before .before .before .pre .1))
 
--- src/lib.rt:173:9
 held-requires : tie.Need-held-requires
 held-requires c κs = search needs
 
--- src/lib.rt:174:5
 append-requires : tie.Need-append-requires
 append-requires c κs =
     let a = c .before .before .before .before .before .before .before .before .args in
     (A.places-kept (a .h) (a .cs .now) (a .t .now) (c .before .before .before .before .before .before .before .before .pre .0), c .before .held .ensures, omega (arith, c .before .held .ensures, A.offer-room (a .h) (a .cs .now) (a .t .now) (c .before .before .before .before .before .before .before .before .pre .0) (a .c) (a .len) (a .tag) (c .before .before .before .before .before .before .before .before .pre .1)), A.places-size (a .h) (a .cs .now) (a .t .now) (c .before .before .before .before .before .before .before .before .pre .0))
 
--- src/lib.rt:185:5
 put-past-requires : tie.Need-put-past-requires
 put-past-requires c κs =
     let a = c .before .before .before .before .before .before .before .before .before .before .before .before .args in
     (A.members-kept (a .h) (a .cs .now) (a .t .now) (c .before .before .before .before .before .before .before .before .before .before .before .before .pre .0), A.offer-below (a .h) (a .cs .now) (a .t .now) (c .before .before .before .before .before .before .before .before .before .before .before .before .pre .0) (a .c) (a .len) (a .tag) (c .before .before .before .before .before .before .before .before .before .before .before .before .pre .1), A.members-size (a .h) (a .cs .now) (a .t .now) (c .before .before .before .before .before .before .before .before .before .before .before .before .pre .0))
 
--- src/lib.rt:186:5
 say-requires : tie.Need-say-requires
 say-requires c κs = search needs
 
--- src/lib.rt:166:1
 same-length : tie.Need-same-length
 same-length c = search needs
 
--- src/lib.rt:166:1
 same-length-2 : tie.Need-same-length-2
 same-length-2 c = search needs
 
--- src/lib.rt:166:1
 returns : tie.Need-returns
 returns c =
     let a = c .before .before .before .before .before .before .before .before .before .before .before .before .before .before .before .before .args in

@@ -9,58 +9,42 @@ use Rattle.service.specs.View.{refusal}
 use borrow.Author.Needs.{needs}
 use Rattle.calls.proofs.admit_tested.Statement.{statement}
 use Rattle.calls.proofs.admit_tested.Tie as tie
-use Rattle.calls.proofs.admit_tested.Reads as reads
-use Rattle.calls.proofs.admit_tested.Lts as lts
-use Rattle.calls.proofs.admit_verdict.Reads as admit-verdict-reads
-use Rattle.calls.proofs.say.Reads as say-reads
-use Rattle.lines.proofs.add_member.Reads as add-member-reads
-use Rattle.tables.proofs.held.Reads as held-reads
 
--- src/lib.rt:102:9
 held-requires : tie.Need-held-requires
 held-requires c κs = search needs
 
--- src/lib.rt:103:9
 admit-verdict-requires : tie.Need-admit-verdict-requires
 admit-verdict-requires c κs = (c .before .before .before .before .before .pre, c .before .held .ensures ∙ M.members-rows (c .before .before .before .before .before .args .cs .now))
 
--- src/lib.rt:105:9
 say-requires : tie.Need-say-requires
 say-requires c κs = search needs
 
--- src/lib.rt:105:9
 same-length : tie.Need-same-length
 same-length c = search needs
 
--- src/lib.rt:105:9
 returns : tie.Need-returns
 returns c =
     let a = c .before .before .before .before .before .before .before .before .args in
     let v = c .before .before .admit-verdict .result in
     A.refuses (a .h) (a .cs .now) (a .t .now) (c .before .before .before .before .before .before .before .before .pre) (admit (a .x)) v (v - 1) 255 (c .say .result) (sym (c .before .before .admit-verdict .ensures)) (omega (arith, c .before .if1 .taken)) refl (c .say .ensures)
 
--- src/lib.rt:107:5
 add-member-requires : tie.Need-add-member-requires
 add-member-requires c κs =
     let a = c .before .before .before .before .before .before .before .before .args in
     let e = c .before .before .before .before .held .ensures ∙ M.members-rows (a .cs .now) in
     (A.members-kept (a .h) (a .cs .now) (a .t .now) (c .before .before .before .before .before .before .before .before .pre), e, A.admit-room (a .h) (a .cs .now) (a .t .now) (a .x) (c .before .before .before .before .held .result) (sym (c .before .before .admit-verdict .ensures) ∙ omega (arith, c .before .if1 .left)) e, A.members-size (a .h) (a .cs .now) (a .t .now) (c .before .before .before .before .before .before .before .before .pre))
 
--- src/lib.rt:108:15
 cast-say : tie.Need-cast-say
 cast-say c =
     let a = c .before .before .before .before .before .before .before .before .before .before .before .args in
     omega (arith, A.admit-room (a .h) (a .cs .now) (a .t .now) (a .x) (c .before .before .before .before .before .before .before .held .result) (sym (c .before .before .before .before .before .admit-verdict .ensures) ∙ omega (arith, c .before .before .before .before .if1 .left)) (c .before .before .before .before .before .before .before .held .ensures ∙ M.members-rows (a .cs .now)))
 
--- src/lib.rt:108:5
 say-requires-2 : tie.Need-say-requires-2
 say-requires-2 c κs = search needs
 
--- src/lib.rt:98:1
 same-length-2 : tie.Need-same-length-2
 same-length-2 c = search needs
 
--- src/lib.rt:98:1
 returns-2 : tie.Need-returns-2
 returns-2 c =
     let a = c .before .before .before .before .before .before .before .before .before .before .before .before .args in

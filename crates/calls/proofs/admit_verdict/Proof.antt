@@ -13,15 +13,7 @@ use Rattle.service.specs.View.{view}
 use borrow.Author.Needs.{needs}
 use Rattle.calls.proofs.admit_verdict.Statement.{statement}
 use Rattle.calls.proofs.admit_verdict.Tie as tie
-use Rattle.calls.proofs.admit_verdict.Reads as reads
-use Rattle.calls.proofs.admit_verdict.Lts as lts
-use Rattle.lines.proofs.level_test.Reads as level-test-reads
-use Rattle.lines.proofs.reserve.Reads as reserve-reads
-use Rattle.lines.proofs.reserved_by.Reads as reserved-by-reads
-use Rattle.sound.proofs.figures_ok.Reads as figures-ok-reads
-use Rattle.sound.proofs.level_ok.Reads as level-ok-reads
 
--- src/lib.rt:76:9
 returns : tie.Need-returns
 returns c =
     let a = c .before .before .before .before .before .args in
@@ -30,11 +22,9 @@ returns c =
     let s = view (a .h) (a .cs .now) (a .t .now) in
     sym (W.admit-unset s st (a .x) (c .if1 .taken))
 
--- src/lib.rt:78:9
 level-ok-requires : tie.Need-level-ok-requires
 level-ok-requires c κs = search needs
 
--- src/lib.rt:79:9
 returns-2 : tie.Need-returns-2
 returns-2 c =
     let a = c .before .before .before .before .before .before .before .args in
@@ -43,11 +33,9 @@ returns-2 c =
     let s = view (a .h) (a .cs .now) (a .t .now) in
     sym (W.admit-level s st (a .x) (c .before .before .if1 .left) (sym (c .before .level-ok .ensures) ∙ not-true _ (c .if2 .taken)))
 
--- src/lib.rt:81:9
 figures-ok-requires : tie.Need-figures-ok-requires
 figures-ok-requires c κs = search needs
 
--- src/lib.rt:82:9
 returns-3 : tie.Need-returns-3
 returns-3 c =
     let a = c .before .before .before .before .before .before .before .before .before .args in
@@ -56,7 +44,6 @@ returns-3 c =
     let s = view (a .h) (a .cs .now) (a .t .now) in
     sym (W.admit-figures s st (a .x) (c .before .before .before .before .if1 .left) (sym (c .before .before .before .level-ok .ensures) ∙ not-false _ (c .before .before .if2 .left)) (sym (c .before .figures-ok .ensures) ∙ not-true _ (c .if3 .taken)))
 
--- src/lib.rt:85:9
 returns-4 : tie.Need-returns-4
 returns-4 c =
     let a = c .before .before .before .before .before .before .before .before .before .before .args in
@@ -65,7 +52,6 @@ returns-4 c =
     let s = view (a .h) (a .cs .now) (a .t .now) in
     sym (W.admit-many s st (a .x) (c .before .before .before .before .before .if1 .left) (sym (c .before .before .before .before .level-ok .ensures) ∙ not-false _ (c .before .before .before .if2 .left)) (sym (c .before .before .figures-ok .ensures) ∙ not-false _ (c .before .if3 .left)) (omega (arith, M.connections-length (a .cs .now))))
 
--- src/lib.rt:87:9
 level-test-requires : tie.Need-level-test-requires
 level-test-requires c κs =
     let a = c .before .before .before .before .before .before .before .before .before .before .args in
@@ -76,7 +62,6 @@ level-test-requires c κs =
     let f = F.figure-limits (a .h .link) (a .x) (sym (c .before .before .figures-ok .ensures) ∙ not-false _ (c .before .if3 .left)) in
     (search needs, A.few-members-of (a .h) (a .cs .now) (a .t .now) ok (c .before .before .before .before .before .if1 .left) (a .n) (search needs), f .some-gap, omega (arith, f .size-le, F.link-limits (a .h .link) (w .link-in) .largest-le), w)
 
--- src/lib.rt:89:9
 returns-5 : tie.Need-returns-5
 returns-5 c =
     let a = c .before .before .before .before .before .before .before .before .before .before .before .before .before .args in
@@ -85,7 +70,6 @@ returns-5 c =
     let s = view (a .h) (a .cs .now) (a .t .now) in
     sym (W.admit-short s st (a .x) (c .before .before .before .before .before .before .before .before .if1 .left) (sym (c .before .before .before .before .before .before .before .level-ok .ensures) ∙ not-false _ (c .before .before .before .before .before .before .if2 .left)) (sym (c .before .before .before .before .before .figures-ok .ensures) ∙ not-false _ (c .before .before .before .before .if3 .left)) (omega (arith, M.connections-length (a .cs .now))) (ap (λ (z : Short). eqb (z .level) 0) (sym (c .before .before .level-test .ensures)) ∙ ne-eqb (c .before .before .level-test .result .level) 0 (search needs)))
 
--- src/lib.rt:91:23
 reserved-by-requires : tie.Need-reserved-by-requires
 reserved-by-requires c κs =
     let a = c .before .before .before .before .before .before .before .before .before .before .before .before .before .args in
@@ -94,7 +78,6 @@ reserved-by-requires c κs =
     let s = view (a .h) (a .cs .now) (a .t .now) in
     (search needs, A.few-members-of (a .h) (a .cs .now) (a .t .now) ok (c .before .before .before .before .before .before .before .before .if1 .left) (a .n) (search needs), A.figures-in-limits (a .h) (a .cs .now) (a .t .now) ok (c .before .before .before .before .before .before .before .before .if1 .left))
 
--- src/lib.rt:91:54
 reserve-requires : tie.Need-reserve-requires
 reserve-requires c κs =
     let a = c .before .before .before .before .before .before .before .before .before .before .before .before .before .before .args in
@@ -103,11 +86,9 @@ reserve-requires c κs =
     let s = view (a .h) (a .cs .now) (a .t .now) in
     F.figure-limits (a .h .link) (a .x) (sym (c .before .before .before .before .before .before .figures-ok .ensures) ∙ not-false _ (c .before .before .before .before .before .if3 .left)) .some-gap
 
--- src/lib.rt:91:23
 add-if6 : tie.Need-add-if6
 add-if6 c = search needs
 
--- src/lib.rt:92:9
 returns-6 : tie.Need-returns-6
 returns-6 c =
     let a = c .before .before .before .before .before .before .before .before .before .before .before .before .before .before .before .before .args in
@@ -117,7 +98,6 @@ returns-6 c =
     let e = A.reserved-newcomer (a .h .link) (connections (a .cs .now)) (a .x) (c .before .before .reserved-by .result) (c .before .reserve .result) (c .before .before .reserved-by .ensures .0) (c .before .reserve .ensures .0) in
     sym (W.admit-reserved s st (a .x) (c .before .before .before .before .before .before .before .before .before .before .before .if1 .left) (sym (c .before .before .before .before .before .before .before .before .before .before .level-ok .ensures) ∙ not-false _ (c .before .before .before .before .before .before .before .before .before .if2 .left)) (sym (c .before .before .before .before .before .before .before .before .figures-ok .ensures) ∙ not-false _ (c .before .before .before .before .before .before .before .if3 .left)) (omega (arith, M.connections-length (a .cs .now))) (ap (λ (z : Short). eqb (z .level) 0) (sym (c .before .before .before .before .before .level-test .ensures)) ∙ eq-eqb (c .before .before .before .before .before .level-test .result .level) 0 (search needs)) (omega (arith, e)))
 
--- src/lib.rt:70:1
 returns-7 : tie.Need-returns-7
 returns-7 c =
     let a = c .before .before .before .before .before .before .before .before .before .before .before .before .before .before .before .before .args in

@@ -1,7 +1,7 @@
 use borrow.Author.Needs.{needs}
 use Rattle.calls.proofs.ActLaws as A
 use Rattle.tables.proofs.PlacesLaws as P
-use Prim.Native.Nat.{ℕ, suc, _+_, _-_, _≤_}
+use Prim.Native.Nat.{suc, _+_, _-_, _≤_}
 use native.Mathlib.Omega.{arith}
 use native.Mathlib.Numerals.{add-one}
 use mathlib.Core.Path.{_≡_, ap, _∙_}
@@ -13,11 +13,6 @@ use Rattle.rules.specs.Service.{of}
 use Rattle.tables.specs.Places.{rows, row-at}
 use Rattle.calls.proofs.held_by.Statement.{statement}
 use Rattle.calls.proofs.held_by.Tie as tie
-use Rattle.calls.proofs.held_by.Reads as reads
-use Rattle.calls.proofs.held_by.Lts as lts
-use Rattle.calls.proofs.one_if_same.Reads as one-if-same-reads
-use Rattle.tables.proofs.held.Reads as held-reads
-use Rattle.tables.proofs.row.Reads as row-reads
 
 abbrev Inv-loop : tie.InvT-loop
 Inv-loop t c held n₀ i₀ n i = (i ≤ held) × (n ≤ i) × (n + length (of c (drop i (rows t))) ≡ length (of c (rows t)))
@@ -25,35 +20,27 @@ Inv-loop t c held n₀ i₀ n i = (i ≤ held) × (n ≤ i) × (n + length (of c
 abbrev μ-loop : tie.MeasureT-loop
 μ-loop t c held n₀ i₀ n i = held - i
 
--- src/lib.rt:124:9
 held-requires : tie.Need-held-requires Inv-loop μ-loop
 held-requires c κs = search needs
 
--- src/lib.rt:127:5
 loop-holds : tie.Need-loop-holds Inv-loop μ-loop
 loop-holds c = (search needs, search needs, omega arith)
 
--- src/lib.rt:128:13
 row-requires : tie.Need-row-requires Inv-loop μ-loop
 row-requires c κs = omega (arith, P.rows-end (c .before .before .before .before .args .t .now), c .before .before .held .ensures)
 
--- src/lib.rt:129:14
 one-if-same-requires : tie.Need-one-if-same-requires Inv-loop μ-loop
 one-if-same-requires c κs = search needs
 
--- src/lib.rt:129:9
 add-n : tie.Need-add-n Inv-loop μ-loop
 add-n c = omega (arith, A.bit-le (c .before .row .result .connection) (c .before .before .before .before .before .before .args .c), c .one-if-same .ensures, P.rows-end (c .before .before .before .before .before .before .args .t .now), c .before .before .before .before .held .ensures, c .before .before .before .loop .inv .1)
 
--- src/lib.rt:130:9
 add-i : tie.Need-add-i Inv-loop μ-loop
 add-i c = search needs
 
--- src/lib.rt:127:5
 loop-less : tie.Need-loop-less Inv-loop μ-loop
 loop-less c = search needs
 
--- src/lib.rt:127:5
 loop-again : tie.Need-loop-again Inv-loop μ-loop
 loop-again c =
     let a = c .before .before .before .before .before .before .args in
@@ -66,7 +53,6 @@ loop-again c =
       rw (add-one i) (omega (arith, k, j, c .before .before .before .loop .inv .2)),
     )
 
--- src/lib.rt:121:1
 returns : tie.Need-returns Inv-loop μ-loop
 returns c =
     let a = c .before .before .before .before .args in

@@ -1,7 +1,7 @@
 use borrow.Author.Needs.{needs}
 use Rattle.calls.proofs.ActLaws as A
 use Rattle.calls.proofs.VerdictLaws as W
-use Rattle.rules.specs.Model.{link, admit, offer, tick}
+use Rattle.rules.specs.Model.{link}
 use borrow.Author.Tests.{not-true, not-false}
 use native.Mathlib.Omega.{arith}
 use mathlib.Core.Path.{refl, sym, _∙_}
@@ -9,16 +9,10 @@ use Rattle.service.specs.View.{view}
 use borrow.Author.Needs.{needs}
 use Rattle.calls.proofs.link_tested.Statement.{statement}
 use Rattle.calls.proofs.link_tested.Tie as tie
-use Rattle.calls.proofs.link_tested.Reads as reads
-use Rattle.calls.proofs.link_tested.Lts as lts
-use Rattle.calls.proofs.say.Reads as say-reads
-use Rattle.sound.proofs.link_ok.Reads as link-ok-reads
 
--- src/lib.rt:45:9
 say-requires : tie.Need-say-requires
 say-requires c κs = search needs
 
--- src/lib.rt:45:9
 returns : tie.Need-returns
 returns c =
     let a = c .before .before .before .before .before .args in
@@ -27,15 +21,12 @@ returns c =
     let s = view (a .h) (a .cs .now) (a .t .now) in
     A.refuses (a .h) (a .cs .now) (a .t .now) ok (link (a .l)) 3 2 0 (c .say .result) (W.link-set-already s st (a .l) (c .before .if1 .taken)) refl refl (c .say .ensures)
 
--- src/lib.rt:47:9
 link-ok-requires : tie.Need-link-ok-requires
 link-ok-requires c κs = search needs
 
--- src/lib.rt:48:9
 say-requires-2 : tie.Need-say-requires-2
 say-requires-2 c κs = search needs
 
--- src/lib.rt:48:9
 returns-2 : tie.Need-returns-2
 returns-2 c =
     let a = c .before .before .before .before .before .before .before .args in
@@ -44,11 +35,9 @@ returns-2 c =
     let s = view (a .h) (a .cs .now) (a .t .now) in
     A.refuses (a .h) (a .cs .now) (a .t .now) ok (link (a .l)) 4 3 0 (c .say2 .result) (W.link-broken s st (a .l) (omega (arith, c .before .before .before .if1 .left)) (sym (c .before .before .link-ok .ensures) ∙ not-true _ (c .before .if2 .taken))) refl refl (c .say2 .ensures)
 
--- src/lib.rt:52:5
 say-requires-3 : tie.Need-say-requires-3
 say-requires-3 c κs = search needs
 
--- src/lib.rt:40:1
 returns-3 : tie.Need-returns-3
 returns-3 c =
     let a = c .before .before .before .before .before .before .before .args in

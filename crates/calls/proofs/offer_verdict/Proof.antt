@@ -18,14 +18,7 @@ use Rattle.service.specs.View.{view}
 use borrow.Author.Needs.{needs}
 use Rattle.calls.proofs.offer_verdict.Statement.{statement}
 use Rattle.calls.proofs.offer_verdict.Tie as tie
-use Rattle.calls.proofs.offer_verdict.Reads as reads
-use Rattle.calls.proofs.offer_verdict.Lts as lts
-use Rattle.calls.proofs.held_by.Reads as held-by-reads
-use Rattle.lines.proofs.connection_at.Reads as connection-at-reads
-use Rattle.lines.proofs.reserve.Reads as reserve-reads
-use Rattle.tables.proofs.held.Reads as held-reads
 
--- src/lib.rt:142:9
 returns : tie.Need-returns
 returns c =
     let a = c .before .before .before .before .before .args in
@@ -34,11 +27,9 @@ returns c =
     let s = view (a .h) (a .cs .now) (a .t .now) in
     sym (W.offer-unset s st (a .c) (a .len) (a .tag) (c .if1 .taken))
 
--- src/lib.rt:144:9
 held-requires : tie.Need-held-requires
 held-requires c κs = search needs
 
--- src/lib.rt:147:9
 returns-2 : tie.Need-returns-2
 returns-2 c =
     let a = c .before .before .before .before .before .before .before .args in
@@ -48,13 +39,11 @@ returns-2 c =
     let n : c .before .held .result ≡ length (connections (a .cs .now)) = c .before .held .ensures ∙ M.members-rows (a .cs .now) ∙ sym (M.connections-length (a .cs .now)) in
     sym (W.offer-nobody s st (a .c) (a .len) (a .tag) (c .before .before .if1 .left) (omega arith))
 
--- src/lib.rt:149:9
 connection-at-requires : tie.Need-connection-at-requires
 connection-at-requires c κs =
     let a = c .before .before .before .before .before .before .before .args in
     omega (arith, c .before .held .ensures, M.members-rows (a .cs .now))
 
--- src/lib.rt:151:9
 returns-3 : tie.Need-returns-3
 returns-3 c =
     let a = c .before .before .before .before .before .before .before .before .before .args in
@@ -64,7 +53,6 @@ returns-3 c =
     let n : c .before .before .before .held .result ≡ length (connections (a .cs .now)) = c .before .before .before .held .ensures ∙ M.members-rows (a .cs .now) ∙ sym (M.connections-length (a .cs .now)) in
     sym (W.offer-length s st (a .c) (a .len) (a .tag) (c .before .before .before .before .if1 .left) (omega arith) (C.too-low 1 (nth (connections (a .cs .now)) (a .c) .size) (a .len) (search needs)))
 
--- src/lib.rt:154:9
 returns-4 : tie.Need-returns-4
 returns-4 c =
     let a = c .before .before .before .before .before .before .before .before .before .before .before .args in
@@ -75,18 +63,15 @@ returns-4 c =
     let e : c .before .before .before .connection-at .result .size ≡ nth (connections (a .cs .now)) (a .c) .size = ap (λ (x : Connection). x .size) (c .before .before .before .connection-at .ensures) in
     sym (W.offer-length s st (a .c) (a .len) (a .tag) (c .before .before .before .before .before .before .if1 .left) (omega arith) (C.too-high 1 (nth (connections (a .cs .now)) (a .c) .size) (a .len) (omega arith) (omega arith)))
 
--- src/lib.rt:156:8
 reserve-requires : tie.Need-reserve-requires
 reserve-requires c κs =
     let a = c .before .before .before .before .before .before .before .before .before .before .before .args in
     let n : c .before .before .before .before .before .held .result ≡ length (connections (a .cs .now)) = c .before .before .before .before .before .held .ensures ∙ M.members-rows (a .cs .now) ∙ sym (M.connections-length (a .cs .now)) in
     F.figure-at (a .h .link) (connections (a .cs .now)) (A.figures-in-limits (a .h) (a .cs .now) (a .t .now) (c .before .before .before .before .before .before .before .before .before .before .before .pre) (c .before .before .before .before .before .before .if1 .left)) (a .c) (c .before .before .before .connection-at .result) (omega arith) (c .before .before .before .connection-at .ensures) .0
 
--- src/lib.rt:156:32
 held-by-requires : tie.Need-held-by-requires
 held-by-requires c κs = search needs
 
--- src/lib.rt:157:9
 returns-5 : tie.Need-returns-5
 returns-5 c =
     let a = c .before .before .before .before .before .before .before .before .before .before .before .before .before .before .args in
@@ -99,7 +84,6 @@ returns-5 c =
     let k : c .before .held-by .result ≡ length (of (a .c) (rows (a .t .now))) = c .before .held-by .ensures in
     sym (W.offer-full s st (a .c) (a .len) (a .tag) (c .before .before .before .before .before .before .before .before .before .if1 .left) (omega arith) (within-intro 1 (nth (connections (a .cs .now)) (a .c) .size) (a .len) (omega arith) (omega arith)) (omega arith))
 
--- src/lib.rt:160:9
 returns-6 : tie.Need-returns-6
 returns-6 c =
     let a = c .before .before .before .before .before .before .before .before .before .before .before .before .before .before .before .before .args in
@@ -112,7 +96,6 @@ returns-6 c =
     let k : c .before .before .before .held-by .result ≡ length (of (a .c) (rows (a .t .now))) = c .before .before .before .held-by .ensures in
     sym (W.offer-ended s st (a .c) (a .len) (a .tag) (c .before .before .before .before .before .before .before .before .before .before .before .if1 .left) (omega arith) (within-intro 1 (nth (connections (a .cs .now)) (a .c) .size) (a .len) (omega arith) (omega arith)) (omega arith) (search needs))
 
--- src/lib.rt:136:1
 returns-7 : tie.Need-returns-7
 returns-7 c =
     let a = c .before .before .before .before .before .before .before .before .before .before .before .before .before .before .before .before .args in

@@ -2,14 +2,10 @@ use borrow.Author.Needs.{needs}
 use borrow.Author.Tests.{eq-eqb, ne-eqb}
 use Rattle.calls.proofs.one_if_same.Statement.{statement}
 use Rattle.calls.proofs.one_if_same.Tie as tie
-use Rattle.calls.proofs.one_if_same.Reads as reads
-use Rattle.calls.proofs.one_if_same.Lts as lts
 
--- src/lib.rt:115:9
 returns : tie.Need-returns
 returns c = let a = c .before .args in rw (eq-eqb (a .a) (a .b) (search needs))
 
--- src/lib.rt:111:1
 returns-2 : tie.Need-returns-2
 returns-2 c = let a = c .before .args in rw (ne-eqb (a .a) (a .b) (search needs))
 

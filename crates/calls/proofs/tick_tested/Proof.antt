@@ -1,22 +1,16 @@
 use borrow.Author.Needs.{needs}
 use Rattle.calls.proofs.ActLaws as A
 use Rattle.calls.proofs.VerdictLaws as W
-use Rattle.rules.specs.Model.{link, admit, offer, tick}
+use Rattle.rules.specs.Model.{tick}
 use mathlib.Core.Path.{refl}
 use Rattle.service.specs.View.{view}
 use borrow.Author.Needs.{needs}
 use Rattle.calls.proofs.tick_tested.Statement.{statement}
 use Rattle.calls.proofs.tick_tested.Tie as tie
-use Rattle.calls.proofs.tick_tested.Reads as reads
-use Rattle.calls.proofs.tick_tested.Lts as lts
-use Rattle.calls.proofs.say.Reads as say-reads
-use Rattle.service.proofs.run_tick.Reads as run-tick-reads
 
--- src/lib.rt:61:9
 say-requires : tie.Need-say-requires
 say-requires c κs = search needs
 
--- src/lib.rt:61:9
 returns : tie.Need-returns
 returns c =
     let a = c .before .before .before .before .before .args in
@@ -25,11 +19,9 @@ returns c =
     let s = view (a .h) (a .cs .now) (a .t .now) in
     A.refuses (a .h) (a .cs .now) (a .t .now) ok tick 2 1 0 (c .say .result) (W.tick-unset s st (c .before .if1 .taken)) refl refl (c .say .ensures)
 
--- src/lib.rt:64:9
 say-requires-2 : tie.Need-say-requires-2
 say-requires-2 c κs = search needs
 
--- src/lib.rt:64:9
 returns-2 : tie.Need-returns-2
 returns-2 c =
     let a = c .before .before .before .before .before .before .before .args in
@@ -38,17 +30,14 @@ returns-2 c =
     let s = view (a .h) (a .cs .now) (a .t .now) in
     A.refuses (a .h) (a .cs .now) (a .t .now) ok tick 13 12 0 (c .say2 .result) (W.tick-ended s st (c .before .before .before .if1 .left) (search needs)) refl refl (c .say2 .ensures)
 
--- src/lib.rt:66:5
 run-tick-requires : tie.Need-run-tick-requires
 run-tick-requires c κs =
     let a = c .before .before .before .before .before .before .before .args in
     A.ready-to-tick (a .h) (a .cs .now) (a .t .now) (c .before .before .before .before .before .before .before .pre) (c .before .before .before .if1 .left) (search needs)
 
--- src/lib.rt:56:1
 same-length : tie.Need-same-length
 same-length c = search needs
 
--- src/lib.rt:56:1
 returns-3 : tie.Need-returns-3
 returns-3 c =
     let a = c .before .before .before .before .before .before .before .before .before .before .args in

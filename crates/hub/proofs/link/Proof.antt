@@ -2,33 +2,23 @@ use Rattle.hub.proofs.DoesLaws as D
 use borrow.Author.Tests.{not-true, not-false}
 use mathlib.Core.Path.{refl}
 use mathlib.Core.Bool.{true, false}
-use Rattle.rules.specs.Model.{link, admit, offer, tick}
+use Rattle.rules.specs.Model.{link}
 use borrow.Author.Needs.{needs}
 use Rattle.hub.proofs.link.Statement.{statement}
 use Rattle.hub.proofs.link.Tie as tie
-use Rattle.hub.proofs.link.Reads as reads
-use Rattle.hub.proofs.link.Lts as lts
-use Rattle.calls.proofs.link_tested.Reads as link-tested-reads
-use Rattle.calls.proofs.say.Reads as say-reads
-use Rattle.sound.proofs.is_sound.Reads as is-sound-reads
 
--- src/lib.rt:34:9
 is-sound-requires : tie.Need-is-sound-requires
 is-sound-requires c κs = search needs
 
--- src/lib.rt:35:9
 say-requires : tie.Need-say-requires
 say-requires c κs = search needs
 
--- src/lib.rt:35:9
 returns : tie.Need-returns
 returns c = let a = c .before .before .before .before .before .before .args in D.refuses-unsound (link (a .l)) (a .h) (a .cs .now) (a .t .now) (D.tested (link (a .l)) (a .h) (a .cs .now) (a .t .now) (c .before .before .is-sound .result) false (c .before .before .is-sound .ensures) (not-true _ (c .before .if1 .taken))) (c .say .result) 0 refl (c .say .ensures)
 
--- src/lib.rt:37:5
 link-tested-requires : tie.Need-link-tested-requires
 link-tested-requires c κs = let a = c .before .before .before .before .before .args in (D.tested (link (a .l)) (a .h) (a .cs .now) (a .t .now) (c .before .is-sound .result) true (c .before .is-sound .ensures) (not-false _ (c .if1 .left)))
 
--- src/lib.rt:30:1
 returns-2 : tie.Need-returns-2
 returns-2 c = let a = c .before .before .before .before .before .before .args in D.does (link (a .l)) (a .h) (a .cs .now) (a .t .now) (D.tested (link (a .l)) (a .h) (a .cs .now) (a .t .now) (c .before .before .is-sound .result) true (c .before .before .is-sound .ensures) (not-false _ (c .before .if1 .left))) (c .link-tested .result) (a .cs .now) (a .t .now) (c .link-tested .ensures)
 

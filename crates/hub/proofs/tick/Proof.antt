@@ -2,41 +2,29 @@ use Rattle.hub.proofs.DoesLaws as D
 use borrow.Author.Tests.{not-true, not-false}
 use mathlib.Core.Path.{refl}
 use mathlib.Core.Bool.{true, false}
-use Rattle.rules.specs.Model.{link, admit, offer, tick}
+use Rattle.rules.specs.Model.{tick}
 use borrow.Author.Needs.{needs}
 use Rattle.hub.proofs.tick.Statement.{statement}
 use Rattle.hub.proofs.tick.Tie as tie
-use Rattle.hub.proofs.tick.Reads as reads
-use Rattle.hub.proofs.tick.Lts as lts
-use Rattle.calls.proofs.say.Reads as say-reads
-use Rattle.calls.proofs.tick_tested.Reads as tick-tested-reads
-use Rattle.sound.proofs.is_sound.Reads as is-sound-reads
 
--- src/lib.rt:67:9
 is-sound-requires : tie.Need-is-sound-requires
 is-sound-requires c κs = search needs
 
--- src/lib.rt:68:9
 say-requires : tie.Need-say-requires
 say-requires c κs = search needs
 
--- src/lib.rt:68:9
 same-length : tie.Need-same-length
 same-length c = search needs
 
--- src/lib.rt:68:9
 returns : tie.Need-returns
 returns c = let a = c .before .before .before .before .before .before .before .args in D.refuses-unsound tick (a .h) (a .cs .now) (a .t .now) (D.tested tick (a .h) (a .cs .now) (a .t .now) (c .before .before .is-sound .result) false (c .before .before .is-sound .ensures) (not-true _ (c .before .if1 .taken))) (c .say .result) 0 refl (c .say .ensures)
 
--- src/lib.rt:70:5
 tick-tested-requires : tie.Need-tick-tested-requires
 tick-tested-requires c κs = let a = c .before .before .before .before .before .before .before .args in (D.tested tick (a .h) (a .cs .now) (a .t .now) (c .before .before .is-sound .result) true (c .before .before .is-sound .ensures) (not-false _ (c .before .if1 .left)))
 
--- src/lib.rt:63:1
 same-length-2 : tie.Need-same-length-2
 same-length-2 c = search needs
 
--- src/lib.rt:63:1
 returns-2 : tie.Need-returns-2
 returns-2 c = let a = c .before .before .before .before .before .before .before .before .before .before .args in D.does tick (a .h) (a .cs .now) (a .t .now) (D.tested tick (a .h) (a .cs .now) (a .t .now) (c .before .before .before .before .before .is-sound .result) true (c .before .before .before .before .before .is-sound .ensures) (not-false _ (c .before .before .before .before .if1 .left))) (c .before .before .tick-tested .result) (a .cs .now) (c .before .before .tick-tested .last .1 .1 .0) (c .before .before .tick-tested .ensures)
 

@@ -4,19 +4,13 @@ use Rattle.lines.proofs.MemberLaws as L
 use borrow.Author.Needs.{needs}
 use Rattle.lines.proofs.add_member.Statement.{statement}
 use Rattle.lines.proofs.add_member.Tie as tie
-use Rattle.lines.proofs.add_member.Reads as reads
-use Rattle.lines.proofs.add_member.Lts as lts
-use Rattle.tables.proofs.put_five.Reads as put-five-reads
 
--- src/lib.rt:50:5
 put-five-requires : tie.Need-put-five-requires
 put-five-requires c κs = search needs
 
--- src/lib.rt:46:1
 same-length : tie.Need-same-length
 same-length c = search needs
 
--- src/lib.rt:46:1
 returns : tie.Need-returns
 returns c =
     let a = c .before .before .before .before .before .args in

@@ -1,33 +1,23 @@
 use Rattle.tables.proofs.TableLaws as TL
 use Rattle.lines.specs.Members.{member-of, members-length}
 use Rattle.lines.proofs.MemberLaws as L
-use lib.ListN.{length, length-set, drop, getD}
-use Prim.Native.Nat.{ℕ, suc, _≤_, _<_, _-_, _+_, _*_}
-use mathlib.Core.Path.{_≡_, refl, sym, ap, _∙_}
 use native.Mathlib.Omega.{arith}
 use borrow.Author.Needs.{needs}
 use Rattle.lines.proofs.level_of.Statement.{statement}
 use Rattle.lines.proofs.level_of.Tie as tie
-use Rattle.lines.proofs.level_of.Reads as reads
-use Rattle.lines.proofs.level_of.Lts as lts
 
--- src/lib.rt:127:19
 mul-result : tie.Need-mul-result
 mul-result c = search needs
 
--- src/lib.rt:127:16
 mul-result-2 : tie.Need-mul-result-2
 mul-result-2 c = search needs
 
--- src/lib.rt:127:16
 shared-slice-read-result : tie.Need-shared-slice-read-result
 shared-slice-read-result c = search needs
 
--- src/lib.rt:127:9
 returns : tie.Need-returns
 returns c = let a = c .before .before .args in L.level-is (a .cs .now) (a .c) (search needs)
 
--- src/lib.rt:121:1
 returns-2 : tie.Need-returns-2
 returns-2 c = let a = c .before .args in L.no-level (a .cs .now) (a .c) (search needs) (omega (arith, TL.formed-length member-of members-length (a .cs .now) (search needs)))
 

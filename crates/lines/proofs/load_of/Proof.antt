@@ -1,20 +1,16 @@
+use Rattle.rules.specs.Words.{sum as sigma}
 use Rattle.lines.proofs.MemberLaws as M
 use borrow.Author.Needs.{needs}
 use Rattle.lines.proofs.FigureLaws as L
-use Prim.Native.Nat.{ℕ, suc, _≤_, _<_, _-_, _+_, _*_}
+use Prim.Native.Nat.{ℕ, _≤_, _-_, _*_}
 use native.Mathlib.Omega.{arith}
-use mathlib.Core.Path.{_≡_, refl, sym, ap, _∙_}
+use mathlib.Core.Path.{_≡_, refl, ap, _∙_}
 use lib.ListN.{length}
-use Rattle.rules.specs.Words.{sum as sigma}
 use Rattle.rules.specs.Model.{nth}
 use Rattle.lines.specs.Members.{connections}
 use Rattle.lines.specs.Within.{share-of, most-share}
 use Rattle.lines.proofs.load_of.Statement.{statement}
 use Rattle.lines.proofs.load_of.Tie as tie
-use Rattle.lines.proofs.load_of.Reads as reads
-use Rattle.lines.proofs.load_of.Lts as lts
-use Rattle.lines.proofs.connection_at.Reads as connection-at-reads
-use Rattle.lines.proofs.share.Reads as share-reads
 
 abbrev Inv-loop : tie.InvT-loop
 Inv-loop l cs n m d sum₀ i₀ sum i = (i ≤ n) × (sum ≡ sigma i (λ (k : ℕ). share-of l m d (nth (connections cs) k))) × (sum ≤ i * most-share)
@@ -22,15 +18,12 @@ Inv-loop l cs n m d sum₀ i₀ sum i = (i ≤ n) × (sum ≡ sigma i (λ (k : �
 abbrev μ-loop : tie.MeasureT-loop
 μ-loop l cs n m d sum₀ i₀ sum i = n - i
 
--- src/lib.rt:133:5
 loop-holds : tie.Need-loop-holds Inv-loop μ-loop
 loop-holds c = (search needs, refl, search needs)
 
--- src/lib.rt:134:13
 connection-at-requires : tie.Need-connection-at-requires Inv-loop μ-loop
 connection-at-requires c κs = search needs
 
--- src/lib.rt:135:16
 share-requires : tie.Need-share-requires Inv-loop μ-loop
 share-requires c κs =
     let a = c .before .before .before .before .args in
@@ -38,19 +31,15 @@ share-requires c κs =
     let k = L.figure-at (a .l) (connections (a .cs .now)) (c .before .before .before .before .pre .3) i (c .connection-at .result) (omega (arith, M.connections-length (a .cs .now))) (c .connection-at .ensures) in
     (k .0, search needs, k .1)
 
--- src/lib.rt:135:9
 add-sum : tie.Need-add-sum Inv-loop μ-loop
 add-sum c = omega (arith, c .share .ensures .1, c .before .before .before .loop .inv .2)
 
--- src/lib.rt:136:9
 add-i : tie.Need-add-i Inv-loop μ-loop
 add-i c = search needs
 
--- src/lib.rt:133:5
 loop-less : tie.Need-loop-less Inv-loop μ-loop
 loop-less c = search needs
 
--- src/lib.rt:133:5
 loop-again : tie.Need-loop-again Inv-loop μ-loop
 loop-again c =
     let a = c .before .before .before .before .before .args in
@@ -61,7 +50,6 @@ loop-again c =
       omega (arith, c .share .ensures .1, c .before .before .before .loop .inv .2),
     )
 
--- src/lib.rt:127:1
 returns : tie.Need-returns Inv-loop μ-loop
 returns c =
     let a = c .before .before .before .args in

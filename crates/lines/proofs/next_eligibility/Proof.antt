@@ -5,46 +5,34 @@ use mathlib.Core.Path.{_∙_}
 use borrow.Author.Needs.{needs}
 use Rattle.lines.proofs.next_eligibility.Statement.{statement}
 use Rattle.lines.proofs.next_eligibility.Tie as tie
-use Rattle.lines.proofs.next_eligibility.Reads as reads
-use Rattle.lines.proofs.next_eligibility.Lts as lts
-use Rattle.lines.proofs.wide.Reads as wide-reads
 
--- src/lib.rt:216:9
 wide-requires : tie.Need-wide-requires
 wide-requires c κs = search needs
 
--- src/lib.rt:216:9
 returns : tie.Need-returns
 returns c = let a = c .before .before .args in c .wide .ensures .0 ∙ L.next-first (a .flag) (a .last) (a .gap) (a .now) (c .before .if1 .taken)
 
--- src/lib.rt:218:16
 wide-requires-2 : tie.Need-wide-requires-2
 wide-requires-2 c κs = search needs
 
--- src/lib.rt:218:29
 wide-requires-3 : tie.Need-wide-requires-3
 wide-requires-3 c κs = search needs
 
--- src/lib.rt:218:16
 add-free : tie.Need-add-free
 add-free c = search needs
 
--- src/lib.rt:219:15
 wide-requires-4 : tie.Need-wide-requires-4
 wide-requires-4 c κs = search needs
 
--- src/lib.rt:220:9
 wide-requires-5 : tie.Need-wide-requires-5
 wide-requires-5 c κs = search needs
 
--- src/lib.rt:220:9
 returns-2 : tie.Need-returns-2
 returns-2 c =
     let a = c .before .before .before .before .before .before .args in
     c .wide5 .ensures .0
     ∙ L.next-now (a .flag) (a .last) (a .gap) (a .now) (c .before .before .before .before .before .if1 .left) (c .before .before .before .before .wide2 .result + c .before .before .before .wide3 .result) (omega (arith, c .before .before .before .before .wide2 .ensures .0, c .before .before .before .wide3 .ensures .0)) (omega (arith, c .before .before .wide4 .ensures .0))
 
--- src/lib.rt:212:1
 returns-3 : tie.Need-returns-3
 returns-3 c =
     let a = c .before .before .before .before .before .args in

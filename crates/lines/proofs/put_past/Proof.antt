@@ -1,51 +1,37 @@
 use Rattle.lines.proofs.MemberLaws as L
-use lib.ListN.{length, length-set, drop, getD}
-use Prim.Native.Nat.{ℕ, suc, _≤_, _<_, _-_, _+_, _*_}
-use mathlib.Core.Path.{_≡_, refl, sym, ap, _∙_}
+use lib.ListN.{length-set}
 use native.Mathlib.Omega.{arith}
 use borrow.Author.Needs.{needs}
 use Rattle.lines.proofs.put_past.Statement.{statement}
 use Rattle.lines.proofs.put_past.Tie as tie
-use Rattle.lines.proofs.put_past.Reads as reads
-use Rattle.lines.proofs.put_past.Lts as lts
 
--- src/lib.rt:205:8
 mul-cs : tie.Need-mul-cs
 mul-cs c = omega (arith, L.members-end (c .args .cs .now))
 
--- src/lib.rt:205:8
 add-cs : tie.Need-add-cs
 add-cs c = omega (arith, L.members-end (c .args .cs .now))
 
--- src/lib.rt:205:5
 mul-cs-2 : tie.Need-mul-cs-2
 mul-cs-2 c = omega (arith, L.members-end (c .args .cs .now))
 
--- src/lib.rt:205:5
 slice-write-cs : tie.Need-slice-write-cs
 slice-write-cs c = omega (arith, L.members-end (c .args .cs .now))
 
--- src/lib.rt:206:8
 mul-cs-3 : tie.Need-mul-cs-3
 mul-cs-3 c = omega (arith, L.members-end (c .args .cs .now))
 
--- src/lib.rt:206:8
 add-cs-2 : tie.Need-add-cs-2
 add-cs-2 c = omega (arith, L.members-end (c .args .cs .now))
 
--- src/lib.rt:206:5
 mul-cs-4 : tie.Need-mul-cs-4
 mul-cs-4 c = omega (arith, L.members-end (c .args .cs .now))
 
--- src/lib.rt:206:5
 slice-write-cs-2 : tie.Need-slice-write-cs-2
 slice-write-cs-2 c = simp length-set (omega (arith, L.members-end (c .args .cs .now)))
 
--- src/lib.rt:201:1
 same-length : tie.Need-same-length
 same-length c = search needs
 
--- src/lib.rt:201:1
 returns : tie.Need-returns
 returns c = L.set-past (c .args .cs .now) (c .args .c) (c .args .e) (c .pre .0) (c .pre .1)
 

@@ -1,3 +1,4 @@
+use Rattle.rules.specs.Words.{sum as sigma}
 use Rattle.lines.proofs.MemberLaws as M
 use Rattle.lines.proofs.FigureLaws as L
 use borrow.Author.Needs.{needs}
@@ -5,17 +6,12 @@ use Prim.Native.Nat.{ℕ, _≤_, _-_, _*_}
 use native.Mathlib.Omega.{arith}
 use mathlib.Core.Path.{_≡_, refl, ap, _∙_}
 use lib.ListN.{length}
-use Rattle.rules.specs.Words.{sum as sigma}
 use Rattle.rules.specs.Limits.{beyond-32-bits}
 use Rattle.rules.specs.Model.{nth}
 use Rattle.rules.specs.Admission.{reservation}
 use Rattle.lines.specs.Members.{connections}
 use Rattle.lines.proofs.reserved_by.Statement.{statement}
 use Rattle.lines.proofs.reserved_by.Tie as tie
-use Rattle.lines.proofs.reserved_by.Reads as reads
-use Rattle.lines.proofs.reserved_by.Lts as lts
-use Rattle.lines.proofs.connection_at.Reads as connection-at-reads
-use Rattle.lines.proofs.reserve.Reads as reserve-reads
 
 abbrev Inv-loop : tie.InvT-loop
 Inv-loop l cs n sum₀ i₀ sum i = (i ≤ n) × (sum ≡ sigma i (λ (k : ℕ). reservation l (nth (connections cs) k))) × (sum ≤ i * beyond-32-bits)
@@ -23,33 +19,26 @@ Inv-loop l cs n sum₀ i₀ sum i = (i ≤ n) × (sum ≡ sigma i (λ (k : ℕ).
 abbrev μ-loop : tie.MeasureT-loop
 μ-loop l cs n sum₀ i₀ sum i = n - i
 
--- src/lib.rt:177:5
 loop-holds : tie.Need-loop-holds Inv-loop μ-loop
 loop-holds c = (search needs, refl, search needs)
 
--- src/lib.rt:178:13
 connection-at-requires : tie.Need-connection-at-requires Inv-loop μ-loop
 connection-at-requires c κs = search needs
 
--- src/lib.rt:179:16
 reserve-requires : tie.Need-reserve-requires Inv-loop μ-loop
 reserve-requires c κs =
     let a = c .before .before .before .before .args in
     L.figure-at (a .l) (connections (a .cs .now)) (c .before .before .before .before .pre .2) (c .before .before .loop .i) (c .connection-at .result) (omega (arith, M.connections-length (a .cs .now))) (c .connection-at .ensures) .0
 
--- src/lib.rt:179:9
 add-sum : tie.Need-add-sum Inv-loop μ-loop
 add-sum c = omega (arith, c .reserve .ensures .1, c .before .before .before .loop .inv .2)
 
--- src/lib.rt:180:9
 add-i : tie.Need-add-i Inv-loop μ-loop
 add-i c = search needs
 
--- src/lib.rt:177:5
 loop-less : tie.Need-loop-less Inv-loop μ-loop
 loop-less c = search needs
 
--- src/lib.rt:177:5
 loop-again : tie.Need-loop-again Inv-loop μ-loop
 loop-again c =
     let a = c .before .before .before .before .before .args in
@@ -60,7 +49,6 @@ loop-again c =
       omega (arith, c .reserve .ensures .1, c .before .before .before .loop .inv .2),
     )
 
--- src/lib.rt:171:1
 returns : tie.Need-returns Inv-loop μ-loop
 returns c =
     let a = c .before .before .before .args in

@@ -12,46 +12,31 @@ use Rattle.lines.specs.Members.{connections}
 use borrow.Author.Needs.{needs}
 use Rattle.sound.proofs.admissions_ok.Statement.{statement}
 use Rattle.sound.proofs.admissions_ok.Tie as tie
-use Rattle.sound.proofs.admissions_ok.Reads as reads
-use Rattle.sound.proofs.admissions_ok.Lts as lts
-use Rattle.lines.proofs.reserved_by.Reads as reserved-by-reads
-use Rattle.sound.proofs.connections_ok.Reads as connections-ok-reads
-use Rattle.sound.proofs.link_ok.Reads as link-ok-reads
-use Rattle.sound.proofs.tests_ok.Reads as tests-ok-reads
 
--- src/lib.rt:141:9
 link-ok-requires : tie.Need-link-ok-requires
 link-ok-requires c κs = search needs
 
--- src/lib.rt:142:9
 returns : tie.Need-returns
 returns c = let a = c .before .before .before .args in C.fails _ _ (sym (c .before .link-ok .ensures) ∙ not-true _ (c .if1 .taken)) ∙ sym (S.admissions-read (a .l) (a .cs .now))
 
--- src/lib.rt:145:9
 returns-2 : tie.Need-returns-2
 returns-2 c = let a = c .before .before .before .before .args in C.goes-on _ _ _ (sym (c .before .before .link-ok .ensures) ∙ not-false _ (c .before .if1 .left)) (C.fails _ _ (lt-leb (length (connections (a .cs .now))) max-connections (omega (arith, M.connections-length (a .cs .now))))) ∙ sym (S.admissions-read (a .l) (a .cs .now))
 
--- src/lib.rt:147:9
 connections-ok-requires : tie.Need-connections-ok-requires
 connections-ok-requires c κs = search needs
 
--- src/lib.rt:148:9
 returns-3 : tie.Need-returns-3
 returns-3 c = let a = c .before .before .before .before .before .before .args in C.goes-on _ _ _ (sym (c .before .before .before .before .link-ok .ensures) ∙ not-false _ (c .before .before .before .if1 .left)) (C.goes-on _ _ _ (le-leb (length (connections (a .cs .now))) max-connections (omega (arith, M.connections-length (a .cs .now)))) (C.fails _ _ (sym (c .before .connections-ok .ensures) ∙ not-true _ (c .if3 .taken)))) ∙ sym (S.admissions-read (a .l) (a .cs .now))
 
--- src/lib.rt:150:9
 tests-ok-requires : tie.Need-tests-ok-requires
 tests-ok-requires c κs = let a = c .before .before .before .before .before .before .args in (search needs, search needs, S.figures-safe (a .l) (a .cs .now) (sym (c .before .before .before .before .link-ok .ensures) ∙ not-false _ (c .before .before .before .if1 .left)) (sym (c .before .connections-ok .ensures) ∙ not-false _ (c .if3 .left)))
 
--- src/lib.rt:151:9
 returns-4 : tie.Need-returns-4
 returns-4 c = let a = c .before .before .before .before .before .before .before .before .args in C.goes-on _ _ _ (sym (c .before .before .before .before .before .before .link-ok .ensures) ∙ not-false _ (c .before .before .before .before .before .if1 .left)) (C.goes-on _ _ _ (le-leb (length (connections (a .cs .now))) max-connections (omega (arith, M.connections-length (a .cs .now)))) (C.goes-on _ _ _ (sym (c .before .before .before .connections-ok .ensures) ∙ not-false _ (c .before .before .if3 .left)) (C.fails _ _ (sym (c .before .tests-ok .ensures) ∙ not-true _ (c .if4 .taken))))) ∙ sym (S.admissions-read (a .l) (a .cs .now))
 
--- src/lib.rt:153:5
 reserved-by-requires : tie.Need-reserved-by-requires
 reserved-by-requires c κs = let a = c .before .before .before .before .before .before .before .before .args in (search needs, search needs, S.figures-safe (a .l) (a .cs .now) (sym (c .before .before .before .before .before .before .link-ok .ensures) ∙ not-false _ (c .before .before .before .before .before .if1 .left)) (sym (c .before .before .before .connections-ok .ensures) ∙ not-false _ (c .before .before .if3 .left)))
 
--- src/lib.rt:137:1
 returns-5 : tie.Need-returns-5
 returns-5 c =
     let a = c .before .before .before .before .before .before .before .before .before .args in

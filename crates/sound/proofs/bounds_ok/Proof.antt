@@ -2,14 +2,11 @@ use borrow.Author.Needs.{needs}
 use Rattle.sound.proofs.LimitLaws as L
 use Prim.Native.Nat.{_≤_, _-_}
 use native.Mathlib.Omega.{arith}
-use mathlib.Core.Path.{_≡_, refl, _∙_}
+use mathlib.Core.Path.{_≡_, _∙_}
 use lib.ListN.{drop}
 use Rattle.rules.specs.Admission.{rising}
 use Rattle.sound.proofs.bounds_ok.Statement.{statement}
 use Rattle.sound.proofs.bounds_ok.Tie as tie
-use Rattle.sound.proofs.bounds_ok.Reads as reads
-use Rattle.sound.proofs.bounds_ok.Lts as lts
-use Rattle.tables.proofs.zero_from.Reads as zero-from-reads
 
 abbrev Inv-loop : tie.InvT-loop
 Inv-loop lowest n bounds low₀ i₀ low i = (i ≤ n) × (rising low (n - i) (drop i bounds) ≡ rising lowest n bounds)
@@ -17,60 +14,48 @@ Inv-loop lowest n bounds low₀ i₀ low i = (i ≤ n) × (rising low (n - i) (d
 abbrev μ-loop : tie.MeasureT-loop
 μ-loop lowest n bounds low₀ i₀ low i = n - i
 
--- src/lib.rt:37:5
 loop-holds : tie.Need-loop-holds Inv-loop μ-loop
 loop-holds c = (search needs, L.bounds-start (c .args .lowest) (c .args .n) (c .args .t3))
 
--- src/lib.rt:38:17
 mul-d : tie.Need-mul-d Inv-loop μ-loop
 mul-d c = search needs
 
--- src/lib.rt:38:17
 array-read-d : tie.Need-array-read-d Inv-loop μ-loop
 array-read-d c = search needs
 
--- src/lib.rt:40:13
 returns : tie.Need-returns Inv-loop μ-loop
 returns c =
     let a = c .before .before .before .args in
     let k = c .before .before .loop in
     L.bound-low (k .low) (a .n) (k .i) (a .t3) (search needs) (search needs) (search needs) ∙ k .inv .1
 
--- src/lib.rt:43:13
 returns-2 : tie.Need-returns-2 Inv-loop μ-loop
 returns-2 c =
     let a = c .before .before .before .before .args in
     let k = c .before .before .before .loop in
     L.bound-high (k .low) (a .n) (k .i) (a .t3) (search needs) (search needs) (search needs) (search needs) ∙ k .inv .1
 
--- src/lib.rt:45:15
 add-low : tie.Need-add-low Inv-loop μ-loop
 add-low c = search needs
 
--- src/lib.rt:46:9
 add-i : tie.Need-add-i Inv-loop μ-loop
 add-i c = search needs
 
--- src/lib.rt:37:5
 loop-less : tie.Need-loop-less Inv-loop μ-loop
 loop-less c = search needs
 
--- src/lib.rt:37:5
 loop-again : tie.Need-loop-again Inv-loop μ-loop
 loop-again c =
     let a = c .before .before .before .before .args in
     let k = c .before .before .before .loop in
     (search needs, L.bound-next (k .low) (a .n) (k .i) (a .t3) (search needs) (search needs) (search needs) (search needs) ∙ k .inv .1)
 
--- src/lib.rt:48:23
 slice-aggregate-zero-from : tie.Need-slice-aggregate-zero-from Inv-loop μ-loop
 slice-aggregate-zero-from c = search needs
 
--- src/lib.rt:48:5
 zero-from-requires : tie.Need-zero-from-requires Inv-loop μ-loop
 zero-from-requires c κs = search needs
 
--- src/lib.rt:31:1
 returns-3 : tie.Need-returns-3 Inv-loop μ-loop
 returns-3 c =
     let a = c .before .before .before .before .args in

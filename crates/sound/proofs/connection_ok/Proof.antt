@@ -4,24 +4,16 @@ use Rattle.sound.proofs.ChainLaws as C
 use borrow.Author.Needs.{needs}
 use Rattle.sound.proofs.connection_ok.Statement.{statement}
 use Rattle.sound.proofs.connection_ok.Tie as tie
-use Rattle.sound.proofs.connection_ok.Reads as reads
-use Rattle.sound.proofs.connection_ok.Lts as lts
-use Rattle.sound.proofs.figures_ok.Reads as figures-ok-reads
-use Rattle.sound.proofs.level_ok.Reads as level-ok-reads
 
--- src/lib.rt:100:9
 level-ok-requires : tie.Need-level-ok-requires
 level-ok-requires c κs = search needs
 
--- src/lib.rt:101:9
 returns : tie.Need-returns
 returns c = C.fails _ _ (sym (c .before .level-ok .ensures) ∙ not-true _ (c .if1 .taken))
 
--- src/lib.rt:103:5
 figures-ok-requires : tie.Need-figures-ok-requires
 figures-ok-requires c κs = search needs
 
--- src/lib.rt:97:1
 returns-2 : tie.Need-returns-2
 returns-2 c = C.goes-on _ _ (c .figures-ok .result) (sym (c .before .before .level-ok .ensures) ∙ not-false _ (c .before .if1 .left)) (c .figures-ok .ensures)
 

@@ -13,10 +13,6 @@ use Rattle.rules.specs.SoundTest.{connection-sound}
 use Rattle.lines.specs.Members.{connections}
 use Rattle.sound.proofs.connections_ok.Statement.{statement}
 use Rattle.sound.proofs.connections_ok.Tie as tie
-use Rattle.sound.proofs.connections_ok.Reads as reads
-use Rattle.sound.proofs.connections_ok.Lts as lts
-use Rattle.lines.proofs.connection_at.Reads as connection-at-reads
-use Rattle.sound.proofs.connection_ok.Reads as connection-ok-reads
 
 abbrev Inv-loop : tie.InvT-loop
 Inv-loop l cs n i₀ i = (i ≤ n) × (every i (λ (k : ℕ). connection-sound l (nth (connections cs) k)) ≡ true)
@@ -24,19 +20,15 @@ Inv-loop l cs n i₀ i = (i ≤ n) × (every i (λ (k : ℕ). connection-sound l
 abbrev μ-loop : tie.MeasureT-loop
 μ-loop l cs n i₀ i = n - i
 
--- src/lib.rt:112:5
 loop-holds : tie.Need-loop-holds Inv-loop μ-loop
 loop-holds c = (search needs, refl)
 
--- src/lib.rt:113:13
 connection-at-requires : tie.Need-connection-at-requires Inv-loop μ-loop
 connection-at-requires c κs = search needs
 
--- src/lib.rt:114:13
 connection-ok-requires : tie.Need-connection-ok-requires Inv-loop μ-loop
 connection-ok-requires c κs = search needs
 
--- src/lib.rt:115:13
 returns : tie.Need-returns Inv-loop μ-loop
 returns c =
     let a = c .before .before .before .before .before .before .args in
@@ -44,15 +36,12 @@ returns c =
     C.every-fails (length (connections (a .cs .now))) (λ (k : ℕ). connection-sound (a .l) (nth (connections (a .cs .now)) k)) i (omega (arith, M.connections-length (a .cs .now)))
     (ap (connection-sound (a .l)) (sym (c .before .before .connection-at .ensures)) ∙ sym (c .before .connection-ok .ensures) ∙ not-true _ (c .if1 .taken))
 
--- src/lib.rt:117:9
 add-i : tie.Need-add-i Inv-loop μ-loop
 add-i c = search needs
 
--- src/lib.rt:112:5
 loop-less : tie.Need-loop-less Inv-loop μ-loop
 loop-less c = search needs
 
--- src/lib.rt:112:5
 loop-again : tie.Need-loop-again Inv-loop μ-loop
 loop-again c =
     let a = c .before .before .before .before .before .before .args in
@@ -62,7 +51,6 @@ loop-again c =
           (ap (connection-sound (a .l)) (sym (c .before .before .connection-at .ensures)) ∙ sym (c .before .connection-ok .ensures) ∙ not-false _ (c .if1 .left)),
     )
 
--- src/lib.rt:107:1
 returns-2 : tie.Need-returns-2 Inv-loop μ-loop
 returns-2 c =
     let a = c .before .before .before .args in

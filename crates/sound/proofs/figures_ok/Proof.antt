@@ -2,22 +2,16 @@ use borrow.Author.Needs.{needs}
 use Rattle.sound.proofs.LimitLaws as L
 use Rattle.sound.proofs.figures_ok.Statement.{statement}
 use Rattle.sound.proofs.figures_ok.Tie as tie
-use Rattle.sound.proofs.figures_ok.Reads as reads
-use Rattle.sound.proofs.figures_ok.Lts as lts
 
--- src/lib.rt:86:9
 returns : tie.Need-returns
 returns c = let a = c .before .before .args in L.gap-low (a .l) (a .x) (search needs)
 
--- src/lib.rt:89:9
 returns-2 : tie.Need-returns-2
 returns-2 c = let a = c .before .before .before .before .args in L.gap-high (a .l) (a .x) (search needs) (search needs)
 
--- src/lib.rt:92:9
 returns-3 : tie.Need-returns-3
 returns-3 c = let a = c .before .before .before .before .before .before .args in L.size-low (a .l) (a .x) (search needs) (search needs) (search needs)
 
--- src/lib.rt:82:1
 returns-4 : tie.Need-returns-4
 returns-4 c = let a = c .before .before .before .before .before .before .before .before .args in L.size-rest (a .l) (a .x) (search needs) (search needs) (search needs)
 

@@ -8,24 +8,16 @@ use Rattle.rules.specs.Limits.{clock-end}
 use borrow.Author.Needs.{needs}
 use Rattle.sound.proofs.held_ok.Statement.{statement}
 use Rattle.sound.proofs.held_ok.Tie as tie
-use Rattle.sound.proofs.held_ok.Reads as reads
-use Rattle.sound.proofs.held_ok.Lts as lts
-use Rattle.pace.proofs.queues_ok.Reads as queues-ok-reads
-use Rattle.sound.proofs.rows_ok.Reads as rows-ok-reads
 
--- src/lib.rt:286:9
 returns : tie.Need-returns
 returns c = let a = c .before .before .before .args in C.fails _ _ (lt-leb (a .clock) clock-end (search needs)) ∙ sym (S.rows-read (a .l) (a .cs .now) (a .t .now) (a .clock))
 
--- src/lib.rt:288:9
 rows-ok-requires : tie.Need-rows-ok-requires
 rows-ok-requires c κs = search needs
 
--- src/lib.rt:289:9
 returns-2 : tie.Need-returns-2
 returns-2 c = let a = c .before .before .before .before .before .args in C.goes-on _ _ _ (le-leb (a .clock) clock-end (search needs)) (C.fails _ _ (sym (c .before .rows-ok .ensures) ∙ not-true _ (c .if2 .taken))) ∙ sym (S.rows-read (a .l) (a .cs .now) (a .t .now) (a .clock))
 
--- src/lib.rt:291:5
 queues-ok-requires : tie.Need-queues-ok-requires
 queues-ok-requires c κs =
     let a = c .before .before .before .before .before .args in
@@ -40,7 +32,6 @@ queues-ok-requires c κs =
       },
     )
 
--- src/lib.rt:281:1
 returns-3 : tie.Need-returns-3
 returns-3 c = let a = c .before .before .before .before .before .before .args in C.goes-on _ _ _ (le-leb (a .clock) clock-end (search needs)) (C.goes-on _ _ _ (sym (c .before .before .rows-ok .ensures) ∙ not-false _ (c .before .if2 .left)) (c .queues-ok .ensures)) ∙ sym (S.rows-read (a .l) (a .cs .now) (a .t .now) (a .clock))
 

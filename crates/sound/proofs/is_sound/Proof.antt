@@ -8,45 +8,30 @@ use Rattle.sound.specs.SoundTables.{sound-tables}
 use borrow.Author.Needs.{needs}
 use Rattle.sound.proofs.is_sound.Statement.{statement}
 use Rattle.sound.proofs.is_sound.Tie as tie
-use Rattle.sound.proofs.is_sound.Reads as reads
-use Rattle.sound.proofs.is_sound.Lts as lts
-use Rattle.sound.proofs.linked_ok.Reads as linked-ok-reads
-use Rattle.sound.proofs.members_ok.Reads as members-ok-reads
-use Rattle.sound.proofs.places_ok.Reads as places-ok-reads
-use Rattle.sound.proofs.unused_ok.Reads as unused-ok-reads
-use Rattle.tables.proofs.held.Reads as held-reads
 
--- src/lib.rt:312:9
 places-ok-requires : tie.Need-places-ok-requires
 places-ok-requires c κs = search needs
 
--- src/lib.rt:313:9
 returns : tie.Need-returns
 unfolding sound-tables
 returns c = C.fails _ _ (sym (c .before .places-ok .ensures) ∙ not-true _ (c .if1 .taken))
 
--- src/lib.rt:315:9
 members-ok-requires : tie.Need-members-ok-requires
 members-ok-requires c κs = search needs
 
--- src/lib.rt:316:9
 returns-2 : tie.Need-returns-2
 unfolding sound-tables
 returns-2 c = C.goes-on _ _ _ (sym (c .before .before .before .places-ok .ensures) ∙ not-false _ (c .before .before .if1 .left)) (C.fails _ _ (sym (c .before .members-ok .ensures) ∙ not-true _ (c .if2 .taken)))
 
--- src/lib.rt:318:9
 held-requires : tie.Need-held-requires
 held-requires c κs = search needs
 
--- src/lib.rt:319:9
 held-requires-2 : tie.Need-held-requires-2
 held-requires-2 c κs = search needs
 
--- src/lib.rt:321:9
 unused-ok-requires : tie.Need-unused-ok-requires
 unused-ok-requires c κs = search needs
 
--- src/lib.rt:321:9
 returns-3 : tie.Need-returns-3
 unfolding sound-tables
 returns-3 c =
@@ -56,13 +41,11 @@ returns-3 c =
     (S.sound-unlinked (state-read (a .l) (a .cs .now) (a .t .now) (a .clock) (a .serving) (a .units)) (c .unused-ok .result) (search needs)
     (c .unused-ok .ensures ∙ S.unused-read (a .l) (a .cs .now) (a .t .now) (a .clock) (a .serving) (a .units) (c .before .before .before .before .held .result) (c .before .before .before .held2 .result) (k .connections) (k .rows) (search needs))))
 
--- src/lib.rt:323:5
 linked-ok-requires : tie.Need-linked-ok-requires
 linked-ok-requires c κs =
     let a = c .before .before .before .before .before .before .before .before .before .before .args in
     S.counted (a .cs .now) (a .t .now) (c .before .before .before .held .result) (c .before .before .held2 .result) (sym (c .before .before .before .before .before .members-ok .ensures) ∙ not-false _ (c .before .before .before .before .if2 .left)) (sym (c .before .before .before .before .before .before .before .places-ok .ensures) ∙ not-false _ (c .before .before .before .before .before .before .if1 .left)) (c .before .before .before .held .ensures) (c .before .before .held2 .ensures)
 
--- src/lib.rt:309:1
 returns-4 : tie.Need-returns-4
 unfolding sound-tables
 returns-4 c =

@@ -2,14 +2,10 @@ use borrow.Author.Needs.{needs}
 use Rattle.sound.proofs.LimitLaws as L
 use Rattle.sound.proofs.level_ok.Statement.{statement}
 use Rattle.sound.proofs.level_ok.Tie as tie
-use Rattle.sound.proofs.level_ok.Reads as reads
-use Rattle.sound.proofs.level_ok.Lts as lts
 
--- src/lib.rt:76:9
 returns : tie.Need-returns
 returns c = let a = c .before .before .args in L.level-low (a .l) (a .x) (search needs)
 
--- src/lib.rt:72:1
 returns-2 : tie.Need-returns-2
 returns-2 c = let a = c .before .before .before .before .args in L.level-rest (a .l) (a .x) (search needs)
 

@@ -5,34 +5,24 @@ use native.Mathlib.Omega.{arith}
 use borrow.Author.Needs.{needs}
 use Rattle.sound.proofs.line_ok.Statement.{statement}
 use Rattle.sound.proofs.line_ok.Tie as tie
-use Rattle.sound.proofs.line_ok.Reads as reads
-use Rattle.sound.proofs.line_ok.Lts as lts
-use Rattle.tables.proofs.find.Reads as find-reads
-use Rattle.tables.proofs.row.Reads as row-reads
 
--- src/lib.rt:200:9
 returns : tie.Need-returns
 returns c = let a = c .before .before .args in S.line-idle (a .t .now) (a .clock) (a .serving) (a .units) (c .if1 .taken)
 
--- src/lib.rt:202:9
 find-requires : tie.Need-find-requires
 find-requires c κs = search needs
 
--- src/lib.rt:204:9
 returns-2 : tie.Need-returns-2
 returns-2 c = let a = c .before .before .before .before .args in S.line-none (a .t .now) (a .clock) (a .serving) (a .units) (c .before .before .if1 .left) (omega (arith, c .before .find .ensures))
 
--- src/lib.rt:206:9
 row-requires : tie.Need-row-requires
 row-requires c κs = omega (arith, P.rows-end (c .before .before .before .before .args .t .now))
 
--- src/lib.rt:208:9
 returns-3 : tie.Need-returns-3
 returns-3 c =
     let a = c .before .before .before .before .before .before .before .args in
     S.line-short (a .t .now) (a .clock) (a .serving) (a .units) (c .before .before .before .before .before .if1 .left) (c .before .before .before .before .find .result) (c .before .before .before .before .find .ensures) (omega arith) (c .before .before .row .result) (c .before .before .row .ensures) (search needs)
 
--- src/lib.rt:195:1
 returns-4 : tie.Need-returns-4
 returns-4 c =
     let a = c .before .before .before .before .before .before .before .before .args in

@@ -14,9 +14,6 @@ use Rattle.lines.specs.declared.Member.{Member}
 use Rattle.lines.specs.Members.{members, member-in}
 use Rattle.sound.proofs.marks_ok.Statement.{statement}
 use Rattle.sound.proofs.marks_ok.Tie as tie
-use Rattle.sound.proofs.marks_ok.Reads as reads
-use Rattle.sound.proofs.marks_ok.Lts as lts
-use Rattle.lines.proofs.member_at.Reads as member-at-reads
 
 -- a mark is 0 or 1
 abbrev marked : Member → Bool
@@ -28,15 +25,12 @@ Inv-loop cs n i₀ i = (i ≤ n) × (each marked (drop i (members cs)) ≡ each 
 abbrev μ-loop : tie.MeasureT-loop
 μ-loop cs n i₀ i = n - i
 
--- src/lib.rt:256:5
 loop-holds : tie.Need-loop-holds Inv-loop μ-loop
 loop-holds c = (search needs, refl)
 
--- src/lib.rt:257:13
 member-at-requires : tie.Need-member-at-requires Inv-loop μ-loop
 member-at-requires c κs = omega (arith, M.members-end (c .before .before .before .args .cs .now))
 
--- src/lib.rt:259:13
 returns : tie.Need-returns Inv-loop μ-loop
 returns c =
     let a = c .before .before .before .before .before .before .args in
@@ -45,15 +39,12 @@ returns c =
     (ap marked (sym (c .before .before .member-at .ensures)) ∙ lt-leb (c .before .before .member-at .result .sent) 1 (search needs))
     ∙ c .before .before .before .before .loop .inv .1
 
--- src/lib.rt:261:9
 add-i : tie.Need-add-i Inv-loop μ-loop
 add-i c = search needs
 
--- src/lib.rt:256:5
 loop-less : tie.Need-loop-less Inv-loop μ-loop
 loop-less c = search needs
 
--- src/lib.rt:256:5
 loop-again : tie.Need-loop-again Inv-loop μ-loop
 loop-again c =
     let a = c .before .before .before .before .before .before .args in
@@ -65,7 +56,6 @@ loop-again c =
           ∙ c .before .before .before .before .loop .inv .1,
     )
 
--- src/lib.rt:251:1
 returns-2 : tie.Need-returns-2 Inv-loop μ-loop
 returns-2 c =
     let a = c .before .before .before .args in

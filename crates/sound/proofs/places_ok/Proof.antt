@@ -7,29 +7,20 @@ use Rattle.sound.specs.SoundTables.{places-formed}
 use borrow.Author.Needs.{needs}
 use Rattle.sound.proofs.places_ok.Statement.{statement}
 use Rattle.sound.proofs.places_ok.Tie as tie
-use Rattle.sound.proofs.places_ok.Reads as reads
-use Rattle.sound.proofs.places_ok.Lts as lts
-use Rattle.tables.proofs.held.Reads as held-reads
-use Rattle.tables.proofs.zero_from.Reads as zero-from-reads
 
--- src/lib.rt:244:9
 returns : tie.Need-returns
 unfolding places-formed
 returns c = let a = c .before .before .args in P.not-formed packet-of places-length (a .t .now) (c .if1 .taken)
 
--- src/lib.rt:246:9
 held-requires : tie.Need-held-requires
 held-requires c κs = search needs
 
--- src/lib.rt:247:26
 mul-zero-from : tie.Need-mul-zero-from
 mul-zero-from c = omega (arith, P.rows-end (c .before .before .before .args .t .now))
 
--- src/lib.rt:247:5
 zero-from-requires : tie.Need-zero-from-requires
 zero-from-requires c κs = omega (arith, P.rows-end (c .before .before .before .args .t .now))
 
--- src/lib.rt:240:1
 returns-2 : tie.Need-returns-2
 unfolding places-formed
 returns-2 c = let a = c .before .before .before .before .args in c .zero-from .ensures ∙ P.rows-formed places-length (c .before .held .result) (a .t .now) (search needs) (c .before .held .ensures)

@@ -5,35 +5,25 @@ use Rattle.lines.specs.Members.{connections}
 use borrow.Author.Needs.{needs}
 use Rattle.sound.proofs.row_ok.Statement.{statement}
 use Rattle.sound.proofs.row_ok.Tie as tie
-use Rattle.sound.proofs.row_ok.Reads as reads
-use Rattle.sound.proofs.row_ok.Lts as lts
-use Rattle.lines.proofs.connection_at.Reads as connection-at-reads
 
--- src/lib.rt:162:13
 cast-c : tie.Need-cast-c
 cast-c c = search needs
 
--- src/lib.rt:164:9
 returns : tie.Need-returns
 returns c = let a = c .before .before .before .args in S.row-unknown (connections (a .cs .now)) (a .clock) (a .p) (omega (arith, M.connections-length (a .cs .now)))
 
--- src/lib.rt:166:9
 connection-at-requires : tie.Need-connection-at-requires
 connection-at-requires c κs = search needs
 
--- src/lib.rt:168:9
 returns-2 : tie.Need-returns-2
 returns-2 c = let a = c .before .before .before .before .before .before .args in S.row-empty (connections (a .cs .now)) (a .clock) (a .p) (omega (arith, M.connections-length (a .cs .now))) (search needs)
 
--- src/lib.rt:171:9
 returns-3 : tie.Need-returns-3
 returns-3 c = let a = c .before .before .before .before .before .before .before .before .before .args in S.row-long (connections (a .cs .now)) (a .clock) (a .p) (omega (arith, M.connections-length (a .cs .now))) _ (c .before .before .before .before .before .connection-at .ensures) (search needs) (search needs)
 
--- src/lib.rt:174:9
 returns-4 : tie.Need-returns-4
 returns-4 c = let a = c .before .before .before .before .before .before .before .before .before .before .before .args in S.row-future (connections (a .cs .now)) (a .clock) (a .p) (omega (arith, M.connections-length (a .cs .now))) _ (c .before .before .before .before .before .before .before .connection-at .ensures) (search needs) (search needs) (search needs)
 
--- src/lib.rt:158:1
 returns-5 : tie.Need-returns-5
 returns-5 c = let a = c .before .before .before .before .before .before .before .before .before .before .before .before .args in S.row-rest (connections (a .cs .now)) (a .clock) (a .p) (omega (arith, M.connections-length (a .cs .now))) _ (c .before .before .before .before .before .before .before .before .connection-at .ensures) (search needs) (search needs) (search needs)
 

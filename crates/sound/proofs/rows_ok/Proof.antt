@@ -13,10 +13,6 @@ use Rattle.tables.specs.Places.{rows, row-at}
 use Rattle.lines.specs.Members.{connections}
 use Rattle.sound.proofs.rows_ok.Statement.{statement}
 use Rattle.sound.proofs.rows_ok.Tie as tie
-use Rattle.sound.proofs.rows_ok.Reads as reads
-use Rattle.sound.proofs.rows_ok.Lts as lts
-use Rattle.sound.proofs.row_ok.Reads as row-ok-reads
-use Rattle.tables.proofs.row.Reads as row-reads
 
 abbrev Inv-loop : tie.InvT-loop
 Inv-loop cs n t held clock i₀ i = (i ≤ held) × (each (row-sound (connections cs) clock) (drop i (rows t)) ≡ each (row-sound (connections cs) clock) (rows t))
@@ -24,19 +20,15 @@ Inv-loop cs n t held clock i₀ i = (i ≤ held) × (each (row-sound (connection
 abbrev μ-loop : tie.MeasureT-loop
 μ-loop cs n t held clock i₀ i = held - i
 
--- src/lib.rt:184:5
 loop-holds : tie.Need-loop-holds Inv-loop μ-loop
 loop-holds c = (search needs, refl)
 
--- src/lib.rt:185:13
 row-requires : tie.Need-row-requires Inv-loop μ-loop
 row-requires c κs = omega (arith, P.rows-end (c .before .before .before .before .args .t .now))
 
--- src/lib.rt:186:13
 row-ok-requires : tie.Need-row-ok-requires Inv-loop μ-loop
 row-ok-requires c κs = search needs
 
--- src/lib.rt:187:13
 returns : tie.Need-returns Inv-loop μ-loop
 returns c =
     let a = c .before .before .before .before .before .before .before .args in
@@ -45,15 +37,12 @@ returns c =
     (ap (row-sound (connections (a .cs .now)) (a .clock)) (sym (c .before .before .row .ensures)) ∙ sym (c .before .row-ok .ensures) ∙ not-true _ (c .if1 .taken))
     ∙ c .before .before .before .before .loop .inv .1
 
--- src/lib.rt:189:9
 add-i : tie.Need-add-i Inv-loop μ-loop
 add-i c = search needs
 
--- src/lib.rt:184:5
 loop-less : tie.Need-loop-less Inv-loop μ-loop
 loop-less c = search needs
 
--- src/lib.rt:184:5
 loop-again : tie.Need-loop-again Inv-loop μ-loop
 loop-again c =
     let a = c .before .before .before .before .before .before .before .args in
@@ -65,7 +54,6 @@ loop-again c =
           ∙ c .before .before .before .before .loop .inv .1,
     )
 
--- src/lib.rt:179:1
 returns-2 : tie.Need-returns-2 Inv-loop μ-loop
 returns-2 c =
     let a = c .before .before .before .before .args in

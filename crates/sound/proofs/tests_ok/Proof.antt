@@ -7,19 +7,13 @@ use Rattle.lines.specs.Members.{connections}
 use borrow.Author.Needs.{needs}
 use Rattle.sound.proofs.tests_ok.Statement.{statement}
 use Rattle.sound.proofs.tests_ok.Tie as tie
-use Rattle.sound.proofs.tests_ok.Reads as reads
-use Rattle.sound.proofs.tests_ok.Lts as lts
-use Rattle.lines.proofs.level_test.Reads as level-test-reads
 
--- src/lib.rt:128:16
 add-t6 : tie.Need-add-t6
 add-t6 c = omega (arith, F.link-limits (c .before .before .args .l) (c .before .before .pre .2 .link-in) .levels-le)
 
--- src/lib.rt:132:9
 level-test-requires : tie.Need-level-test-requires
 level-test-requires c κs = search needs
 
--- src/lib.rt:123:1
 returns : tie.Need-returns
 returns c =
     let a = c .before .before .before .before .args in

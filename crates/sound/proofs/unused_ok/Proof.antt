@@ -5,43 +5,31 @@ use mathlib.Core.Path.{refl, sym, _∙_}
 use borrow.Author.Needs.{needs}
 use Rattle.sound.proofs.unused_ok.Statement.{statement}
 use Rattle.sound.proofs.unused_ok.Tie as tie
-use Rattle.sound.proofs.unused_ok.Reads as reads
-use Rattle.sound.proofs.unused_ok.Lts as lts
-use Rattle.tables.proofs.zero_from.Reads as zero-from-reads
 
--- src/lib.rt:218:9
 returns : tie.Need-returns
 returns c = let a = c .before .before .args in C.fails _ _ (ne-eqb (a .l .largest) 0 (search needs))
 
--- src/lib.rt:221:27
 slice-aggregate-zero-from : tie.Need-slice-aggregate-zero-from
 slice-aggregate-zero-from c = search needs
 
--- src/lib.rt:221:9
 zero-from-requires : tie.Need-zero-from-requires
 zero-from-requires c κs = search needs
 
--- src/lib.rt:222:9
 returns-2 : tie.Need-returns-2
 returns-2 c = let a = c .before .before .before .before .before .before .args in C.goes-on _ _ _ (eq-eqb (a .l .largest) 0 (search needs)) (C.fails _ _ (sym (c .before .zero-from .ensures) ∙ not-true _ (c .if2 .taken)))
 
--- src/lib.rt:225:9
 returns-3 : tie.Need-returns-3
 returns-3 c = let a = c .before .before .before .before .before .before .before .args in C.goes-on _ _ _ (eq-eqb (a .l .largest) 0 (search needs)) (C.goes-on _ _ _ (sym (c .before .before .zero-from .ensures) ∙ not-false _ (c .before .if2 .left)) (C.fails _ _ (ne-eqb (a .n) 0 (search needs))))
 
--- src/lib.rt:228:9
 returns-4 : tie.Need-returns-4
 returns-4 c = let a = c .before .before .before .before .before .before .before .before .args in C.goes-on _ _ _ (eq-eqb (a .l .largest) 0 (search needs)) (C.goes-on _ _ _ (sym (c .before .before .before .zero-from .ensures) ∙ not-false _ (c .before .before .if2 .left)) (C.goes-on _ _ _ (eq-eqb (a .n) 0 (search needs)) (C.fails _ _ (ne-eqb (a .clock) 0 (search needs)))))
 
--- src/lib.rt:231:9
 returns-5 : tie.Need-returns-5
 returns-5 c = let a = c .before .before .before .before .before .before .before .before .before .args in C.goes-on _ _ _ (eq-eqb (a .l .largest) 0 (search needs)) (C.goes-on _ _ _ (sym (c .before .before .before .before .zero-from .ensures) ∙ not-false _ (c .before .before .before .if2 .left)) (C.goes-on _ _ _ (eq-eqb (a .n) 0 (search needs)) (C.goes-on _ _ _ (eq-eqb (a .clock) 0 (search needs)) (C.fails _ _ (ne-eqb (a .held) 0 (search needs))))))
 
--- src/lib.rt:234:9
 returns-6 : tie.Need-returns-6
 returns-6 c = let a = c .before .before .before .before .before .before .before .before .before .before .args in C.goes-on _ _ _ (eq-eqb (a .l .largest) 0 (search needs)) (C.goes-on _ _ _ (sym (c .before .before .before .before .before .zero-from .ensures) ∙ not-false _ (c .before .before .before .before .if2 .left)) (C.goes-on _ _ _ (eq-eqb (a .n) 0 (search needs)) (C.goes-on _ _ _ (eq-eqb (a .clock) 0 (search needs)) (C.goes-on _ _ _ (eq-eqb (a .held) 0 (search needs)) (C.fails _ _ (ne-eqb (a .serving) 0 (search needs)))))))
 
--- src/lib.rt:214:1
 returns-7 : tie.Need-returns-7
 returns-7 c = let a = c .before .before .before .before .before .before .before .before .before .before .args in C.goes-on _ _ _ (eq-eqb (a .l .largest) 0 (search needs)) (C.goes-on _ _ _ (sym (c .before .before .before .before .before .zero-from .ensures) ∙ not-false _ (c .before .before .before .before .if2 .left)) (C.goes-on _ _ _ (eq-eqb (a .n) 0 (search needs)) (C.goes-on _ _ _ (eq-eqb (a .clock) 0 (search needs)) (C.goes-on _ _ _ (eq-eqb (a .held) 0 (search needs)) (C.goes-on _ _ _ (eq-eqb (a .serving) 0 (search needs)) (refl))))))
 

@@ -1,15 +1,12 @@
 use Rattle.tables.proofs.PlacesLaws as L
-use Rattle.tables.specs.Places.{rows, place, shifted, row-at, put, places}
-use lib.ListN.{length, length-set, drop, getD}
-use Prim.Native.Nat.{ℕ, suc, _≤_, _<_, _-_, _+_, _*_}
-use mathlib.Core.Path.{_≡_, refl, sym, ap, _∙_}
+use Rattle.tables.specs.Places.{rows, place}
+use lib.ListN.{length, drop}
+use Prim.Native.Nat.{ℕ, _≤_, _-_, _+_}
+use mathlib.Core.Path.{_≡_, ap}
 use native.Mathlib.Omega.{arith}
 use borrow.Author.Needs.{needs}
 use Rattle.tables.proofs.find.Statement.{statement}
 use Rattle.tables.proofs.find.Tie as tie
-use Rattle.tables.proofs.find.Reads as reads
-use Rattle.tables.proofs.find.Lts as lts
-use Rattle.tables.proofs.row.Reads as row-reads
 
 abbrev Inv-loop : tie.InvT-loop
 Inv-loop t held c i₀ i = (i ≤ held) × (i + place c (drop i (rows t)) ≡ place c (rows t))
@@ -17,31 +14,24 @@ Inv-loop t held c i₀ i = (i ≤ held) × (i + place c (drop i (rows t)) ≡ pl
 abbrev μ-loop : tie.MeasureT-loop
 μ-loop t held c i₀ i = held - i
 
--- src/lib.rt:110:5
 loop-holds : tie.Need-loop-holds Inv-loop μ-loop
 loop-holds c = search needs
 
--- src/lib.rt:111:13
 row-requires : tie.Need-row-requires Inv-loop μ-loop
 row-requires c κs = omega (arith, L.rows-end (c .before .before .before .args .t .now))
 
--- src/lib.rt:113:13
 returns : tie.Need-returns Inv-loop μ-loop
 returns c = let a = c .before .before .before .before .before .before .args in let i = c .before .before .before .before .loop .i in omega (arith, c .before .before .before .before .loop .inv .1, L.place-here (a .c) (a .t .now) i (omega arith) (rw (c .before .before .row .ensures) at (c .if1 .taken)))
 
--- src/lib.rt:115:9
 add-i : tie.Need-add-i Inv-loop μ-loop
 add-i c = search needs
 
--- src/lib.rt:110:5
 loop-less : tie.Need-loop-less Inv-loop μ-loop
 loop-less c = search needs
 
--- src/lib.rt:110:5
 loop-again : tie.Need-loop-again Inv-loop μ-loop
 loop-again c = let a = c .before .before .before .before .before .before .args in let i = c .before .before .before .before .loop .i in (search needs, omega (arith, c .before .before .before .before .loop .inv .1, L.place-next (a .c) (a .t .now) i (omega arith) (rw (c .before .before .row .ensures) at (c .if1 .left))))
 
--- src/lib.rt:105:1
 returns-2 : tie.Need-returns-2 Inv-loop μ-loop
 returns-2 c = let a = c .before .before .before .args in let e : c .before .loop .i ≡ length (rows (a .t .now)) = omega arith in omega (arith, c .before .loop .inv .1, ap (λ (j : ℕ). place (a .c) (drop j (rows (a .t .now)))) e, L.place-end (a .c) (a .t .now))
 

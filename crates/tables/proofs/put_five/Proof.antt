@@ -1,80 +1,57 @@
-use Rattle.tables.proofs.PlacesLaws as L
-use Rattle.tables.specs.Places.{rows, place, shifted, row-at, put, places}
-use lib.ListN.{length, length-set, drop, getD}
-use Prim.Native.Nat.{ℕ, suc, _≤_, _<_, _-_, _+_, _*_}
-use mathlib.Core.Path.{_≡_, refl, sym, ap, _∙_}
+use lib.ListN.{length-set}
 use native.Mathlib.Omega.{arith}
 use borrow.Author.Needs.{needs}
 use Rattle.tables.proofs.put_five.Statement.{statement}
 use Rattle.tables.proofs.put_five.Tie as tie
-use Rattle.tables.proofs.put_five.Reads as reads
-use Rattle.tables.proofs.put_five.Lts as lts
 
--- src/lib.rt:35:14
 mul-at : tie.Need-mul-at
 mul-at c = search needs
 
--- src/lib.rt:36:5
 mul-t : tie.Need-mul-t
 mul-t c = search needs
 
--- src/lib.rt:36:5
 slice-write-t : tie.Need-slice-write-t
 slice-write-t c = search needs
 
--- src/lib.rt:37:7
 add-t : tie.Need-add-t
 add-t c = search needs
 
--- src/lib.rt:37:5
 mul-t-2 : tie.Need-mul-t-2
 mul-t-2 c = search needs
 
--- src/lib.rt:37:5
 slice-write-t-2 : tie.Need-slice-write-t-2
 slice-write-t-2 c = simp length-set (omega arith)
 
--- src/lib.rt:38:7
 add-t-2 : tie.Need-add-t-2
 add-t-2 c = search needs
 
--- src/lib.rt:38:5
 mul-t-3 : tie.Need-mul-t-3
 mul-t-3 c = search needs
 
--- src/lib.rt:38:5
 slice-write-t-3 : tie.Need-slice-write-t-3
 slice-write-t-3 c = simp length-set (omega arith)
 
--- src/lib.rt:39:7
 add-t-3 : tie.Need-add-t-3
 add-t-3 c = search needs
 
--- src/lib.rt:39:5
 mul-t-4 : tie.Need-mul-t-4
 mul-t-4 c = search needs
 
--- src/lib.rt:39:5
 slice-write-t-4 : tie.Need-slice-write-t-4
 slice-write-t-4 c = simp length-set (omega arith)
 
--- src/lib.rt:40:7
 add-t-4 : tie.Need-add-t-4
 add-t-4 c = search needs
 
--- src/lib.rt:40:5
 mul-t-5 : tie.Need-mul-t-5
 mul-t-5 c = search needs
 
--- src/lib.rt:40:5
 slice-write-t-5 : tie.Need-slice-write-t-5
 slice-write-t-5 c = simp length-set (omega arith)
 
--- src/lib.rt:31:1
 same-length : tie.Need-same-length
 same-length c = search needs
 
--- src/lib.rt:31:1
 returns : tie.Need-returns
 returns c = search needs
 

@@ -1,56 +1,41 @@
 use mathlib.Core.List.{List}
 use Rattle.rules.specs.declared.Packet.{Packet}
-use Rattle.tables.specs.Places.{no-packet, cut}
+use Rattle.tables.specs.Places.{no-packet}
 use Rattle.tables.proofs.PlacesLaws as L
-use Rattle.tables.specs.Places.{rows, place, shifted, row-at, put, places}
-use lib.ListN.{length, length-set, drop, getD}
-use Prim.Native.Nat.{ℕ, suc, _≤_, _<_, _-_, _+_, _*_}
-use mathlib.Core.Path.{_≡_, refl, sym, ap, _∙_}
-use native.Mathlib.Omega.{arith}
+use Rattle.tables.specs.Places.{shifted, put}
+use Prim.Native.Nat.{ℕ, _-_, _*_}
+use mathlib.Core.Path.{_≡_, ap, _∙_}
 use borrow.Author.Needs.{needs}
 use Rattle.tables.proofs.remove.Statement.{statement}
 use Rattle.tables.proofs.remove.Tie as tie
-use Rattle.tables.proofs.remove.Reads as reads
-use Rattle.tables.proofs.remove.Lts as lts
-use Rattle.tables.proofs.put_row.Reads as put-row-reads
-use Rattle.tables.proofs.shift.Reads as shift-reads
 
--- src/lib.rt:90:14
 mul-shift : tie.Need-mul-shift
 mul-shift c = search needs
 
--- src/lib.rt:90:26
 sub-shift : tie.Need-sub-shift
 sub-shift c = search needs
 
--- src/lib.rt:90:26
 sub-shift-2 : tie.Need-sub-shift-2
 sub-shift-2 c = search needs
 
--- src/lib.rt:90:21
 mul-shift-2 : tie.Need-mul-shift-2
 mul-shift-2 c = search needs
 
--- src/lib.rt:90:5
 shift-requires : tie.Need-shift-requires
 shift-requires c κs = search needs
 
--- src/lib.rt:93:9
 sub-put-row : tie.Need-sub-put-row
 sub-put-row c = search needs
 
--- src/lib.rt:91:5
 no-packet-requires : tie.Need-no-packet-requires
 no-packet-requires c κs = search needs
 
 put-row-requires : tie.Need-put-row-requires
 put-row-requires c κs = search needs
 
--- src/lib.rt:86:1
 same-length : tie.Need-same-length
 same-length c = search needs
 
--- src/lib.rt:86:1
 returns : tie.Need-returns
 returns c =
     let a = c .before .before .before .before .before .before .before .before .before .before .args in

@@ -4,15 +4,10 @@ use Rattle.tables.specs.Places.{packet-of}
 use borrow.Author.Needs.{needs}
 use Rattle.tables.proofs.row.Statement.{statement}
 use Rattle.tables.proofs.row.Tie as tie
-use Rattle.tables.proofs.row.Reads as reads
-use Rattle.tables.proofs.row.Lts as lts
-use Rattle.tables.proofs.five_at.Reads as five-at-reads
 
--- src/lib.rt:69:9
 five-at-requires : tie.Need-five-at-requires
 five-at-requires c κs = search needs
 
--- src/lib.rt:65:1
 returns : tie.Need-returns
 returns c = ap (λ (f : Five). packet-of (f .a) (f .b) (f .c) (f .d) (f .e)) (c .five-at .ensures)
 

@@ -1,14 +1,12 @@
 use Rattle.tables.proofs.PlacesLaws as L
-use Rattle.tables.specs.Places.{rows, place, shifted, row-at, put, places}
-use lib.ListN.{length, length-set, drop, getD}
-use Prim.Native.Nat.{ℕ, suc, _≤_, _<_, _-_, _+_, _*_}
-use mathlib.Core.Path.{_≡_, refl, sym, ap, _∙_}
+use Rattle.tables.specs.Places.{shifted}
+use lib.ListN.{length, length-set}
+use Prim.Native.Nat.{_≤_, _-_}
+use mathlib.Core.Path.{_≡_}
 use native.Mathlib.Omega.{arith}
 use borrow.Author.Needs.{needs}
 use Rattle.tables.proofs.shift.Statement.{statement}
 use Rattle.tables.proofs.shift.Tie as tie
-use Rattle.tables.proofs.shift.Reads as reads
-use Rattle.tables.proofs.shift.Lts as lts
 
 abbrev Inv-loop : tie.InvT-loop
 Inv-loop t₀ from n j₀ t j = (j ≤ n) × (length t ≡ length t₀) × (t ≡ shifted t₀ from j)
@@ -16,58 +14,45 @@ Inv-loop t₀ from n j₀ t j = (j ≤ n) × (length t ≡ length t₀) × (t �
 abbrev μ-loop : tie.MeasureT-loop
 μ-loop t₀ from n j₀ t j = n - j
 
--- src/lib.rt:49:5
 loop-holds : tie.Need-loop-holds Inv-loop μ-loop
 loop-holds c = (search needs, search needs, L.shift-none (c .args .t .now) (c .args .from))
 
--- src/lib.rt:50:25
 add-t : tie.Need-add-t Inv-loop μ-loop
 add-t c = search needs
 
--- src/lib.rt:50:25
 add-t-2 : tie.Need-add-t-2 Inv-loop μ-loop
 add-t-2 c = search needs
 
--- src/lib.rt:50:23
 mul-t : tie.Need-mul-t Inv-loop μ-loop
 mul-t c = search needs
 
--- src/lib.rt:50:23
 slice-read-t : tie.Need-slice-read-t Inv-loop μ-loop
 slice-read-t c = search needs
 
--- src/lib.rt:50:11
 add-t-3 : tie.Need-add-t-3 Inv-loop μ-loop
 add-t-3 c = search needs
 
--- src/lib.rt:50:9
 mul-t-2 : tie.Need-mul-t-2 Inv-loop μ-loop
 mul-t-2 c = search needs
 
--- src/lib.rt:50:9
 slice-write-t : tie.Need-slice-write-t Inv-loop μ-loop
 slice-write-t c = search needs
 
--- src/lib.rt:51:9
 add-j : tie.Need-add-j Inv-loop μ-loop
 add-j c = search needs
 
--- src/lib.rt:49:5
 loop-less : tie.Need-loop-less Inv-loop μ-loop
 loop-less c = search needs
 
--- src/lib.rt:49:5
 loop-again : tie.Need-loop-again Inv-loop μ-loop
 loop-again c =
     let a = c .before .before .before .args in
     let j = c .before .before .loop .j in
     (search needs, simp length-set (search needs), rw (c .before .before .loop .inv .2) (L.shift-step (a .t .now) (a .from) j (omega arith)))
 
--- src/lib.rt:44:1
 same-length : tie.Need-same-length Inv-loop μ-loop
 same-length c = search needs
 
--- src/lib.rt:44:1
 returns : tie.Need-returns Inv-loop μ-loop
 returns c = let e : c .before .loop .j ≡ c .before .before .args .n = omega arith in rw e at (c .before .loop .inv .2)
 

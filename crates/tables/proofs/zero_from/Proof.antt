@@ -1,15 +1,12 @@
 use Rattle.tables.proofs.PlacesLaws as L
 use Rattle.tables.specs.Table.{zeros}
-use Rattle.tables.specs.Places.{rows, place, shifted, row-at, put, places}
-use lib.ListN.{length, length-set, drop, getD}
-use Prim.Native.Nat.{ℕ, suc, _≤_, _<_, _-_, _+_, _*_}
-use mathlib.Core.Path.{_≡_, refl, sym, ap, _∙_}
+use lib.ListN.{length, drop}
+use Prim.Native.Nat.{_≤_, _-_}
+use mathlib.Core.Path.{_≡_, _∙_}
 use native.Mathlib.Omega.{arith}
 use borrow.Author.Needs.{needs}
 use Rattle.tables.proofs.zero_from.Statement.{statement}
 use Rattle.tables.proofs.zero_from.Tie as tie
-use Rattle.tables.proofs.zero_from.Reads as reads
-use Rattle.tables.proofs.zero_from.Lts as lts
 
 abbrev Inv-loop : tie.InvT-loop
 Inv-loop t from i₀ i = (i ≤ length t) × (zeros (drop i t) ≡ zeros (drop from t))
@@ -17,35 +14,27 @@ Inv-loop t from i₀ i = (i ≤ length t) × (zeros (drop i t) ≡ zeros (drop f
 abbrev μ-loop : tie.MeasureT-loop
 μ-loop t from i₀ i = length t - i
 
--- src/lib.rt:76:5
 loop-holds : tie.Need-loop-holds Inv-loop μ-loop
 loop-holds c = search needs
 
--- src/lib.rt:77:12
 mul-if1 : tie.Need-mul-if1 Inv-loop μ-loop
 mul-if1 c = search needs
 
--- src/lib.rt:77:12
 shared-slice-read-if1 : tie.Need-shared-slice-read-if1 Inv-loop μ-loop
 shared-slice-read-if1 c = search needs
 
--- src/lib.rt:78:13
 returns : tie.Need-returns Inv-loop μ-loop
 returns c = let a = c .before .before .before .before .args in let i = c .before .before .before .loop .i in L.zeros-stop (a .t .now) i (search needs) (c .if1 .taken) ∙ c .before .before .before .loop .inv .1
 
--- src/lib.rt:80:9
 add-i : tie.Need-add-i Inv-loop μ-loop
 add-i c = search needs
 
--- src/lib.rt:76:5
 loop-less : tie.Need-loop-less Inv-loop μ-loop
 loop-less c = search needs
 
--- src/lib.rt:76:5
 loop-again : tie.Need-loop-again Inv-loop μ-loop
 loop-again c = let a = c .before .before .before .before .args in let i = c .before .before .before .loop .i in (search needs, L.zeros-next (a .t .now) i (search needs) (c .if1 .left) ∙ c .before .before .before .loop .inv .1)
 
--- src/lib.rt:71:1
 returns-2 : tie.Need-returns-2 Inv-loop μ-loop
 returns-2 c = let a = c .before .before .args in let e : c .before .loop .i ≡ length (a .t .now) = omega arith in L.zeros-end (a .t .now) ∙ (rw e at (c .before .loop .inv .1))
 
