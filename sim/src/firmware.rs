@@ -1,0 +1,67 @@
+//! The two questions of the firmware (section "Two questions from C firmware").
+
+use crate::hub;
+use crate::level_test::lowest_failing_level;
+use crate::link::{Connection, Link, MOST_CONNECTIONS};
+use crate::record::Record;
+
+/// The answer to the level question if it cannot be asked.
+pub const NOT_TO_BE_ASKED: u8 = 255;
+
+const ROW: usize = 5;
+
+/// Question (a): the next eligibility. Flag 0: no earlier packet; any other number: one.
+pub fn next_eligibility(flag: u32, last: u32, gap: u32, now: u32) -> u64 {
+    let last = (flag != 0).then_some(u64::from(last));
+    hub::next_eligibility(last, u64::from(gap), u64::from(now))
+}
+
+/// Question (b): 0 if all level tests hold, else the lowest failing level, or 255.
+pub fn level_answer(link_bytes: &[u8], rows: &[u8]) -> u8 {
+    let link = match whole_link(link_bytes) {
+        Some(link) => link,
+        _ => return NOT_TO_BE_ASKED,
+    };
+    let connections = match all_connections(&link, rows) {
+        Some(connections) => connections,
+        _ => return NOT_TO_BE_ASKED,
+    };
+    lowest_failing_level(&link, &connections).unwrap_or(0)
+}
+
+/// One whole `LK` record, not a byte more, within the link limits.
+fn whole_link(bytes: &[u8]) -> Option<Link> {
+    match Record::read(bytes)? {
+        (
+            Record::Link {
+                levels,
+                largest,
+                bounds,
+            },
+            length,
+        ) if length == bytes.len() => Link::new(levels, largest, bounds),
+        _ => None,
+    }
+}
+
+/// At most 64 whole rows, each within the connection limits. Reservations are not asked about.
+fn all_connections(link: &Link, rows: &[u8]) -> Option<Vec<Connection>> {
+    let rows = rows.chunks(ROW);
+    if rows.len() > MOST_CONNECTIONS {
+        return None;
+    }
+    rows.map(|row| one_connection(link, row)).collect()
+}
+
+/// A row is laid out as in `CN` after its mark: level (1), gap (2), size (2).
+fn one_connection(link: &Link, row: &[u8]) -> Option<Connection> {
+    let (level, gap_low, gap_high, size_low, size_high) = match row {
+        &[level, gap_low, gap_high, size_low, size_high] => {
+            (level, gap_low, gap_high, size_low, size_high)
+        }
+        _ => return None,
+    };
+    let gap = u16::from_le_bytes([gap_low, gap_high]);
+    let size = u16::from_le_bytes([size_low, size_high]);
+    Connection::new(link, level, gap, size).ok()
+}

@@ -1,0 +1,258 @@
+//! The state of the hub and its calls: link, admit, offer, tick.
+
+use crate::level_test::lowest_failing_level;
+use crate::link::{Connection, Link, MOST_CONNECTIONS, MOST_RESERVED};
+use crate::verdict::Refusal;
+
+/// A moment in whole ticks.
+pub type Tick = u64;
+
+/// The clock begins at 0 and ends here (section "Link, connections, places").
+pub const CLOCK_END: Tick = 4_000_000_000;
+
+/// A held packet (section "Link, connections, places"), named by its row in the places.
+#[derive(Clone, Copy, Debug, PartialEq, Eq)]
+struct Held {
+    connection: u8,
+    level: u8,
+    length: u16,
+    tag: u32,
+    arrival: Tick,
+    eligibility: Tick,
+}
+
+/// A packet whose last unit has gone.
+#[derive(Clone, Copy, Debug, PartialEq, Eq)]
+pub struct Departure {
+    pub connection: u8,
+    pub tag: u32,
+    pub arrival: Tick,
+    pub eligibility: Tick,
+    pub finish: Tick,
+}
+
+/// An accepted connection and the eligibility of its last accepted packet, if there was one.
+#[derive(Clone, Copy, Debug)]
+struct Standing {
+    connection: Connection,
+    last_eligibility: Option<Tick>,
+}
+
+/// What the output line is doing.
+#[derive(Clone, Copy, Debug, PartialEq, Eq)]
+enum Line {
+    Idle,
+    Serving { row: usize, units_to_go: u16 },
+}
+
+/// The whole state.
+#[derive(Clone, Debug)]
+pub struct Hub {
+    link: Option<Link>,
+    standing: Vec<Standing>,
+    places: Vec<Held>,
+    line: Line,
+    clock: Tick,
+}
+
+impl Default for Hub {
+    fn default() -> Self {
+        Hub::new()
+    }
+}
+
+impl Hub {
+    pub fn new() -> Hub {
+        Hub {
+            link: None,
+            standing: Vec::new(),
+            places: Vec::new(),
+            line: Line::Idle,
+            clock: 0,
+        }
+    }
+
+    pub fn clock(&self) -> Tick {
+        self.clock
+    }
+
+    /// The link, or verdict 2.
+    pub fn link(&self) -> Result<&Link, Refusal> {
+        self.link.as_ref().ok_or(Refusal::NoLink)
+    }
+
+    /// The standing connections in order of acceptance.
+    pub fn connections(&self) -> Vec<Connection> {
+        self.standing.iter().map(|one| one.connection).collect()
+    }
+
+    /// How many packets a connection holds; one in service counts until its last unit has gone.
+    pub fn held_by(&self, connection: u8) -> usize {
+        self.places
+            .iter()
+            .filter(|held| held.connection == connection)
+            .count()
+    }
+
+    /// Sets the link: verdicts 3 and 4.
+    pub fn set_link(&mut self, link: Option<Link>) -> Result<(), Refusal> {
+        if self.link.is_some() {
+            return Err(Refusal::LinkSetAlready);
+        }
+        self.link = Some(link.ok_or(Refusal::LinkLimit)?);
+        Ok(())
+    }
+
+    /// Admits a connection and gives its number: verdicts 2, 5, 6, 7, 8, 9 in that order.
+    pub fn admit(&mut self, level: u8, gap: u16, size: u16) -> Result<u8, Refusal> {
+        let link = self.link()?;
+        let newcomer = Connection::new(link, level, gap, size)?;
+        let number = self.standing.len();
+        if number >= MOST_CONNECTIONS {
+            return Err(Refusal::AllConnectionsStand);
+        }
+        let mut counted = self.connections();
+        counted.push(newcomer);
+        if lowest_failing_level(link, &counted).is_some() {
+            return Err(Refusal::LevelTest);
+        }
+        let reserved: u64 = counted.iter().map(|one| one.reservation(link)).sum();
+        if reserved > MOST_RESERVED {
+            return Err(Refusal::Reservations);
+        }
+        self.standing.push(Standing {
+            connection: newcomer,
+            last_eligibility: None,
+        });
+        Ok(number as u8)
+    }
+
+    /// Offers a packet and gives its eligibility: verdicts 2, 10, 11, 12, 13 in that order.
+    pub fn offer(&mut self, connection: u8, length: u16, tag: u32) -> Result<Tick, Refusal> {
+        let link = *self.link()?;
+        let held = self.held_by(connection) as u64;
+        let standing = self
+            .standing
+            .get_mut(usize::from(connection))
+            .ok_or(Refusal::NoSuchConnection)?;
+        let terms = standing.connection;
+        if !(1..=terms.size()).contains(&length) {
+            return Err(Refusal::Length);
+        }
+        if held >= terms.reservation(&link) {
+            return Err(Refusal::ReservationFull);
+        }
+        if self.clock >= CLOCK_END {
+            return Err(Refusal::ClockEnded);
+        }
+        let gap = Tick::from(terms.gap());
+        let eligibility = next_eligibility(standing.last_eligibility, gap, self.clock);
+        standing.last_eligibility = Some(eligibility);
+        self.places.push(Held {
+            connection,
+            level: terms.level(),
+            length,
+            tag,
+            arrival: self.clock,
+            eligibility,
+        });
+        Ok(eligibility)
+    }
+
+    /// One tick (section "One tick"): verdicts 2 and 13.
+    pub fn tick(&mut self) -> Result<Option<Departure>, Refusal> {
+        self.link()?;
+        if self.clock >= CLOCK_END {
+            return Err(Refusal::ClockEnded);
+        }
+        if self.line == Line::Idle {
+            self.start_chosen();
+        }
+        let departure = self.send_one_unit();
+        self.clock += 1;
+        Ok(departure)
+    }
+
+    /// Step 1: the chosen packet, if there is one, starts.
+    fn start_chosen(&mut self) {
+        if let Some(row) = self.chosen_row() {
+            self.line = Line::Serving {
+                row,
+                units_to_go: self.places[row].length,
+            };
+        }
+    }
+
+    /// Step 1: among the eligible, lowest level number, then earliest eligibility, then
+    /// earliest offered (the rows stand in the order offered).
+    fn chosen_row(&self) -> Option<usize> {
+        self.places
+            .iter()
+            .enumerate()
+            .filter(|(_, held)| held.eligibility <= self.clock)
+            .min_by_key(|(row, held)| (held.level, held.eligibility, *row))
+            .map(|(row, _)| row)
+    }
+
+    /// Step 2: one unit goes; with the last one the packet departs and later rows move up.
+    fn send_one_unit(&mut self) -> Option<Departure> {
+        let (row, units_to_go) = match self.line {
+            Line::Serving { row, units_to_go } => (row, units_to_go),
+            _ => return None,
+        };
+        if units_to_go > 1 {
+            self.line = Line::Serving {
+                row,
+                units_to_go: units_to_go - 1,
+            };
+            return None;
+        }
+        self.line = Line::Idle;
+        let held = self.places.remove(row);
+        Some(Departure {
+            connection: held.connection,
+            tag: held.tag,
+            arrival: held.arrival,
+            eligibility: held.eligibility,
+            finish: self.clock + 1,
+        })
+    }
+
+    /// How many ticks from now on are sure to be quiet: in each of them the line either sends
+    /// a unit that is not the last, or stays idle because no held packet is eligible yet.
+    pub fn quiet_ticks(&self) -> Tick {
+        if self.link.is_none() {
+            return 0;
+        }
+        let to_the_end = CLOCK_END - self.clock;
+        let quiet = match self.line {
+            Line::Serving { units_to_go, .. } => Tick::from(units_to_go) - 1,
+            Line::Idle => self.ticks_until_one_is_eligible().unwrap_or(to_the_end),
+        };
+        quiet.min(to_the_end)
+    }
+
+    fn ticks_until_one_is_eligible(&self) -> Option<Tick> {
+        let earliest = self.places.iter().map(|held| held.eligibility).min()?;
+        Some(earliest.saturating_sub(self.clock))
+    }
+
+    /// Passes over ticks at once, never more than are quiet; gives how many it passed.
+    pub fn pass_over(&mut self, at_most: Tick) -> Tick {
+        let passed = at_most.min(self.quiet_ticks());
+        if let Line::Serving { units_to_go, .. } = &mut self.line {
+            *units_to_go -= passed as u16;
+        }
+        self.clock += passed;
+        passed
+    }
+}
+
+/// Eligibility (section "Eligibility"): the first packet on arrival, each later one the greater
+/// of its arrival and the eligibility before it plus X.
+pub fn next_eligibility(last: Option<Tick>, gap: Tick, arrival: Tick) -> Tick {
+    match last {
+        None => arrival,
+        Some(last) => arrival.max(last + gap),
+    }
+}

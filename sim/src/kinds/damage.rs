@@ -1,0 +1,246 @@
+//! Damaged traces: changed, cut, spliced and made-up bytes.
+
+use super::script::Script;
+use super::{edges, traffic};
+use crate::random::Random;
+
+/// Answer marks and how many bytes follow them.
+const ANSWERS: [(&[u8; 2], usize); 6] = [
+    (b"LA", 1),
+    (b"CA", 2),
+    (b"PA", 5),
+    (b"DP", 17),
+    (b"TA", 3),
+    (b"ER", 5),
+];
+
+/// A good record of each kind.
+const GOOD: [&[u8]; 4] = [
+    b"LK\x08\x01\x00\x09\x00\x0A\x00\x0B\x00\x0C\x00\x0D\x00\x0E\x00\x0F\x00\x10\x00",
+    b"CN\x01\x14\x00\x01\x00",
+    b"PK\x00\x01\x00\x07\x00\x00\x00",
+    b"TK\x05\x00",
+];
+
+/// A trace and the places where its records started before it was damaged.
+struct Trace {
+    bytes: Vec<u8>,
+    starts: Vec<usize>,
+}
+
+/// A good trace with one bad record in it; the bad records take turns with the seed.
+pub fn bad_record(seed: u64, random: &mut Random, size: usize) -> Vec<u8> {
+    let (bad, cut) = (bad_marks_and_links(), cut_records());
+    let turn = (seed % (bad.len() + cut.len()) as u64) as usize;
+    let mut trace = good_trace(random, size);
+    if let Some(record) = bad.get(turn) {
+        let at = late_start(&trace, random);
+        insert(&mut trace, at, record);
+    } else {
+        trace.bytes.extend_from_slice(&cut[turn - bad.len()]);
+    }
+    trace.bytes
+}
+
+/// Records that are malformed wherever they stand, with all the bytes they seem to need.
+fn bad_marks_and_links() -> Vec<Vec<u8>> {
+    let mut all: Vec<Vec<u8>> = [0, 9, 10, 128, 255].map(link_of_levels).to_vec();
+    all.extend(ANSWERS.map(|(mark, fields)| answer_of(mark, fields)));
+    for record in GOOD {
+        let changes: [fn(&mut [u8]); 6] = [
+            |mark| mark.make_ascii_lowercase(),
+            |mark| mark.swap(0, 1),
+            |mark| mark[0] += 1,
+            |mark| mark[1] += 1,
+            |mark| mark[0] ^= 128,
+            |mark| mark[1] = 0,
+        ];
+        for change in changes {
+            let mut changed = record.to_vec();
+            change(&mut changed[..2]);
+            all.push(changed);
+        }
+    }
+    all
+}
+
+/// Every good record cut after each of its bytes but the last.
+fn cut_records() -> Vec<Vec<u8>> {
+    let cuts = |record: &'static [u8]| (1..record.len()).map(|length| record[..length].to_vec());
+    GOOD.into_iter().flat_map(cuts).collect()
+}
+
+pub fn malformed(_seed: u64, random: &mut Random, size: usize) -> Vec<u8> {
+    let mut trace = good_trace(random, size);
+    for _ in 0..random.between(1, 2) {
+        damage(&mut trace, random, size);
+    }
+    trace.bytes
+}
+
+/// A short trace of another kind.
+fn good_trace(random: &mut Random, size: usize) -> Trace {
+    let mut script = Script::new(random.number());
+    match random.between(0, 5) {
+        0 => traffic::quiet(&mut script, size),
+        1 => traffic::flooded(&mut script, size / 2),
+        2 => traffic::midrun(&mut script, 2 * size),
+        3 => traffic::ties(&mut script, size / 3),
+        4 => edges::tight(&mut script, size / 2),
+        _ => edges::refusals(&mut script, size),
+    }
+    let (bytes, starts) = script.finish();
+    Trace { bytes, starts }
+}
+
+fn damage(trace: &mut Trace, random: &mut Random, size: usize) {
+    match random.between(0, 11) {
+        0 => change_bytes(trace, random),
+        1 | 2 => change_fields(trace, random),
+        3 => cut_anywhere(trace, random),
+        4 => splice_records(trace, random, size),
+        5 => splice_anywhere(trace, random, size),
+        6 => insert_answer(trace, random),
+        7 => insert_link_of_bad_n(trace, random),
+        8 => lose_or_double_a_byte(trace, random),
+        9 => append_noise(trace, random),
+        10 => change_a_mark(trace, random),
+        _ => only_noise(trace, random),
+    }
+}
+
+/// Where a record starts, more often late than early; the end is a possible place.
+fn late_start(trace: &Trace, random: &mut Random) -> usize {
+    let count = trace.starts.len() + 1;
+    let which = random.place(count).max(random.place(count));
+    let start = trace.starts.get(which).copied();
+    start.unwrap_or(trace.bytes.len()).min(trace.bytes.len())
+}
+
+fn insert(trace: &mut Trace, at: usize, bytes: &[u8]) {
+    trace.bytes.splice(at..at, bytes.iter().copied());
+}
+
+fn change_bytes(trace: &mut Trace, random: &mut Random) {
+    for _ in 0..random.between(1, 4) {
+        let at = random.place(trace.bytes.len());
+        if let Some(byte) = trace.bytes.get_mut(at) {
+            *byte = random.byte();
+        }
+    }
+}
+
+/// Changes bytes behind marks, so that most records stay readable.
+fn change_fields(trace: &mut Trace, random: &mut Random) {
+    for _ in 0..random.between(1, 12) {
+        let start = late_start(trace, random);
+        let at = start + 2 + random.place(5);
+        if let Some(byte) = trace.bytes.get_mut(at) {
+            *byte = random.pick([0, 1, 2, 255, *byte ^ 1, *byte ^ 128]);
+        }
+    }
+}
+
+fn cut_anywhere(trace: &mut Trace, random: &mut Random) {
+    let length = trace.bytes.len();
+    let at = random.place(length + 1).max(random.place(length + 1));
+    trace.bytes.truncate(at);
+}
+
+/// Whole records of another trace between two records.
+fn splice_records(trace: &mut Trace, random: &mut Random, size: usize) {
+    let other = good_trace(random, size);
+    let (one, two) = (late_start(&other, random), late_start(&other, random));
+    let at = late_start(trace, random);
+    insert(trace, at, &other.bytes[one.min(two)..one.max(two)]);
+}
+
+/// Any bytes of another trace at any place.
+fn splice_anywhere(trace: &mut Trace, random: &mut Random, size: usize) {
+    let other = good_trace(random, size);
+    let from = random.place(other.bytes.len());
+    let to = (from + random.place(60)).min(other.bytes.len());
+    let at = random.place(trace.bytes.len() + 1);
+    insert(trace, at, &other.bytes[from..to]);
+}
+
+/// An answer record where a trace record should be.
+fn insert_answer(trace: &mut Trace, random: &mut Random) {
+    let (mark, fields) = random.pick(ANSWERS);
+    let answer = answer_of(mark, fields);
+    let at = late_start(trace, random);
+    insert(trace, at, &answer);
+}
+
+fn answer_of(mark: &[u8; 2], fields: usize) -> Vec<u8> {
+    let mut answer = mark.to_vec();
+    answer.resize(2 + fields, 0);
+    answer
+}
+
+/// An `LK` with all the bounds that it promises.
+fn link_of_levels(levels: u8) -> Vec<u8> {
+    let mut link = vec![b'L', b'K', levels, 1, 0];
+    for bound in 1..=u16::from(levels) {
+        link.extend_from_slice(&bound.to_le_bytes());
+    }
+    link
+}
+
+/// An `LK` with n outside 1 to 8.
+fn insert_link_of_bad_n(trace: &mut Trace, random: &mut Random) {
+    let levels = random.pick([0, 9, 9, 10, 128, 255]);
+    let link = link_of_levels(levels);
+    let late = late_start(trace, random);
+    let at = random.pick([0, late]);
+    insert(trace, at, &link);
+}
+
+fn lose_or_double_a_byte(trace: &mut Trace, random: &mut Random) {
+    let at = random.place(trace.bytes.len());
+    let byte = match trace.bytes.get(at) {
+        Some(&byte) => byte,
+        _ => return,
+    };
+    if random.once_in(2) {
+        trace.bytes.remove(at);
+    } else {
+        trace.bytes.insert(at, byte);
+    }
+}
+
+fn append_noise(trace: &mut Trace, random: &mut Random) {
+    for _ in 0..random.between(1, 30) {
+        trace.bytes.push(random.byte());
+    }
+}
+
+/// Small letters, exchanged letters, or half a mark.
+fn change_a_mark(trace: &mut Trace, random: &mut Random) {
+    let start = late_start(trace, random);
+    let mark = match trace.bytes.get_mut(start..start + 2) {
+        Some(mark) => mark,
+        _ => return,
+    };
+    match random.between(0, 2) {
+        0 => mark.make_ascii_lowercase(),
+        1 => mark.swap(0, 1),
+        _ => mark[1] = 0,
+    }
+}
+
+/// Random fields behind good marks, or random bytes altogether.
+fn only_noise(trace: &mut Trace, random: &mut Random) {
+    let mut bytes = Vec::new();
+    for _ in 0..random.between(1, 20) {
+        let (mark, fields) = random.pick([(b"CN", 5), (b"PK", 7), (b"TK", 2), (b"LK", 5)]);
+        bytes.extend_from_slice(mark);
+        for _ in 0..fields {
+            bytes.push(random.pick([0, 1, 1, 2, 4, 255]));
+        }
+    }
+    if random.once_in(4) {
+        bytes.iter_mut().for_each(|byte| *byte = random.byte());
+    }
+    trace.bytes = bytes;
+}

@@ -1,0 +1,364 @@
+//! Kinds that go to the edges: refusals, tight level tests, the clock's end, the size limit.
+
+use super::script::Script;
+use super::traffic::{admit_one, admit_some, flood, modest_link};
+use crate::hub::CLOCK_END;
+use crate::level_test::level_sum;
+use crate::link::{Connection, Link, HIGHEST_BOUND, MOST_CONNECTIONS, MOST_RESERVED, MOST_UNITS};
+use crate::record::Record;
+use crate::replay::SIZE_LIMIT;
+
+/// Every verdict from 2 to 12, several of them with more than one cause.
+pub fn refusals(script: &mut Script, size: usize) {
+    before_the_link(script);
+    let largest = script.random.between16(2, 16);
+    let levels = script.random.between16(1, 8);
+    let bounds: Vec<u16> = (1..=levels).map(|level| 2_000 + 1_000 * level).collect();
+    script.link(largest, &bounds);
+    for _ in 0..size / 3 {
+        one_refusal(script);
+    }
+    let crowd = script.random.between(4, 60) as usize;
+    crowd_up_to(script, crowd);
+    for _ in 0..size / 3 {
+        one_refusal(script);
+    }
+    crowd_up_to(script, MOST_CONNECTIONS);
+    for _ in 0..size / 3 {
+        one_refusal(script);
+    }
+}
+
+/// Calls with no link set, and links that break a limit.
+fn before_the_link(script: &mut Script) {
+    for _ in 0..script.random.between(1, 6) {
+        match script.random.between(0, 4) {
+            0 => admit_one(script),
+            1 => script.offer(0, 1),
+            2 => script.tick(0),
+            3 => script.tick(9),
+            _ => broken_link(script),
+        };
+    }
+    script.admit(0, 0, 0);
+    script.tick(1);
+    broken_link(script);
+}
+
+fn broken_link(script: &mut Script) -> u8 {
+    match script.random.between(0, 8) {
+        0 => script.link(0, &[10]),
+        1 => script.link(MOST_UNITS + 1, &[9_000]),
+        2 => script.link(4, &[10, 10]),
+        3 => script.link(4, &[10, 20, 19]),
+        4 => script.link(4, &[3, 20]),
+        5 => script.link(4, &[10, HIGHEST_BOUND + 1]),
+        6 => script.link(4, &[0]),
+        7 => script.link(u16::MAX, &[u16::MAX]),
+        _ => script.link(1, &[1, 2, 3, 4, 5, 6, 7, 7]),
+    }
+}
+
+/// Small reservations, so that all 64 connections can stand.
+fn crowd_up_to(script: &mut Script, wanted: usize) {
+    let link = match script.link_set() {
+        Some(link) => link,
+        _ => return,
+    };
+    for _ in 0..MOST_CONNECTIONS {
+        if script.connections().len() >= wanted {
+            return;
+        }
+        let level = script.random.between16(1, u16::from(link.levels())) as u8;
+        let bound = link.bound(level);
+        let gap = script.random.between16(bound / 7 + 1, 4 * bound);
+        script.admit(level, gap, 1);
+    }
+}
+
+fn one_refusal(script: &mut Script) {
+    match script.random.between(0, 9) {
+        0 => {
+            broken_link(script);
+        }
+        1 => {
+            script.link(4, &[10, 20]);
+        }
+        2..=4 => bad_admission(script),
+        5..=7 => bad_offer(script),
+        8 => script.offer_on_any(),
+        _ => {
+            let ticks = script.random.pick([0, 1, 3, 50]);
+            script.tick(ticks);
+        }
+    }
+}
+
+fn bad_admission(script: &mut Script) {
+    let link = match script.link_set() {
+        Some(link) => link,
+        _ => return,
+    };
+    let (levels, largest) = (link.levels(), link.largest());
+    match script.random.between(0, 9) {
+        0 => script.admit(0, 100, 1),
+        1 => script.admit(levels + 1, 100, 1),
+        2 => script.admit(255, 0, 0),
+        3 => script.admit(1, 0, 1),
+        4 => script.admit(levels, 100, 0),
+        5 => script.admit(1, 100, largest + 1),
+        6 => script.admit(levels, 0, u16::MAX),
+        7 => script.admit(1, 1, largest),
+        8 => script.admit(levels, 2, 2),
+        _ => admit_past_the_reservations(script, &link),
+    };
+}
+
+/// One packet more than the reservations that are left.
+fn admit_past_the_reservations(script: &mut Script, link: &Link) -> u8 {
+    let connections = script.connections();
+    let reserved: u64 = connections.iter().map(|one| one.reservation(link)).sum();
+    let left = MOST_RESERVED.saturating_sub(reserved) as u16;
+    let bound = link.bound(link.levels());
+    script.admit(link.levels(), (bound - 1) / (left + 1), 1)
+}
+
+fn bad_offer(script: &mut Script) {
+    let standing = script.connections().len() as u8;
+    let (number, connection) = match script.any_connection() {
+        Some((number, connection)) => (number, connection),
+        _ => {
+            script.offer(0, 0);
+            return;
+        }
+    };
+    match script.random.between(0, 6) {
+        0 => script.offer(standing, 1),
+        1 => script.offer(255, 0),
+        2 => script.offer(number, 0),
+        3 => script.offer(number, connection.size() + 1),
+        4 => script.offer(number, u16::MAX),
+        _ => offer_until_full(script, number, &connection),
+    };
+}
+
+/// Offers until the reservation is full, then one too many, also of a wrong length.
+fn offer_until_full(script: &mut Script, number: u8, connection: &Connection) -> u8 {
+    let mut verdict = 0;
+    for _ in 0..MOST_RESERVED {
+        if verdict != 0 {
+            break;
+        }
+        verdict = script.offer_good(number, connection);
+    }
+    script.offer(number, 0)
+}
+
+/// Newcomers whose sums meet a bound exactly, or pass it by as little as possible.
+pub fn tight(script: &mut Script, size: usize) {
+    tight_link(script);
+    for _ in 0..size {
+        tight_admission(script);
+        for _ in 0..script.random.between(0, 3) {
+            script.offer_on_any();
+        }
+        let ticks = script.random.pick([0, 1, 5, 60]);
+        script.tick(ticks);
+    }
+    script.drain();
+}
+
+/// Links at their limits beside ordinary ones.
+fn tight_link(script: &mut Script) {
+    match script.random.between(0, 6) {
+        0 => script.link(MOST_UNITS, &[MOST_UNITS, 9_000, HIGHEST_BOUND]),
+        1 => script.link(1, &[1, 2, 3, 4, 5, 6, 7, 8]),
+        2 => script.link(1, &[HIGHEST_BOUND]),
+        3 => script.link(16, &[100, 101, 102, 103, 104, 105, 106, 107]),
+        4 => script.link(4, &[10, 20]),
+        _ => {
+            modest_link(script);
+            0
+        }
+    };
+}
+
+fn tight_admission(script: &mut Script) {
+    let link = match script.link_set() {
+        Some(link) => link,
+        _ => return,
+    };
+    let levels = u16::from(link.levels());
+    let level = script.random.between16(1, levels) as u8;
+    let bound = link.bound(script.random.between16(1, levels) as u8);
+    let gap = match script.random.between(0, 6) {
+        0 => bound,
+        1 => bound - 1,
+        2 => bound + 1,
+        3 => bound / 2,
+        4 => bound / 3 + 1,
+        5 => script.random.between16(1, bound),
+        _ => u16::MAX,
+    };
+    let gap = gap.max(1);
+    let most = largest_passing(&link, &script.connections(), level, gap);
+    script.admit(level, gap, most + 1);
+    if script.random.once_in(3) {
+        script.admit(level, gap, most);
+        script.admit(level, gap, 1);
+    } else {
+        let size = script.random.between16(1, most.max(1));
+        script.admit(level, gap, size);
+    }
+}
+
+/// The largest size that a newcomer of this level and gap may have; 0 if none.
+fn largest_passing(link: &Link, connections: &[Connection], level: u8, gap: u16) -> u16 {
+    (level..=link.levels())
+        .map(|one| {
+            let bound = link.bound(one);
+            let sum = level_sum(link, connections, one);
+            let room = u64::from(bound).saturating_sub(sum);
+            room / u64::from((bound - 1) / gap + 1)
+        })
+        .min()
+        .map_or(0, |most| most.min(u64::from(link.largest())) as u16)
+}
+
+/// Traffic up to the clock's end and all kinds of calls behind it.
+pub fn clock_end(script: &mut Script, size: usize) {
+    modest_link(script);
+    admit_with_longest_gap(script);
+    admit_some(script, 5);
+    flood(script, size);
+    script.drain();
+    let lead = script.random.between(100, 2_000);
+    script.ticks_until(CLOCK_END - lead);
+    script.offer(0, 1);
+    while script.clock() + 50 < CLOCK_END {
+        flood(script, 3);
+        let ticks = script.random.between16(1, 40);
+        script.tick(ticks);
+    }
+    let last_ticks = script.random.between(1, 3);
+    script.ticks_until(CLOCK_END - last_ticks);
+    script.offer(0, 1);
+    for _ in 0..12 {
+        script.offer_on_any();
+    }
+    script.tick(0);
+    cross_the_end(script);
+    for _ in 0..size {
+        after_the_end(script);
+    }
+}
+
+/// Connection 0 of the last level: its second offer near the end is eligible beyond it.
+fn admit_with_longest_gap(script: &mut Script) {
+    if let Some(link) = script.link_set() {
+        script.admit(link.levels(), u16::MAX, 1);
+    }
+}
+
+/// Exactly the ticks left, or more of them.
+fn cross_the_end(script: &mut Script) {
+    let left = CLOCK_END.saturating_sub(script.clock()) as u16;
+    let asked = script.random.pick([left, left + 1, left + 9, u16::MAX]);
+    script.tick(asked);
+}
+
+fn after_the_end(script: &mut Script) {
+    match script.random.between(0, 8) {
+        0 => {
+            let ticks = script.random.pick([0, 0, 1, 2, u16::MAX]);
+            script.tick(ticks);
+        }
+        1 | 2 => {
+            admit_one(script);
+        }
+        3 => {
+            broken_link(script);
+        }
+        4 => bad_admission(script),
+        5 | 6 => bad_offer(script),
+        _ => script.offer_on_any(),
+    }
+}
+
+/// Traces that end just below the size limit, at it, and beyond it.
+pub fn limit(script: &mut Script, size: usize) {
+    let limit = SIZE_LIMIT as usize;
+    modest_link(script);
+    admit_some(script, 4);
+    flood(script, size);
+    let crossing = some_record(script);
+    let inside = script.random.between(1, crossing.len() as u64 - 1) as usize;
+    let beyond = script.random.pick([b'T', b'L', 0, 255]);
+    match script.seed() % 8 {
+        0 => fill_up_to(script, limit),
+        1 => {
+            let missing = script.random.place(20) + 1;
+            fill_up_to(script, limit - missing);
+        }
+        2 => end_with(script, limit, &[beyond]),
+        3 => end_with(script, limit, &crossing),
+        4 => end_with(script, limit - inside, &crossing),
+        5 => end_with(script, limit - inside, &crossing[..inside]),
+        6 => end_with(script, limit - inside, &crossing[..inside + 1]),
+        _ => end_with(script, limit - 1, &[beyond]),
+    }
+}
+
+/// The bytes of a good record of any of the four kinds.
+fn some_record(script: &mut Script) -> Vec<u8> {
+    let record = match script.random.between(0, 3) {
+        0 => Record::Link {
+            levels: 2,
+            largest: 4,
+            bounds: [10, 20, 0, 0, 0, 0, 0, 0],
+        },
+        1 => Record::Connection {
+            level: 1,
+            gap: 9,
+            size: 1,
+        },
+        2 => Record::Packet {
+            connection: 0,
+            length: 1,
+            tag: 7,
+        },
+        _ => Record::Ticks { asked: 1 },
+    };
+    let mut bytes = Vec::new();
+    record.append_to(&mut bytes);
+    bytes
+}
+
+fn end_with(script: &mut Script, length: usize, bytes: &[u8]) {
+    fill_up_to(script, length);
+    script.raw(bytes);
+}
+
+/// Whole records up to exactly this length: mostly long ones, then 9 and 4 bytes at a time.
+fn fill_up_to(script: &mut Script, length: usize) {
+    while script.length() + 200 < length {
+        match script.random.between(0, 99) {
+            0 => script.offer_on_any(),
+            1 => {
+                script.tick(3);
+            }
+            2 => {
+                script.admit(1, 1, 1);
+            }
+            _ => {
+                script.link(1, &[1, 2, 3, 4, 5, 6, 7, 8]);
+            }
+        }
+    }
+    for _ in 0..(length - script.length()) % 4 {
+        script.offer(0, 1);
+    }
+    while script.length() < length {
+        script.tick(1);
+    }
+}

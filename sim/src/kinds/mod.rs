@@ -1,0 +1,68 @@
+//! Kinds of traces made from a seed. The same kind, seed and size give the same bytes.
+
+mod damage;
+mod edges;
+mod script;
+mod traffic;
+
+use crate::random::Random;
+use script::Script;
+
+enum Maker {
+    /// Good records, carried out while they are written.
+    Scripted(fn(&mut Script, usize)),
+    /// Bytes of any sort.
+    Bytes(fn(u64, &mut Random, usize) -> Vec<u8>),
+}
+
+/// A kind of traces and its usual size (steps, not bytes).
+pub struct Kind {
+    pub name: &'static str,
+    pub size: usize,
+    maker: Maker,
+}
+
+#[rustfmt::skip] // One line for each kind.
+pub const KINDS: [Kind; 13] = [
+    Kind { name: "quiet", size: 60, maker: Maker::Scripted(traffic::quiet) },
+    Kind { name: "flooded", size: 60, maker: Maker::Scripted(traffic::flooded) },
+    Kind { name: "wild", size: 60, maker: Maker::Scripted(traffic::wild) },
+    Kind { name: "midrun", size: 150, maker: Maker::Scripted(traffic::midrun) },
+    Kind { name: "ties", size: 30, maker: Maker::Scripted(traffic::ties) },
+    Kind { name: "reserve", size: 5, maker: Maker::Scripted(traffic::reserve) },
+    Kind { name: "bigpackets", size: 40, maker: Maker::Scripted(traffic::big_packets) },
+    Kind { name: "refusals", size: 90, maker: Maker::Scripted(edges::refusals) },
+    Kind { name: "tight", size: 40, maker: Maker::Scripted(edges::tight) },
+    Kind { name: "malformed", size: 30, maker: Maker::Bytes(damage::malformed) },
+    Kind { name: "badrecord", size: 20, maker: Maker::Bytes(damage::bad_record) },
+    Kind { name: "clockend", size: 40, maker: Maker::Scripted(edges::clock_end) },
+    Kind { name: "limit", size: 40, maker: Maker::Scripted(edges::limit) },
+];
+
+impl Kind {
+    pub fn named(name: &str) -> Option<&'static Kind> {
+        KINDS.iter().find(|kind| kind.name == name)
+    }
+
+    /// The trace of a seed, of the usual size if none is asked for.
+    pub fn trace(&self, seed: u64, size: Option<usize>) -> Vec<u8> {
+        let size = size.unwrap_or(self.size);
+        match self.maker {
+            Maker::Scripted(make) => {
+                let mut script = Script::new(self.mixed(seed));
+                script.set_seed(seed);
+                make(&mut script, size);
+                script.finish().0
+            }
+            Maker::Bytes(make) => make(seed, &mut Random::new(self.mixed(seed)), size),
+        }
+    }
+
+    /// Other numbers for each kind.
+    fn mixed(&self, seed: u64) -> u64 {
+        let letters = self.name.bytes();
+        letters.fold(seed, |mixed, letter| {
+            Random::new(mixed ^ u64::from(letter)).number()
+        })
+    }
+}

@@ -1,0 +1,168 @@
+//! A trace in the making: every record is written down and carried out at once, so that a
+//! generator knows clock, connections and held packets at each point.
+
+use std::convert::Infallible;
+
+use crate::hub::{Hub, Tick};
+use crate::link::{Connection, Link, MOST_LEVELS};
+use crate::random::Random;
+use crate::record::Record;
+use crate::replay::{Job, Pace};
+use crate::verdict::DONE;
+
+pub struct Script {
+    pub random: Random,
+    seed: u64,
+    job: Job,
+    bytes: Vec<u8>,
+    starts: Vec<usize>,
+}
+
+impl Script {
+    pub fn new(seed: u64) -> Script {
+        Script {
+            random: Random::new(seed),
+            seed,
+            job: Job::new(Pace::Passing),
+            bytes: Vec::new(),
+            starts: Vec::new(),
+        }
+    }
+
+    /// The seed that was asked for, for kinds that take turns.
+    pub fn seed(&self) -> u64 {
+        self.seed
+    }
+
+    pub fn set_seed(&mut self, seed: u64) {
+        self.seed = seed;
+    }
+
+    pub fn hub(&self) -> &Hub {
+        self.job.hub()
+    }
+
+    pub fn clock(&self) -> Tick {
+        self.hub().clock()
+    }
+
+    pub fn length(&self) -> usize {
+        self.bytes.len()
+    }
+
+    /// The trace and where its records start.
+    pub fn finish(self) -> (Vec<u8>, Vec<usize>) {
+        (self.bytes, self.starts)
+    }
+
+    /// Writes a record down, carries it out and gives its verdict.
+    pub fn put(&mut self, record: Record) -> u8 {
+        self.starts.push(self.bytes.len());
+        record.append_to(&mut self.bytes);
+        let mut verdict = DONE;
+        let done = self.job.carry_out::<Infallible>(record, &mut |answer| {
+            verdict = answer.verdict().unwrap_or(verdict);
+            Ok(())
+        });
+        done.unwrap_or_else(|never| match never {});
+        verdict
+    }
+
+    /// Bytes that are only written down.
+    pub fn raw(&mut self, bytes: &[u8]) {
+        self.bytes.extend_from_slice(bytes);
+    }
+
+    pub fn link(&mut self, largest: u16, used: &[u16]) -> u8 {
+        let mut bounds = [0; MOST_LEVELS];
+        for (bound, value) in bounds.iter_mut().zip(used) {
+            *bound = *value;
+        }
+        let levels = used.len().min(MOST_LEVELS) as u8;
+        self.put(Record::Link {
+            levels,
+            largest,
+            bounds,
+        })
+    }
+
+    pub fn admit(&mut self, level: u8, gap: u16, size: u16) -> u8 {
+        self.put(Record::Connection { level, gap, size })
+    }
+
+    /// An offer with a tag made up from the seed.
+    pub fn offer(&mut self, connection: u8, length: u16) -> u8 {
+        let tag = self.random.number() as u32;
+        self.put(Record::Packet {
+            connection,
+            length,
+            tag,
+        })
+    }
+
+    pub fn tick(&mut self, asked: u16) -> u8 {
+        self.put(Record::Ticks { asked })
+    }
+
+    /// Any number of ticks, in as few records as possible.
+    pub fn ticks(&mut self, mut wanted: Tick) {
+        while wanted > 0 {
+            let asked = wanted.min(Tick::from(u16::MAX)) as u16;
+            self.tick(asked);
+            wanted -= Tick::from(asked);
+        }
+    }
+
+    /// The ticks up to a moment; none if it has passed.
+    pub fn ticks_until(&mut self, moment: Tick) {
+        self.ticks(moment.saturating_sub(self.clock()));
+    }
+
+    pub fn connections(&self) -> Vec<Connection> {
+        self.hub().connections()
+    }
+
+    /// The link that was set.
+    pub fn link_set(&self) -> Option<Link> {
+        self.hub().link().ok().copied()
+    }
+
+    /// Some standing connection, with its number.
+    pub fn any_connection(&mut self) -> Option<(u8, Connection)> {
+        let connections = self.connections();
+        let number = self.random.place(connections.len());
+        connections.get(number).map(|one| (number as u8, *one))
+    }
+
+    /// An offer on some connection, more often of full size than not.
+    pub fn offer_on_any(&mut self) {
+        if let Some((number, connection)) = self.any_connection() {
+            self.offer_good(number, &connection);
+        }
+    }
+
+    /// An offer of allowed length.
+    pub fn offer_good(&mut self, number: u8, connection: &Connection) -> u8 {
+        let length = if self.random.once_in(2) {
+            connection.size()
+        } else {
+            self.random.between16(1, connection.size())
+        };
+        self.offer(number, length)
+    }
+
+    /// Ticks until everything held must have gone.
+    pub fn drain(&mut self) {
+        for _ in 0..1_000 {
+            let connections = self.connections();
+            let holding =
+                |(number, _): &(usize, &Connection)| self.hub().held_by(*number as u8) > 0;
+            let waiting = match connections.iter().enumerate().find(holding) {
+                Some((_, waiting)) => waiting,
+                _ => return,
+            };
+            let some = self.random.between(1, 1 + 2 * u64::from(waiting.gap()));
+            self.ticks(some);
+        }
+    }
+}

@@ -1,0 +1,206 @@
+//! Trace and answer records (section "Trace and answer records").
+
+use crate::hub::{Departure, Tick};
+use crate::link::MOST_LEVELS;
+use crate::verdict::Refusal;
+
+/// The longest trace record: an `LK` with 8 bounds.
+pub const LONGEST_RECORD: usize = 5 + 2 * MOST_LEVELS;
+
+/// The connection number that a refused admission gives.
+pub const NO_CONNECTION: u8 = 255;
+
+/// A trace record. Bounds past n are 0.
+#[derive(Clone, Copy, Debug, PartialEq, Eq)]
+pub enum Record {
+    Link {
+        levels: u8,
+        largest: u16,
+        bounds: [u16; MOST_LEVELS],
+    },
+    Connection {
+        level: u8,
+        gap: u16,
+        size: u16,
+    },
+    Packet {
+        connection: u8,
+        length: u16,
+        tag: u32,
+    },
+    Ticks {
+        asked: u16,
+    },
+}
+
+impl Record {
+    /// The record at the start of the bytes and its length; nothing if it is malformed.
+    pub fn read(bytes: &[u8]) -> Option<(Record, usize)> {
+        let mut fields = Fields { rest: bytes };
+        let record = match &fields.take::<2>()? {
+            b"LK" => read_link(&mut fields)?,
+            b"CN" => Record::Connection {
+                level: fields.one()?,
+                gap: fields.two()?,
+                size: fields.two()?,
+            },
+            b"PK" => Record::Packet {
+                connection: fields.one()?,
+                length: fields.two()?,
+                tag: fields.four()?,
+            },
+            b"TK" => Record::Ticks {
+                asked: fields.two()?,
+            },
+            _ => return None,
+        };
+        Some((record, bytes.len() - fields.rest.len()))
+    }
+
+    /// Writes the record behind what is there already.
+    pub fn append_to(&self, out: &mut Vec<u8>) {
+        match *self {
+            Record::Link {
+                levels,
+                largest,
+                bounds,
+            } => {
+                out.extend_from_slice(b"LK");
+                out.push(levels);
+                out.extend_from_slice(&largest.to_le_bytes());
+                for bound in bounds.iter().take(usize::from(levels)) {
+                    out.extend_from_slice(&bound.to_le_bytes());
+                }
+            }
+            Record::Connection { level, gap, size } => {
+                out.extend_from_slice(b"CN");
+                out.push(level);
+                out.extend_from_slice(&gap.to_le_bytes());
+                out.extend_from_slice(&size.to_le_bytes());
+            }
+            Record::Packet {
+                connection,
+                length,
+                tag,
+            } => {
+                out.extend_from_slice(b"PK");
+                out.push(connection);
+                out.extend_from_slice(&length.to_le_bytes());
+                out.extend_from_slice(&tag.to_le_bytes());
+            }
+            Record::Ticks { asked } => {
+                out.extend_from_slice(b"TK");
+                out.extend_from_slice(&asked.to_le_bytes());
+            }
+        }
+    }
+}
+
+/// An `LK` with n outside 1 to 8 is malformed; bounds past n are read as 0.
+fn read_link(fields: &mut Fields) -> Option<Record> {
+    let levels = fields.one()?;
+    if !(1..=MOST_LEVELS).contains(&usize::from(levels)) {
+        return None;
+    }
+    let largest = fields.two()?;
+    let mut bounds = [0; MOST_LEVELS];
+    for bound in bounds.iter_mut().take(usize::from(levels)) {
+        *bound = fields.two()?;
+    }
+    Some(Record::Link {
+        levels,
+        largest,
+        bounds,
+    })
+}
+
+/// The bytes of a record not taken yet; numbers are little-endian.
+struct Fields<'a> {
+    rest: &'a [u8],
+}
+
+impl Fields<'_> {
+    fn take<const N: usize>(&mut self) -> Option<[u8; N]> {
+        let taken = self.rest.get(..N)?.try_into().ok()?;
+        self.rest = &self.rest[N..];
+        Some(taken)
+    }
+
+    fn one(&mut self) -> Option<u8> {
+        self.take::<1>().map(|[byte]| byte)
+    }
+
+    fn two(&mut self) -> Option<u16> {
+        self.take().map(u16::from_le_bytes)
+    }
+
+    fn four(&mut self) -> Option<u32> {
+        self.take().map(u32::from_le_bytes)
+    }
+}
+
+/// An answer record.
+#[derive(Clone, Copy, Debug, PartialEq, Eq)]
+pub enum Answer {
+    Link { verdict: u8 },
+    Connection { verdict: u8, connection: u8 },
+    Packet { verdict: u8, eligibility: Tick },
+    Departed(Departure),
+    Ticks { verdict: u8, done: u16 },
+    Malformed { offset: u32 },
+}
+
+impl Answer {
+    /// The verdict that the answer carries; a departure carries none.
+    pub fn verdict(&self) -> Option<u8> {
+        match *self {
+            Answer::Link { verdict }
+            | Answer::Connection { verdict, .. }
+            | Answer::Packet { verdict, .. }
+            | Answer::Ticks { verdict, .. } => Some(verdict),
+            Answer::Departed(_) => None,
+            Answer::Malformed { .. } => Some(Refusal::Malformed.number()),
+        }
+    }
+
+    /// Writes the answer behind what is there already.
+    pub fn append_to(&self, out: &mut Vec<u8>) {
+        match *self {
+            Answer::Link { verdict } => out.extend_from_slice(&[b'L', b'A', verdict]),
+            Answer::Connection {
+                verdict,
+                connection,
+            } => out.extend_from_slice(&[b'C', b'A', verdict, connection]),
+            Answer::Packet {
+                verdict,
+                eligibility,
+            } => {
+                out.extend_from_slice(&[b'P', b'A', verdict]);
+                append_tick(out, eligibility);
+            }
+            Answer::Departed(departure) => append_departure(out, &departure),
+            Answer::Ticks { verdict, done } => {
+                out.extend_from_slice(&[b'T', b'A', verdict]);
+                out.extend_from_slice(&done.to_le_bytes());
+            }
+            Answer::Malformed { offset } => {
+                out.extend_from_slice(&[b'E', b'R', Refusal::Malformed.number()]);
+                out.extend_from_slice(&offset.to_le_bytes());
+            }
+        }
+    }
+}
+
+fn append_departure(out: &mut Vec<u8>, departure: &Departure) {
+    out.extend_from_slice(&[b'D', b'P', departure.connection]);
+    out.extend_from_slice(&departure.tag.to_le_bytes());
+    append_tick(out, departure.arrival);
+    append_tick(out, departure.eligibility);
+    append_tick(out, departure.finish);
+}
+
+/// Four bytes. No tick of a run needs more: an accepted offer is made before the clock's end,
+/// and its eligibility is less than 65,536 beyond.
+fn append_tick(out: &mut Vec<u8>, tick: Tick) {
+    out.extend_from_slice(&tick.to_le_bytes()[..4]);
+}

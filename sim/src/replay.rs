@@ -1,0 +1,234 @@
+//! The trace job: records in, answers out (section "Trace and answer records").
+
+use std::io::{self, Read, Write};
+
+use crate::hub::{Hub, Tick};
+use crate::link::Link;
+use crate::record::{Answer, Record, LONGEST_RECORD, NO_CONNECTION};
+use crate::verdict::{number_of, DONE};
+
+/// The size limit: a record that would end beyond it is malformed.
+pub const SIZE_LIMIT: u64 = 16_777_216;
+
+const BLOCK: usize = 1 << 16;
+
+/// How ticks are run.
+#[derive(Clone, Copy, Debug, PartialEq, Eq)]
+pub enum Pace {
+    /// Each tick by itself.
+    Plain,
+    /// Ticks in which nothing starts and nothing departs are passed over at once.
+    Passing,
+}
+
+/// The hub and the way its ticks are run.
+#[derive(Clone, Debug)]
+pub struct Job {
+    hub: Hub,
+    pace: Pace,
+}
+
+impl Job {
+    pub fn new(pace: Pace) -> Job {
+        Job {
+            hub: Hub::new(),
+            pace,
+        }
+    }
+
+    pub fn hub(&self) -> &Hub {
+        &self.hub
+    }
+
+    /// Carries out one record and hands over its answers in order.
+    pub fn carry_out<E>(
+        &mut self,
+        record: Record,
+        hand_over: &mut impl FnMut(Answer) -> Result<(), E>,
+    ) -> Result<(), E> {
+        let answer = match record {
+            Record::Link {
+                levels,
+                largest,
+                bounds,
+            } => {
+                let result = self.hub.set_link(Link::new(levels, largest, bounds));
+                Answer::Link {
+                    verdict: number_of(&result),
+                }
+            }
+            Record::Connection { level, gap, size } => {
+                let result = self.hub.admit(level, gap, size);
+                Answer::Connection {
+                    verdict: number_of(&result),
+                    connection: result.unwrap_or(NO_CONNECTION),
+                }
+            }
+            Record::Packet {
+                connection,
+                length,
+                tag,
+            } => {
+                let result = self.hub.offer(connection, length, tag);
+                Answer::Packet {
+                    verdict: number_of(&result),
+                    eligibility: result.unwrap_or(0),
+                }
+            }
+            Record::Ticks { asked } => self.run_ticks(asked, hand_over)?,
+        };
+        hand_over(answer)
+    }
+
+    /// `TK`: the asked ticks one by one, stopping at the first refused one.
+    fn run_ticks<E>(
+        &mut self,
+        asked: u16,
+        hand_over: &mut impl FnMut(Answer) -> Result<(), E>,
+    ) -> Result<Answer, E> {
+        if asked == 0 {
+            return Ok(self.no_ticks());
+        }
+        let mut done = 0;
+        while done < asked {
+            let passed = self.pass_over(asked - done);
+            done += passed;
+            if passed > 0 {
+                continue;
+            }
+            match self.hub.tick() {
+                Ok(Some(departure)) => hand_over(Answer::Departed(departure))?,
+                Ok(None) => {}
+                Err(refusal) => {
+                    let verdict = refusal.number();
+                    return Ok(Answer::Ticks { verdict, done });
+                }
+            }
+            done += 1;
+        }
+        let verdict = DONE;
+        Ok(Answer::Ticks { verdict, done })
+    }
+
+    /// `TK` 0 changes nothing; 2 where it applies, else 0, even at the clock's end.
+    fn no_ticks(&self) -> Answer {
+        let verdict = number_of(&self.hub.link());
+        Answer::Ticks { verdict, done: 0 }
+    }
+
+    fn pass_over(&mut self, at_most: u16) -> u16 {
+        match self.pace {
+            Pace::Plain => 0,
+            Pace::Passing => self.hub.pass_over(Tick::from(at_most)) as u16,
+        }
+    }
+}
+
+/// What the trace holds next.
+enum Next {
+    End,
+    Record(Record),
+    Malformed,
+}
+
+/// A bounded window on the trace, filled in blocks.
+struct Window<R> {
+    input: R,
+    block: Vec<u8>,
+    from: usize,
+    to: usize,
+    offset: u64,
+    input_ended: bool,
+}
+
+impl<R: Read> Window<R> {
+    fn new(input: R) -> Window<R> {
+        Window {
+            input,
+            block: vec![0; BLOCK],
+            from: 0,
+            to: 0,
+            offset: 0,
+            input_ended: false,
+        }
+    }
+
+    /// Reads on until a whole record is in sight or the input has ended.
+    fn fill(&mut self) -> io::Result<()> {
+        if self.to - self.from >= LONGEST_RECORD || self.input_ended {
+            return Ok(());
+        }
+        self.block.copy_within(self.from..self.to, 0);
+        self.to -= self.from;
+        self.from = 0;
+        while self.to < LONGEST_RECORD && !self.input_ended {
+            match self.input.read(&mut self.block[self.to..]) {
+                Ok(0) => self.input_ended = true,
+                Ok(count) => self.to += count,
+                Err(error) if error.kind() == io::ErrorKind::Interrupted => {}
+                Err(error) => return Err(error),
+            }
+        }
+        Ok(())
+    }
+
+    /// Takes the next record. Bytes beyond the size limit belong to no record, but one of them
+    /// being there is enough for a malformed record at the limit.
+    fn next(&mut self) -> io::Result<Next> {
+        self.fill()?;
+        let in_sight = &self.block[self.from..self.to];
+        if in_sight.is_empty() {
+            return Ok(Next::End);
+        }
+        let up_to_limit = (SIZE_LIMIT - self.offset).min(in_sight.len() as u64);
+        let (record, length) = match Record::read(&in_sight[..up_to_limit as usize]) {
+            Some((record, length)) => (record, length),
+            _ => return Ok(Next::Malformed),
+        };
+        self.from += length;
+        self.offset += length as u64;
+        Ok(Next::Record(record))
+    }
+}
+
+/// Runs a trace and hands over every answer; stops after a malformed record.
+pub fn walk(
+    input: impl Read,
+    pace: Pace,
+    hand_over: &mut impl FnMut(Answer) -> io::Result<()>,
+) -> io::Result<()> {
+    let mut window = Window::new(input);
+    let mut job = Job::new(pace);
+    loop {
+        match window.next()? {
+            Next::End => return Ok(()),
+            Next::Record(record) => job.carry_out(record, hand_over)?,
+            Next::Malformed => {
+                let offset = window.offset as u32;
+                return hand_over(Answer::Malformed { offset });
+            }
+        }
+    }
+}
+
+/// Runs a trace and writes its answers in blocks.
+pub fn replay(input: impl Read, mut output: impl Write, pace: Pace) -> io::Result<()> {
+    let mut block = Vec::with_capacity(BLOCK);
+    walk(input, pace, &mut |answer| {
+        answer.append_to(&mut block);
+        if block.len() >= BLOCK - LONGEST_RECORD {
+            output.write_all(&block)?;
+            block.clear();
+        }
+        Ok(())
+    })?;
+    output.write_all(&block)?;
+    output.flush()
+}
+
+/// The answers to a trace that lies in memory.
+pub fn answers(trace: &[u8], pace: Pace) -> io::Result<Vec<u8>> {
+    let mut out = Vec::new();
+    replay(trace, &mut out, pace)?;
+    Ok(out)
+}

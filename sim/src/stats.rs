@@ -1,0 +1,110 @@
+//! Counts of verdicts and departures, to see what a trace really exercises.
+
+use std::fmt::Write as _;
+use std::io::{self, Read};
+use std::ops::AddAssign;
+
+use crate::record::Answer;
+use crate::replay::{walk, Pace};
+use crate::verdict::HIGHEST;
+
+const VERDICTS: usize = HIGHEST as usize + 1;
+
+/// The answers that carry a verdict.
+const MARKS: [&str; 5] = ["LA", "CA", "PA", "TA", "ER"];
+
+/// How often each answer carried each verdict, and how many packets departed.
+#[derive(Clone, Debug, Default, PartialEq, Eq)]
+pub struct Stats {
+    counts: [[u64; VERDICTS]; MARKS.len()],
+    pub departures: u64,
+    pub ticks: u64,
+}
+
+impl Stats {
+    pub fn of(trace: impl Read) -> io::Result<Stats> {
+        let mut stats = Stats::default();
+        walk(trace, Pace::Passing, &mut |answer| {
+            stats.count(&answer);
+            Ok(())
+        })?;
+        Ok(stats)
+    }
+
+    fn count(&mut self, answer: &Answer) {
+        let row = match answer {
+            Answer::Link { .. } => 0,
+            Answer::Connection { .. } => 1,
+            Answer::Packet { .. } => 2,
+            Answer::Ticks { done, .. } => {
+                self.ticks += u64::from(*done);
+                3
+            }
+            Answer::Malformed { .. } => 4,
+            Answer::Departed(_) => {
+                self.departures += 1;
+                return;
+            }
+        };
+        if let Some(verdict) = answer.verdict() {
+            self.counts[row][usize::from(verdict)] += 1;
+        }
+    }
+
+    /// How often a verdict was given, over all calls.
+    pub fn verdict(&self, number: u8) -> u64 {
+        self.counts
+            .iter()
+            .filter_map(|row| row.get(usize::from(number)))
+            .sum()
+    }
+
+    /// The head line for `line` and for `table`.
+    pub fn head(name: &str) -> String {
+        let mut head = format!("{name:<12}");
+        for verdict in shown() {
+            let _ = write!(head, "{verdict:>9}");
+        }
+        head
+    }
+
+    /// All calls in one line.
+    pub fn line(&self, name: &str) -> String {
+        let mut line = format!("{name:<12}");
+        for verdict in shown() {
+            let _ = write!(line, "{:>9}", self.verdict(verdict as u8));
+        }
+        let _ = write!(line, "{:>11}{:>15}", self.departures, self.ticks);
+        line
+    }
+
+    /// One line per answer mark.
+    pub fn table(&self) -> String {
+        let mut table = Stats::head("answer");
+        for (mark, row) in MARKS.iter().zip(&self.counts) {
+            let _ = write!(table, "\n{mark:<12}");
+            for verdict in shown() {
+                let _ = write!(table, "{:>9}", row[verdict]);
+            }
+        }
+        let _ = write!(table, "\ndepartures {}", self.departures);
+        let _ = write!(table, "\nticks done {}", self.ticks);
+        table
+    }
+}
+
+/// Verdict 1 cannot occur in a trace.
+fn shown() -> impl Iterator<Item = usize> {
+    (0..VERDICTS).filter(|&verdict| verdict != 1)
+}
+
+impl AddAssign<&Stats> for Stats {
+    fn add_assign(&mut self, other: &Stats) {
+        let mine = self.counts.iter_mut().flatten();
+        for (count, more) in mine.zip(other.counts.iter().flatten()) {
+            *count += more;
+        }
+        self.departures += other.departures;
+        self.ticks += other.ticks;
+    }
+}

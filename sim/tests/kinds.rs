@@ -1,0 +1,84 @@
+//! The generated traces are of use: verdicts and departures really occur, both paces agree.
+
+use sim::kinds::{Kind, KINDS};
+use sim::replay::{answers, Pace};
+use sim::stats::Stats;
+
+const SEEDS: u64 = 12;
+
+fn total(name: &str) -> Stats {
+    let kind = Kind::named(name).expect("a kind");
+    let mut total = Stats::default();
+    for seed in 0..SEEDS {
+        let trace = kind.trace(seed, None);
+        total += &Stats::of(trace.as_slice()).expect("counts");
+    }
+    total
+}
+
+#[test]
+fn the_same_seed_gives_the_same_trace() {
+    for kind in KINDS.iter().filter(|kind| kind.name != "limit") {
+        assert!(kind.trace(3, None) == kind.trace(3, None));
+        assert!(kind.trace(3, None) != kind.trace(4, None));
+    }
+}
+
+#[test]
+fn both_paces_agree() {
+    let slow = ["limit", "clockend"];
+    for kind in KINDS.iter().filter(|kind| !slow.contains(&kind.name)) {
+        for seed in 0..SEEDS {
+            let trace = kind.trace(seed, None);
+            let plain = answers(&trace, Pace::Plain).expect("answers");
+            let passing = answers(&trace, Pace::Passing).expect("answers");
+            assert!(plain == passing, "{} {seed}", kind.name);
+        }
+    }
+}
+
+#[test]
+fn every_refusal_occurs() {
+    let refusals = total("refusals");
+    for verdict in 2..=12 {
+        assert!(refusals.verdict(verdict) > 5, "verdict {verdict}");
+    }
+    assert!(refusals.departures > 50);
+    let end = total("clockend");
+    for verdict in [0, 3, 5, 6, 8, 10, 11, 12, 13] {
+        assert!(end.verdict(verdict) > 5, "verdict {verdict}");
+    }
+}
+
+#[test]
+fn traffic_departs() {
+    for name in ["quiet", "flooded", "wild", "midrun", "ties", "reserve"] {
+        assert!(total(name).departures > 300, "{name}");
+    }
+    assert!(total("bigpackets").departures > 100);
+    assert!(total("tight").departures > 100);
+}
+
+#[test]
+fn lines_that_keep_their_gap_are_never_full() {
+    let quiet = total("quiet");
+    assert_eq!(quiet.verdict(12), 0);
+    assert!(total("flooded").verdict(12) > 500);
+    assert!(total("wild").verdict(12) > 500);
+}
+
+#[test]
+fn tight_tests_hold_and_fail() {
+    let tight = total("tight");
+    assert!(tight.verdict(8) > 200);
+    assert!(total("reserve").verdict(9) > 50);
+    assert!(total("midrun").verdict(10) > 50);
+}
+
+#[test]
+fn damage_is_noticed() {
+    let malformed = total("malformed");
+    assert!(malformed.verdict(14) > SEEDS / 2);
+    assert!(malformed.departures > 50);
+    assert_eq!(total("badrecord").verdict(14), SEEDS);
+}
