@@ -1,0 +1,3 @@
+-- Read in this order: Log, Steps.
+pub mod Log
+pub mod Steps

@@ -1,0 +1,96 @@
+-- THE ANSWER LOG of a trace, from bytes to bytes, by the rules alone: no hub value, no table, no window. Document 01, "Trace and answer records" and
+-- "One tick". Assumes nothing.
+use Prim.Native.Nat.{ℕ, zero, suc, _+_, _-_}
+use mathlib.Core.Bool.{not}
+use mathlib.Core.List.{List, [], _∷_, _++_}
+use mathlib.Core.Option.{Option, none, some}
+use lib.Dec.{ltb, eqb}
+use lib.ListN.{length, drop}
+use Rattle.rules.specs.declared.Link.{Link}
+use Rattle.rules.specs.declared.Packet.{Packet}
+use Rattle.rules.specs.Words.{first-number}
+use Rattle.rules.specs.Model.{State, link, admit, offer, tick, Answer, fresh}
+use Rattle.rules.specs.SoundTest.{sound}
+use Rattle.rules.specs.Calls.{answer}
+use Rattle.records.specs.Numbers.{pick}
+use Rattle.records.specs.declared.Record.{Record}
+use Rattle.records.specs.declared.Record.the-variants.{Link as LinkRecord, Admit, Offer, Ticks, Malformed}
+use Rattle.records.specs.declared.Reply.the-variants.{Linked, Admitted, Offered, Departed, Ticked, Broken}
+use Rattle.records.specs.declared.Found.{Found}
+use Rattle.records.specs.Trace.{found, read-trace}
+use Rattle.records.specs.Answers.{answer-bytes}
+
+-- "A trace of up to 16,777,216 bytes"
+abbrev pub trace-limit : ℕ
+trace-limit = 16_777_216
+
+-- the record that bs starts with, where bs starts at offset `at` of the trace: "a record that would end beyond the size limit" is malformed
+unfoldable pub read-at : ℕ → List ℕ → Found
+read-at at bs = pick (ltb trace-limit (at + read-trace bs .taken)) (found none) (read-trace bs)
+
+-- ---- `TK`
+
+-- "each departure written at once"; it "departs with finish t + 1", which the clock becomes
+abbrev pub departure : Option Packet → ℕ → List ℕ
+departure none finish = []
+departure (some p) finish = answer-bytes (Departed (p .connection) (p .tag) (p .arrival) (p .eligibility) finish)
+
+abbrev pub tick-log : Answer → List ℕ
+tick-log a = departure (a .departed) (a .next .clock)
+
+-- "`TK` 0 changes nothing and answers 1 or 2 where they apply, else 0, even at the clock's end"
+abbrev pub no-ticks-verdict : State → ℕ
+no-ticks-verdict s = first-number ((1, not (sound s)) ∷ (2, eqb (s .link .levels) 0) ∷ [])
+
+-- all the asked ticks are done
+abbrev pub all-done-verdict : ℕ → State → ℕ
+all-done-verdict asked s = pick (eqb asked 0) (no-ticks-verdict s) 0
+
+-- "`TK` runs the asked ticks one by one, each a call of its own, .. and stops at the first refused one; `TA` gives that verdict and the ticks done":
+-- what is written from the state s on, where `left` of `asked` are still to run
+unfoldable pub ticks-log : ℕ → ℕ → State → List ℕ
+ticks-log asked zero s = answer-bytes (Ticked (all-done-verdict asked s) asked)
+ticks-log asked (suc left) s =
+    pick (eqb (answer tick s .verdict) 0)
+    (tick-log (answer tick s) ++ ticks-log asked left (answer tick s .next))
+    (answer-bytes (Ticked (answer tick s .verdict) (asked - suc left)))
+
+-- the state after them
+unfoldable pub ticks-end : ℕ → State → State
+ticks-end zero s = s
+ticks-end (suc left) s = pick (eqb (answer tick s .verdict) 0) (ticks-end left (answer tick s .next)) (answer tick s .next)
+
+-- ---- a record, and a trace
+
+-- the link that an `LK` names, all eight bounds
+abbrev pub link-named : ℕ → ℕ → ℕ → ℕ → ℕ → ℕ → ℕ → ℕ → ℕ → ℕ → Link
+link-named n s d1 d2 d3 d4 d5 d6 d7 d8 = record { levels = n; largest = s; bounds = d1 ∷ d2 ∷ d3 ∷ d4 ∷ d5 ∷ d6 ∷ d7 ∷ d8 ∷ [] }
+
+-- a record of k bytes at the start of bs, which starts at offset `at`: its answer from the state s, and then the rest by `more`, from the offset, the
+-- state and the bytes behind it. Of a malformed one `ER` with its offset, and nothing more
+abbrev pub record-log : (ℕ → State → List ℕ → List ℕ) → Record → ℕ → ℕ → State → List ℕ → List ℕ
+record-log more (LinkRecord n m d1 d2 d3 d4 d5 d6 d7 d8) k at s bs =
+    let a = answer (link (link-named n m d1 d2 d3 d4 d5 d6 d7 d8)) s in
+    answer-bytes (Linked (a .verdict)) ++ more (at + k) (a .next) (drop k bs)
+record-log more (Admit level gap size) k at s bs =
+    let a = answer (admit (record { level = level; gap = gap; size = size })) s in
+    answer-bytes (Admitted (a .verdict) (a .number)) ++ more (at + k) (a .next) (drop k bs)
+record-log more (Offer c len tag) k at s bs =
+    let a = answer (offer c len tag) s in
+    answer-bytes (Offered (a .verdict) (a .number)) ++ more (at + k) (a .next) (drop k bs)
+record-log more (Ticks n) k at s bs = ticks-log n n s ++ more (at + k) (ticks-end n s) (drop k bs)
+record-log more Malformed k at s bs = answer-bytes (Broken at)
+
+-- of at most f records; "an empty trace gives no output"
+unfoldable pub log-within : ℕ → ℕ → State → List ℕ → List ℕ
+log-within zero at s bs = []
+log-within (suc f) at s bs =
+    pick (eqb (length bs) 0) [] (record-log (log-within f) (read-at at bs .what) (read-at at bs .taken) at s bs)
+
+-- the log of bs, which starts at offset `at`, from the state s: each record takes a byte at least, so there are no more records than bytes
+abbrev pub log-from : ℕ → State → List ℕ → List ℕ
+log-from at s bs = log-within (length bs) at s bs
+
+-- THE LOG of a trace: from the fresh hub
+unfoldable pub log : List ℕ → List ℕ
+log trace = log-from 0 fresh trace

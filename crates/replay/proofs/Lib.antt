@@ -1,0 +1,4 @@
+pub mod Standing
+pub mod Results
+pub mod SlideLaws
+pub mod RunLaws

@@ -1,0 +1,183 @@
+// THE REPLAY: a trace in, its answer log out, one answer record a step, in a window of any size. The hub's soundness is tested once a call of `step` or
+// `pump`, not once a tick: each tick is still what the public call would answer, since a call on a sound state leaves a sound one.
+ghost use mathlib.Core.Path.{_≡_};
+ghost use mathlib.Core.Bool.{true};
+ghost use Prim.Native.Nat.{_+_, _-_, _/_, _≤_};
+ghost use lib.ListN.{length, drop};
+ghost use Rattle.calls.specs.Acts.{sound-hub};
+ghost use Rattle.log.specs.Steps.{longest-answer, beginning, next, steps, is-go};
+ghost use Rattle.steps.specs.Tie.{point-of, cursor-of, in-room, Did, Did-from, Does, Facts};
+ghost use Rattle.replay.specs.Slides.{slide-length, slid};
+ghost use Rattle.replay.specs.Sessions.{readiness};
+use log::Cursor;
+use log::Phase;
+use log::Status;
+use log::Stepped;
+use steps::LONGEST_ANSWER;
+
+// Where every replay begins; both tables are zeros there.
+pub fn start() -> Cursor
+    ensures { λ r. ⌜ r ≡ cursor-of beginning ⌝ }
+{
+    Cursor {
+        at: 0,
+        phase: Phase::Reading,
+        hub: hub::fresh_hub(),
+    }
+}
+
+// Whether a replay may go on.
+fn goes_on(k: Status) -> bool
+    ensures { λ r. ⌜ r ≡ is-go k ⌝ }
+{
+    match k {
+        Status::GoOn => true,
+        Status::MoreBytes => false,
+        Status::MoreRoom => false,
+        Status::NotSound => false,
+        Status::Done => false,
+    }
+}
+
+// A step on the window from `used` on, into the room from `wrote` on.
+fn step_at(
+    c: Cursor,
+    cs: &mut [u32],
+    t: &mut [u32],
+    window: &[u8],
+    used: usize,
+    last: bool,
+    out: &mut [u8],
+    wrote: usize,
+) -> Stepped
+    requires { ⌜ (sound-hub (c .hub) (now cs) (now t) ≡ true) × (used ≤ length (now window)) × (wrote + longest-answer ≤ length (now out)) ⌝ }
+    ensures { λ r. ⌜ Did-from wrote (next (point-of c (now (cs .entry)) (now (t .entry))) (drop used (now (window .entry))) last) r (now (cs .exit)) (now (t .exit)) (now (out .entry)) (now (out .exit)) ⌝ }
+    ensures { λ r. ⌜ Facts c (length (now (window .entry)) - used) last (length (now (out .entry)) - wrote) r ⌝ }
+{
+    steps::step_tested(c, cs, t, &window[used..], last, &mut out[wrote..])
+}
+
+// As many steps as the room surely holds, or fewer where one stops.
+fn run(
+    c: Cursor,
+    cs: &mut [u32],
+    t: &mut [u32],
+    window: &[u8],
+    last: bool,
+    out: &mut [u8],
+) -> Stepped
+    requires { ⌜ (sound-hub (c .hub) (now cs) (now t) ≡ true) × (longest-answer ≤ length (now out)) ⌝ }
+    ensures { λ r. ⌜ Did (steps (length (now (out .entry)) / longest-answer) (point-of c (now (cs .entry)) (now (t .entry))) (now (window .entry)) last) r (now (cs .exit)) (now (t .exit)) (now (out .entry)) (now (out .exit)) ⌝ }
+    ensures { λ r. ⌜ Facts c (length (now (window .entry))) last (length (now (out .entry))) r ⌝ }
+{
+    let n = out.len() / LONGEST_ANSWER;
+    let mut cur = c;
+    let mut used: usize = 0;
+    let mut wrote: usize = 0;
+    let mut i: usize = 0;
+    while i < n {
+        let s = step_at(cur, cs, t, window, used, last, out, wrote);
+        let then = s.cursor;
+        let k = s.status;
+        used += s.used;
+        wrote += s.wrote;
+        if !goes_on(k) {
+            return Stepped {
+                cursor: then,
+                used: used,
+                wrote: wrote,
+                status: k,
+            };
+        }
+        cur = then;
+        i += 1;
+    }
+    Stepped {
+        cursor: cur,
+        used: used,
+        wrote: wrote,
+        status: Status::GoOn,
+    }
+}
+
+// Whether a step can be made at all: GoOn where the hub and its tables are sound and the room holds an answer.
+fn ready(c: Cursor, cs: &[u32], t: &[u32], room: usize) -> Status
+    ensures { λ r. ⌜ r ≡ readiness c (now (cs .entry)) (now (t .entry)) room ⌝ }
+{
+    let h = c.hub;
+    let l = h.link;
+    if !sound::is_sound(l, cs, t, h.clock, h.serving, h.units) {
+        return Status::NotSound;
+    }
+    if room < LONGEST_ANSWER {
+        return Status::MoreRoom;
+    }
+    Status::GoOn
+}
+
+// ONE STEP: at most one answer record. The window starts at the cursor's place in the trace; `last`: nothing comes behind it.
+pub fn step(
+    c: Cursor,
+    cs: &mut [u32],
+    t: &mut [u32],
+    window: &[u8],
+    last: bool,
+    out: &mut [u8],
+) -> Stepped
+    ensures { λ r. ⌜ Does (in-room (length (now (out .entry))) (point-of c (now (cs .entry)) (now (t .entry))) (next (point-of c (now (cs .entry)) (now (t .entry))) (now (window .entry)) last)) c (now (cs .entry)) (now (t .entry)) (now (out .entry)) r (now (cs .exit)) (now (t .exit)) (now (out .exit)) ⌝ }
+    ensures { λ r. ⌜ Facts c (length (now (window .entry))) last (length (now (out .entry))) r ⌝ }
+{
+    let k = ready(c, cs, t, out.len());
+    if !goes_on(k) {
+        return Stepped {
+            cursor: c,
+            used: 0,
+            wrote: 0,
+            status: k,
+        };
+    }
+    steps::step_tested(c, cs, t, window, last, out)
+}
+
+// MANY STEPS: one for each 19 bytes of room, or fewer where one stops.
+pub fn pump(
+    c: Cursor,
+    cs: &mut [u32],
+    t: &mut [u32],
+    window: &[u8],
+    last: bool,
+    out: &mut [u8],
+) -> Stepped
+    ensures { λ r. ⌜ Does (in-room (length (now (out .entry))) (point-of c (now (cs .entry)) (now (t .entry))) (steps (length (now (out .entry)) / longest-answer) (point-of c (now (cs .entry)) (now (t .entry))) (now (window .entry)) last)) c (now (cs .entry)) (now (t .entry)) (now (out .entry)) r (now (cs .exit)) (now (t .exit)) (now (out .exit)) ⌝ }
+    ensures { λ r. ⌜ Facts c (length (now (window .entry))) last (length (now (out .entry))) r ⌝ }
+{
+    let k = ready(c, cs, t, out.len());
+    if !goes_on(k) {
+        return Stepped {
+            cursor: c,
+            used: 0,
+            wrote: 0,
+            status: k,
+        };
+    }
+    run(c, cs, t, window, last, out)
+}
+
+// The bytes from `from` to `to` move to the front. Answers how many they are: none where that is no part of the buffer.
+pub fn slide(buf: &mut [u8], from: usize, to: usize) -> usize
+    ensures { λ r. ⌜ (r ≡ slide-length from to (length (now (buf .entry)))) × (now (buf .exit) ≡ slid (now (buf .entry)) from r) ⌝ }
+{
+    if to < from {
+        return 0;
+    }
+    if buf.len() < to {
+        return 0;
+    }
+    let n = to - from;
+    let mut j: usize = 0;
+    while j < n {
+        buf[j] = buf[from + j];
+        j += 1;
+    }
+    n
+}

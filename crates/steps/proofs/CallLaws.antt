@@ -1,0 +1,134 @@
+-- How a record read and a call made meet the contract of a step. Assumes nothing.
+use Prim.Native.Nat.{ℕ, _+_, _-_, _%_, _≤_, _<_}
+use native.Mathlib.Omega.{arith}
+use mathlib.Core.Path.{_≡_, refl, sym, ap, _∙_}
+use mathlib.Core.Bool.{true, false}
+use mathlib.Core.List.{List, []}
+use mathlib.Core.Option.{Option, none, some}
+use lib.ListN.{length}
+use borrow.Author.Tests.{lt-ltb, le-ltb, eq-eqb, ne-eqb}
+use Rattle.rules.specs.declared.Packet.{Packet}
+use Rattle.rules.specs.Model.{Call, tick, Answer}
+use Rattle.rules.specs.Calls.{answer}
+use Rattle.records.specs.Trace.{found, read-trace}
+use Rattle.records.specs.Answers.{answer-bytes}
+use Rattle.records.specs.Numbers.{pick}
+use Rattle.records.specs.declared.Reply.{Reply}
+use Rattle.records.specs.declared.Reply.the-variants.{Departed, Ticked}
+use Rattle.service.specs.declared.Hub.{Hub}
+use Rattle.service.specs.declared.Told.{Told}
+use Rattle.service.specs.Candidates.{is-some, packet-or-unused}
+use Rattle.service.specs.View.{view, told-of}
+use Rattle.calls.specs.Acts.{sound-hub, Acts}
+use Rattle.calls.proofs.ActLaws.{tested, members-kept, places-kept}
+use Rattle.log.specs.declared.Phase.{Phase}
+use Rattle.log.specs.declared.Status.{Status}
+use Rattle.log.specs.declared.Phase.the-variants.{Reading, Ticking}
+use Rattle.log.specs.declared.Status.the-variants.{GoOn}
+use Rattle.log.specs.declared.Stepped.{Stepped}
+use Rattle.log.specs.Log.{trace-limit, read-at, departure, tick-log, all-done-verdict}
+use Rattle.log.specs.Steps.{point, goes, tick-next}
+use Rattle.steps.specs.Tie.{cursor-at, over, told-log, Did}
+use Rattle.steps.proofs.WriteLaws.{ticked-low, departed-low}
+
+-- ---- a record at an offset
+
+pub read-beyond : (at : ℕ) (bs : List ℕ) → trace-limit < at → found none ≡ read-at at bs
+unfolding read-at
+read-beyond at bs h = rw (lt-ltb trace-limit (at + read-trace bs .taken) (omega arith))
+
+pub read-crossing : (at : ℕ) (bs : List ℕ) → trace-limit - at < read-trace bs .taken → found none ≡ read-at at bs
+unfolding read-at
+read-crossing at bs h = rw (lt-ltb trace-limit (at + read-trace bs .taken) (omega arith))
+
+pub read-inside : (at : ℕ) (bs : List ℕ) → at ≤ trace-limit → read-trace bs .taken ≤ trace-limit - at → read-trace bs ≡ read-at at bs
+unfolding read-at
+read-inside at bs h k = rw (le-ltb trace-limit (at + read-trace bs .taken) (omega arith))
+
+-- ---- a call whose answer is written
+
+pub did-call : (k : Call) (h : Hub) (cs t cs′ t′ o o′ : List ℕ) (told : Told) → Acts k h cs t told cs′ t′
+    → (at used : ℕ) (bs : List ℕ) (reply : Reply) (a : Stepped) → answer-bytes reply ≡ bs
+    → a ≡ record { cursor = cursor-at at Reading (told .hub); used = used; wrote = length (answer-bytes reply); status = GoOn }
+    → o′ ≡ over (answer-bytes reply) o
+    → Did (goes at Reading (answer k (view h cs t) .next) used bs) a cs′ t′ o o′
+did-call k h cs t cs′ t′ o o′ told A at used bs reply a b e r =
+    record { answers = e ∙ rw (A .answers, b); connections = A .connections; table = A .table; room = r ∙ rw b }
+
+-- ---- a step that leaves the state as it is
+
+pub did-kept : (h : Hub) (cs t : List ℕ) → sound-hub h cs t ≡ true → (at : ℕ) (q : Phase) (used : ℕ) (bs : List ℕ) (k : Status) (a : Stepped) (o o′ : List ℕ)
+    → a ≡ record { cursor = cursor-at at q h; used = used; wrote = length bs; status = k } → o′ ≡ over bs o
+    → Did (record { point = point at q (view h cs t); used = used; bytes = bs; status = k }) a cs t o o′
+did-kept h cs t ok at q used bs k a o o′ e r =
+    record { answers = e; connections = members-kept h cs t ok; table = places-kept h cs t ok; room = r }
+
+-- ---- a tick
+
+-- the departure that is told is the one of the rules' log
+pub told-is-logged : (a : Answer) → told-log (told-of a) ≡ tick-log a
+told-is-logged a = go (a .departed)
+  where
+    go : (o : Option Packet)
+        → pick (is-some o) (answer-bytes (Departed (packet-or-unused o .connection) (packet-or-unused o .tag) (packet-or-unused o .arrival) (packet-or-unused o .eligibility) (a .next .clock))) []
+        ≡ departure o (a .next .clock)
+    go none = refl
+    go (some p) = refl
+
+pub none-told : (told : Told) → told .gone ≡ false → told-log told ≡ []
+none-told told e = rw e
+
+pub some-told : (told : Told) (v : ℕ) → told .gone ≡ true → v ≡ told .packet .connection % 256
+    → answer-bytes (Departed v (told .packet .tag) (told .packet .arrival) (told .packet .eligibility) (told .hub .clock)) ≡ told-log told
+some-told told v g e =
+    rw g (departed-low v (told .packet .connection) (told .packet .tag) (told .packet .arrival) (told .packet .eligibility) (told .hub .clock) e)
+
+module _ (at asked left : ℕ) (h : Hub) (cs t : List ℕ) where
+  -- all ticks are done
+  pub did-all : sound-hub h cs t ≡ true → left ≡ 0 → (v : ℕ) (a : Stepped) (o o′ : List ℕ) → v ≡ all-done-verdict asked (view h cs t)
+      → a ≡ record { cursor = cursor-at at Reading h; used = 0; wrote = length (answer-bytes (Ticked v asked)); status = GoOn }
+      → o′ ≡ over (answer-bytes (Ticked v asked)) o
+      → Did (tick-next at asked left (view h cs t)) a cs t o o′
+  unfolding tick-next
+  did-all ok l v a o o′ e f g =
+      rw (eq-eqb left 0 l, ← e)
+      (did-kept h cs t ok at Reading 0 (answer-bytes (Ticked v asked)) GoOn a o o′ f g)
+
+  module _ (l : left ≡ 0 → ⊥) (told : Told) (t′ : List ℕ) (A : Acts tick h cs t told cs t′) (a : Stepped) (o o′ : List ℕ) where
+    -- a tick is refused
+    pub did-refused : (told .verdict ≡ 0 → ⊥) → (v n : ℕ) → v ≡ told .verdict % 256 → n ≡ asked - left
+        → a ≡ record { cursor = cursor-at at Reading (told .hub); used = 0; wrote = length (answer-bytes (Ticked v n)); status = GoOn }
+        → o′ ≡ over (answer-bytes (Ticked v n)) o
+        → Did (tick-next at asked left (view h cs t)) a cs t′ o o′
+    unfolding tick-next
+    did-refused r v n e m f g =
+        let s = view h cs t in
+        let w : told .verdict ≡ answer tick s .verdict = ap (λ (x : Told). x .verdict) (A .answers) in
+        rw (ne-eqb left 0 l, ne-eqb (answer tick s .verdict) 0 (λ z. r (w ∙ z)))
+        (did-call tick h cs t cs t′ o o′ told A at 0 (answer-bytes (Ticked (answer tick s .verdict) (asked - left))) (Ticked v n) a
+        (rw m (ticked-low v (asked - left) (answer tick s .verdict) (e ∙ ap (λ (x : ℕ). x % 256) w))) f g)
+
+    -- a tick is done
+    pub did-tick : told .verdict ≡ 0
+        → a ≡ record { cursor = cursor-at at (Ticking asked (left - 1)) (told .hub); used = 0; wrote = length (told-log told); status = GoOn }
+        → o′ ≡ over (told-log told) o
+        → Did (tick-next at asked left (view h cs t)) a cs t′ o o′
+    unfolding tick-next
+    did-tick r f g =
+        let s = view h cs t in
+        let w : told .verdict ≡ answer tick s .verdict = ap (λ (x : Told). x .verdict) (A .answers) in
+        let b : told-log told ≡ tick-log (answer tick s) = ap told-log (A .answers) ∙ told-is-logged (answer tick s) in
+        rw (ne-eqb left 0 l, eq-eqb (answer tick s .verdict) 0 (sym w ∙ r))
+        (record { answers = f ∙ rw (b, A .answers); connections = A .connections; table = A .table; room = g ∙ rw b })
+
+-- ---- the verdict of a `TK` whose ticks are all done
+
+module _ (h : Hub) (cs t : List ℕ) (asked : ℕ) where
+  pub some-asked : (asked ≡ 0 → ⊥) → 0 ≡ all-done-verdict asked (view h cs t)
+  some-asked n = rw (ne-eqb asked 0 n)
+
+  pub no-link-set : sound-hub h cs t ≡ true → asked ≡ 0 → h .link .levels ≡ 0 → 2 ≡ all-done-verdict asked (view h cs t)
+  no-link-set ok a l = rw (eq-eqb asked 0 a, tested h cs t ok .state, eq-eqb (h .link .levels) 0 l)
+
+  pub link-set : sound-hub h cs t ≡ true → asked ≡ 0 → (h .link .levels ≡ 0 → ⊥) → 0 ≡ all-done-verdict asked (view h cs t)
+  link-set ok a l = rw (eq-eqb asked 0 a, tested h cs t ok .state, ne-eqb (h .link .levels) 0 l)

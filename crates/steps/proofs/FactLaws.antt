@@ -1,0 +1,176 @@
+-- What a caller's loop needs of a step: how far it goes, and that less is left to do. Assumes nothing.
+use Prim.Native.Nat.{ℕ, zero, suc, _+_, _-_, _<_, _≤_}
+use native.Mathlib.Omega.{arith}
+use mathlib.Core.Path.{_≡_, refl, sym, ap, _∙_, subst}
+use mathlib.Core.Bool.{Bool, true, false}
+use mathlib.Core.List.{List}
+use mathlib.Core.Option.{Option, none, some}
+use lib.Dec.{ltb, eqb}
+use lib.ListN.{length}
+use borrow.Author.Tests.{eq-eqb, ne-eqb, lt-ltb, le-ltb, eqb-false}
+use Rattle.rules.specs.declared.Packet.{Packet}
+use Rattle.rules.specs.Model.{State, tick}
+use Rattle.rules.specs.Calls.{answer}
+use Rattle.records.specs.declared.Record.{Record}
+use Rattle.records.specs.declared.Record.the-variants.{Link as LinkRecord, Admit, Offer, Ticks, Malformed}
+use Rattle.records.specs.declared.Reply.the-variants.{Linked, Admitted, Offered, Departed, Ticked, Broken}
+use Rattle.records.specs.Answers.{answer-bytes}
+use Rattle.service.specs.declared.Hub.{Hub}
+use Rattle.log.specs.declared.Phase.{Phase}
+use Rattle.log.specs.declared.Phase.the-variants.{Reading, Ticking, Finished}
+use Rattle.log.specs.declared.Cursor.{Cursor}
+use Rattle.log.specs.declared.Status.{Status}
+use Rattle.log.specs.declared.Status.the-variants.{MoreBytes, Done}
+use Rattle.log.specs.declared.Stepped.{Stepped}
+use Rattle.log.specs.Log.{trace-limit, departure, tick-log}
+use Rattle.log.specs.Steps.{longest-record, longest-answer, Point, point, Next, still, goes, record-next, found-next, read-next, tick-next, phase-next, next, is-go, weight}
+use Rattle.log.specs.Log.{read-at, all-done-verdict}
+use Rattle.log.proofs.ReadLaws.{pick-by, answer-short}
+use Rattle.steps.specs.Tie.{cursor-at, point-of, stepped-of, nothing-done, Facts}
+
+-- nothing is done
+pub waits-facts : (at : ℕ) (q q′ : Phase) (h : Hub) (len : ℕ) (last : Bool) (r : ℕ) (k : Status) → weight q′ ≤ weight q
+    → is-go k ≡ false → (k ≡ MoreBytes → last ≡ false) → Facts (cursor-at at q h) len last r (nothing-done (cursor-at at q′ h) k)
+waits-facts at q q′ h len last r k w g m =
+    record {
+      used = omega arith;
+      wrote = omega arith;
+      place = omega arith;
+      within = λ l. l;
+      never-more = omega arith;
+      less = λ e. let z : _≡_ {A = Bool} true false = sym (ap is-go e) ∙ g in let y : _≡_ {A = ℕ} 0 1 = cc in absurd (omega arith);
+      wants = m;
+    }
+
+-- ---- a record
+
+record-short : (r : Record) (k at : ℕ) (s : State) → length (record-next r k at s .bytes) ≤ longest-answer
+record-short (LinkRecord n m d1 d2 d3 d4 d5 d6 d7 d8) k at s = answer-short (Linked _)
+record-short (Admit a b d) k at s = answer-short (Admitted _ _)
+record-short (Offer a b d) k at s = answer-short (Offered _ _)
+record-short (Ticks n) k at s = omega arith
+record-short Malformed k at s = answer-short (Broken at)
+
+-- a record that takes k bytes, and is not malformed
+pub taken-facts : (at k : ℕ) (h : Hub) (len : ℕ) (last : Bool) (r : ℕ) (a : Stepped) → 0 < k → k ≤ len → k ≤ trace-limit - at → a .wrote ≤ r
+    → a .used ≡ k → a .cursor .at ≡ at + k → weight (a .cursor .phase) ≤ 65536 → (a .status ≡ MoreBytes → last ≡ false)
+    → Facts (cursor-at at Reading h) len last r a
+taken-facts at k h len last r a p l e b u f w m =
+    record {
+      used = omega arith;
+      wrote = b;
+      place = rw (f, u);
+      within = λ i. omega arith;
+      never-more = rw f (omega arith);
+      less = λ _. rw f (omega arith);
+      wants = m;
+    }
+
+pub record-facts : (w : Record) (k at : ℕ) (s : State) (h : Hub) (len : ℕ) (last : Bool) (r : ℕ) (a : Stepped) → a ≡ stepped-of (record-next w k at s)
+    → (k ≡ 0 → w ≡ Malformed) → k ≤ len → k ≤ trace-limit - at → longest-answer ≤ r → weight (a .cursor .phase) ≤ 65536
+    → Facts (cursor-at at Reading h) len last r a
+record-facts w k at s h len last r a e z l f m b = go w k e z l f
+  where
+    short : (v : Record) (j : ℕ) → a ≡ stepped-of (record-next v j at s) → a .wrote ≤ r
+    short v j d = rw d (omega (arith, record-short v j at s))
+
+    go : (v : Record) (j : ℕ) → a ≡ stepped-of (record-next v j at s) → (j ≡ 0 → v ≡ Malformed) → j ≤ len → j ≤ trace-limit - at
+        → Facts (cursor-at at Reading h) len last r a
+    go (LinkRecord n q d1 d2 d3 d4 d5 d6 d7 d8) zero d z i g = let y : _≡_ {A = ℕ} 0 1 = cc (z refl) in absurd (omega arith)
+    go (Admit x y c) zero d z i g = let y : _≡_ {A = ℕ} 0 1 = cc (z refl) in absurd (omega arith)
+    go (Offer x y c) zero d z i g = let y : _≡_ {A = ℕ} 0 1 = cc (z refl) in absurd (omega arith)
+    go (Ticks n) zero d z i g = let y : _≡_ {A = ℕ} 0 1 = cc (z refl) in absurd (omega arith)
+    go (LinkRecord n q d1 d2 d3 d4 d5 d6 d7 d8) (suc j) d z i g =
+        taken-facts at (suc j) h len last r a (omega arith) i g (short (LinkRecord n q d1 d2 d3 d4 d5 d6 d7 d8) (suc j) d) (rw d) (rw d) b (rw d (λ e. cc))
+    go (Admit x y c) (suc j) d z i g = taken-facts at (suc j) h len last r a (omega arith) i g (short (Admit x y c) (suc j) d) (rw d) (rw d) b (rw d (λ e. cc))
+    go (Offer x y c) (suc j) d z i g = taken-facts at (suc j) h len last r a (omega arith) i g (short (Offer x y c) (suc j) d) (rw d) (rw d) b (rw d (λ e. cc))
+    go (Ticks n) (suc j) d z i g = taken-facts at (suc j) h len last r a (omega arith) i g (short (Ticks n) (suc j) d) (rw d) (rw d) b (rw d (λ e. cc))
+    go Malformed j d z i g =
+        rw d
+        (record {
+          used = omega arith;
+          wrote = omega (arith, record-short Malformed j at s);
+          place = omega arith;
+          within = λ l. l;
+          never-more = omega arith;
+          less = λ e. let y : _≡_ {A = ℕ} 0 1 = cc in absurd (omega arith);
+          wants = λ e. cc;
+        })
+
+-- ---- a tick
+
+departure-short : (o : Option Packet) (finish : ℕ) → length (departure o finish) ≤ longest-answer
+departure-short none finish = omega arith
+departure-short (some p) finish = answer-short (Departed (p .connection) (p .tag) (p .arrival) (p .eligibility) finish)
+
+goes-facts : (at asked left : ℕ) (h : Hub) (p : Phase) (s : State) (bs : List ℕ) (len : ℕ) (last : Bool) (r : ℕ) → weight p ≤ left → length bs ≤ longest-answer
+    → longest-answer ≤ r → Facts (cursor-at at (Ticking asked left) h) len last r (stepped-of (goes at p s 0 bs))
+goes-facts at asked left h p s bs len last r w b m =
+    record { used = omega arith; wrote = omega arith; place = omega arith; within = λ l. l; never-more = omega arith; less = λ _. omega arith; wants = λ e. cc }
+
+pub tick-facts : (at asked left : ℕ) (s : State) (h : Hub) (len : ℕ) (last : Bool) (r : ℕ) (a : Stepped) → longest-answer ≤ r
+    → a ≡ stepped-of (tick-next at asked left s) → Facts (cursor-at at (Ticking asked left) h) len last r a
+unfolding tick-next
+tick-facts at asked left s h len last r a m e =
+    rw e
+    (pick-by P (eqb left 0) _ _
+    (λ _. goes-facts at asked left h Reading s (answer-bytes (Ticked (all-done-verdict asked s) asked)) len last r (omega arith) (answer-short (Ticked (all-done-verdict asked s) asked)) m)
+    (λ z. pick-by P (eqb (answer tick s .verdict) 0) _ _
+    (λ _. goes-facts at asked left h (Ticking asked (left - 1)) (answer tick s .next) (tick-log (answer tick s)) len last r
+    (let n : left ≡ 0 → ⊥ = eqb-false _ _ z in omega arith) (departure-short (answer tick s .departed) (answer tick s .next .clock)) m)
+    (λ _. goes-facts at asked left h Reading (answer tick s .next) (answer-bytes (Ticked (answer tick s .verdict) (asked - left))) len last r (omega arith) (answer-short (Ticked (answer tick s .verdict) (asked - left))) m)))
+  where
+    P : Next → Type 0
+    P n = Facts (cursor-at at (Ticking asked left) h) len last r (stepped-of n)
+
+-- ---- which case a step is
+
+module _ (at : ℕ) (s : State) (w : List ℕ) (last : Bool) where
+  pub next-end : last ≡ true → length w ≡ 0 → read-next at s w last ≡ still (point at Finished s) Done
+  unfolding read-next
+  next-end l e = rw (l, eq-eqb (length w) 0 e)
+
+  pub next-more : last ≡ false → length w < longest-record → read-next at s w last ≡ still (point at Reading s) MoreBytes
+  unfolding read-next
+  next-more l e = rw (l, lt-ltb (length w) longest-record e)
+
+  pub next-last : last ≡ true → (length w ≡ 0 → ⊥) → read-next at s w last ≡ found-next (read-at at w) at s
+  unfolding read-next
+  next-last l e = rw (l, ne-eqb (length w) 0 e)
+
+  pub next-mid : last ≡ false → longest-record ≤ length w → read-next at s w last ≡ found-next (read-at at w) at s
+  unfolding read-next
+  next-mid l e = rw (l, le-ltb (length w) longest-record e)
+
+pub next-phase : (c : Cursor) (cs t w : List ℕ) (last : Bool) {q : Phase} → c .phase ≡ q
+    → next (point-of c cs t) w last ≡ phase-next q (c .at) (point-of c cs t .state) w last
+unfolding next
+next-phase c cs t w last e = ap (λ p. phase-next p (c .at) (point-of c cs t .state) w last) e
+
+pub facts-phase : (c : Cursor) {q : Phase} → c .phase ≡ q → (len : ℕ) (last : Bool) (r : ℕ) (a : Stepped) → Facts (cursor-at (c .at) q (c .hub)) len last r a
+    → Facts c len last r a
+facts-phase c e len last r a f = subst (λ p. Facts (cursor-at (c .at) p (c .hub)) len last r a) (sym e) f
+
+-- ---- a step writes one answer at most
+
+phase-short : (q : Phase) (at : ℕ) (s : State) (w : List ℕ) (last : Bool) → length (phase-next q at s w last .bytes) ≤ longest-answer
+unfolding read-next tick-next
+phase-short Reading at s w last =
+    pick-by Short last _ _
+    (λ _. pick-by Short (eqb (length w) 0) _ _ (λ _. omega arith) (λ _. record-short (read-at at w .what) (read-at at w .taken) at s))
+    (λ _. pick-by Short (ltb (length w) longest-record) _ _ (λ _. omega arith) (λ _. record-short (read-at at w .what) (read-at at w .taken) at s))
+  where
+    Short : Next → Type 0
+    Short n = length (n .bytes) ≤ longest-answer
+phase-short (Ticking asked left) at s w last =
+    pick-by Short (eqb left 0) _ _ (λ _. answer-short (Ticked (all-done-verdict asked s) asked))
+    (λ _. pick-by Short (eqb (answer tick s .verdict) 0) _ _
+    (λ _. departure-short (answer tick s .departed) (answer tick s .next .clock)) (λ _. answer-short (Ticked (answer tick s .verdict) (asked - left))))
+  where
+    Short : Next → Type 0
+    Short n = length (n .bytes) ≤ longest-answer
+phase-short Finished at s w last = omega arith
+
+pub next-short : (p : Point) (w : List ℕ) (last : Bool) → length (next p w last .bytes) ≤ longest-answer
+unfolding next
+next-short p w last = phase-short (p .phase) (p .at) (p .state) w last

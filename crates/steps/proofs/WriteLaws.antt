@@ -1,0 +1,60 @@
+-- Answers that are written: their bytes, and the room that holds them. Assumes nothing.
+use Prim.Native.Nat.{ℕ, _-_, _%_, _≤_}
+use native.Mathlib.Omega.{arith}
+use mathlib.Core.Path.{_≡_}
+use mathlib.Core.List.{List, [], _++_, append-nil}
+use lib.ListN.{length, take, drop, length-drop, drop-of-length-le}
+use lib.Seq.{take-all}
+use borrow.Author.Tests.{le-ltb}
+use Rattle.records.specs.Numbers.{little, put-fields}
+use Rattle.records.specs.Kinds.{bytes}
+use Rattle.records.specs.Formats.{laid, length-after, room-after}
+use Rattle.records.specs.Answers.{answer-bytes}
+use Rattle.records.specs.declared.Reply.{Reply}
+use Rattle.records.specs.declared.Reply.the-variants.{Linked, Admitted, Offered, Departed, Ticked}
+use Rattle.log.specs.Steps.{longest-answer}
+use Rattle.log.proofs.ReadLaws.{answer-short}
+use Rattle.steps.specs.Tie.{over}
+
+-- a room that holds the longest answer holds each
+pub length-written : (r : Reply) (o : List ℕ) → longest-answer ≤ length o → length-after (answer-bytes r) o ≡ length (answer-bytes r)
+unfolding length-after
+length-written r o h = rw (le-ltb (length o) (length (answer-bytes r)) (omega (arith, answer-short r)))
+
+pub room-written : (r : Reply) (o : List ℕ) → longest-answer ≤ length o → room-after (answer-bytes r) o ≡ over (answer-bytes r) o
+unfolding room-after
+room-written r o h = rw (le-ltb (length o) (length (answer-bytes r)) (omega (arith, answer-short r)))
+
+-- a number of one byte is written as its low byte
+low-twice : (v : ℕ) → v % 256 % 256 ≡ v % 256
+low-twice v = omega arith
+
+pub linked-low : (v x : ℕ) → v ≡ x % 256 → answer-bytes (Linked v) ≡ answer-bytes (Linked x)
+unfolding laid bytes put-fields little
+linked-low v x e = rw (e, low-twice x)
+
+pub admitted-low : (v n x y : ℕ) → v ≡ x % 256 → n ≡ y % 256 → answer-bytes (Admitted v n) ≡ answer-bytes (Admitted x y)
+unfolding laid bytes put-fields little
+admitted-low v n x y e f = rw (e, f, low-twice x, low-twice y)
+
+pub offered-low : (v n x y : ℕ) → v ≡ x % 256 → n ≡ y → answer-bytes (Offered v n) ≡ answer-bytes (Offered x y)
+unfolding laid bytes put-fields little
+offered-low v n x y e f = rw (e, f, low-twice x)
+
+pub ticked-low : (v n x : ℕ) → v ≡ x % 256 → answer-bytes (Ticked v n) ≡ answer-bytes (Ticked x n)
+unfolding laid bytes put-fields little
+ticked-low v n x e = rw (e, low-twice x)
+
+pub departed-low : (v x tag arrival eligibility finish : ℕ) → v ≡ x % 256
+    → answer-bytes (Departed v tag arrival eligibility finish) ≡ answer-bytes (Departed x tag arrival eligibility finish)
+unfolding laid bytes put-fields little
+departed-low v x tag arrival eligibility finish e = rw (e, low-twice x)
+
+-- a part that reaches to the end
+pub part-all : (a : ℕ) (xs : List ℕ) → take (length xs - a) (drop a xs) ≡ drop a xs
+part-all a xs = take-all (length xs - a) (drop a xs) (simp length-drop (omega arith))
+
+pub part-back : (a : ℕ) (xs ys zs : List ℕ) → ys ≡ zs → take a xs ++ (ys ++ drop (length xs - a) (drop a xs)) ≡ take a xs ++ zs
+part-back a xs ys zs e =
+    let d : drop (length xs - a) (drop a xs) ≡ [] = drop-of-length-le (drop a xs) {i = length xs - a} (simp length-drop (omega arith)) in
+    rw (d, append-nil, e)

@@ -1,0 +1,34 @@
+use Rattle.steps.proofs.CallLaws.{did-call}
+use Rattle.service.specs.declared.Told.{Told}
+use mathlib.Core.Path.{ap, _∙_}
+use Prim.Native.Nat.{_%_}
+use Rattle.steps.proofs.WriteLaws.{linked-low}
+use Rattle.records.specs.declared.Reply.the-variants.{Linked}
+use Rattle.rules.specs.Model.{link}
+use borrow.Author.Needs.{needs}
+use Rattle.steps.proofs.link_step.Statement.{statement}
+use Rattle.steps.proofs.link_step.Tie as tie
+
+link-tested-requires : tie.Need-link-tested-requires
+link-tested-requires c κs = search needs
+
+low-requires : tie.Need-low-requires
+low-requires c κs = search needs
+
+answered-requires : tie.Need-answered-requires
+answered-requires c κs = search needs
+
+same-length : tie.Need-same-length
+same-length c = search needs
+
+returns : tie.Need-returns
+returns c =
+    let a = c .before .before .before .before .before .before .before .before .before .args in
+    let k = c .before .before .before .before .before .link-tested in
+    let v = c .before .before .before .before .low .ensures ∙ ap (λ (x : Told). x .verdict % 256) (k .ensures .answers) in
+    did-call (link (a .l)) (a .h) (a .cs .now) (a .t .now) _ _ _ _ (k .result) (k .ensures) (a .at) (a .used) _ (Linked (c .before .before .before .before .low .result)) _
+    (linked-low _ _ v) (c .before .before .answered .ensures .0) (c .before .before .answered .ensures .1)
+
+pub link-step-spec : {M : Type 1} → statement M
+link-step-spec =
+    tie.close (tie.spec link-tested-requires low-requires answered-requires same-length returns)

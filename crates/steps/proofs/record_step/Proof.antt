@@ -1,0 +1,152 @@
+use Rattle.steps.proofs.CallLaws.{did-kept}
+use mathlib.Core.Path.{refl}
+use mathlib.Core.List.{[]}
+use native.Mathlib.Omega.{arith}
+use Rattle.log.specs.declared.Status.the-variants.{GoOn, Done}
+use borrow.Author.Needs.{needs}
+use Rattle.steps.proofs.record_step.Statement.{statement}
+use Rattle.steps.proofs.record_step.Tie as tie
+
+cast-to : tie.Need-cast-to
+cast-to c = search needs
+
+add-to : tie.Need-add-to
+add-to c = search needs
+
+enum-known-what : tie.Need-enum-known-what
+enum-known-what c = search needs
+
+link-named-requires : tie.Need-link-named-requires
+link-named-requires c κs = search needs
+
+link-step-requires : tie.Need-link-step-requires
+link-step-requires c κs = search needs
+
+enum-known-what-2 : tie.Need-enum-known-what-2
+enum-known-what-2 c = search needs
+
+cast-t37 : tie.Need-cast-t37
+cast-t37 c = search needs
+
+cast-t38 : tie.Need-cast-t38
+cast-t38 c = search needs
+
+cast-t39 : tie.Need-cast-t39
+cast-t39 c = search needs
+
+admit-step-requires : tie.Need-admit-step-requires
+admit-step-requires c κs = search needs
+
+enum-known-what-3 : tie.Need-enum-known-what-3
+enum-known-what-3 c = search needs
+
+cast-offer-step : tie.Need-cast-offer-step
+cast-offer-step c = search needs
+
+cast-offer-step-2 : tie.Need-cast-offer-step-2
+cast-offer-step-2 c = search needs
+
+offer-step-requires : tie.Need-offer-step-requires
+offer-step-requires c κs = search needs
+
+enum-known-what-4 : tie.Need-enum-known-what-4
+enum-known-what-4 c = search needs
+
+enum-told : tie.Need-enum-told
+enum-told c = search needs
+
+broken-step-requires : tie.Need-broken-step-requires
+broken-step-requires c κs = search needs
+
+same-length : tie.Need-same-length
+same-length c = search needs
+
+same-length-2 : tie.Need-same-length-2
+same-length-2 c = search needs
+
+same-length-3 : tie.Need-same-length-3
+same-length-3 c = search needs
+
+returns : tie.Need-returns
+returns c =
+    let k = c .before .before .link-step in
+    (rw (c .before .before .before .before .before .before .before .before .what .given .1) (rw (c .before .before .before .before .before .before .link-named .ensures) at (k .ensures)), rw (k .ensures .answers) (omega arith))
+
+same-length-4 : tie.Need-same-length-4
+same-length-4 c = search needs
+
+same-length-5 : tie.Need-same-length-5
+same-length-5 c = search needs
+
+same-length-6 : tie.Need-same-length-6
+same-length-6 c = search needs
+
+returns-2 : tie.Need-returns-2
+returns-2 c =
+    let k = c .before .before .before .before .admit-step in
+    (rw (c .before .before .before .before .before .before .before .before .before .what2 .given .1) (k .ensures), rw (k .ensures .answers) (omega arith))
+
+same-length-7 : tie.Need-same-length-7
+same-length-7 c = search needs
+
+same-length-8 : tie.Need-same-length-8
+same-length-8 c = search needs
+
+same-length-9 : tie.Need-same-length-9
+same-length-9 c = search needs
+
+returns-3 : tie.Need-returns-3
+returns-3 c =
+    let k = c .before .before .before .before .before .before .offer-step in
+    (rw (c .before .before .before .before .before .before .before .before .before .before .before .what3 .given .1) (k .ensures), rw (k .ensures .answers) (omega arith))
+
+returns-4 : tie.Need-returns-4
+returns-4 c =
+    let a = c .before .before .before .before .before .before .args in
+    (rw (c .before .what4 .given .1) (did-kept (a .h) (a .cs .now) (a .t .now) (c .before .before .before .before .before .before .pre .0) _ _ _ [] GoOn _ _ _ refl refl), search needs)
+
+same-length-10 : tie.Need-same-length-10
+same-length-10 c = search needs
+
+returns-5 : tie.Need-returns-5
+returns-5 c =
+    let a = c .before .before .before .before .before .before .before .before .before .args in
+    let k = c .before .before .broken-step in
+    (rw (c .before .before .before .before .enum-told .given .1) (did-kept (a .h) (a .cs .now) (a .t .now) (c .before .before .before .before .before .before .before .before .before .pre .0) _ _ _ _ Done _ _ _ (k .ensures .0) (k .ensures .1)), rw (k .ensures .0) (omega arith))
+
+pub record-step-spec : {M : Type 1} → statement M
+record-step-spec =
+    tie.close
+    (tie.spec
+    cast-to
+    add-to
+    enum-known-what
+    link-named-requires
+    link-step-requires
+    enum-known-what-2
+    cast-t37
+    cast-t38
+    cast-t39
+    admit-step-requires
+    enum-known-what-3
+    cast-offer-step
+    cast-offer-step-2
+    offer-step-requires
+    enum-known-what-4
+    enum-told
+    broken-step-requires
+    same-length
+    same-length-2
+    same-length-3
+    returns
+    same-length-4
+    same-length-5
+    same-length-6
+    returns-2
+    same-length-7
+    same-length-8
+    same-length-9
+    returns-3
+    returns-4
+    same-length-10
+    returns-5)

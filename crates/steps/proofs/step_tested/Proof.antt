@@ -1,0 +1,97 @@
+use Rattle.steps.proofs.CallLaws.{did-kept}
+use Rattle.steps.proofs.FactLaws.{waits-facts, tick-facts, next-phase, facts-phase}
+use Rattle.log.specs.declared.Phase.the-variants.{Finished}
+use Rattle.log.specs.declared.Status.the-variants.{Done}
+use Rattle.service.specs.View.{view}
+use mathlib.Core.Path.{refl}
+use mathlib.Core.List.{[]}
+use native.Mathlib.Omega.{arith}
+use lib.ListN.{length}
+use borrow.Author.Needs.{needs}
+use Rattle.steps.proofs.step_tested.Statement.{statement}
+use Rattle.steps.proofs.step_tested.Tie as tie
+
+enum-told : tie.Need-enum-told
+enum-told c = search needs
+
+read-step-requires : tie.Need-read-step-requires
+read-step-requires c κs = search needs
+
+enum-known-p : tie.Need-enum-known-p
+enum-known-p c = search needs
+
+tick-step-requires : tie.Need-tick-step-requires
+tick-step-requires c κs = search needs
+
+enum-told-2 : tie.Need-enum-told-2
+enum-told-2 c = search needs
+
+waits-requires : tie.Need-waits-requires
+waits-requires c κs = search needs
+
+same-length : tie.Need-same-length
+same-length c = search needs
+
+same-length-2 : tie.Need-same-length-2
+same-length-2 c = search needs
+
+same-length-3 : tie.Need-same-length-3
+same-length-3 c = search needs
+
+returns : tie.Need-returns
+returns c =
+    let a = c .before .before .before .before .before .before .before .before .before .before .before .before .before .before .before .before .before .args in
+    let e = c .before .before .before .before .before .before .before .before .before .before .enum-told .given .1 in
+    let k = c .before .before .before .before .before .before .read-step in (
+      rw (next-phase (a .c) (a .cs .now) (a .t .now) (a .window .now) (a .last) e) (k .ensures .0),
+      facts-phase (a .c) e (length (a .window .now)) (a .last) (length (a .out .now)) (k .result) (k .ensures .1),
+    )
+
+same-length-4 : tie.Need-same-length-4
+same-length-4 c = search needs
+
+same-length-5 : tie.Need-same-length-5
+same-length-5 c = search needs
+
+same-length-6 : tie.Need-same-length-6
+same-length-6 c = search needs
+
+returns-2 : tie.Need-returns-2
+returns-2 c =
+    let a = c .before .before .before .before .before .before .before .before .before .before .before .before .before .before .before .before .args in
+    let e = c .before .before .before .before .before .before .before .before .before .p .given .1 in
+    let k = c .before .before .before .before .tick-step in (
+      rw (next-phase (a .c) (a .cs .now) (a .t .now) (a .window .now) (a .last) e) (k .ensures),
+      facts-phase (a .c) e (length (a .window .now)) (a .last) (length (a .out .now)) (k .result)
+          (tick-facts _ _ _ (view (a .c .hub) (a .cs .now) (a .t .now)) _ _ _ _ _ (c .before .before .before .before .before .before .before .before .before .before .before .before .before .before .before .before .pre .1) (k .ensures .answers)),
+    )
+
+returns-3 : tie.Need-returns-3
+returns-3 c =
+    let a = c .before .before .before .before .before .before .before .before .args in
+    let e = c .before .enum-told2 .given .1 in (
+      rw (next-phase (a .c) (a .cs .now) (a .t .now) (a .window .now) (a .last) e)
+          (did-kept (a .c .hub) (a .cs .now) (a .t .now) (c .before .before .before .before .before .before .before .before .pre .0) (a .c .at) Finished 0 [] Done (c .waits .result) _ _ (c .waits .ensures) refl),
+      facts-phase (a .c) e (length (a .window .now)) (a .last) (length (a .out .now)) (c .waits .result)
+          (rw (c .waits .ensures) (waits-facts (a .c .at) Finished Finished (a .c .hub) (length (a .window .now)) (a .last) (length (a .out .now)) Done (omega arith) refl (λ z. cc))),
+    )
+
+pub step-tested-spec : {M : Type 1} → statement M
+step-tested-spec =
+    tie.close
+    (tie.spec
+    enum-told
+    read-step-requires
+    enum-known-p
+    tick-step-requires
+    enum-told-2
+    waits-requires
+    same-length
+    same-length-2
+    same-length-3
+    returns
+    same-length-4
+    same-length-5
+    same-length-6
+    returns-2
+    returns-3)

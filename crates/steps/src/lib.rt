@@ -1,0 +1,401 @@
+// One step of a replay: at most one answer record. Document 01, "Trace and answer records" and "One tick".
+ghost use mathlib.Core.Path.{_≡_};
+ghost use mathlib.Core.Bool.{true};
+ghost use mathlib.Core.List.{[], _∷_};
+ghost use Prim.Native.Nat.{_+_, _-_, _%_, _≤_};
+ghost use lib.ListN.{length};
+ghost use Rattle.records.specs.Answers.{answer-bytes};
+ghost use Rattle.records.specs.declared.Reply.the-variants.{Broken};
+ghost use Rattle.service.specs.View.{view};
+ghost use Rattle.calls.specs.Acts.{sound-hub};
+ghost use Rattle.log.specs.declared.Phase.the-variants.{Reading, Finished};
+ghost use Rattle.log.specs.declared.Status.the-variants.{GoOn, Done};
+ghost use Rattle.log.specs.Log.{trace-limit, read-at, all-done-verdict, link-named};
+ghost use Rattle.log.specs.Steps.{longest-answer, link-next, admit-next, offer-next, record-next, found-next, read-next, tick-next, next, weight};
+ghost use Rattle.steps.specs.Tie.{cursor-at, point-of, over, told-log, nothing-done, Did, in-room, Does, Facts};
+use log::Cursor;
+use log::Phase;
+use log::Status;
+use log::Stepped;
+use records::Found;
+use records::Record;
+use records::Reply;
+use rules::Connection;
+use rules::Link;
+use service::Hub;
+use service::Told;
+
+// No trace is longer.
+pub const LIMIT: usize = 16777216;
+
+// The longest trace record, and the longest answer.
+pub const LONGEST_RECORD: usize = 21;
+
+pub const LONGEST_ANSWER: usize = 19;
+
+// The low byte of a number. An answer's numbers of one byte are no larger.
+fn low(v: u32) -> u8
+    ensures { λ r. ⌜ r ≡ v % 256 ⌝ }
+{
+    (v % 256) as u8
+}
+
+// The record that the bytes start with, at offset `at` of the trace: malformed where it would end beyond the limit.
+fn read_at(s: &[u8], at: u32) -> Found
+    ensures { λ r. ⌜ (r ≡ read-at at (now (s .entry))) × (r .taken ≤ trace-limit - at) ⌝ }
+{
+    let f = records::trace::read(s);
+    let place = at as usize;
+    if LIMIT < place {
+        return Found {
+            what: Record::Malformed,
+            taken: 0,
+        };
+    }
+    if LIMIT - place < f.taken {
+        return Found {
+            what: Record::Malformed,
+            taken: 0,
+        };
+    }
+    f
+}
+
+// A step with an answer: it is written, and a record is read next.
+fn answered(at: u32, hub: Hub, used: usize, reply: Reply, out: &mut [u8]) -> Stepped
+    requires { ⌜ longest-answer ≤ length (now out) ⌝ }
+    ensures { λ r. ⌜ (r ≡ record { cursor = cursor-at at Reading hub; used = used; wrote = length (answer-bytes reply); status = GoOn }) × (now (out .exit) ≡ over (answer-bytes reply) (now (out .entry))) ⌝ }
+{
+    let wrote = records::answer::write(reply, out);
+    Stepped {
+        cursor: Cursor {
+            at: at,
+            phase: Phase::Reading,
+            hub: hub,
+        },
+        used: used,
+        wrote: wrote,
+        status: Status::GoOn,
+    }
+}
+
+// `LK`, which took `used` bytes and ends at offset `at`.
+fn link_step(
+    h: Hub,
+    cs: &[u32],
+    t: &[u32],
+    l: Link,
+    at: u32,
+    used: usize,
+    out: &mut [u8],
+) -> Stepped
+    requires { ⌜ (sound-hub h (now cs) (now t) ≡ true) × (longest-answer ≤ length (now out)) ⌝ }
+    ensures { λ r. ⌜ Did (link-next l used at (view h (now (cs .entry)) (now (t .entry)))) r (now (cs .entry)) (now (t .entry)) (now (out .entry)) (now (out .exit)) ⌝ }
+{
+    let told = calls::link_tested(h, cs, t, l);
+    let reply = Reply::Linked {
+        verdict: low(told.verdict),
+    };
+    answered(at, told.hub, used, reply, out)
+}
+
+// `CN`, the same.
+fn admit_step(
+    h: Hub,
+    cs: &mut [u32],
+    t: &[u32],
+    x: Connection,
+    at: u32,
+    used: usize,
+    out: &mut [u8],
+) -> Stepped
+    requires { ⌜ (sound-hub h (now cs) (now t) ≡ true) × (longest-answer ≤ length (now out)) ⌝ }
+    ensures { λ r. ⌜ Did (admit-next x used at (view h (now (cs .entry)) (now (t .entry)))) r (now (cs .exit)) (now (t .entry)) (now (out .entry)) (now (out .exit)) ⌝ }
+{
+    let told = calls::admit_tested(h, cs, t, x);
+    let reply = Reply::Admitted {
+        verdict: low(told.verdict),
+        connection: low(told.number),
+    };
+    answered(at, told.hub, used, reply, out)
+}
+
+// `PK`, the same.
+fn offer_step(
+    h: Hub,
+    cs: &mut [u32],
+    t: &mut [u32],
+    c: u32,
+    len: u32,
+    tag: u32,
+    at: u32,
+    used: usize,
+    out: &mut [u8],
+) -> Stepped
+    requires { ⌜ (sound-hub h (now cs) (now t) ≡ true) × (longest-answer ≤ length (now out)) ⌝ }
+    ensures { λ r. ⌜ Did (offer-next c len tag used at (view h (now (cs .entry)) (now (t .entry)))) r (now (cs .exit)) (now (t .exit)) (now (out .entry)) (now (out .exit)) ⌝ }
+{
+    let told = calls::offer_tested(h, cs, t, c, len, tag);
+    let reply = Reply::Offered {
+        verdict: low(told.verdict),
+        eligibility: told.number,
+    };
+    answered(at, told.hub, used, reply, out)
+}
+
+// The link that an `LK` names.
+fn link_named(
+    levels: u8,
+    largest: u16,
+    d1: u16,
+    d2: u16,
+    d3: u16,
+    d4: u16,
+    d5: u16,
+    d6: u16,
+    d7: u16,
+    d8: u16,
+) -> Link
+    ensures { λ r. ⌜ r ≡ link-named levels largest d1 d2 d3 d4 d5 d6 d7 d8 ⌝ }
+{
+    Link {
+        levels: levels as u32,
+        largest: largest as u32,
+        bounds: [
+            d1 as u32,
+            d2 as u32,
+            d3 as u32,
+            d4 as u32,
+            d5 as u32,
+            d6 as u32,
+            d7 as u32,
+            d8 as u32,
+        ],
+    }
+}
+
+// Nothing is taken or written.
+pub fn waits(at: u32, phase: Phase, h: Hub, status: Status) -> Stepped
+    ensures { λ r. ⌜ r ≡ nothing-done (cursor-at at phase h) status ⌝ }
+{
+    Stepped {
+        cursor: Cursor {
+            at: at,
+            phase: phase,
+            hub: h,
+        },
+        used: 0,
+        wrote: 0,
+        status: status,
+    }
+}
+
+// A malformed record: `ER` with its offset, and nothing more.
+fn broken_step(at: u32, h: Hub, out: &mut [u8]) -> Stepped
+    requires { ⌜ longest-answer ≤ length (now out) ⌝ }
+    ensures { λ r. ⌜ (r ≡ record { cursor = cursor-at at Finished h; used = 0; wrote = length (answer-bytes (Broken at)); status = Done }) × (now (out .exit) ≡ over (answer-bytes (Broken at)) (now (out .entry))) ⌝ }
+{
+    let wrote = records::answer::write(Reply::Broken { offset: at }, out);
+    Stepped {
+        cursor: Cursor {
+            at: at,
+            phase: Phase::Finished,
+            hub: h,
+        },
+        used: 0,
+        wrote: wrote,
+        status: Status::Done,
+    }
+}
+
+// A record read at offset `at`.
+fn record_step(f: Found, at: u32, h: Hub, cs: &mut [u32], t: &mut [u32], out: &mut [u8]) -> Stepped
+    requires { ⌜ (sound-hub h (now cs) (now t) ≡ true) × (longest-answer ≤ length (now out)) × (f .taken ≤ trace-limit - at) ⌝ }
+    ensures { λ r. ⌜ Did (found-next f at (view h (now (cs .entry)) (now (t .entry)))) r (now (cs .exit)) (now (t .exit)) (now (out .entry)) (now (out .exit)) ⌝ }
+    ensures { λ r. ⌜ weight (r .cursor .phase) ≤ 65536 ⌝ }
+{
+    let used = f.taken;
+    let to = at + used as u32;
+    let what = f.what;
+    match what {
+        Record::Link {
+            levels,
+            largest,
+            d1,
+            d2,
+            d3,
+            d4,
+            d5,
+            d6,
+            d7,
+            d8,
+        } => {
+            let l = link_named(levels, largest, d1, d2, d3, d4, d5, d6, d7, d8);
+            link_step(h, cs, t, l, to, used, out)
+        }
+        Record::Admit { level, gap, size } => {
+            let x = Connection {
+                level: level as u32,
+                gap: gap as u32,
+                size: size as u32,
+            };
+            admit_step(h, cs, t, x, to, used, out)
+        }
+        Record::Offer {
+            connection,
+            len,
+            tag,
+        } => offer_step(h, cs, t, connection as u32, len as u32, tag, to, used, out),
+        Record::Ticks { ticks } => Stepped {
+            cursor: Cursor {
+                at: to,
+                phase: Phase::Ticking {
+                    asked: ticks,
+                    left: ticks,
+                },
+                hub: h,
+            },
+            used: used,
+            wrote: 0,
+            status: Status::GoOn,
+        },
+        Record::Malformed => broken_step(at, h, out),
+    }
+}
+
+// The verdict of a `TK` whose ticks are all done: 2 if none was asked and no link is set.
+fn all_done_verdict(h: Hub, cs: &[u32], t: &[u32], asked: u16) -> u8
+    requires { ⌜ sound-hub h (now cs) (now t) ≡ true ⌝ }
+    ensures { λ r. ⌜ r ≡ all-done-verdict asked (view h (now (cs .entry)) (now (t .entry))) ⌝ }
+{
+    if asked != 0 {
+        return 0;
+    }
+    if h.link.levels == 0 {
+        return 2;
+    }
+    0
+}
+
+// A departure is written, if there is one.
+fn put_departure(told: Told, out: &mut [u8]) -> usize
+    requires { ⌜ longest-answer ≤ length (now out) ⌝ }
+    ensures { λ r. ⌜ (r ≡ length (told-log told)) × (now (out .exit) ≡ over (told-log told) (now (out .entry))) ⌝ }
+{
+    if !told.gone {
+        return 0;
+    }
+    let p = told.packet;
+    let reply = Reply::Departed {
+        connection: low(p.connection),
+        tag: p.tag,
+        arrival: p.arrival,
+        eligibility: p.eligibility,
+        finish: told.hub.clock,
+    };
+    records::answer::write(reply, out)
+}
+
+// Ticks done: those asked without those left.
+fn without(asked: u16, left: u16) -> u16
+    ensures { λ r. ⌜ r ≡ asked - left ⌝ }
+{
+    if asked < left {
+        return 0;
+    }
+    asked - left
+}
+
+// One tick of a `TK`, of which `left` of `asked` are still to run, or its `TA`.
+fn tick_step(
+    at: u32,
+    h: Hub,
+    asked: u16,
+    left: u16,
+    cs: &[u32],
+    t: &mut [u32],
+    out: &mut [u8],
+) -> Stepped
+    requires { ⌜ (sound-hub h (now cs) (now t) ≡ true) × (longest-answer ≤ length (now out)) ⌝ }
+    ensures { λ r. ⌜ Did (tick-next at asked left (view h (now (cs .entry)) (now (t .entry)))) r (now (cs .entry)) (now (t .exit)) (now (out .entry)) (now (out .exit)) ⌝ }
+{
+    if left == 0 {
+        let reply = Reply::Ticked {
+            verdict: all_done_verdict(h, cs, t, asked),
+            ticks: asked,
+        };
+        return answered(at, h, 0, reply, out);
+    }
+    let told = calls::tick_tested(h, cs, t);
+    let then = told.hub;
+    if told.verdict != 0 {
+        let reply = Reply::Ticked {
+            verdict: low(told.verdict),
+            ticks: without(asked, left),
+        };
+        return answered(at, then, 0, reply, out);
+    }
+    let wrote = put_departure(told, out);
+    Stepped {
+        cursor: Cursor {
+            at: at,
+            phase: Phase::Ticking {
+                asked: asked,
+                left: left - 1,
+            },
+            hub: then,
+        },
+        used: 0,
+        wrote: wrote,
+        status: Status::GoOn,
+    }
+}
+
+// A step where a record is to be read, at offset `at`.
+fn read_step(
+    at: u32,
+    h: Hub,
+    cs: &mut [u32],
+    t: &mut [u32],
+    window: &[u8],
+    last: bool,
+    out: &mut [u8],
+) -> Stepped
+    requires { ⌜ (sound-hub h (now cs) (now t) ≡ true) × (longest-answer ≤ length (now out)) ⌝ }
+    ensures { λ r. ⌜ Did (read-next at (view h (now (cs .entry)) (now (t .entry))) (now (window .entry)) last) r (now (cs .exit)) (now (t .exit)) (now (out .entry)) (now (out .exit)) ⌝ }
+    ensures { λ r. ⌜ Facts (cursor-at at Reading h) (length (now (window .entry))) last (length (now (out .entry))) r ⌝ }
+{
+    if last {
+        if window.len() == 0 {
+            return waits(at, Phase::Finished, h, Status::Done);
+        }
+        return record_step(read_at(window, at), at, h, cs, t, out);
+    }
+    if window.len() < LONGEST_RECORD {
+        return waits(at, Phase::Reading, h, Status::MoreBytes);
+    }
+    record_step(read_at(window, at), at, h, cs, t, out)
+}
+
+// One step on a hub and tables that are sound, with room for an answer.
+pub fn step_tested(
+    c: Cursor,
+    cs: &mut [u32],
+    t: &mut [u32],
+    window: &[u8],
+    last: bool,
+    out: &mut [u8],
+) -> Stepped
+    requires { ⌜ (sound-hub (c .hub) (now cs) (now t) ≡ true) × (longest-answer ≤ length (now out)) ⌝ }
+    ensures { λ r. ⌜ Did (next (point-of c (now (cs .entry)) (now (t .entry))) (now (window .entry)) last) r (now (cs .exit)) (now (t .exit)) (now (out .entry)) (now (out .exit)) ⌝ }
+    ensures { λ r. ⌜ Facts c (length (now (window .entry))) last (length (now (out .entry))) r ⌝ }
+{
+    let at = c.at;
+    let h = c.hub;
+    let p = c.phase;
+    match p {
+        Phase::Reading => read_step(at, h, cs, t, window, last, out),
+        Phase::Ticking { asked, left } => tick_step(at, h, asked, left, cs, t, out),
+        Phase::Finished => waits(at, Phase::Finished, h, Status::Done),
+    }
+}
