@@ -1,11 +1,11 @@
 // Admissions: verdicts 0, 2, 5, 6, 8 and 9, each limit at its last good and its first bad value, and the lowest of two causes.
-use crate::state::connection;
-use crate::state::link_a;
-use crate::state::link_b;
-use crate::state::link_of_one;
-use crate::state::link_of_two;
-use crate::tally::Tally;
-use crate::world;
+use hub_trials::state::connection;
+use hub_trials::state::link_a;
+use hub_trials::state::link_b;
+use hub_trials::state::link_of_one;
+use hub_trials::state::link_of_two;
+use hub_trials::tally::Tally;
+use hub_trials::world;
 
 // No link set: 2, before any other cause.
 pub fn no_link() -> Tally {

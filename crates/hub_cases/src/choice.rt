@@ -1,10 +1,10 @@
 // Which packet the line takes: lowest level number, then earliest eligibility, then earliest offered; and rows that move up.
-use crate::state::connection;
-use crate::state::link_of_one;
-use crate::state::link_of_two;
-use crate::tally::Tally;
-use crate::world;
-use crate::world::World;
+use hub_trials::state::connection;
+use hub_trials::state::link_of_one;
+use hub_trials::state::link_of_two;
+use hub_trials::tally::Tally;
+use hub_trials::world;
+use hub_trials::world::World;
 
 // One level, three connections: 10 * 8 + 8 = 88, then 89, then 97 of 100.
 fn one_level() -> World {

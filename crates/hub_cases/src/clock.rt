@@ -1,11 +1,11 @@
 // The clock at its end, 4,000,000,000, and before it. A hub is put there by hand: with nothing sent, any clock up to the end is sound.
-use crate::state::connection;
-use crate::state::link_b;
-use crate::state::link_of_one;
-use crate::state::with_clock;
-use crate::tally::Tally;
-use crate::world;
-use crate::world::World;
+use hub_trials::state::connection;
+use hub_trials::state::link_b;
+use hub_trials::state::link_of_one;
+use hub_trials::state::with_clock;
+use hub_trials::tally::Tally;
+use hub_trials::world;
+use hub_trials::world::World;
 use rules::Connection;
 use rules::Link;
 

@@ -1,10 +1,10 @@
 // Document 01, "Table of proved examples": P1 to P10, and the whole run on link B.
-use crate::state::connection;
-use crate::state::link_a;
-use crate::state::link_b;
-use crate::tally::Tally;
-use crate::world;
-use crate::world::World;
+use hub_trials::state::connection;
+use hub_trials::state::link_a;
+use hub_trials::state::link_b;
+use hub_trials::tally::Tally;
+use hub_trials::world;
+use hub_trials::world::World;
 
 // Link A with the connections of P1 and P2.
 fn after_p2() -> World {

@@ -1,10 +1,10 @@
 // All 64 connections, and the places full.
-use crate::state::connection;
-use crate::state::link_b;
-use crate::state::link_of_one;
-use crate::tally::Tally;
-use crate::world;
-use crate::world::World;
+use hub_trials::state::connection;
+use hub_trials::state::link_b;
+use hub_trials::state::link_of_one;
+use hub_trials::tally::Tally;
+use hub_trials::world;
+use hub_trials::world::World;
 use rules::Connection;
 
 // Connections numbered from 0 on are admitted.

@@ -1,12 +1,12 @@
 // Links: verdicts 0, 3 and 4, and each limit at its last good and its first bad value.
-use crate::state::link_a;
-use crate::state::link_b;
-use crate::state::link_of;
-use crate::state::link_of_one;
-use crate::state::link_of_two;
-use crate::tally::Tally;
-use crate::world;
-use crate::world::World;
+use hub_trials::state::link_a;
+use hub_trials::state::link_b;
+use hub_trials::state::link_of;
+use hub_trials::state::link_of_one;
+use hub_trials::state::link_of_two;
+use hub_trials::tally::Tally;
+use hub_trials::world;
+use hub_trials::world::World;
 use rules::Link;
 
 // A fresh hub is asked for the link.

@@ -1,10 +1,10 @@
 // Offers: verdicts 0 and 10 to 12, each limit at its last good and its first bad value, the lowest of two causes, and eligibilities.
-use crate::state::connection;
-use crate::state::link_b;
-use crate::state::link_of_one;
-use crate::tally::Tally;
-use crate::world;
-use crate::world::World;
+use hub_trials::state::connection;
+use hub_trials::state::link_b;
+use hub_trials::state::link_of_one;
+use hub_trials::tally::Tally;
+use hub_trials::world;
+use hub_trials::world::World;
 
 // Link B with connections 0 of size 4 and 1 of size 1.
 fn two_lines() -> World {

@@ -1,10 +1,10 @@
--- `hub_cases::table::drop_row` meets its contract: the place rises to 3000 at most, and the table keeps its length.
+-- `hub_trials::table::drop_row` meets its contract: the place rises to 3000 at most, and the table keeps its length.
 use mathlib.Core.Path.{_≡_}
 use lib.ListN.{length}
 use Prim.Native.Nat.{_-_, _≤_}
 use borrow.Author.Needs.{needs}
-use Rattle.hub_cases.proofs.table.drop_row.Statement.{statement}
-use Rattle.hub_cases.proofs.table.drop_row.Tie as tie
+use Rattle.hub_trials.proofs.table.drop_row.Statement.{statement}
+use Rattle.hub_trials.proofs.table.drop_row.Tie as tie
 
 abbrev Inv-loop : tie.InvT-loop
 Inv-loop t₀ row i₀ t i = (i ≤ 3000) × (length t ≡ length t₀)

@@ -1,19 +1,19 @@
 // One number of a state with held packets is changed: rows, and what is remembered of their connections.
 use crate::held;
-use crate::state::connection;
-use crate::state::link_of_one;
-use crate::state::with_bound;
-use crate::state::with_clock;
-use crate::table::ARRIVAL;
-use crate::table::CONNECTION;
-use crate::table::ELIGIBILITY;
-use crate::table::GAP;
-use crate::table::LAST;
-use crate::table::LENGTH;
-use crate::table::SENT;
-use crate::table::TAG;
-use crate::tally::Tally;
-use crate::world;
+use hub_trials::state::connection;
+use hub_trials::state::link_of_one;
+use hub_trials::state::with_bound;
+use hub_trials::state::with_clock;
+use hub_trials::table::ARRIVAL;
+use hub_trials::table::CONNECTION;
+use hub_trials::table::ELIGIBILITY;
+use hub_trials::table::GAP;
+use hub_trials::table::LAST;
+use hub_trials::table::LENGTH;
+use hub_trials::table::SENT;
+use hub_trials::table::TAG;
+use hub_trials::tally::Tally;
+use hub_trials::world;
 
 // The connection of a row, and its length.
 pub fn names() -> Tally {

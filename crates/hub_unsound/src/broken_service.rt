@@ -1,16 +1,16 @@
 // The packet in service, and two clauses at once.
 use crate::held;
-use crate::state::with_clock;
-use crate::state::with_largest;
-use crate::state::with_levels;
-use crate::state::with_line;
-use crate::table::ARRIVAL;
-use crate::table::CONNECTION;
-use crate::table::ELIGIBILITY;
-use crate::table::LENGTH;
-use crate::table::LEVEL;
-use crate::table::SENT;
-use crate::tally::Tally;
+use hub_trials::state::with_clock;
+use hub_trials::state::with_largest;
+use hub_trials::state::with_levels;
+use hub_trials::state::with_line;
+use hub_trials::table::ARRIVAL;
+use hub_trials::table::CONNECTION;
+use hub_trials::table::ELIGIBILITY;
+use hub_trials::table::LENGTH;
+use hub_trials::table::LEVEL;
+use hub_trials::table::SENT;
+use hub_trials::tally::Tally;
 
 // Units to go: 0 is in service with a length of 3, 1 waits with a length of 4.
 pub fn units() -> Tally {

@@ -1,9 +1,9 @@
 // States with held packets, made by calls, of which the cases change one number.
-use crate::state::connection;
-use crate::state::link_of_one;
-use crate::state::link_of_two;
-use crate::world;
-use crate::world::World;
+use hub_trials::state::connection;
+use hub_trials::state::link_of_one;
+use hub_trials::state::link_of_two;
+use hub_trials::world;
+use hub_trials::world::World;
 
 // S 4, bounds 40 and 80; 0 (1, 10, 4), 1 (2, 20, 4), 2 (2, 80, 2), 3 (1, 40, 1), with reservations 4, 4, 1 and 1.
 // Level 1: 4 * 4 + 1 + 4 = 21 of 40; level 2: 8 * 4 + 4 * 4 + 2 + 2 * 1 + 4 = 56 of 80.

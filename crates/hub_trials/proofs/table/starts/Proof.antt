@@ -1,9 +1,9 @@
--- `hub_cases::table::starts` meets its contract: the place rises to the end.
+-- `hub_trials::table::starts` meets its contract: the place rises to the end.
 use lib.ListN.{length}
 use Prim.Native.Nat.{_-_, _≤_}
 use borrow.Author.Needs.{needs}
-use Rattle.hub_cases.proofs.table.starts.Statement.{statement}
-use Rattle.hub_cases.proofs.table.starts.Tie as tie
+use Rattle.hub_trials.proofs.table.starts.Statement.{statement}
+use Rattle.hub_trials.proofs.table.starts.Tie as tie
 
 abbrev Inv-loop : tie.InvT-loop
 Inv-loop copied t i₀ i = i ≤ length t

@@ -1,8 +1,8 @@
--- `hub_cases::state::same_bounds` meets its contract: the place stays within eight.
+-- `hub_trials::state::same_bounds` meets its contract: the place stays within eight.
 use Prim.Native.Nat.{_-_, _≤_}
 use borrow.Author.Needs.{needs}
-use Rattle.hub_cases.proofs.state.same_bounds.Statement.{statement}
-use Rattle.hub_cases.proofs.state.same_bounds.Tie as tie
+use Rattle.hub_trials.proofs.state.same_bounds.Statement.{statement}
+use Rattle.hub_trials.proofs.state.same_bounds.Tie as tie
 
 abbrev Inv-loop : tie.InvT-loop
 Inv-loop a b i₀ i = i ≤ 8

@@ -1,17 +1,17 @@
 // One number of the connections is changed, with nothing sent: limits, level tests, reservations, marks, and what stands behind them.
-use crate::state::connection;
-use crate::state::link_a;
-use crate::state::link_of_one;
-use crate::state::with_bound;
-use crate::state::with_clock;
-use crate::table::GAP;
-use crate::table::LAST;
-use crate::table::LEVEL;
-use crate::table::SENT;
-use crate::table::SIZE;
-use crate::tally::Tally;
-use crate::world;
-use crate::world::World;
+use hub_trials::state::connection;
+use hub_trials::state::link_a;
+use hub_trials::state::link_of_one;
+use hub_trials::state::with_bound;
+use hub_trials::state::with_clock;
+use hub_trials::table::GAP;
+use hub_trials::table::LAST;
+use hub_trials::table::LEVEL;
+use hub_trials::table::SENT;
+use hub_trials::table::SIZE;
+use hub_trials::tally::Tally;
+use hub_trials::world;
+use hub_trials::world::World;
 
 // P1 to P3: link A with 0 (1, 10, 4), 1 (2, 20, 4) and 2 (1, 9, 1); sums 10 of 10 and 19 of 20.
 fn three() -> World {

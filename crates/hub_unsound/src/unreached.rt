@@ -1,13 +1,13 @@
 // Sound states that no run reaches: not 1, and the answers that the rules give.
 use crate::held;
-use crate::state::link_b;
-use crate::state::with_clock;
-use crate::state::with_line;
-use crate::table::ARRIVAL;
-use crate::table::GAP;
-use crate::table::LAST;
-use crate::table::SENT;
-use crate::tally::Tally;
+use hub_trials::state::link_b;
+use hub_trials::state::with_clock;
+use hub_trials::state::with_line;
+use hub_trials::table::ARRIVAL;
+use hub_trials::table::GAP;
+use hub_trials::table::LAST;
+use hub_trials::table::SENT;
+use hub_trials::tally::Tally;
 
 // As many units to go as the length: none has gone yet.
 pub fn whole_length() -> Tally {

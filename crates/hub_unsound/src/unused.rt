@@ -1,14 +1,14 @@
 // No link set, and one number that is not zero.
-use crate::state::connection;
-use crate::state::link_b;
-use crate::state::with_bound;
-use crate::state::with_clock;
-use crate::state::with_largest;
-use crate::state::with_levels;
-use crate::state::with_line;
-use crate::tally::Tally;
-use crate::world;
-use crate::world::World;
+use hub_trials::state::connection;
+use hub_trials::state::link_b;
+use hub_trials::state::with_bound;
+use hub_trials::state::with_clock;
+use hub_trials::state::with_largest;
+use hub_trials::state::with_levels;
+use hub_trials::state::with_line;
+use hub_trials::tally::Tally;
+use hub_trials::world;
+use hub_trials::world::World;
 
 // The link's numbers.
 pub fn link() -> Tally {

@@ -1,8 +1,8 @@
--- `hub_cases::table::unused_row` meets its contract: the row stays within 600.
+-- `hub_trials::table::unused_row` meets its contract: the row stays within 600.
 use Prim.Native.Nat.{_-_, _≤_}
 use borrow.Author.Needs.{needs}
-use Rattle.hub_cases.proofs.table.unused_row.Statement.{statement}
-use Rattle.hub_cases.proofs.table.unused_row.Tie as tie
+use Rattle.hub_trials.proofs.table.unused_row.Statement.{statement}
+use Rattle.hub_trials.proofs.table.unused_row.Tie as tie
 
 abbrev Inv-loop : tie.InvT-loop
 Inv-loop t i₀ i = i ≤ 600

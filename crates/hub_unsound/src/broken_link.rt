@@ -1,12 +1,12 @@
 // A link is set and one of its numbers is changed: unsound where a limit is broken.
-use crate::state::link_a;
-use crate::state::link_of;
-use crate::state::link_of_one;
-use crate::state::with_bound;
-use crate::state::with_largest;
-use crate::state::with_levels;
-use crate::tally::Tally;
-use crate::world;
+use hub_trials::state::link_a;
+use hub_trials::state::link_of;
+use hub_trials::state::link_of_one;
+use hub_trials::state::with_bound;
+use hub_trials::state::with_largest;
+use hub_trials::state::with_levels;
+use hub_trials::tally::Tally;
+use hub_trials::world;
 
 // Levels of a link of two: 10, 20.
 pub fn levels() -> Tally {

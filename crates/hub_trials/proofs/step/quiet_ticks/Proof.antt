@@ -1,37 +1,28 @@
--- `hub_cases::table::copy` meets its contract: the table written keeps its length.
+-- `hub_trials::step::quiet_ticks` meets its contract: the ticks made rise to those asked for, and the table keeps its length.
 use mathlib.Core.Path.{_≡_}
 use lib.ListN.{length}
 use Prim.Native.Nat.{_-_, _≤_}
 use borrow.Author.Needs.{needs}
-use Rattle.hub_cases.proofs.table.copy.Statement.{statement}
-use Rattle.hub_cases.proofs.table.copy.Tie as tie
+use Rattle.hub_trials.proofs.step.quiet_ticks.Statement.{statement}
+use Rattle.hub_trials.proofs.step.quiet_ticks.Tie as tie
 
 abbrev Inv-loop : tie.InvT-loop
-Inv-loop from to₀ i₀ to i = (i ≤ length from) × (length to ≡ length to₀)
+Inv-loop h cs t₀ n g₀ i₀ t g i = (i ≤ n) × (length t ≡ length t₀)
 
 abbrev μ-loop : tie.MeasureT-loop
-μ-loop from to₀ i₀ to i = length from - i
+μ-loop h cs t₀ n g₀ i₀ t g i = n - i
 
 loop-holds : tie.Need-loop-holds Inv-loop μ-loop
 loop-holds c = search needs
+
+tick-requires : tie.Need-tick-requires Inv-loop μ-loop
+tick-requires c κs = search needs
 
 same-length : tie.Need-same-length Inv-loop μ-loop
 same-length c = search needs
 
 returns : tie.Need-returns Inv-loop μ-loop
 returns c = search needs
-
-mul-to : tie.Need-mul-to Inv-loop μ-loop
-mul-to c = search needs
-
-shared-slice-read-to : tie.Need-shared-slice-read-to Inv-loop μ-loop
-shared-slice-read-to c = search needs
-
-mul-to-2 : tie.Need-mul-to-2 Inv-loop μ-loop
-mul-to-2 c = search needs
-
-slice-write-to : tie.Need-slice-write-to Inv-loop μ-loop
-slice-write-to c = search needs
 
 add-i : tie.Need-add-i Inv-loop μ-loop
 add-i c = search needs
@@ -48,19 +39,16 @@ same-length-2 c = search needs
 returns-2 : tie.Need-returns-2 Inv-loop μ-loop
 returns-2 c = search needs
 
-pub copy-spec : {M : Type 1} → statement M
-copy-spec =
+pub quiet-ticks-spec : {M : Type 1} → statement M
+quiet-ticks-spec =
     tie.close
     (tie.spec
     Inv-loop
     μ-loop
     loop-holds
+    tick-requires
     same-length
     returns
-    mul-to
-    shared-slice-read-to
-    mul-to-2
-    slice-write-to
     add-i
     loop-less
     loop-again

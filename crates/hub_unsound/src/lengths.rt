@@ -1,11 +1,11 @@
 // Tables of a wrong length, lent as parts of larger ones; and tables of any numbers.
-use crate::probe;
-use crate::state::connection;
-use crate::state::link_b;
-use crate::table;
-use crate::tally::Tally;
-use crate::world;
-use crate::world::World;
+use hub_trials::probe;
+use hub_trials::state::connection;
+use hub_trials::state::link_b;
+use hub_trials::table;
+use hub_trials::tally::Tally;
+use hub_trials::world;
+use hub_trials::world::World;
 use service::Hub;
 
 // The first n numbers of one table as connections and the first m of another as places: not sound.
