@@ -21,7 +21,8 @@ const MAX_CONNECTIONS: usize = 64;
 
 const MAX_RESERVED: u64 = 512;
 
-const CLOCK_END: u32 = 4000000000;
+// The clock's end.
+pub const CLOCK_END: u32 = 4000000000;
 
 const NO_CONNECTION: u32 = 255;
 

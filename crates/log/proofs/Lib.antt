@@ -1,3 +1,4 @@
 pub mod ReadLaws
+pub mod IdleLaws
 pub mod StepLaws
 pub mod OutcomeLaws

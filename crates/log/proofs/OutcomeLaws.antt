@@ -6,6 +6,7 @@ use mathlib.Core.Bool.{Bool}
 use mathlib.Core.List.{List}
 use lib.Dec.{ltb, eqb}
 use lib.ListN.{length, drop}
+use borrow.Author.Tests.{eqb-false}
 use Rattle.rules.specs.Model.{State, link, admit, offer, tick}
 use Rattle.rules.specs.SoundState.{Sound}
 use Rattle.rules.specs.Calls.{answer}
@@ -16,8 +17,9 @@ use Rattle.log.specs.declared.Phase.{Phase}
 use Rattle.log.specs.declared.Phase.the-variants.{Reading, Ticking, Finished}
 use Rattle.log.specs.declared.Status.the-variants.{Done}
 use Rattle.log.specs.Log.{read-at, link-named}
-use Rattle.log.specs.Steps.{longest-record, Point, point, Next, record-next, read-next, tick-next, phase-next, next, is-go, onward, steps}
+use Rattle.log.specs.Steps.{longest-record, Point, point, Next, record-next, read-next, one-tick, idle-ticks, tick-next, phase-next, next, is-go, onward, steps}
 use Rattle.log.proofs.ReadLaws.{pick-by}
+use Rattle.log.proofs.IdleLaws.{idle-passes}
 
 -- where a replay is done it is finished; and the state after it is sound
 pub record Ends-well (n : Next) : Type 0 where
@@ -40,11 +42,17 @@ module _ (s : State) (S : Sound s) where
       (λ _. pick-by Ends-well (eqb (length w) 0) _ _ (λ _. record { finished = λ e. refl; sound = S }) (λ _. record-ends (read-at at w .what) (read-at at w .taken) at))
       (λ _. pick-by Ends-well (ltb (length w) longest-record) _ _ (λ _. record { finished = λ e. cc; sound = S }) (λ _. record-ends (read-at at w .what) (read-at at w .taken) at))
 
+  one-tick-ends-well : (at asked left : ℕ) → Ends-well (one-tick at asked left s)
+  unfolding one-tick
+  one-tick-ends-well at asked left =
+      pick-by Ends-well (eqb (answer tick s .verdict) 0) _ _ (λ _. record { finished = λ e. cc; sound = kept tick s S }) (λ _. record { finished = λ e. cc; sound = kept tick s S })
+
   tick-ends-well : (at asked left : ℕ) → Ends-well (tick-next at asked left s)
   unfolding tick-next
   tick-ends-well at asked left =
       pick-by Ends-well (eqb left 0) _ _ (λ _. record { finished = λ e. cc; sound = S })
-      (λ _. pick-by Ends-well (eqb (answer tick s .verdict) 0) _ _ (λ _. record { finished = λ e. cc; sound = kept tick s S }) (λ _. record { finished = λ e. cc; sound = kept tick s S }))
+      (λ _. pick-by Ends-well (eqb (idle-ticks left s) 0) _ _ (λ _. one-tick-ends-well at asked left)
+      (λ z. record { finished = λ e. cc; sound = idle-passes asked left s (eqb-false _ _ z) .quiet-still .sound-state }))
 
   phase-ends-well : (q : Phase) (at : ℕ) (w : List ℕ) (last : Bool) → Ends-well (phase-next q at s w last)
   phase-ends-well Reading at w last = read-ends-well at w last

@@ -17,9 +17,10 @@ use Rattle.records.specs.declared.Reply.the-variants.{Linked, Admitted, Offered
 use Rattle.records.specs.Answers.{answer-bytes}
 use Rattle.log.specs.declared.Phase.{Phase}
 use Rattle.log.specs.declared.Phase.the-variants.{Reading, Ticking, Finished}
-use Rattle.log.specs.Log.{read-at, tick-log, ticks-log, ticks-end, link-named, record-log, log-within, log-from}
-use Rattle.log.specs.Steps.{longest-record, Point, point, Next, goes, record-next, found-next, read-next, tick-next, phase-next, next, is-go, onward, steps, to-come}
+use Rattle.log.specs.Log.{read-at, tick-log, all-done-verdict, ticks-log, ticks-end, link-named, record-log, log-within, log-from}
+use Rattle.log.specs.Steps.{longest-record, Point, point, Next, goes, record-next, found-next, read-next, one-tick, idle-ticks, tick-next, phase-next, next, is-go, onward, steps, to-come}
 use Rattle.log.proofs.ReadLaws.{pick-by, read-lies, read-onward}
+use Rattle.log.proofs.IdleLaws.{idle-passes}
 
 -- ---- the log record by record: the number of records allowed makes no difference once it is that of the bytes
 
@@ -107,14 +108,29 @@ tick-cases : (b : Bool) (at asked left : ℕ) (s : State) (w u gone ta : List �
 tick-cases true at asked left s w u gone ta = append-assoc gone _ _
 tick-cases false at asked left s w u gone ta = refl
 
-tick-keeps : (at asked left : ℕ) (s : State) (w u : List ℕ) → Keeps (point at (Ticking asked left) s) w u (tick-next at asked left s)
-unfolding tick-next ticks-log ticks-end
-tick-keeps at asked zero s w u = refl
-tick-keeps at asked (suc left) s w u =
+one-tick-keeps : (at asked left : ℕ) (s : State) (w u : List ℕ) → (left ≡ 0 → ⊥) → Keeps (point at (Ticking asked left) s) w u (one-tick at asked left s)
+unfolding one-tick ticks-log ticks-end
+one-tick-keeps at asked zero s w u n = absurd (n refl)
+one-tick-keeps at asked (suc left) s w u n =
     let e : suc left - 1 ≡ left = omega arith in
-    rw (ne-eqb (suc left) 0 (omega arith), e)
+    rw e
     (tick-cases (eqb (answer tick s .verdict) 0) at asked left (answer tick s .next) w u (tick-log (answer tick s))
     (answer-bytes (Ticked (answer tick s .verdict) (asked - suc left))))
+
+all-done-keeps : (at asked left : ℕ) (s : State) (w u : List ℕ) → left ≡ 0
+    → Keeps (point at (Ticking asked left) s) w u (goes at Reading s 0 (answer-bytes (Ticked (all-done-verdict asked s) asked)))
+unfolding ticks-log ticks-end
+all-done-keeps at asked zero s w u e = refl
+all-done-keeps at asked (suc left) s w u e = absurd (omega arith)
+
+tick-keeps : (at asked left : ℕ) (s : State) (w u : List ℕ) → Keeps (point at (Ticking asked left) s) w u (tick-next at asked left s)
+unfolding tick-next
+tick-keeps at asked left s w u =
+    pick-by (Keeps (point at (Ticking asked left) s) w u) (eqb left 0) _ _
+    (λ e. all-done-keeps at asked left s w u (eqb-true _ _ e))
+    (λ e. pick-by (Keeps (point at (Ticking asked left) s) w u) (eqb (idle-ticks left s) 0) _ _
+    (λ _. one-tick-keeps at asked left s w u (eqb-false _ _ e))
+    (λ z. let p = idle-passes asked left s (eqb-false _ _ z) in rw (p .same-log, p .same-end)))
 
 phase-keeps : (q : Phase) (at : ℕ) (s : State) (w u : List ℕ) (last : Bool) → (last ≡ true → u ≡ []) → Keeps (point at q s) w u (phase-next q at s w last)
 phase-keeps Reading at s w u last g = read-keeps at s w u last g

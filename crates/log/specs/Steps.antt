@@ -1,12 +1,14 @@
 -- One step of a replay and many, by the rules: at most one answer record a step. Assumes nothing.
 use Prim.Native.Nat.{ℕ, zero, suc, _+_, _*_, _-_}
-use mathlib.Core.Bool.{Bool, true, false}
+use mathlib.Core.Bool.{Bool, true, false, not, _&&_}
 use mathlib.Core.List.{List, [], _++_}
 use lib.Dec.{ltb, eqb}
 use lib.ListN.{length, drop}
 use Rattle.rules.specs.declared.Link.{Link}
 use Rattle.rules.specs.declared.Connection.{Connection}
 use Rattle.rules.specs.Model.{State, link, admit, offer, tick, fresh}
+use Rattle.rules.specs.Limits.{clock-end}
+use Rattle.rules.specs.SoundTest.{sound}
 use Rattle.rules.specs.Calls.{answer}
 use Rattle.records.specs.Numbers.{pick}
 use Rattle.records.specs.declared.Record.{Record}
@@ -86,14 +88,43 @@ read-next at s w last =
     (pick (eqb (length w) 0) (still (point at Finished s) Done) (found-next (read-at at w) at s))
     (pick (ltb (length w) longest-record) (still (point at Reading s) MoreBytes) (found-next (read-at at w) at s))
 
--- a step of a `TK`: one tick, or its `TA`
+-- ---- a step of a `TK`
+
+-- one tick, where `left` of `asked` are still to run
+unfoldable pub one-tick : ℕ → ℕ → ℕ → State → Next
+one-tick at asked left s =
+    pick (eqb (answer tick s .verdict) 0)
+    (goes at (Ticking asked (left - 1)) (answer tick s .next) 0 (tick-log (answer tick s)))
+    (goes at Reading (answer tick s .next) 0 (answer-bytes (Ticked (answer tick s .verdict) (asked - left))))
+
+-- the state k ticks on, where nothing happens in them
+abbrev pub passed : State → ℕ → State
+passed s k = record {
+  link = s .link;
+  connections = s .connections;
+  pasts = s .pasts;
+  clock = s .clock + k;
+  held = s .held;
+  serving = s .serving;
+  to-go = s .to-go;
+}
+
+-- nothing can happen: a link is set, and no packet is held
+unfoldable pub idle : State → Bool
+idle s = sound s && (not (eqb (s .link .levels) 0) && eqb (length (s .held)) 0)
+
+-- of `left` ticks those that are passed over at once: up to the clock's end
+unfoldable pub idle-ticks : ℕ → State → ℕ
+idle-ticks left s = pick (idle s) (pick (ltb (clock-end - s .clock) left) (clock-end - s .clock) left) 0
+
+-- idle ticks, or one tick, or the `TA`
 unfoldable pub tick-next : ℕ → ℕ → ℕ → State → Next
 tick-next at asked left s =
     pick (eqb left 0)
     (goes at Reading s 0 (answer-bytes (Ticked (all-done-verdict asked s) asked)))
-    (pick (eqb (answer tick s .verdict) 0)
-    (goes at (Ticking asked (left - 1)) (answer tick s .next) 0 (tick-log (answer tick s)))
-    (goes at Reading (answer tick s .next) 0 (answer-bytes (Ticked (answer tick s .verdict) (asked - left)))))
+    (pick (eqb (idle-ticks left s) 0)
+    (one-tick at asked left s)
+    (goes at (Ticking asked (left - idle-ticks left s)) (passed s (idle-ticks left s)) 0 []))
 
 abbrev pub phase-next : Phase → ℕ → State → List ℕ → Bool → Next
 phase-next Reading at s w last = read-next at s w last

@@ -12,8 +12,8 @@ use Rattle.log.specs.declared.Stepped.{Stepped}
 use Rattle.log.specs.declared.Status.the-variants.{GoOn, MoreBytes, Done}
 use Rattle.log.specs.Log.{trace-limit, log}
 use Rattle.log.specs.Steps.{work}
-use Rattle.steps.specs.Tie.{Facts}
-use Rattle.steps.proofs.WriteLaws.{part-back}
+use Rattle.ticks.specs.Tie.{Facts}
+use Rattle.ticks.proofs.WriteLaws.{part-back}
 use Rattle.replay.specs.Slides.{slide-length, slid}
 use Rattle.replay.specs.Sessions.{Pumps, Session}
 use Rattle.replay.specs.Sessions.Session.{more, pump}

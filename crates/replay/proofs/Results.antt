@@ -20,7 +20,7 @@ use Rattle.log.specs.Steps.{longest-answer, Point, point, Next, still, beginnin
 use Rattle.log.proofs.ReadLaws.{pick-by}
 use Rattle.log.proofs.StepLaws.{Keeps, step-keeps, steps-keep}
 use Rattle.log.proofs.OutcomeLaws.{Ends-well, step-ends-well, steps-end-well}
-use Rattle.steps.specs.Tie.{point-of, cursor-of, Did, in-room, Does}
+use Rattle.ticks.specs.Tie.{point-of, cursor-of, Did, in-room, Does}
 use Rattle.replay.specs.Sessions.{Steps, Pumps, Session}
 use Rattle.replay.specs.Sessions.Session.{start, more, step, pump}
 use Rattle.replay.specs.Promises.{Writes-the-log, Done-is-finished}

@@ -15,7 +15,7 @@ use Rattle.calls.specs.Acts.{sound-hub, members-of, places-of}
 use Rattle.log.specs.Log.{trace-limit}
 use Rattle.log.specs.Steps.{longest-answer, next, joined, onward, steps, is-go, work}
 use Rattle.log.proofs.OutcomeLaws.{steps-end-well}
-use Rattle.steps.specs.Tie.{point-of, cursor-of, over, Did, Did-from, Facts}
+use Rattle.ticks.specs.Tie.{point-of, cursor-of, over, Did, Did-from, Facts}
 use Rattle.steps.proofs.FactLaws.{next-short}
 use Rattle.replay.proofs.Standing.{Stands, stands-sound, stands-there, stands-of}
 

@@ -19,7 +19,7 @@ use Rattle.log.specs.declared.Status.the-variants.{GoOn, MoreRoom, NotSound}
 use Rattle.log.specs.declared.Stepped.{Stepped}
 use Rattle.log.specs.Steps.{longest-answer, Point, point, Next, still, is-go}
 use Rattle.log.proofs.OutcomeLaws.{Ends-well}
-use Rattle.steps.specs.Tie.{point-of, cursor-of, nothing-done, Did, in-room, Does, Facts}
+use Rattle.ticks.specs.Tie.{point-of, cursor-of, nothing-done, Did, in-room, Does, Facts}
 use Rattle.steps.proofs.FactLaws.{waits-facts}
 use Rattle.replay.specs.Sessions.{readiness}
 

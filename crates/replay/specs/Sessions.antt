@@ -14,7 +14,7 @@ use Rattle.log.specs.declared.Status.{Status}
 use Rattle.log.specs.declared.Status.the-variants.{GoOn, MoreRoom, NotSound}
 use Rattle.log.specs.declared.Stepped.{Stepped}
 use Rattle.log.specs.Steps.{longest-answer, beginning, next, steps}
-use Rattle.steps.specs.Tie.{point-of, cursor-of, in-room, Does}
+use Rattle.ticks.specs.Tie.{point-of, cursor-of, in-room, Does}
 
 -- whether a step can be made, with a room of r bytes
 unfoldable pub readiness : Cursor → List ℕ → List ℕ → ℕ → Status

@@ -3,7 +3,7 @@ use Prim.Native.Nat.{ℕ, zero, suc, _+_, _-_, _<_, _≤_}
 use native.Mathlib.Omega.{arith}
 use mathlib.Core.Path.{_≡_, refl, sym, ap, _∙_, subst}
 use mathlib.Core.Bool.{Bool, true, false}
-use mathlib.Core.List.{List}
+use mathlib.Core.List.{List, []}
 use mathlib.Core.Option.{Option, none, some}
 use lib.Dec.{ltb, eqb}
 use lib.ListN.{length}
@@ -22,11 +22,11 @@ use Rattle.log.specs.declared.Cursor.{Cursor}
 use Rattle.log.specs.declared.Status.{Status}
 use Rattle.log.specs.declared.Status.the-variants.{MoreBytes, Done}
 use Rattle.log.specs.declared.Stepped.{Stepped}
-use Rattle.log.specs.Log.{trace-limit, departure, tick-log}
-use Rattle.log.specs.Steps.{longest-record, longest-answer, Point, point, Next, still, goes, record-next, found-next, read-next, tick-next, phase-next, next, is-go, weight}
-use Rattle.log.specs.Log.{read-at, all-done-verdict}
+use Rattle.log.specs.Log.{trace-limit, departure, tick-log, read-at, all-done-verdict}
+use Rattle.log.specs.Steps.{longest-record, longest-answer, Point, point, Next, still, goes, record-next, found-next, read-next, one-tick, passed, idle-ticks, tick-next, phase-next, next, is-go, weight}
 use Rattle.log.proofs.ReadLaws.{pick-by, answer-short}
-use Rattle.steps.specs.Tie.{cursor-at, point-of, stepped-of, nothing-done, Facts}
+use Rattle.log.proofs.IdleLaws.{idles}
+use Rattle.ticks.specs.Tie.{cursor-at, point-of, stepped-of, nothing-done, Facts}
 
 -- nothing is done
 pub waits-facts : (at : ℕ) (q q′ : Phase) (h : Hub) (len : ℕ) (last : Bool) (r : ℕ) (k : Status) → weight q′ ≤ weight q
@@ -108,20 +108,30 @@ goes-facts : (at asked left : ℕ) (h : Hub) (p : Phase) (s : State) (bs : List 
 goes-facts at asked left h p s bs len last r w b m =
     record { used = omega arith; wrote = omega arith; place = omega arith; within = λ l. l; never-more = omega arith; less = λ _. omega arith; wants = λ e. cc }
 
-pub tick-facts : (at asked left : ℕ) (s : State) (h : Hub) (len : ℕ) (last : Bool) (r : ℕ) (a : Stepped) → longest-answer ≤ r
-    → a ≡ stepped-of (tick-next at asked left s) → Facts (cursor-at at (Ticking asked left) h) len last r a
-unfolding tick-next
-tick-facts at asked left s h len last r a m e =
-    rw e
-    (pick-by P (eqb left 0) _ _
-    (λ _. goes-facts at asked left h Reading s (answer-bytes (Ticked (all-done-verdict asked s) asked)) len last r (omega arith) (answer-short (Ticked (all-done-verdict asked s) asked)) m)
-    (λ z. pick-by P (eqb (answer tick s .verdict) 0) _ _
-    (λ _. goes-facts at asked left h (Ticking asked (left - 1)) (answer tick s .next) (tick-log (answer tick s)) len last r
-    (let n : left ≡ 0 → ⊥ = eqb-false _ _ z in omega arith) (departure-short (answer tick s .departed) (answer tick s .next .clock)) m)
-    (λ _. goes-facts at asked left h Reading (answer tick s .next) (answer-bytes (Ticked (answer tick s .verdict) (asked - left))) len last r (omega arith) (answer-short (Ticked (answer tick s .verdict) (asked - left))) m)))
-  where
-    P : Next → Type 0
-    P n = Facts (cursor-at at (Ticking asked left) h) len last r (stepped-of n)
+module _ (at asked left : ℕ) (s : State) (h : Hub) (len : ℕ) (last : Bool) (r : ℕ) (m : longest-answer ≤ r) where
+  abbrev Kept : Next → Type 0
+  Kept n = Facts (cursor-at at (Ticking asked left) h) len last r (stepped-of n)
+
+  one-tick-facts : (left ≡ 0 → ⊥) → Kept (one-tick at asked left s)
+  unfolding one-tick
+  one-tick-facts z =
+      pick-by Kept (eqb (answer tick s .verdict) 0) _ _
+      (λ _. goes-facts at asked left h (Ticking asked (left - 1)) (answer tick s .next) (tick-log (answer tick s)) len last r
+      (omega arith) (departure-short (answer tick s .departed) (answer tick s .next .clock)) m)
+      (λ _. goes-facts at asked left h Reading (answer tick s .next) (answer-bytes (Ticked (answer tick s .verdict) (asked - left))) len last r (omega arith) (answer-short (Ticked (answer tick s .verdict) (asked - left))) m)
+
+  next-tick-facts : Kept (tick-next at asked left s)
+  unfolding tick-next
+  next-tick-facts =
+      pick-by Kept (eqb left 0) _ _
+      (λ _. goes-facts at asked left h Reading s (answer-bytes (Ticked (all-done-verdict asked s) asked)) len last r (omega arith) (answer-short (Ticked (all-done-verdict asked s) asked)) m)
+      (λ z. let n : left ≡ 0 → ⊥ = eqb-false _ _ z in
+      pick-by Kept (eqb (idle-ticks left s) 0) _ _ (λ _. one-tick-facts n)
+      (λ y. let k : idle-ticks left s ≡ 0 → ⊥ = eqb-false _ _ y in
+      goes-facts at asked left h (Ticking asked (left - idle-ticks left s)) (passed s (idle-ticks left s)) [] len last r (omega (arith, idles left s k .few)) (omega arith) m))
+
+  pub tick-facts : (a : Stepped) → a ≡ stepped-of (tick-next at asked left s) → Facts (cursor-at at (Ticking asked left) h) len last r a
+  tick-facts a e = rw e next-tick-facts
 
 -- ---- which case a step is
 
@@ -154,7 +164,7 @@ facts-phase c e len last r a f = subst (λ p. Facts (cursor-at (c .at) p (c .hub
 -- ---- a step writes one answer at most
 
 phase-short : (q : Phase) (at : ℕ) (s : State) (w : List ℕ) (last : Bool) → length (phase-next q at s w last .bytes) ≤ longest-answer
-unfolding read-next tick-next
+unfolding read-next tick-next one-tick
 phase-short Reading at s w last =
     pick-by Short last _ _
     (λ _. pick-by Short (eqb (length w) 0) _ _ (λ _. omega arith) (λ _. record-short (read-at at w .what) (read-at at w .taken) at s))
@@ -164,8 +174,10 @@ phase-short Reading at s w last =
     Short n = length (n .bytes) ≤ longest-answer
 phase-short (Ticking asked left) at s w last =
     pick-by Short (eqb left 0) _ _ (λ _. answer-short (Ticked (all-done-verdict asked s) asked))
+    (λ _. pick-by Short (eqb (idle-ticks left s) 0) _ _
     (λ _. pick-by Short (eqb (answer tick s .verdict) 0) _ _
     (λ _. departure-short (answer tick s .departed) (answer tick s .next .clock)) (λ _. answer-short (Ticked (answer tick s .verdict) (asked - left))))
+    (λ _. omega arith))
   where
     Short : Next → Type 0
     Short n = length (n .bytes) ≤ longest-answer

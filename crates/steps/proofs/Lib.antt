@@ -1,3 +1,2 @@
-pub mod WriteLaws
-pub mod CallLaws
+pub mod ReadAtLaws
 pub mod FactLaws

@@ -1,18 +1,17 @@
 // One step of a replay: at most one answer record. Document 01, "Trace and answer records" and "One tick".
 ghost use mathlib.Core.Path.{_≡_};
 ghost use mathlib.Core.Bool.{true};
-ghost use mathlib.Core.List.{[], _∷_};
-ghost use Prim.Native.Nat.{_+_, _-_, _%_, _≤_};
+ghost use Prim.Native.Nat.{_+_, _-_, _≤_};
 ghost use lib.ListN.{length};
 ghost use Rattle.records.specs.Answers.{answer-bytes};
 ghost use Rattle.records.specs.declared.Reply.the-variants.{Broken};
 ghost use Rattle.service.specs.View.{view};
 ghost use Rattle.calls.specs.Acts.{sound-hub};
 ghost use Rattle.log.specs.declared.Phase.the-variants.{Reading, Finished};
-ghost use Rattle.log.specs.declared.Status.the-variants.{GoOn, Done};
-ghost use Rattle.log.specs.Log.{trace-limit, read-at, all-done-verdict, link-named};
-ghost use Rattle.log.specs.Steps.{longest-answer, link-next, admit-next, offer-next, record-next, found-next, read-next, tick-next, next, weight};
-ghost use Rattle.steps.specs.Tie.{cursor-at, point-of, over, told-log, nothing-done, Did, in-room, Does, Facts};
+ghost use Rattle.log.specs.declared.Status.the-variants.{Done};
+ghost use Rattle.log.specs.Log.{trace-limit, read-at, link-named};
+ghost use Rattle.log.specs.Steps.{longest-answer, link-next, admit-next, offer-next, found-next, read-next, next, weight};
+ghost use Rattle.ticks.specs.Tie.{cursor-at, point-of, over, nothing-done, Did, Facts};
 use log::Cursor;
 use log::Phase;
 use log::Status;
@@ -28,17 +27,8 @@ use service::Told;
 // No trace is longer.
 pub const LIMIT: usize = 16777216;
 
-// The longest trace record, and the longest answer.
+// The longest trace record.
 pub const LONGEST_RECORD: usize = 21;
-
-pub const LONGEST_ANSWER: usize = 19;
-
-// The low byte of a number. An answer's numbers of one byte are no larger.
-fn low(v: u32) -> u8
-    ensures { λ r. ⌜ r ≡ v % 256 ⌝ }
-{
-    (v % 256) as u8
-}
 
 // The record that the bytes start with, at offset `at` of the trace: malformed where it would end beyond the limit.
 fn read_at(s: &[u8], at: u32) -> Found
@@ -61,24 +51,6 @@ fn read_at(s: &[u8], at: u32) -> Found
     f
 }
 
-// A step with an answer: it is written, and a record is read next.
-fn answered(at: u32, hub: Hub, used: usize, reply: Reply, out: &mut [u8]) -> Stepped
-    requires { ⌜ longest-answer ≤ length (now out) ⌝ }
-    ensures { λ r. ⌜ (r ≡ record { cursor = cursor-at at Reading hub; used = used; wrote = length (answer-bytes reply); status = GoOn }) × (now (out .exit) ≡ over (answer-bytes reply) (now (out .entry))) ⌝ }
-{
-    let wrote = records::answer::write(reply, out);
-    Stepped {
-        cursor: Cursor {
-            at: at,
-            phase: Phase::Reading,
-            hub: hub,
-        },
-        used: used,
-        wrote: wrote,
-        status: Status::GoOn,
-    }
-}
-
 // `LK`, which took `used` bytes and ends at offset `at`.
 fn link_step(
     h: Hub,
@@ -94,9 +66,9 @@ fn link_step(
 {
     let told = calls::link_tested(h, cs, t, l);
     let reply = Reply::Linked {
-        verdict: low(told.verdict),
+        verdict: ticks::low(told.verdict),
     };
-    answered(at, told.hub, used, reply, out)
+    ticks::answered(at, told.hub, used, reply, out)
 }
 
 // `CN`, the same.
@@ -114,10 +86,10 @@ fn admit_step(
 {
     let told = calls::admit_tested(h, cs, t, x);
     let reply = Reply::Admitted {
-        verdict: low(told.verdict),
-        connection: low(told.number),
+        verdict: ticks::low(told.verdict),
+        connection: ticks::low(told.number),
     };
-    answered(at, told.hub, used, reply, out)
+    ticks::answered(at, told.hub, used, reply, out)
 }
 
 // `PK`, the same.
@@ -137,10 +109,10 @@ fn offer_step(
 {
     let told = calls::offer_tested(h, cs, t, c, len, tag);
     let reply = Reply::Offered {
-        verdict: low(told.verdict),
+        verdict: ticks::low(told.verdict),
         eligibility: told.number,
     };
-    answered(at, told.hub, used, reply, out)
+    ticks::answered(at, told.hub, used, reply, out)
 }
 
 // The link that an `LK` names.
@@ -263,94 +235,6 @@ fn record_step(f: Found, at: u32, h: Hub, cs: &mut [u32], t: &mut [u32], out: &m
     }
 }
 
-// The verdict of a `TK` whose ticks are all done: 2 if none was asked and no link is set.
-fn all_done_verdict(h: Hub, cs: &[u32], t: &[u32], asked: u16) -> u8
-    requires { ⌜ sound-hub h (now cs) (now t) ≡ true ⌝ }
-    ensures { λ r. ⌜ r ≡ all-done-verdict asked (view h (now (cs .entry)) (now (t .entry))) ⌝ }
-{
-    if asked != 0 {
-        return 0;
-    }
-    if h.link.levels == 0 {
-        return 2;
-    }
-    0
-}
-
-// A departure is written, if there is one.
-fn put_departure(told: Told, out: &mut [u8]) -> usize
-    requires { ⌜ longest-answer ≤ length (now out) ⌝ }
-    ensures { λ r. ⌜ (r ≡ length (told-log told)) × (now (out .exit) ≡ over (told-log told) (now (out .entry))) ⌝ }
-{
-    if !told.gone {
-        return 0;
-    }
-    let p = told.packet;
-    let reply = Reply::Departed {
-        connection: low(p.connection),
-        tag: p.tag,
-        arrival: p.arrival,
-        eligibility: p.eligibility,
-        finish: told.hub.clock,
-    };
-    records::answer::write(reply, out)
-}
-
-// Ticks done: those asked without those left.
-fn without(asked: u16, left: u16) -> u16
-    ensures { λ r. ⌜ r ≡ asked - left ⌝ }
-{
-    if asked < left {
-        return 0;
-    }
-    asked - left
-}
-
-// One tick of a `TK`, of which `left` of `asked` are still to run, or its `TA`.
-fn tick_step(
-    at: u32,
-    h: Hub,
-    asked: u16,
-    left: u16,
-    cs: &[u32],
-    t: &mut [u32],
-    out: &mut [u8],
-) -> Stepped
-    requires { ⌜ (sound-hub h (now cs) (now t) ≡ true) × (longest-answer ≤ length (now out)) ⌝ }
-    ensures { λ r. ⌜ Did (tick-next at asked left (view h (now (cs .entry)) (now (t .entry)))) r (now (cs .entry)) (now (t .exit)) (now (out .entry)) (now (out .exit)) ⌝ }
-{
-    if left == 0 {
-        let reply = Reply::Ticked {
-            verdict: all_done_verdict(h, cs, t, asked),
-            ticks: asked,
-        };
-        return answered(at, h, 0, reply, out);
-    }
-    let told = calls::tick_tested(h, cs, t);
-    let then = told.hub;
-    if told.verdict != 0 {
-        let reply = Reply::Ticked {
-            verdict: low(told.verdict),
-            ticks: without(asked, left),
-        };
-        return answered(at, then, 0, reply, out);
-    }
-    let wrote = put_departure(told, out);
-    Stepped {
-        cursor: Cursor {
-            at: at,
-            phase: Phase::Ticking {
-                asked: asked,
-                left: left - 1,
-            },
-            hub: then,
-        },
-        used: 0,
-        wrote: wrote,
-        status: Status::GoOn,
-    }
-}
-
 // A step where a record is to be read, at offset `at`.
 fn read_step(
     at: u32,
@@ -395,7 +279,7 @@ pub fn step_tested(
     let p = c.phase;
     match p {
         Phase::Reading => read_step(at, h, cs, t, window, last, out),
-        Phase::Ticking { asked, left } => tick_step(at, h, asked, left, cs, t, out),
+        Phase::Ticking { asked, left } => ticks::tick_step(at, h, asked, left, cs, t, out),
         Phase::Finished => waits(at, Phase::Finished, h, Status::Done),
     }
 }

@@ -4,7 +4,7 @@ use mathlib.Core.Bool.{true, false}
 use Prim.Native.Nat.{_/_}
 use lib.ListN.{length}
 use Rattle.log.specs.Steps.{longest-answer, is-go, steps}
-use Rattle.steps.specs.Tie.{point-of}
+use Rattle.ticks.specs.Tie.{point-of}
 use Rattle.replay.specs.Sessions.{readiness}
 use Rattle.replay.proofs.Standing.{ready-facts, does-nothing, does-all}
 use borrow.Author.Needs.{needs}

@@ -3,7 +3,7 @@ use mathlib.Core.Path.{_≡_, sym, ap, _∙_}
 use mathlib.Core.Bool.{true, false}
 use lib.ListN.{length}
 use Rattle.log.specs.Steps.{is-go, next}
-use Rattle.steps.specs.Tie.{point-of}
+use Rattle.ticks.specs.Tie.{point-of}
 use Rattle.replay.specs.Sessions.{readiness}
 use Rattle.replay.proofs.Standing.{ready-facts, does-nothing, does-all}
 use borrow.Author.Needs.{needs}

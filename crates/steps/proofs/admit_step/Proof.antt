@@ -1,8 +1,8 @@
-use Rattle.steps.proofs.CallLaws.{did-call}
+use Rattle.ticks.proofs.CallLaws.{did-call}
 use Rattle.service.specs.declared.Told.{Told}
 use mathlib.Core.Path.{ap, _∙_}
 use Prim.Native.Nat.{_%_}
-use Rattle.steps.proofs.WriteLaws.{admitted-low}
+use Rattle.ticks.proofs.WriteLaws.{admitted-low}
 use Rattle.records.specs.declared.Reply.the-variants.{Admitted}
 use Rattle.rules.specs.Model.{admit}
 use borrow.Author.Needs.{needs}

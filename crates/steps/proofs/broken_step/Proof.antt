@@ -1,4 +1,4 @@
-use Rattle.steps.proofs.WriteLaws.{length-written, room-written}
+use Rattle.ticks.proofs.WriteLaws.{length-written, room-written}
 use mathlib.Core.Path.{_∙_}
 use Rattle.records.specs.declared.Reply.the-variants.{Broken}
 use borrow.Author.Needs.{needs}

@@ -1,4 +1,4 @@
-use Rattle.steps.proofs.CallLaws.{read-beyond, read-crossing, read-inside}
+use Rattle.steps.proofs.ReadAtLaws.{read-beyond, read-crossing, read-inside}
 use Rattle.log.specs.Log.{trace-limit}
 use Rattle.records.specs.Trace.{read-trace}
 use Prim.Native.Nat.{_-_, _<_, _≤_}

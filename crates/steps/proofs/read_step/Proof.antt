@@ -1,4 +1,4 @@
-use Rattle.steps.proofs.CallLaws.{did-kept}
+use Rattle.ticks.proofs.CallLaws.{did-kept}
 use Rattle.steps.proofs.FactLaws.{waits-facts, record-facts, next-end, next-more, next-last, next-mid}
 use Rattle.log.proofs.ReadLaws.{read-lies}
 use Rattle.log.specs.declared.Phase.the-variants.{Reading, Finished}

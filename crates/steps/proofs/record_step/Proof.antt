@@ -1,4 +1,4 @@
-use Rattle.steps.proofs.CallLaws.{did-kept}
+use Rattle.ticks.proofs.CallLaws.{did-kept}
 use mathlib.Core.Path.{refl}
 use mathlib.Core.List.{[]}
 use native.Mathlib.Omega.{arith}

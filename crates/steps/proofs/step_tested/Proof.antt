@@ -1,4 +1,4 @@
-use Rattle.steps.proofs.CallLaws.{did-kept}
+use Rattle.ticks.proofs.CallLaws.{did-kept}
 use Rattle.steps.proofs.FactLaws.{waits-facts, tick-facts, next-phase, facts-phase}
 use Rattle.log.specs.declared.Phase.the-variants.{Finished}
 use Rattle.log.specs.declared.Status.the-variants.{Done}
@@ -63,7 +63,7 @@ returns-2 c =
     let k = c .before .before .before .before .tick-step in (
       rw (next-phase (a .c) (a .cs .now) (a .t .now) (a .window .now) (a .last) e) (k .ensures),
       facts-phase (a .c) e (length (a .window .now)) (a .last) (length (a .out .now)) (k .result)
-          (tick-facts _ _ _ (view (a .c .hub) (a .cs .now) (a .t .now)) _ _ _ _ _ (c .before .before .before .before .before .before .before .before .before .before .before .before .before .before .before .before .pre .1) (k .ensures .answers)),
+          (tick-facts _ _ _ (view (a .c .hub) (a .cs .now) (a .t .now)) _ _ _ _ (c .before .before .before .before .before .before .before .before .before .before .before .before .before .before .before .before .pre .1) _ (k .ensures .answers)),
     )
 
 returns-3 : tie.Need-returns-3

@@ -14,7 +14,7 @@ use Rattle.records.specs.declared.Reply.{Reply}
 use Rattle.records.specs.declared.Reply.the-variants.{Linked, Admitted, Offered, Departed, Ticked}
 use Rattle.log.specs.Steps.{longest-answer}
 use Rattle.log.proofs.ReadLaws.{answer-short}
-use Rattle.steps.specs.Tie.{over}
+use Rattle.ticks.specs.Tie.{over}
 
 -- a room that holds the longest answer holds each
 pub length-written : (r : Reply) (o : List ℕ) → longest-answer ≤ length o → length-after (answer-bytes r) o ≡ length (answer-bytes r)

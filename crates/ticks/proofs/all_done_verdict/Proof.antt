@@ -1,7 +1,7 @@
 use borrow.Author.Needs.{needs}
-use Rattle.steps.proofs.CallLaws.{some-asked, no-link-set, link-set}
-use Rattle.steps.proofs.all_done_verdict.Statement.{statement}
-use Rattle.steps.proofs.all_done_verdict.Tie as tie
+use Rattle.ticks.proofs.CallLaws.{some-asked, no-link-set, link-set}
+use Rattle.ticks.proofs.all_done_verdict.Statement.{statement}
+use Rattle.ticks.proofs.all_done_verdict.Tie as tie
 
 returns : tie.Need-returns
 returns c =

@@ -4,12 +4,12 @@ use mathlib.Core.List.{List}
 use Prim.Native.Nat.{ℕ}
 use lib.ListN.{length}
 use Rattle.records.specs.declared.Reply.the-variants.{Departed}
-use Rattle.steps.specs.Tie.{over}
-use Rattle.steps.proofs.WriteLaws.{length-written, room-written}
-use Rattle.steps.proofs.CallLaws.{none-told, some-told}
+use Rattle.ticks.specs.Tie.{over}
+use Rattle.ticks.proofs.WriteLaws.{length-written, room-written}
+use Rattle.ticks.proofs.CallLaws.{none-told, some-told}
 use borrow.Author.Needs.{needs}
-use Rattle.steps.proofs.put_departure.Statement.{statement}
-use Rattle.steps.proofs.put_departure.Tie as tie
+use Rattle.ticks.proofs.put_departure.Statement.{statement}
+use Rattle.ticks.proofs.put_departure.Tie as tie
 
 returns : tie.Need-returns
 returns c =

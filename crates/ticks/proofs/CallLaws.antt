@@ -1,16 +1,14 @@
--- How a record read and a call made meet the contract of a step. Assumes nothing.
-use Prim.Native.Nat.{ℕ, _+_, _-_, _%_, _≤_, _<_}
-use native.Mathlib.Omega.{arith}
+-- How a call made, and each kind of step of a `TK`, meet the contract of a step. Assumes nothing.
+use Prim.Native.Nat.{ℕ, _-_, _%_}
 use mathlib.Core.Path.{_≡_, refl, sym, ap, _∙_}
 use mathlib.Core.Bool.{true, false}
 use mathlib.Core.List.{List, []}
 use mathlib.Core.Option.{Option, none, some}
 use lib.ListN.{length}
-use borrow.Author.Tests.{lt-ltb, le-ltb, eq-eqb, ne-eqb}
+use borrow.Author.Tests.{eq-eqb, ne-eqb}
 use Rattle.rules.specs.declared.Packet.{Packet}
 use Rattle.rules.specs.Model.{Call, tick, Answer}
 use Rattle.rules.specs.Calls.{answer}
-use Rattle.records.specs.Trace.{found, read-trace}
 use Rattle.records.specs.Answers.{answer-bytes}
 use Rattle.records.specs.Numbers.{pick}
 use Rattle.records.specs.declared.Reply.{Reply}
@@ -26,24 +24,10 @@ use Rattle.log.specs.declared.Status.{Status}
 use Rattle.log.specs.declared.Phase.the-variants.{Reading, Ticking}
 use Rattle.log.specs.declared.Status.the-variants.{GoOn}
 use Rattle.log.specs.declared.Stepped.{Stepped}
-use Rattle.log.specs.Log.{trace-limit, read-at, departure, tick-log, all-done-verdict}
-use Rattle.log.specs.Steps.{point, goes, tick-next}
-use Rattle.steps.specs.Tie.{cursor-at, over, told-log, Did}
-use Rattle.steps.proofs.WriteLaws.{ticked-low, departed-low}
-
--- ---- a record at an offset
-
-pub read-beyond : (at : ℕ) (bs : List ℕ) → trace-limit < at → found none ≡ read-at at bs
-unfolding read-at
-read-beyond at bs h = rw (lt-ltb trace-limit (at + read-trace bs .taken) (omega arith))
-
-pub read-crossing : (at : ℕ) (bs : List ℕ) → trace-limit - at < read-trace bs .taken → found none ≡ read-at at bs
-unfolding read-at
-read-crossing at bs h = rw (lt-ltb trace-limit (at + read-trace bs .taken) (omega arith))
-
-pub read-inside : (at : ℕ) (bs : List ℕ) → at ≤ trace-limit → read-trace bs .taken ≤ trace-limit - at → read-trace bs ≡ read-at at bs
-unfolding read-at
-read-inside at bs h k = rw (le-ltb trace-limit (at + read-trace bs .taken) (omega arith))
+use Rattle.log.specs.Log.{departure, tick-log, all-done-verdict}
+use Rattle.log.specs.Steps.{point, goes, idle-ticks, one-tick, tick-next}
+use Rattle.ticks.specs.Tie.{cursor-at, clock-on, over, told-log, Did}
+use Rattle.ticks.proofs.WriteLaws.{ticked-low, departed-low}
 
 -- ---- a call whose answer is written
 
@@ -94,17 +78,17 @@ module _ (at asked left : ℕ) (h : Hub) (cs t : List ℕ) where
       rw (eq-eqb left 0 l, ← e)
       (did-kept h cs t ok at Reading 0 (answer-bytes (Ticked v asked)) GoOn a o o′ f g)
 
-  module _ (l : left ≡ 0 → ⊥) (told : Told) (t′ : List ℕ) (A : Acts tick h cs t told cs t′) (a : Stepped) (o o′ : List ℕ) where
+  module _ (told : Told) (t′ : List ℕ) (A : Acts tick h cs t told cs t′) (a : Stepped) (o o′ : List ℕ) where
     -- a tick is refused
     pub did-refused : (told .verdict ≡ 0 → ⊥) → (v n : ℕ) → v ≡ told .verdict % 256 → n ≡ asked - left
         → a ≡ record { cursor = cursor-at at Reading (told .hub); used = 0; wrote = length (answer-bytes (Ticked v n)); status = GoOn }
         → o′ ≡ over (answer-bytes (Ticked v n)) o
-        → Did (tick-next at asked left (view h cs t)) a cs t′ o o′
-    unfolding tick-next
+        → Did (one-tick at asked left (view h cs t)) a cs t′ o o′
+    unfolding one-tick
     did-refused r v n e m f g =
         let s = view h cs t in
         let w : told .verdict ≡ answer tick s .verdict = ap (λ (x : Told). x .verdict) (A .answers) in
-        rw (ne-eqb left 0 l, ne-eqb (answer tick s .verdict) 0 (λ z. r (w ∙ z)))
+        rw (ne-eqb (answer tick s .verdict) 0 (λ z. r (w ∙ z)))
         (did-call tick h cs t cs t′ o o′ told A at 0 (answer-bytes (Ticked (answer tick s .verdict) (asked - left))) (Ticked v n) a
         (rw m (ticked-low v (asked - left) (answer tick s .verdict) (e ∙ ap (λ (x : ℕ). x % 256) w))) f g)
 
@@ -112,14 +96,29 @@ module _ (at asked left : ℕ) (h : Hub) (cs t : List ℕ) where
     pub did-tick : told .verdict ≡ 0
         → a ≡ record { cursor = cursor-at at (Ticking asked (left - 1)) (told .hub); used = 0; wrote = length (told-log told); status = GoOn }
         → o′ ≡ over (told-log told) o
-        → Did (tick-next at asked left (view h cs t)) a cs t′ o o′
-    unfolding tick-next
+        → Did (one-tick at asked left (view h cs t)) a cs t′ o o′
+    unfolding one-tick
     did-tick r f g =
         let s = view h cs t in
         let w : told .verdict ≡ answer tick s .verdict = ap (λ (x : Told). x .verdict) (A .answers) in
         let b : told-log told ≡ tick-log (answer tick s) = ap told-log (A .answers) ∙ told-is-logged (answer tick s) in
-        rw (ne-eqb left 0 l, eq-eqb (answer tick s .verdict) 0 (sym w ∙ r))
+        rw (eq-eqb (answer tick s .verdict) 0 (sym w ∙ r))
         (record { answers = f ∙ rw (b, A .answers); connections = A .connections; table = A .table; room = g ∙ rw b })
+
+  -- idle ticks are passed over
+  pub did-idle : sound-hub h cs t ≡ true → (left ≡ 0 → ⊥) → (k : ℕ) → k ≡ idle-ticks left (view h cs t) → (k ≡ 0 → ⊥) → (a : Stepped) (o : List ℕ)
+      → a ≡ record { cursor = cursor-at at (Ticking asked (left - k)) (clock-on h k); used = 0; wrote = 0; status = GoOn }
+      → Did (tick-next at asked left (view h cs t)) a cs t o o
+  unfolding tick-next
+  did-idle ok l k e n a o f =
+      rw (ne-eqb left 0 l, ← e, ne-eqb k 0 n)
+      (record { answers = f; connections = members-kept h cs t ok; table = places-kept h cs t ok; room = refl })
+
+  -- none is idle: one tick
+  pub did-one : (left ≡ 0 → ⊥) → idle-ticks left (view h cs t) ≡ 0 → (a : Stepped) (t′ o o′ : List ℕ)
+      → Did (one-tick at asked left (view h cs t)) a cs t′ o o′ → Did (tick-next at asked left (view h cs t)) a cs t′ o o′
+  unfolding tick-next
+  did-one l e a t′ o o′ d = rw (ne-eqb left 0 l, eq-eqb (idle-ticks left (view h cs t)) 0 e) d
 
 -- ---- the verdict of a `TK` whose ticks are all done
 

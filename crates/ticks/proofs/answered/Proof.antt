@@ -1,8 +1,8 @@
-use Rattle.steps.proofs.WriteLaws.{length-written, room-written}
+use Rattle.ticks.proofs.WriteLaws.{length-written, room-written}
 use mathlib.Core.Path.{_∙_}
 use borrow.Author.Needs.{needs}
-use Rattle.steps.proofs.answered.Statement.{statement}
-use Rattle.steps.proofs.answered.Tie as tie
+use Rattle.ticks.proofs.answered.Statement.{statement}
+use Rattle.ticks.proofs.answered.Tie as tie
 
 write-requires : tie.Need-write-requires
 write-requires c κs = search needs

@@ -30,6 +30,10 @@ point-of c cs t = point (c .at) (c .phase) (view (c .hub) cs t)
 abbrev pub cursor-of : Point → Cursor
 cursor-of p = cursor-at (p .at) (p .phase) (hub-of (p .state))
 
+-- the hub k ticks on, where nothing happens in them
+abbrev pub clock-on : Hub → ℕ → Hub
+clock-on h k = record { link = h .link; clock = h .clock + k; serving = h .serving; units = h .units }
+
 -- the room with bs written at its start: "bytes behind a written record stay"
 abbrev pub over : List ℕ → List ℕ → List ℕ
 over bs room = bs ++ drop (length bs) room

@@ -1,0 +1,198 @@
+// A step of a `TK`: idle ticks at once, or one tick with its departure, or the `TA`. Document 01, "Trace and answer records" and "One tick".
+ghost use mathlib.Core.Path.{_≡_};
+ghost use mathlib.Core.Bool.{true};
+ghost use Prim.Native.Nat.{_+_, _-_, _%_, _≤_};
+ghost use lib.ListN.{length};
+ghost use Rattle.rules.specs.Limits.{clock-end};
+ghost use Rattle.records.specs.Answers.{answer-bytes};
+ghost use Rattle.service.specs.View.{view};
+ghost use Rattle.calls.specs.Acts.{sound-hub};
+ghost use Rattle.log.specs.declared.Phase.the-variants.{Reading, Ticking};
+ghost use Rattle.log.specs.declared.Status.the-variants.{GoOn};
+ghost use Rattle.log.specs.Log.{all-done-verdict};
+ghost use Rattle.log.specs.Steps.{longest-answer, idle-ticks, one-tick, tick-next};
+ghost use Rattle.ticks.specs.Tie.{cursor-at, over, told-log, clock-on, Did};
+use calls::CLOCK_END;
+use log::Cursor;
+use log::Phase;
+use log::Status;
+use log::Stepped;
+use records::Reply;
+use service::Hub;
+use service::Told;
+
+// The longest answer.
+pub const LONGEST_ANSWER: usize = 19;
+
+// The low byte of a number. An answer's numbers of one byte are no larger.
+pub fn low(v: u32) -> u8
+    ensures { λ r. ⌜ r ≡ v % 256 ⌝ }
+{
+    (v % 256) as u8
+}
+
+// A step with an answer: it is written, and a record is read next.
+pub fn answered(at: u32, hub: Hub, used: usize, reply: Reply, out: &mut [u8]) -> Stepped
+    requires { ⌜ longest-answer ≤ length (now out) ⌝ }
+    ensures { λ r. ⌜ (r ≡ record { cursor = cursor-at at Reading hub; used = used; wrote = length (answer-bytes reply); status = GoOn }) × (now (out .exit) ≡ over (answer-bytes reply) (now (out .entry))) ⌝ }
+{
+    let wrote = records::answer::write(reply, out);
+    Stepped {
+        cursor: Cursor {
+            at: at,
+            phase: Phase::Reading,
+            hub: hub,
+        },
+        used: used,
+        wrote: wrote,
+        status: Status::GoOn,
+    }
+}
+
+// The verdict of a `TK` whose ticks are all done: 2 if none was asked and no link is set.
+fn all_done_verdict(h: Hub, cs: &[u32], t: &[u32], asked: u16) -> u8
+    requires { ⌜ sound-hub h (now cs) (now t) ≡ true ⌝ }
+    ensures { λ r. ⌜ r ≡ all-done-verdict asked (view h (now (cs .entry)) (now (t .entry))) ⌝ }
+{
+    if asked != 0 {
+        return 0;
+    }
+    if h.link.levels == 0 {
+        return 2;
+    }
+    0
+}
+
+// A departure is written, if there is one.
+fn put_departure(told: Told, out: &mut [u8]) -> usize
+    requires { ⌜ longest-answer ≤ length (now out) ⌝ }
+    ensures { λ r. ⌜ (r ≡ length (told-log told)) × (now (out .exit) ≡ over (told-log told) (now (out .entry))) ⌝ }
+{
+    if !told.gone {
+        return 0;
+    }
+    let p = told.packet;
+    let reply = Reply::Departed {
+        connection: low(p.connection),
+        tag: p.tag,
+        arrival: p.arrival,
+        eligibility: p.eligibility,
+        finish: told.hub.clock,
+    };
+    records::answer::write(reply, out)
+}
+
+// Ticks done: those asked without those left.
+fn without(asked: u16, left: u16) -> u16
+    ensures { λ r. ⌜ r ≡ asked - left ⌝ }
+{
+    if asked < left {
+        return 0;
+    }
+    asked - left
+}
+
+// Of `left` ticks those in which nothing can happen: up to the clock's end, where a link is set and no packet is held.
+fn idle_ticks(h: Hub, cs: &[u32], t: &[u32], left: u16) -> u16
+    requires { ⌜ sound-hub h (now cs) (now t) ≡ true ⌝ }
+    ensures { λ r. ⌜ r ≡ idle-ticks left (view h (now (cs .entry)) (now (t .entry))) ⌝ }
+{
+    if h.link.levels == 0 {
+        return 0;
+    }
+    if t[1] != 0 {
+        return 0;
+    }
+    let rest = CLOCK_END - h.clock;
+    if rest < left as u32 {
+        return rest as u16;
+    }
+    left
+}
+
+// k ticks of those left are passed over.
+fn pass_over(at: u32, h: Hub, asked: u16, left: u16, k: u16) -> Stepped
+    requires { ⌜ (k ≤ left) × (h .clock + k ≤ clock-end) ⌝ }
+    ensures { λ r. ⌜ r ≡ record { cursor = cursor-at at (Ticking asked (left - k)) (clock-on h k); used = 0; wrote = 0; status = GoOn } ⌝ }
+{
+    let mut later = h;
+    later.clock = h.clock + k as u32;
+    Stepped {
+        cursor: Cursor {
+            at: at,
+            phase: Phase::Ticking {
+                asked: asked,
+                left: left - k,
+            },
+            hub: later,
+        },
+        used: 0,
+        wrote: 0,
+        status: Status::GoOn,
+    }
+}
+
+// One tick of those left: done, or refused.
+fn one_tick(
+    at: u32,
+    h: Hub,
+    asked: u16,
+    left: u16,
+    cs: &[u32],
+    t: &mut [u32],
+    out: &mut [u8],
+) -> Stepped
+    requires { ⌜ (sound-hub h (now cs) (now t) ≡ true) × (longest-answer ≤ length (now out)) × (left ≡ 0 → ⊥) ⌝ }
+    ensures { λ r. ⌜ Did (one-tick at asked left (view h (now (cs .entry)) (now (t .entry)))) r (now (cs .entry)) (now (t .exit)) (now (out .entry)) (now (out .exit)) ⌝ }
+{
+    let told = calls::tick_tested(h, cs, t);
+    let then = told.hub;
+    if told.verdict != 0 {
+        let reply = Reply::Ticked {
+            verdict: low(told.verdict),
+            ticks: without(asked, left),
+        };
+        return answered(at, then, 0, reply, out);
+    }
+    let wrote = put_departure(told, out);
+    Stepped {
+        cursor: Cursor {
+            at: at,
+            phase: Phase::Ticking {
+                asked: asked,
+                left: left - 1,
+            },
+            hub: then,
+        },
+        used: 0,
+        wrote: wrote,
+        status: Status::GoOn,
+    }
+}
+
+// A step of a `TK` of which `left` of `asked` ticks are still to run.
+pub fn tick_step(
+    at: u32,
+    h: Hub,
+    asked: u16,
+    left: u16,
+    cs: &[u32],
+    t: &mut [u32],
+    out: &mut [u8],
+) -> Stepped
+    requires { ⌜ (sound-hub h (now cs) (now t) ≡ true) × (longest-answer ≤ length (now out)) ⌝ }
+    ensures { λ r. ⌜ Did (tick-next at asked left (view h (now (cs .entry)) (now (t .entry)))) r (now (cs .entry)) (now (t .exit)) (now (out .entry)) (now (out .exit)) ⌝ }
+{
+    if left == 0 {
+        let reply = Reply::Ticked {
+            verdict: all_done_verdict(h, cs, t, asked),
+            ticks: asked,
+        };
+        return answered(at, h, 0, reply, out);
+    }
+    let k = idle_ticks(h, cs, t, left);
+    if k != 0 {
+        return pass_over(at, h, asked, left, k);
+    }
+    one_tick(at, h, asked, left, cs, t, out)
+}
