@@ -1,5 +1,6 @@
 -- THE PROOFS of the statements in specs/Promises, each under its name in small letters. Assumes nothing.
-use Prim.Native.Nat.{ℕ, _/_}
+use Prim.Native.Nat.{ℕ, _/_, _<_, _≤_}
+use native.Mathlib.Omega.{arith}
 use mathlib.Core.Path.{_≡_, refl, sym, ap, _∙_, subst}
 use mathlib.Core.Bool.{Bool, true}
 use mathlib.Core.List.{List, [], _++_, append-assoc, append-nil}
@@ -7,23 +8,25 @@ use mathlib.Core.Logic.{inl, inr}
 use lib.Dec.{ltb}
 use lib.ListN.{length, take, drop, replicate}
 use lib.Seq.{take-append-seam}
+use borrow.Author.Tests.{ltb-true}
+use Rattle.rules.specs.SoundState.{Sound}
 use Rattle.rules.proofs.Every.{fresh-invariant}
 use Rattle.tables.specs.Places.{places, places-length}
 use Rattle.lines.specs.Members.{written-members, members-length}
 use Rattle.log.specs.declared.Phase.{Phase}
 use Rattle.log.specs.declared.Phase.the-variants.{Finished}
 use Rattle.log.specs.declared.Cursor.{Cursor}
-use Rattle.log.specs.declared.Status.the-variants.{MoreRoom, Done}
+use Rattle.log.specs.declared.Status.the-variants.{MoreBytes, MoreRoom, NotSound, Done}
 use Rattle.log.specs.declared.Stepped.{Stepped}
 use Rattle.log.specs.Log.{log}
-use Rattle.log.specs.Steps.{longest-answer, Point, point, Next, still, beginning, next, steps, to-come, phase-log}
+use Rattle.log.specs.Steps.{longest-record, longest-answer, Point, point, Next, still, beginning, next, steps, to-come, phase-log}
 use Rattle.log.proofs.ReadLaws.{pick-by}
 use Rattle.log.proofs.StepLaws.{Keeps, step-keeps, steps-keep}
 use Rattle.log.proofs.OutcomeLaws.{Ends-well, step-ends-well, steps-end-well}
-use Rattle.ticks.specs.Tie.{point-of, cursor-of, Did, in-room, Does}
+use Rattle.ticks.specs.Tie.{point-of, cursor-of, stepped-of, Did, in-room, Does}
 use Rattle.replay.specs.Sessions.{Steps, Pumps, Session}
 use Rattle.replay.specs.Sessions.Session.{start, more, step, pump}
-use Rattle.replay.specs.Promises.{Writes-the-log, Done-is-finished}
+use Rattle.replay.specs.Promises.{Writes-the-log, Of-every-call, Done-is-finished, Never-refused, Asks-when-short}
 use Rattle.replay.proofs.Standing.{Stands, stands-sound, stands-there, stands-then}
 
 -- at any time of a session: what was written, and what is to come, is the log
@@ -37,43 +40,63 @@ unfolding log written-members places
 start-holds trace =
     record { here = beginning; stands = record { sound = fresh-invariant .sound; cursor = refl; connections = refl; table = refl }; adds-up = refl }
 
+-- what is told of a call with the window w and the room o
+record Tells (w o : List ℕ) (a : Stepped) : Type 0 where
+  finished : a .status ≡ Done → a .cursor .phase ≡ Finished
+  short : a .status ≡ MoreBytes → length (drop (a .used) w) < longest-record
+  room-enough : longest-answer ≤ length o → a .status ≡ MoreRoom → ⊥
+  never-unsound : a .status ≡ NotSound → ⊥
+
 module _ (trace wrote : List ℕ) (c : Cursor) (cs t w unread : List ℕ) (H : Holds trace wrote c cs t w unread) where
   -- a step of the rules from here, made by the code
-  then-holds : (n : Next) (a : Stepped) (cs′ t′ o o′ : List ℕ) → Keeps (H .here) w unread n → Ends-well n → Did n a cs′ t′ o o′
+  then-holds : (n : Next) (a : Stepped) (cs′ t′ o o′ : List ℕ) → Keeps (H .here) w unread n → Sound (n .point .state) → Did n a cs′ t′ o o′
       → Holds trace (wrote ++ take (a .wrote) o′) (a .cursor) cs′ t′ (drop (a .used) w) unread
-  then-holds n a cs′ t′ o o′ K E D =
+  then-holds n a cs′ t′ o o′ K S D =
       let e : take (a .wrote) o′ ≡ n .bytes = rw (D .answers, D .room) (take-append-seam (n .bytes) (drop (length (n .bytes)) o)) in
       record {
         here = n .point;
-        stands = stands-then n a cs′ t′ o o′ E D;
+        stands = stands-then n a cs′ t′ o o′ S D;
         adds-up = rw (e, append-assoc, ap (λ (x : Stepped). x .used) (D .answers)) (ap (λ l. wrote ++ l) (sym K) ∙ H .adds-up);
       }
 
+  -- where the room is short nothing is done; else the step n
+  abbrev Outcome : List ℕ → Next → Type 0
+  Outcome o n = Tells w o (stepped-of n) × Keeps (H .here) w unread n × Sound (n .point .state)
+
+  outcome : (o : List ℕ) (n : Next) → Keeps (H .here) w unread n → Ends-well w n → Outcome o (in-room (length o) (H .here) n)
+  outcome o n K E =
+      pick-by (Outcome o) (ltb (length o) longest-answer) (still (H .here) MoreRoom) n
+      (λ e. let l : length o < longest-answer = ltb-true _ _ e in (
+        record { finished = λ z. cc; short = λ z. differ cc; room-enough = λ k z. omega arith; never-unsound = λ z. differ cc },
+        refl,
+        H .stands .sound,
+      ))
+      (λ _. (record { finished = E .finished; short = E .short; room-enough = λ _. E .room-enough; never-unsound = E .never-unsound }, K, E .sound))
+    where
+      differ : {A : Type 0} → _≡_ {A = ℕ} 0 1 → A
+      differ e = absurd (omega arith)
+
   -- what a call may do, whatever its room
   call-holds : (n : Point → Next) (last : Bool) (a : Stepped) (cs′ t′ o o′ : List ℕ)
-      → Keeps (H .here) w unread (n (H .here)) → Ends-well (n (H .here))
+      → Keeps (H .here) w unread (n (H .here)) → Ends-well w (n (H .here))
       → Does (in-room (length o) (point-of c cs t) (n (point-of c cs t))) c cs t o a cs′ t′ o′
-      → Holds trace (wrote ++ take (a .wrote) o′) (a .cursor) cs′ t′ (drop (a .used) w) unread
-      × (a .status ≡ Done → a .cursor .phase ≡ Finished)
+      → Holds trace (wrote ++ take (a .wrote) o′) (a .cursor) cs′ t′ (drop (a .used) w) unread × Tells w o a
   call-holds n last a cs′ t′ o o′ K E D =
       let ok = stands-sound (H .here) c cs t (H .stands) in
       let there = stands-there (H .here) c cs t (H .stands) in
       let d = subst (λ (p : Point). Did (in-room (length o) p (n p)) a cs′ t′ o o′) there (D .where-sound ok) in
-      let E′ = pick-by Ends-well (ltb (length o) longest-answer) (still (H .here) MoreRoom) (n (H .here)) (λ _. record { finished = λ z. cc; sound = H .stands .sound }) (λ _. E) in
-      let K′ = pick-by (Keeps (H .here) w unread) (ltb (length o) longest-answer) (still (H .here) MoreRoom) (n (H .here)) (λ _. refl) (λ _. K) in (
-        then-holds (in-room (length o) (H .here) (n (H .here))) a cs′ t′ o o′ K′ E′ d,
-        λ z. ap (λ (x : Stepped). x .cursor .phase) (d .answers) ∙ E′ .finished (sym (ap (λ (x : Stepped). x .status) (d .answers)) ∙ z),
+      let r = outcome o (n (H .here)) K E in (
+        then-holds (in-room (length o) (H .here) (n (H .here))) a cs′ t′ o o′ (r .1) (r .2) d,
+        subst (Tells w o) (sym (d .answers)) (r .0),
       )
 
   step-holds : (last : Bool) → (last ≡ true → unread ≡ []) → (o : List ℕ) (a : Stepped) (cs′ t′ o′ : List ℕ) → Steps c cs t w last o a cs′ t′ o′
-      → Holds trace (wrote ++ take (a .wrote) o′) (a .cursor) cs′ t′ (drop (a .used) w) unread
-      × (a .status ≡ Done → a .cursor .phase ≡ Finished)
+      → Holds trace (wrote ++ take (a .wrote) o′) (a .cursor) cs′ t′ (drop (a .used) w) unread × Tells w o a
   step-holds last g o a cs′ t′ o′ D =
       call-holds (λ (p : Point). next p w last) last a cs′ t′ o o′ (step-keeps (H .here) w unread last g) (step-ends-well (H .here) w last (H .stands .sound)) D
 
   pump-holds : (last : Bool) → (last ≡ true → unread ≡ []) → (o : List ℕ) (a : Stepped) (cs′ t′ o′ : List ℕ) → Pumps c cs t w last o a cs′ t′ o′
-      → Holds trace (wrote ++ take (a .wrote) o′) (a .cursor) cs′ t′ (drop (a .used) w) unread
-      × (a .status ≡ Done → a .cursor .phase ≡ Finished)
+      → Holds trace (wrote ++ take (a .wrote) o′) (a .cursor) cs′ t′ (drop (a .used) w) unread × Tells w o a
   pump-holds last g o a cs′ t′ o′ D =
       call-holds (λ (p : Point). steps (length o / longest-answer) p w last) last a cs′ t′ o o′ (steps-keep (length o / longest-answer) (H .here) w unread last g)
       (steps-end-well (length o / longest-answer) (H .here) w last (H .stands .sound)) D
@@ -93,6 +116,16 @@ writes-the-log trace wrote c cs t w unread S e =
     sym (append-nil wrote)
     ∙ (ap (λ l. wrote ++ l) (sym (ap (λ (p : Phase). phase-log p (H .here .at) (H .here .state) (w ++ unread)) f)) ∙ H .adds-up)
 
+tells : Of-every-call Tells
+tells trace wrote c cs t w unread S last g o a cs′ t′ o′ (inl D) = step-holds trace wrote c cs t w unread (session-holds S) last g o a cs′ t′ o′ D .1
+tells trace wrote c cs t w unread S last g o a cs′ t′ o′ (inr D) = pump-holds trace wrote c cs t w unread (session-holds S) last g o a cs′ t′ o′ D .1
+
 pub done-is-finished : Done-is-finished
-done-is-finished trace wrote c cs t w unread S last g o a cs′ t′ o′ (inl D) = step-holds trace wrote c cs t w unread (session-holds S) last g o a cs′ t′ o′ D .1
-done-is-finished trace wrote c cs t w unread S last g o a cs′ t′ o′ (inr D) = pump-holds trace wrote c cs t w unread (session-holds S) last g o a cs′ t′ o′ D .1
+done-is-finished trace wrote c cs t w unread S last g o a cs′ t′ o′ D = tells trace wrote c cs t w unread S last g o a cs′ t′ o′ D .finished
+
+pub never-refused : Never-refused
+never-refused trace wrote c cs t w unread S last g o a cs′ t′ o′ D l =
+    let k = tells trace wrote c cs t w unread S last g o a cs′ t′ o′ D in (k .room-enough l, k .never-unsound)
+
+pub asks-when-short : Asks-when-short
+asks-when-short trace wrote c cs t w unread S last g o a cs′ t′ o′ D = tells trace wrote c cs t w unread S last g o a cs′ t′ o′ D .short

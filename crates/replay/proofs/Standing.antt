@@ -18,7 +18,6 @@ use Rattle.log.specs.declared.Cursor.{Cursor}
 use Rattle.log.specs.declared.Status.the-variants.{GoOn, MoreRoom, NotSound}
 use Rattle.log.specs.declared.Stepped.{Stepped}
 use Rattle.log.specs.Steps.{longest-answer, Point, point, Next, still, is-go}
-use Rattle.log.proofs.OutcomeLaws.{Ends-well}
 use Rattle.ticks.specs.Tie.{point-of, cursor-of, nothing-done, Did, in-room, Does, Facts}
 use Rattle.steps.proofs.FactLaws.{waits-facts}
 use Rattle.replay.specs.Sessions.{readiness}
@@ -43,9 +42,9 @@ stands-of c cs t ok =
     record { sound = is-sound (c .hub) cs t ok; cursor = refl; connections = members-kept (c .hub) cs t ok; table = places-kept (c .hub) cs t ok }
 
 -- after a step
-pub stands-then : (n : Next) (a : Stepped) (cs t o o′ : List ℕ) → Ends-well n → Did n a cs t o o′ → Stands (n .point) (a .cursor) cs t
-stands-then n a cs t o o′ E D =
-    record { sound = E .sound; cursor = ap (λ (x : Stepped). x .cursor) (D .answers); connections = D .connections; table = D .table }
+pub stands-then : (n : Next) (a : Stepped) (cs t o o′ : List ℕ) → Sound (n .point .state) → Did n a cs t o o′ → Stands (n .point) (a .cursor) cs t
+stands-then n a cs t o o′ S D =
+    record { sound = S; cursor = ap (λ (x : Stepped). x .cursor) (D .answers); connections = D .connections; table = D .table }
 
 -- ---- a call of `step` or `pump`, which tests first
 

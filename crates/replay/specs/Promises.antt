@@ -1,14 +1,16 @@
 -- THE STATEMENTS of the replay, apart from their proofs: each is proved in proofs/Results under the same name in small letters. Assumes nothing.
-use Prim.Native.Nat.{ℕ}
+use Prim.Native.Nat.{ℕ, _<_, _≤_}
 use mathlib.Core.Path.{_≡_}
 use mathlib.Core.Bool.{Bool, true}
 use mathlib.Core.List.{List, []}
 use mathlib.Core.Logic.{_⊎_}
+use lib.ListN.{length, drop}
 use Rattle.log.specs.declared.Phase.the-variants.{Finished}
 use Rattle.log.specs.declared.Cursor.{Cursor}
-use Rattle.log.specs.declared.Status.the-variants.{Done}
+use Rattle.log.specs.declared.Status.the-variants.{MoreBytes, MoreRoom, NotSound, Done}
 use Rattle.log.specs.declared.Stepped.{Stepped}
 use Rattle.log.specs.Log.{log}
+use Rattle.log.specs.Steps.{longest-record, longest-answer}
 use Rattle.replay.specs.Sessions.{Steps, Pumps, Session}
 
 -- THE THEOREM: for any bytes, in any pieces, the steps until the cursor says that it is finished write exactly the log of the trace
@@ -19,12 +21,23 @@ Writes-the-log =
     → c .phase ≡ Finished
     → wrote ≡ log trace
 
--- and a call that answers Done leaves a finished cursor
-abbrev pub Done-is-finished : Type 0
-Done-is-finished =
+-- of every call in every session: P of its window, its room and its answer
+abbrev pub Of-every-call : (List ℕ → List ℕ → Stepped → Type 0) → Type 0
+Of-every-call P =
     (trace wrote : List ℕ) (c : Cursor) (cs t w unread : List ℕ)
     → Session trace wrote c cs t w unread
     → (last : Bool) → (last ≡ true → unread ≡ []) → (o : List ℕ) (a : Stepped) (cs′ t′ o′ : List ℕ)
     → Steps c cs t w last o a cs′ t′ o′ ⊎ Pumps c cs t w last o a cs′ t′ o′
-    → a .status ≡ Done
-    → a .cursor .phase ≡ Finished
+    → P w o a
+
+-- a call that answers Done leaves a finished cursor
+abbrev pub Done-is-finished : Type 0
+Done-is-finished = Of-every-call (λ w o a. a .status ≡ Done → a .cursor .phase ≡ Finished)
+
+-- with room for one answer a call is never refused: the hub is sound at any time of a session
+abbrev pub Never-refused : Type 0
+Never-refused = Of-every-call (λ w o a. longest-answer ≤ length o → (a .status ≡ MoreRoom → ⊥) × (a .status ≡ NotSound → ⊥))
+
+-- a call that asks for bytes leaves fewer than the longest record has: a window of that length can always be filled further
+abbrev pub Asks-when-short : Type 0
+Asks-when-short = Of-every-call (λ w o a. a .status ≡ MoreBytes → length (drop (a .used) w) < longest-record)
