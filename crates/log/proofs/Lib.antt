@@ -1,4 +1,4 @@
 pub mod ReadLaws
-pub mod IdleLaws
+pub mod QuietLaws
 pub mod StepLaws
 pub mod OutcomeLaws

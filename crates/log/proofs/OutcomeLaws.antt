@@ -2,7 +2,7 @@
 -- Assumes nothing.
 use Prim.Native.Nat.{ℕ, zero, suc, _<_}
 use native.Mathlib.Omega.{arith}
-use mathlib.Core.Path.{_≡_, refl, sym, _∙_}
+use mathlib.Core.Path.{_≡_, refl}
 use mathlib.Core.Bool.{Bool}
 use mathlib.Core.List.{List}
 use lib.Dec.{ltb, eqb}
@@ -19,9 +19,9 @@ use Rattle.log.specs.declared.Phase.{Phase}
 use Rattle.log.specs.declared.Phase.the-variants.{Reading, Ticking, Finished}
 use Rattle.log.specs.declared.Status.the-variants.{GoOn, MoreBytes, MoreRoom, NotSound, Done}
 use Rattle.log.specs.Log.{read-at, link-named}
-use Rattle.log.specs.Steps.{longest-record, Point, point, Next, record-next, read-next, one-tick, idle-ticks, tick-next, phase-next, next, is-go, onward, steps}
+use Rattle.log.specs.Steps.{longest-record, Point, point, Next, record-next, read-next, one-tick, quiet-ticks, tick-next, phase-next, next, is-go, onward, steps}
 use Rattle.log.proofs.ReadLaws.{pick-by}
-use Rattle.log.proofs.IdleLaws.{idle-passes}
+use Rattle.log.proofs.QuietLaws.{quiet-passes}
 
 -- of a step on the window w: where it is done the replay is finished; where it wants bytes fewer than the longest record are left; and the state after it is sound
 pub record Ends-well (w : List ℕ) (n : Next) : Type 0 where
@@ -70,8 +70,8 @@ module _ (s : State) (S : Sound s) where
   unfolding tick-next
   tick-ends-well w at asked left =
       pick-by (Ends-well w) (eqb left 0) _ _ (λ _. goes-well w _ S refl)
-      (λ _. pick-by (Ends-well w) (eqb (idle-ticks left s) 0) _ _ (λ _. one-tick-ends-well w at asked left)
-      (λ z. goes-well w _ (idle-passes asked left s (eqb-false _ _ z) .quiet-still .sound-state) refl))
+      (λ _. pick-by (Ends-well w) (eqb (quiet-ticks left s) 0) _ _ (λ _. one-tick-ends-well w at asked left)
+      (λ z. goes-well w _ (quiet-passes asked left s (eqb-false _ _ z) .sound-then) refl))
 
   phase-ends-well : (q : Phase) (at : ℕ) (w : List ℕ) (last : Bool) → Ends-well w (phase-next q at s w last)
   phase-ends-well Reading at w last = read-ends-well at w last

@@ -18,9 +18,9 @@ use Rattle.records.specs.Answers.{answer-bytes}
 use Rattle.log.specs.declared.Phase.{Phase}
 use Rattle.log.specs.declared.Phase.the-variants.{Reading, Ticking, Finished}
 use Rattle.log.specs.Log.{read-at, tick-log, all-done-verdict, ticks-log, ticks-end, link-named, record-log, log-within, log-from}
-use Rattle.log.specs.Steps.{longest-record, Point, point, Next, goes, record-next, found-next, read-next, one-tick, idle-ticks, tick-next, phase-next, next, is-go, onward, steps, to-come}
+use Rattle.log.specs.Steps.{longest-record, Point, point, Next, goes, record-next, found-next, read-next, one-tick, quiet-ticks, tick-next, phase-next, next, is-go, onward, steps, to-come}
 use Rattle.log.proofs.ReadLaws.{pick-by, read-lies, read-onward}
-use Rattle.log.proofs.IdleLaws.{idle-passes}
+use Rattle.log.proofs.QuietLaws.{quiet-passes}
 
 -- ---- the log record by record: the number of records allowed makes no difference once it is that of the bytes
 
@@ -128,9 +128,9 @@ unfolding tick-next
 tick-keeps at asked left s w u =
     pick-by (Keeps (point at (Ticking asked left) s) w u) (eqb left 0) _ _
     (λ e. all-done-keeps at asked left s w u (eqb-true _ _ e))
-    (λ e. pick-by (Keeps (point at (Ticking asked left) s) w u) (eqb (idle-ticks left s) 0) _ _
+    (λ e. pick-by (Keeps (point at (Ticking asked left) s) w u) (eqb (quiet-ticks left s) 0) _ _
     (λ _. one-tick-keeps at asked left s w u (eqb-false _ _ e))
-    (λ z. let p = idle-passes asked left s (eqb-false _ _ z) in rw (p .same-log, p .same-end)))
+    (λ z. let p = quiet-passes asked left s (eqb-false _ _ z) in rw (p .same-log, p .same-end)))
 
 phase-keeps : (q : Phase) (at : ℕ) (s : State) (w u : List ℕ) (last : Bool) → (last ≡ true → u ≡ []) → Keeps (point at q s) w u (phase-next q at s w last)
 phase-keeps Reading at s w u last g = read-keeps at s w u last g

@@ -1,11 +1,12 @@
 -- One step of a replay and many, by the rules: at most one answer record a step. Assumes nothing.
-use Prim.Native.Nat.{ℕ, zero, suc, _+_, _*_, _-_}
+use Prim.Native.Nat.{ℕ, zero, suc, _+_, _*_, _-_, min}
 use mathlib.Core.Bool.{Bool, true, false, not, _&&_}
-use mathlib.Core.List.{List, [], _++_}
+use mathlib.Core.List.{List, [], _∷_, _++_}
 use lib.Dec.{ltb, eqb}
 use lib.ListN.{length, drop}
 use Rattle.rules.specs.declared.Link.{Link}
 use Rattle.rules.specs.declared.Connection.{Connection}
+use Rattle.rules.specs.declared.Packet.{Packet}
 use Rattle.rules.specs.Model.{State, link, admit, offer, tick, fresh}
 use Rattle.rules.specs.Limits.{clock-end}
 use Rattle.rules.specs.SoundTest.{sound}
@@ -97,7 +98,7 @@ one-tick at asked left s =
     (goes at (Ticking asked (left - 1)) (answer tick s .next) 0 (tick-log (answer tick s)))
     (goes at Reading (answer tick s .next) 0 (answer-bytes (Ticked (answer tick s .verdict) (asked - left))))
 
--- the state k ticks on, where nothing happens in them
+-- the state k ticks on, where nothing starts and nothing departs in them: the packet in service, if there is one, has k units fewer to go
 abbrev pub passed : State → ℕ → State
 passed s k = record {
   link = s .link;
@@ -106,25 +107,32 @@ passed s k = record {
   clock = s .clock + k;
   held = s .held;
   serving = s .serving;
-  to-go = s .to-go;
+  to-go = s .to-go - k;
 }
 
--- nothing can happen: a link is set, and no packet is held
-unfoldable pub idle : State → Bool
-idle s = sound s && (not (eqb (s .link .levels) 0) && eqb (length (s .held)) 0)
+-- the first tick at which one of some packets is eligible; the clock's end where that is earlier
+abbrev pub earliest : List Packet → ℕ
+earliest [] = clock-end
+earliest (p ∷ ps) = min (p .eligibility) (earliest ps)
 
--- of `left` ticks those that are passed over at once: up to the clock's end
-unfoldable pub idle-ticks : ℕ → State → ℕ
-idle-ticks left s = pick (idle s) (pick (ltb (clock-end - s .clock) left) (clock-end - s .clock) left) 0
+-- the ticks in which nothing starts and nothing departs: until a packet is eligible, or all but the last unit of the one in service
+abbrev pub quiet-for : ℕ → List Packet → ℕ → ℕ
+quiet-for zero held clock = earliest held - clock
+quiet-for (suc to-go) held clock = to-go
 
--- idle ticks, or one tick, or the `TA`
+-- of `left` ticks those that are passed over at once: none without a link, and none beyond the clock's end
+unfoldable pub quiet-ticks : ℕ → State → ℕ
+quiet-ticks left s =
+    pick (sound s && not (eqb (s .link .levels) 0)) (min (min (quiet-for (s .to-go) (s .held) (s .clock)) (clock-end - s .clock)) left) 0
+
+-- quiet ticks, or one tick, or the `TA`
 unfoldable pub tick-next : ℕ → ℕ → ℕ → State → Next
 tick-next at asked left s =
     pick (eqb left 0)
     (goes at Reading s 0 (answer-bytes (Ticked (all-done-verdict asked s) asked)))
-    (pick (eqb (idle-ticks left s) 0)
+    (pick (eqb (quiet-ticks left s) 0)
     (one-tick at asked left s)
-    (goes at (Ticking asked (left - idle-ticks left s)) (passed s (idle-ticks left s)) 0 []))
+    (goes at (Ticking asked (left - quiet-ticks left s)) (passed s (quiet-ticks left s)) 0 []))
 
 abbrev pub phase-next : Phase → ℕ → State → List ℕ → Bool → Next
 phase-next Reading at s w last = read-next at s w last

@@ -23,9 +23,9 @@ use Rattle.log.specs.declared.Status.{Status}
 use Rattle.log.specs.declared.Status.the-variants.{MoreBytes, Done}
 use Rattle.log.specs.declared.Stepped.{Stepped}
 use Rattle.log.specs.Log.{trace-limit, departure, tick-log, read-at, all-done-verdict}
-use Rattle.log.specs.Steps.{longest-record, longest-answer, Point, point, Next, still, goes, record-next, found-next, read-next, one-tick, passed, idle-ticks, tick-next, phase-next, next, is-go, weight}
+use Rattle.log.specs.Steps.{longest-record, longest-answer, Point, point, Next, still, goes, record-next, found-next, read-next, one-tick, passed, quiet-ticks, tick-next, phase-next, next, is-go, weight}
 use Rattle.log.proofs.ReadLaws.{pick-by, answer-short}
-use Rattle.log.proofs.IdleLaws.{idles}
+use Rattle.log.proofs.QuietLaws.{quiets}
 use Rattle.ticks.specs.Tie.{cursor-at, point-of, stepped-of, nothing-done, Facts}
 
 -- nothing is done
@@ -126,9 +126,9 @@ module _ (at asked left : ℕ) (s : State) (h : Hub) (len : ℕ) (last : Bool) (
       pick-by Kept (eqb left 0) _ _
       (λ _. goes-facts at asked left h Reading s (answer-bytes (Ticked (all-done-verdict asked s) asked)) len last r (omega arith) (answer-short (Ticked (all-done-verdict asked s) asked)) m)
       (λ z. let n : left ≡ 0 → ⊥ = eqb-false _ _ z in
-      pick-by Kept (eqb (idle-ticks left s) 0) _ _ (λ _. one-tick-facts n)
-      (λ y. let k : idle-ticks left s ≡ 0 → ⊥ = eqb-false _ _ y in
-      goes-facts at asked left h (Ticking asked (left - idle-ticks left s)) (passed s (idle-ticks left s)) [] len last r (omega (arith, idles left s k .few)) (omega arith) m))
+      pick-by Kept (eqb (quiet-ticks left s) 0) _ _ (λ _. one-tick-facts n)
+      (λ y. let k : quiet-ticks left s ≡ 0 → ⊥ = eqb-false _ _ y in
+      goes-facts at asked left h (Ticking asked (left - quiet-ticks left s)) (passed s (quiet-ticks left s)) [] len last r (omega (arith, quiets left s k .few)) (omega arith) m))
 
   pub tick-facts : (a : Stepped) → a ≡ stepped-of (tick-next at asked left s) → Facts (cursor-at at (Ticking asked left) h) len last r a
   tick-facts a e = rw e next-tick-facts
@@ -174,7 +174,7 @@ phase-short Reading at s w last =
     Short n = length (n .bytes) ≤ longest-answer
 phase-short (Ticking asked left) at s w last =
     pick-by Short (eqb left 0) _ _ (λ _. answer-short (Ticked (all-done-verdict asked s) asked))
-    (λ _. pick-by Short (eqb (idle-ticks left s) 0) _ _
+    (λ _. pick-by Short (eqb (quiet-ticks left s) 0) _ _
     (λ _. pick-by Short (eqb (answer tick s .verdict) 0) _ _
     (λ _. departure-short (answer tick s .departed) (answer tick s .next .clock)) (λ _. answer-short (Ticked (answer tick s .verdict) (asked - left))))
     (λ _. omega arith))

@@ -25,8 +25,8 @@ use Rattle.log.specs.declared.Phase.the-variants.{Reading, Ticking}
 use Rattle.log.specs.declared.Status.the-variants.{GoOn}
 use Rattle.log.specs.declared.Stepped.{Stepped}
 use Rattle.log.specs.Log.{departure, tick-log, all-done-verdict}
-use Rattle.log.specs.Steps.{point, goes, idle-ticks, one-tick, tick-next}
-use Rattle.ticks.specs.Tie.{cursor-at, clock-on, over, told-log, Did}
+use Rattle.log.specs.Steps.{point, goes, quiet-ticks, one-tick, tick-next}
+use Rattle.ticks.specs.Tie.{cursor-at, passed-hub, over, told-log, Did}
 use Rattle.ticks.proofs.WriteLaws.{ticked-low, departed-low}
 
 -- ---- a call whose answer is written
@@ -105,20 +105,20 @@ module _ (at asked left : ℕ) (h : Hub) (cs t : List ℕ) where
         rw (eq-eqb (answer tick s .verdict) 0 (sym w ∙ r))
         (record { answers = f ∙ rw (b, A .answers); connections = A .connections; table = A .table; room = g ∙ rw b })
 
-  -- idle ticks are passed over
-  pub did-idle : sound-hub h cs t ≡ true → (left ≡ 0 → ⊥) → (k : ℕ) → k ≡ idle-ticks left (view h cs t) → (k ≡ 0 → ⊥) → (a : Stepped) (o : List ℕ)
-      → a ≡ record { cursor = cursor-at at (Ticking asked (left - k)) (clock-on h k); used = 0; wrote = 0; status = GoOn }
+  -- quiet ticks are passed over
+  pub did-quiet : sound-hub h cs t ≡ true → (left ≡ 0 → ⊥) → (k : ℕ) → k ≡ quiet-ticks left (view h cs t) → (k ≡ 0 → ⊥) → (a : Stepped) (o : List ℕ)
+      → a ≡ record { cursor = cursor-at at (Ticking asked (left - k)) (passed-hub h k); used = 0; wrote = 0; status = GoOn }
       → Did (tick-next at asked left (view h cs t)) a cs t o o
   unfolding tick-next
-  did-idle ok l k e n a o f =
+  did-quiet ok l k e n a o f =
       rw (ne-eqb left 0 l, ← e, ne-eqb k 0 n)
       (record { answers = f; connections = members-kept h cs t ok; table = places-kept h cs t ok; room = refl })
 
-  -- none is idle: one tick
-  pub did-one : (left ≡ 0 → ⊥) → idle-ticks left (view h cs t) ≡ 0 → (a : Stepped) (t′ o o′ : List ℕ)
+  -- none is quiet: one tick
+  pub did-one : (left ≡ 0 → ⊥) → quiet-ticks left (view h cs t) ≡ 0 → (a : Stepped) (t′ o o′ : List ℕ)
       → Did (one-tick at asked left (view h cs t)) a cs t′ o o′ → Did (tick-next at asked left (view h cs t)) a cs t′ o o′
   unfolding tick-next
-  did-one l e a t′ o o′ d = rw (ne-eqb left 0 l, eq-eqb (idle-ticks left (view h cs t)) 0 e) d
+  did-one l e a t′ o o′ d = rw (ne-eqb left 0 l, eq-eqb (quiet-ticks left (view h cs t)) 0 e) d
 
 -- ---- the verdict of a `TK` whose ticks are all done
 

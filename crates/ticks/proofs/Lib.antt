@@ -1,3 +1,3 @@
 pub mod WriteLaws
 pub mod CallLaws
-pub mod IdleLaws
+pub mod QuietLaws

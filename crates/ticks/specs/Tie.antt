@@ -1,5 +1,5 @@
 -- THE CONTRACT of a step's code: what the rules' step does, written back. Document 01, "Trace and answer records". Assumes nothing.
-use Prim.Native.Nat.{ℕ, _+_, _<_, _≤_}
+use Prim.Native.Nat.{ℕ, _+_, _-_, _<_, _≤_}
 use mathlib.Core.Path.{_≡_}
 use mathlib.Core.Bool.{Bool, true, false}
 use mathlib.Core.List.{List, [], _++_}
@@ -30,9 +30,9 @@ point-of c cs t = point (c .at) (c .phase) (view (c .hub) cs t)
 abbrev pub cursor-of : Point → Cursor
 cursor-of p = cursor-at (p .at) (p .phase) (hub-of (p .state))
 
--- the hub k ticks on, where nothing happens in them
-abbrev pub clock-on : Hub → ℕ → Hub
-clock-on h k = record { link = h .link; clock = h .clock + k; serving = h .serving; units = h .units }
+-- the hub k ticks on, where nothing starts and nothing departs in them
+abbrev pub passed-hub : Hub → ℕ → Hub
+passed-hub h k = record { link = h .link; clock = h .clock + k; serving = h .serving; units = h .units - k }
 
 -- the room with bs written at its start: "bytes behind a written record stay"
 abbrev pub over : List ℕ → List ℕ → List ℕ

@@ -1,17 +1,18 @@
-// A step of a `TK`: idle ticks at once, or one tick with its departure, or the `TA`. Document 01, "Trace and answer records" and "One tick".
+// A step of a `TK`: quiet ticks at once, or one tick with its departure, or the `TA`. Document 01, "Trace and answer records" and "One tick".
 ghost use mathlib.Core.Path.{_≡_};
 ghost use mathlib.Core.Bool.{true};
-ghost use Prim.Native.Nat.{_+_, _-_, _%_, _≤_};
+ghost use Prim.Native.Nat.{_+_, _-_, _%_, _≤_, min};
 ghost use lib.ListN.{length};
 ghost use Rattle.rules.specs.Limits.{clock-end};
+ghost use Rattle.tables.specs.Places.{rows};
 ghost use Rattle.records.specs.Answers.{answer-bytes};
 ghost use Rattle.service.specs.View.{view};
 ghost use Rattle.calls.specs.Acts.{sound-hub};
 ghost use Rattle.log.specs.declared.Phase.the-variants.{Reading, Ticking};
 ghost use Rattle.log.specs.declared.Status.the-variants.{GoOn};
 ghost use Rattle.log.specs.Log.{all-done-verdict};
-ghost use Rattle.log.specs.Steps.{longest-answer, idle-ticks, one-tick, tick-next};
-ghost use Rattle.ticks.specs.Tie.{cursor-at, over, told-log, clock-on, Did};
+ghost use Rattle.log.specs.Steps.{longest-answer, earliest, quiet-for, quiet-ticks, one-tick, tick-next};
+ghost use Rattle.ticks.specs.Tie.{cursor-at, over, told-log, passed-hub, Did};
 use calls::CLOCK_END;
 use log::Cursor;
 use log::Phase;
@@ -82,28 +83,66 @@ fn put_departure(told: Told, out: &mut [u8]) -> usize
     records::answer::write(reply, out)
 }
 
-// Ticks done: those asked without those left.
-fn without(asked: u16, left: u16) -> u16
-    ensures { λ r. ⌜ r ≡ asked - left ⌝ }
+// a less b, or 0 where b is more.
+fn without(a: u32, b: u32) -> u32
+    ensures { λ r. ⌜ r ≡ a - b ⌝ }
 {
-    if asked < left {
+    if a < b {
         return 0;
     }
-    asked - left
+    a - b
 }
 
-// Of `left` ticks those in which nothing can happen: up to the clock's end, where a link is set and no packet is held.
-fn idle_ticks(h: Hub, cs: &[u32], t: &[u32], left: u16) -> u16
+// The smaller of two.
+fn least(a: u32, b: u32) -> u32
+    ensures { λ r. ⌜ r ≡ min a b ⌝ }
+{
+    if a < b {
+        return a;
+    }
+    b
+}
+
+// How long no packet becomes eligible: up to the clock's end, and not at all where one is.
+fn wait(t: &[u32], clock: u32) -> u32
+    ensures { λ r. ⌜ r ≡ earliest (rows (now (t .entry))) - clock ⌝ }
+{
+    let n = t.len() / 5;
+    let mut first = CLOCK_END;
+    let mut i: usize = 0;
+    while i < n {
+        if t[5 * i + 1] == 0 {
+            return without(first, clock);
+        }
+        let e = t[5 * i + 4];
+        if e <= clock {
+            return 0;
+        }
+        first = least(first, e);
+        i += 1;
+    }
+    without(first, clock)
+}
+
+// The ticks in which nothing starts and nothing departs, by the line and the places alone.
+fn quiet_for(h: Hub, t: &[u32]) -> u32
+    ensures { λ r. ⌜ r ≡ quiet-for (h .units) (rows (now (t .entry))) (h .clock) ⌝ }
+{
+    if h.units != 0 {
+        return h.units - 1;
+    }
+    wait(t, h.clock)
+}
+
+// Of `left` ticks those that can be passed over at once.
+fn quiet_ticks(h: Hub, cs: &[u32], t: &[u32], left: u16) -> u16
     requires { ⌜ sound-hub h (now cs) (now t) ≡ true ⌝ }
-    ensures { λ r. ⌜ r ≡ idle-ticks left (view h (now (cs .entry)) (now (t .entry))) ⌝ }
+    ensures { λ r. ⌜ r ≡ quiet-ticks left (view h (now (cs .entry)) (now (t .entry))) ⌝ }
 {
     if h.link.levels == 0 {
         return 0;
     }
-    if t[1] != 0 {
-        return 0;
-    }
-    let rest = CLOCK_END - h.clock;
+    let rest = least(quiet_for(h, t), CLOCK_END - h.clock);
     if rest < left as u32 {
         return rest as u16;
     }
@@ -113,10 +152,11 @@ fn idle_ticks(h: Hub, cs: &[u32], t: &[u32], left: u16) -> u16
 // k ticks of those left are passed over.
 fn pass_over(at: u32, h: Hub, asked: u16, left: u16, k: u16) -> Stepped
     requires { ⌜ (k ≤ left) × (h .clock + k ≤ clock-end) ⌝ }
-    ensures { λ r. ⌜ r ≡ record { cursor = cursor-at at (Ticking asked (left - k)) (clock-on h k); used = 0; wrote = 0; status = GoOn } ⌝ }
+    ensures { λ r. ⌜ r ≡ record { cursor = cursor-at at (Ticking asked (left - k)) (passed-hub h k); used = 0; wrote = 0; status = GoOn } ⌝ }
 {
     let mut later = h;
     later.clock = h.clock + k as u32;
+    later.units = without(h.units, k as u32);
     Stepped {
         cursor: Cursor {
             at: at,
@@ -148,19 +188,21 @@ fn one_tick(
     let told = calls::tick_tested(h, cs, t);
     let then = told.hub;
     if told.verdict != 0 {
+        let done = without(asked as u32, left as u32) as u16;
         let reply = Reply::Ticked {
             verdict: low(told.verdict),
-            ticks: without(asked, left),
+            ticks: done,
         };
         return answered(at, then, 0, reply, out);
     }
     let wrote = put_departure(told, out);
+    let rest = left - 1;
     Stepped {
         cursor: Cursor {
             at: at,
             phase: Phase::Ticking {
                 asked: asked,
-                left: left - 1,
+                left: rest,
             },
             hub: then,
         },
@@ -190,7 +232,7 @@ pub fn tick_step(
         };
         return answered(at, h, 0, reply, out);
     }
-    let k = idle_ticks(h, cs, t, left);
+    let k = quiet_ticks(h, cs, t, left);
     if k != 0 {
         return pass_over(at, h, asked, left, k);
     }

@@ -6,11 +6,14 @@ use Rattle.ticks.proofs.one_tick.Tie as tie
 tick-tested-requires : tie.Need-tick-tested-requires
 tick-tested-requires c κs = search needs
 
-low-requires : tie.Need-low-requires
-low-requires c κs = search needs
-
 without-requires : tie.Need-without-requires
 without-requires c κs = search needs
+
+cast-done : tie.Need-cast-done
+cast-done c = search needs
+
+low-requires : tie.Need-low-requires
+low-requires c κs = search needs
 
 answered-requires : tie.Need-answered-requires
 answered-requires c κs = search needs
@@ -26,13 +29,13 @@ returns c =
     let a = c .before .before .before .before .before .before .before .before .before .before .before .before .before .before .before .before .args in
     let k = c .before .before .answered .ensures in
     let q = c .before .before .before .before .before .before .before .before .before .before .before .tick-tested in
-    did-refused (a .at) (a .asked) (a .left) (a .h) (a .cs .now) (a .t .now) (q .result) _ (q .ensures) _ _ _ (c .before .before .before .before .before .before .if1 .taken) (c .before .before .before .before .before .low .result) (c .before .before .before .before .without .result) (c .before .before .before .before .before .low .ensures) (c .before .before .before .before .without .ensures) (k .0) (k .1)
+    did-refused (a .at) (a .asked) (a .left) (a .h) (a .cs .now) (a .t .now) (q .result) _ (q .ensures) _ _ _ (c .before .before .before .before .before .before .if1 .taken) (c .before .before .before .before .low .result) (c .before .before .before .before .before .without .result) (c .before .before .before .before .low .ensures) (c .before .before .before .before .before .without .ensures) (k .0) (k .1)
 
 put-departure-requires : tie.Need-put-departure-requires
 put-departure-requires c κs = search needs
 
-sub-t21 : tie.Need-sub-t21
-sub-t21 c = search needs
+sub-rest : tie.Need-sub-rest
+sub-rest c = search needs
 
 same-length-3 : tie.Need-same-length-3
 same-length-3 c = search needs
@@ -52,14 +55,15 @@ one-tick-spec =
     tie.close
     (tie.spec
     tick-tested-requires
-    low-requires
     without-requires
+    cast-done
+    low-requires
     answered-requires
     same-length
     same-length-2
     returns
     put-departure-requires
-    sub-t21
+    sub-rest
     same-length-3
     same-length-4
     returns-2)

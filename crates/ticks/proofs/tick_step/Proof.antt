@@ -1,6 +1,6 @@
 use mathlib.Core.Path.{sym, _∙_}
-use Rattle.ticks.proofs.CallLaws.{did-all, did-idle, did-one}
-use Rattle.ticks.proofs.IdleLaws.{idle-room}
+use Rattle.ticks.proofs.CallLaws.{did-all, did-quiet, did-one}
+use Rattle.ticks.proofs.QuietLaws.{quiet-room}
 use borrow.Author.Needs.{needs}
 use Rattle.ticks.proofs.tick_step.Statement.{statement}
 use Rattle.ticks.proofs.tick_step.Tie as tie
@@ -23,12 +23,12 @@ returns c =
     let k = c .before .before .answered .ensures in
     did-all (a .at) (a .asked) (a .left) (a .h) (a .cs .now) (a .t .now) (c .before .before .before .before .before .before .before .before .before .before .pre .0) (search needs) (c .before .before .before .before .all-done-verdict .result) _ _ _ (c .before .before .before .before .all-done-verdict .ensures) (k .0) (k .1)
 
-idle-ticks-requires : tie.Need-idle-ticks-requires
-idle-ticks-requires c κs = search needs
+quiet-ticks-requires : tie.Need-quiet-ticks-requires
+quiet-ticks-requires c κs = search needs
 
 pass-over-requires : tie.Need-pass-over-requires
 pass-over-requires c κs =
-    let i = idle-room (c .before .before .before .before .before .before .before .args .left) _ (c .before .idle-ticks .ensures) (c .if2 .taken) in (i .few, i .in-time)
+    let i = quiet-room (c .before .before .before .before .before .before .before .args .left) _ (c .before .quiet-ticks .ensures) (c .if2 .taken) in (i .few, i .quiet .in-time)
 
 same-length-3 : tie.Need-same-length-3
 same-length-3 c = search needs
@@ -36,8 +36,8 @@ same-length-3 c = search needs
 returns-2 : tie.Need-returns-2
 returns-2 c =
     let a = c .before .before .before .before .before .before .before .before .args in
-    let q = c .before .before .idle-ticks in
-    did-idle (a .at) (a .asked) (a .left) (a .h) (a .cs .now) (a .t .now) (c .before .before .before .before .before .before .before .before .pre .0) (c .before .before .before .before .if1 .left) (q .result) (q .ensures) (c .before .if2 .taken) _ _ (c .pass-over .ensures)
+    let q = c .before .before .quiet-ticks in
+    did-quiet (a .at) (a .asked) (a .left) (a .h) (a .cs .now) (a .t .now) (c .before .before .before .before .before .before .before .before .pre .0) (c .before .before .before .before .if1 .left) (q .result) (q .ensures) (c .before .if2 .taken) _ _ (c .pass-over .ensures)
 
 one-tick-requires : tie.Need-one-tick-requires
 one-tick-requires c κs = search needs
@@ -51,7 +51,7 @@ same-length-5 c = search needs
 returns-3 : tie.Need-returns-3
 returns-3 c =
     let a = c .before .before .before .before .before .before .before .before .before .before .before .before .before .before .args in
-    let q = c .before .before .before .before .before .before .before .before .idle-ticks in
+    let q = c .before .before .before .before .before .before .before .before .quiet-ticks in
     did-one (a .at) (a .asked) (a .left) (a .h) (a .cs .now) (a .t .now) (c .before .before .before .before .before .before .before .before .before .before .if1 .left) (sym (q .ensures) ∙ c .before .before .before .before .before .before .before .if2 .left) _ _ _ _ (c .before .before .before .before .one-tick .ensures)
 
 pub tick-step-spec : {M : Type 1} → statement M
@@ -63,7 +63,7 @@ tick-step-spec =
     same-length
     same-length-2
     returns
-    idle-ticks-requires
+    quiet-ticks-requires
     pass-over-requires
     same-length-3
     returns-2

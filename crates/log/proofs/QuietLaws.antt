@@ -1,0 +1,183 @@
+-- Ticks in which nothing starts and nothing departs: passing over them is running them one by one. Assumes nothing.
+use Prim.Native.Nat.{ℕ, zero, suc, _+_, _-_, _≤_, _<_, min}
+use native.Mathlib.Omega.{arith}
+use mathlib.Core.Path.{_≡_, refl, ap, _∙_, subst}
+use mathlib.Core.Bool.{Bool, true, false, not, _&&_}
+use mathlib.Core.List.{List, [], _∷_}
+use mathlib.Core.Logic.{_⊎_, inl, inr}
+use mathlib.Core.Option.{none}
+use lib.Dec.{eqb}
+use borrow.Author.Tests.{ne-eqb, lt-leb, eqb-false, not-true}
+use Rattle.rules.specs.Words.{All}
+use Rattle.rules.specs.Limits.{clock-end}
+use Rattle.rules.specs.declared.Packet.{Packet}
+use Rattle.rules.specs.Model.{State, tick, Answer}
+use Rattle.rules.specs.SoundState.{Sound, Idle, In-service}
+use Rattle.rules.specs.SoundTest.{sound}
+use Rattle.rules.specs.Service.{choice, level-of, ticked}
+use Rattle.rules.specs.Calls.{verdicts, verdict, settle, answer}
+use Rattle.rules.proofs.Tests.{and-true}
+use Rattle.rules.proofs.Lists.{all-map}
+use Rattle.rules.proofs.SoundExact.{exact}
+use Rattle.rules.proofs.SoundKept.{kept}
+use Rattle.records.specs.Numbers.{pick}
+use Rattle.log.specs.Log.{ticks-log, ticks-end}
+use Rattle.log.specs.Steps.{passed, earliest, quiet-for, quiet-ticks}
+
+-- none of some packets is eligible before the tick t
+abbrev None-before : ℕ → List Packet → Type 0
+None-before t ps = All (λ p. t ≤ p .eligibility) ps
+
+-- for k ticks the line is idle and no packet is eligible, or a packet is in service and keeps a unit to go
+abbrev Still : State → ℕ → Type 0
+Still s k = ((s .to-go ≡ 0) × None-before (s .clock + k) (s .held)) ⊎ (k < s .to-go)
+
+-- a sound hub with a link of which that holds, up to the clock's end
+pub record Quiet (s : State) (k : ℕ) : Type 0 where
+  pub sound-state : Sound s
+  pub set : s .link .levels ≡ 0 → ⊥
+  pub in-time : s .clock + k ≤ clock-end
+  pub still : Still s k
+
+-- ---- one tick
+
+module _ (level : ℕ → ℕ) (t : ℕ) where
+  none-chosen : (ps : List Packet) → None-before (suc t) ps → choice level t ps ≡ none
+  none-chosen [] h = refl
+  none-chosen (p ∷ ps) h = rw (lt-leb (p .eligibility) t (omega (arith, h .0))) (none-chosen ps (h .1))
+
+-- the clock moves on, and nothing departs
+abbrev quiet-answer : State → Answer
+quiet-answer s = record { verdict = 0; number = 0; departed = none; next = passed s 1 }
+
+module _ (s : State) (k : ℕ) (Q : Quiet s (suc k)) where
+  tick-good : verdict tick s ≡ 0
+  unfolding verdicts
+  tick-good =
+      rw (exact s .1 (Q .sound-state), ne-eqb (s .link .levels) 0 (Q .set), lt-leb clock-end (s .clock) (omega (arith, Q .in-time)))
+
+  not-serving : s .to-go ≡ 0 → s .serving ≡ 0
+  not-serving z = go (Q .sound-state .with-one (Q .set) .line)
+    where
+      go : Idle s ⊎ In-service s 0 → s .serving ≡ 0
+      go (inl i) = i .1
+      go (inr v) = absurd (omega (arith, v .some-to-go))
+
+  line-quiet : Still s (suc k) → ticked s ≡ quiet-answer s
+  line-quiet (inl (z, h)) =
+      let e : 0 - 1 ≡ 0 = omega arith in
+      let f = none-chosen (level-of s) (s .clock) (s .held) (all-map (λ p b. omega arith) (s .held) h) in
+      rw (z, not-serving z, f, e)
+  line-quiet (inr l) = go (s .to-go) refl
+    where
+      go : (u : ℕ) → s .to-go ≡ u → ticked s ≡ quiet-answer s
+      go zero e = absurd (omega arith)
+      go (suc zero) e = absurd (omega arith)
+      go (suc (suc u)) e = let f : suc (suc u) - 1 ≡ suc u = omega arith in rw (e, f)
+
+  pub one-quiet-tick : answer tick s ≡ quiet-answer s
+  one-quiet-tick = ap (settle tick s) tick-good ∙ line-quiet (Q .still)
+
+  still-then : Still s (suc k) → Still (passed s 1) k
+  still-then (inl (z, h)) = inl (omega arith, all-map (λ p b. omega arith) (s .held) h)
+  still-then (inr l) = inr (omega arith)
+
+  pub quiet-then : Quiet (passed s 1) k
+  quiet-then = record {
+    sound-state = subst (λ (a : Answer). Sound (a .next)) one-quiet-tick (kept tick s (Q .sound-state));
+    set = Q .set;
+    in-time = omega (arith, Q .in-time);
+    still = still-then (Q .still);
+  }
+
+-- ---- many
+
+pass-none : (s : State) → passed s 0 ≡ s
+pass-none s =
+    let e : s .clock + 0 ≡ s .clock = omega arith in
+    let f : s .to-go - 0 ≡ s .to-go = omega arith in
+    rw (e, f)
+
+pass-one-more : (s : State) (k : ℕ) → passed (passed s 1) k ≡ passed s (suc k)
+pass-one-more s k =
+    let e : s .clock + 1 + k ≡ s .clock + suc k = omega arith in
+    let f : s .to-go - 1 - k ≡ s .to-go - suc k = omega arith in
+    rw (e, f)
+
+-- `left` ticks from the state s on are m ticks from the state z on, in what they write and where they end
+pub record Passes (asked left m : ℕ) (s z : State) : Type 0 where
+  pub same-log : ticks-log asked left s ≡ ticks-log asked m z
+  pub same-end : ticks-end left s ≡ ticks-end m z
+  pub sound-then : Sound z
+
+one-passes : (asked left k : ℕ) (s : State) → Quiet s (suc k) → Passes asked (suc left) left s (passed s 1)
+unfolding ticks-log ticks-end
+one-passes asked left k s Q =
+    let a = one-quiet-tick s k Q in
+    record { same-log = rw a; same-end = rw a; sound-then = quiet-then s k Q .sound-state }
+
+-- PASSING OVER k TICKS is running them one by one
+pub passes-over : (asked m k : ℕ) (s : State) → Quiet s k → Passes asked (k + m) m s (passed s k)
+passes-over asked m zero s Q =
+    let z = pass-none s in
+    let e : 0 + m ≡ m = omega arith in
+    record { same-log = rw (z, e); same-end = rw (z, e); sound-then = rw z (Q .sound-state) }
+passes-over asked m (suc k) s Q =
+    let e : suc k + m ≡ suc (k + m) = omega arith in
+    let f = one-passes asked (k + m) k s Q in
+    let r = passes-over asked m k (passed s 1) (quiet-then s k Q) in
+    let z = pass-one-more s k in
+    record {
+      same-log = rw e (f .same-log ∙ r .same-log ∙ ap (ticks-log asked m) z);
+      same-end = rw e (f .same-end ∙ r .same-end ∙ ap (ticks-end m) z);
+      sound-then = subst Sound z (r .sound-then);
+    }
+
+-- ---- those that a step passes over
+
+-- the first eligibility is no later than any
+all-later : (t : ℕ) (ps : List Packet) → t ≤ earliest ps → None-before t ps
+all-later t [] h = tt
+all-later t (p ∷ ps) h = (omega arith, all-later t ps (omega arith))
+
+still-for : (s : State) (k : ℕ) → 0 < k → k ≤ quiet-for (s .to-go) (s .held) (s .clock) → Still s k
+still-for s k p h = go (s .to-go) refl h
+  where
+    go : (u : ℕ) → s .to-go ≡ u → k ≤ quiet-for u (s .held) (s .clock) → Still s k
+    go zero e l = inl (e, all-later (s .clock + k) (s .held) (omega arith))
+    go (suc u) e l = inr (omega arith)
+
+-- they are no more than are left, and nothing happens in them
+pub record Quiets (left : ℕ) (s : State) (k : ℕ) : Type 0 where
+  pub few : k ≤ left
+  pub quiet : Quiet s k
+
+pub quiets : (left : ℕ) (s : State) → (quiet-ticks left s ≡ 0 → ⊥) → Quiets left s (quiet-ticks left s)
+unfolding quiet-ticks
+quiets left s n = go (sound s && not (eqb (s .link .levels) 0)) refl n
+  where
+    k : ℕ
+    k = min (min (quiet-for (s .to-go) (s .held) (s .clock)) (clock-end - s .clock)) left
+
+    go : (b : Bool) → (sound s && not (eqb (s .link .levels) 0)) ≡ b → (pick b k 0 ≡ 0 → ⊥) → Quiets left s (pick b k 0)
+    go true e z =
+        let a = and-true (sound s) _ e in
+        record {
+          few = omega arith;
+          quiet = record {
+            sound-state = exact s .0 (a .0);
+            set = eqb-false _ _ (not-true _ (a .1));
+            in-time = omega arith;
+            still = still-for s k (omega arith) (omega arith);
+          };
+        }
+    go false e z = absurd (z refl)
+
+-- THE LAW: what a step passes over
+pub quiet-passes : (asked left : ℕ) (s : State) → (quiet-ticks left s ≡ 0 → ⊥)
+    → Passes asked left (left - quiet-ticks left s) s (passed s (quiet-ticks left s))
+quiet-passes asked left s n =
+    let i = quiets left s n in
+    let e : quiet-ticks left s + (left - quiet-ticks left s) ≡ left = omega (arith, i .few) in
+    subst (λ (j : ℕ). Passes asked j (left - quiet-ticks left s) s (passed s (quiet-ticks left s))) e
+    (passes-over asked (left - quiet-ticks left s) (quiet-ticks left s) s (i .quiet))

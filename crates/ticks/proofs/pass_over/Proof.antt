@@ -1,0 +1,18 @@
+use borrow.Author.Needs.{needs}
+use Rattle.ticks.proofs.pass_over.Statement.{statement}
+use Rattle.ticks.proofs.pass_over.Tie as tie
+
+add-later : tie.Need-add-later
+add-later c = search needs
+
+without-requires : tie.Need-without-requires
+without-requires c κs = search needs
+
+sub-t8 : tie.Need-sub-t8
+sub-t8 c = search needs
+
+returns : tie.Need-returns
+returns c = rw (c .without .ensures)
+
+pub pass-over-spec : {M : Type 1} → statement M
+pass-over-spec = tie.close (tie.spec add-later without-requires sub-t8 returns)
