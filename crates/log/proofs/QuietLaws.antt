@@ -20,7 +20,7 @@ use Rattle.rules.proofs.Tests.{and-true}
 use Rattle.rules.proofs.Lists.{all-map}
 use Rattle.rules.proofs.SoundExact.{exact}
 use Rattle.rules.proofs.SoundKept.{kept}
-use Rattle.records.specs.Numbers.{pick}
+use Rattle.fields.specs.Numbers.{pick}
 use Rattle.log.specs.Log.{ticks-log, ticks-end}
 use Rattle.log.specs.Steps.{passed, earliest, quiet-for, quiet-ticks}
 

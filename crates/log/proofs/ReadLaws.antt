@@ -9,17 +9,18 @@ use mathlib.Core.Option.{Option, none, some}
 use lib.Dec.{ltb}
 use lib.ListN.{length, getD}
 use borrow.Author.Tests.{ltb-false}
-use Rattle.records.specs.Numbers.{pick}
-use Rattle.records.specs.Formats.{Row, starts, read-row, read-rows}
-use Rattle.records.specs.declared.Record.{Record}
-use Rattle.records.specs.declared.Record.the-variants.{Malformed}
-use Rattle.records.specs.declared.Reply.{Reply}
-use Rattle.records.specs.declared.Reply.the-variants.{Linked, Admitted, Offered, Departed, Ticked, Broken, Malformed as NoReply}
-use Rattle.records.specs.declared.Found.{Found}
-use Rattle.records.specs.Trace.{trace, found, read-trace}
-use Rattle.records.specs.Answers.{answer-bytes, answer-table}
-use Rattle.records.proofs.FormatLaws.{of-row}
-use Rattle.records.proofs.Laws.{trace-looks-no-further, answers-have-lengths}
+use Rattle.fields.specs.Numbers.{pick}
+use Rattle.fields.specs.Formats.{Row, starts, read-row, read-rows}
+use Rattle.traces.specs.declared.Record.{Record}
+use Rattle.traces.specs.declared.Record.the-variants.{Malformed}
+use Rattle.answers.specs.declared.Reply.{Reply}
+use Rattle.answers.specs.declared.Reply.the-variants.{Linked, Admitted, Offered, Departed, Ticked, Broken, Malformed as NoReply}
+use Rattle.traces.specs.declared.Found.{Found}
+use Rattle.traces.specs.Trace.{trace, found, read-trace}
+use Rattle.answers.specs.Answers.{answer-bytes, answer-table}
+use Rattle.fields.proofs.FormatLaws.{of-row}
+use Rattle.traces.proofs.Laws.{trace-looks-no-further}
+use Rattle.answers.proofs.Laws.{answers-have-lengths}
 use Rattle.log.specs.Log.{trace-limit, read-at}
 use Rattle.log.specs.Steps.{longest-record, longest-answer}
 

@@ -10,11 +10,11 @@ use lib.Seq.{drop-append-le, drop-drop}
 use borrow.Author.Tests.{eq-eqb, ne-eqb, ltb-false, eqb-true, eqb-false}
 use Rattle.rules.specs.Model.{State, link, admit, offer, tick}
 use Rattle.rules.specs.Calls.{answer}
-use Rattle.records.specs.Numbers.{pick}
-use Rattle.records.specs.declared.Record.{Record}
-use Rattle.records.specs.declared.Record.the-variants.{Link as LinkRecord, Admit, Offer, Ticks, Malformed}
-use Rattle.records.specs.declared.Reply.the-variants.{Linked, Admitted, Offered, Ticked, Broken}
-use Rattle.records.specs.Answers.{answer-bytes}
+use Rattle.fields.specs.Numbers.{pick}
+use Rattle.traces.specs.declared.Record.{Record}
+use Rattle.traces.specs.declared.Record.the-variants.{Link as LinkRecord, Admit, Offer, Ticks, Malformed}
+use Rattle.answers.specs.declared.Reply.the-variants.{Linked, Admitted, Offered, Ticked, Broken}
+use Rattle.answers.specs.Answers.{answer-bytes}
 use Rattle.log.specs.declared.Phase.{Phase}
 use Rattle.log.specs.declared.Phase.the-variants.{Reading, Ticking, Finished}
 use Rattle.log.specs.Log.{read-at, tick-log, all-done-verdict, ticks-log, ticks-end, link-named, record-log, log-within, log-from}

@@ -12,13 +12,13 @@ use Rattle.rules.specs.Words.{first-number}
 use Rattle.rules.specs.Model.{State, link, admit, offer, tick, Answer, fresh}
 use Rattle.rules.specs.SoundTest.{sound}
 use Rattle.rules.specs.Calls.{answer}
-use Rattle.records.specs.Numbers.{pick}
-use Rattle.records.specs.declared.Record.{Record}
-use Rattle.records.specs.declared.Record.the-variants.{Link as LinkRecord, Admit, Offer, Ticks, Malformed}
-use Rattle.records.specs.declared.Reply.the-variants.{Linked, Admitted, Offered, Departed, Ticked, Broken}
-use Rattle.records.specs.declared.Found.{Found}
-use Rattle.records.specs.Trace.{found, read-trace}
-use Rattle.records.specs.Answers.{answer-bytes}
+use Rattle.fields.specs.Numbers.{pick}
+use Rattle.traces.specs.declared.Record.{Record}
+use Rattle.traces.specs.declared.Record.the-variants.{Link as LinkRecord, Admit, Offer, Ticks, Malformed}
+use Rattle.answers.specs.declared.Reply.the-variants.{Linked, Admitted, Offered, Departed, Ticked, Broken}
+use Rattle.traces.specs.declared.Found.{Found}
+use Rattle.traces.specs.Trace.{found, read-trace}
+use Rattle.answers.specs.Answers.{answer-bytes}
 
 -- "A trace of up to 16,777,216 bytes"
 abbrev pub trace-limit : ℕ

@@ -11,12 +11,12 @@ use Rattle.rules.specs.Model.{State, link, admit, offer, tick, fresh}
 use Rattle.rules.specs.Limits.{clock-end}
 use Rattle.rules.specs.SoundTest.{sound}
 use Rattle.rules.specs.Calls.{answer}
-use Rattle.records.specs.Numbers.{pick}
-use Rattle.records.specs.declared.Record.{Record}
-use Rattle.records.specs.declared.Record.the-variants.{Link as LinkRecord, Admit, Offer, Ticks, Malformed}
-use Rattle.records.specs.declared.Reply.the-variants.{Linked, Admitted, Offered, Ticked, Broken}
-use Rattle.records.specs.declared.Found.{Found}
-use Rattle.records.specs.Answers.{answer-bytes}
+use Rattle.fields.specs.Numbers.{pick}
+use Rattle.traces.specs.declared.Record.{Record}
+use Rattle.traces.specs.declared.Record.the-variants.{Link as LinkRecord, Admit, Offer, Ticks, Malformed}
+use Rattle.answers.specs.declared.Reply.the-variants.{Linked, Admitted, Offered, Ticked, Broken}
+use Rattle.traces.specs.declared.Found.{Found}
+use Rattle.answers.specs.Answers.{answer-bytes}
 use Rattle.log.specs.declared.Phase.{Phase}
 use Rattle.log.specs.declared.Phase.the-variants.{Reading, Ticking, Finished}
 use Rattle.log.specs.declared.Status.{Status}

@@ -1,7 +1,7 @@
 // Answer records with the bytes that document 01's table gives them, each field at its least and its greatest, and all bytes of one record different.
 use crate::case::answer_case;
 use crate::tally::Tally;
-use records::Reply;
+use answers::Reply;
 
 fn eligible(verdict: u8, eligibility: u32) -> Reply {
     Reply::Offered {

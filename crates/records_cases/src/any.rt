@@ -1,8 +1,6 @@
 // A record of either format, so that what must hold of all of them is said once.
-use records::Record;
-use records::Reply;
-use records::answer;
-use records::trace;
+use answers::Reply;
+use traces::Record;
 
 pub enum Any {
     Trace(Record),
@@ -121,22 +119,22 @@ pub fn numbers(what: Any) -> [u32; 11] {
 
 pub fn write(what: Any, room: &mut [u8]) -> usize {
     match what {
-        Any::Trace(r) => trace::write(r, room),
-        Any::Answer(r) => answer::write(r, room),
+        Any::Trace(r) => traces::write(r, room),
+        Any::Answer(r) => answers::write(r, room),
     }
 }
 
 // Reads bytes as a trace record or as an answer.
 pub fn read(traced: bool, bytes: &[u8]) -> Seen {
     if traced {
-        let found = trace::read(bytes);
+        let found = traces::read(bytes);
         let what = found.what;
         return Seen {
             numbers: trace_numbers(what),
             taken: found.taken,
         };
     }
-    let found = answer::read(bytes);
+    let found = answers::read(bytes);
     let what = found.what;
     Seen {
         numbers: answer_numbers(what),

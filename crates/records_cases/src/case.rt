@@ -4,9 +4,8 @@ use crate::any::Any;
 use crate::any::Seen;
 use crate::room;
 use crate::tally::Tally;
-use records::Record;
-use records::Reply;
-use records::trace;
+use answers::Reply;
+use traces::Record;
 
 pub fn malformed(seen: Seen) -> bool {
     if seen.taken != 0 {
@@ -100,7 +99,7 @@ fn case(what: Any, bytes: &[u8]) -> Tally {
 pub fn trace_case(what: Record, bytes: &[u8]) -> Tally {
     let mut buffer = room::fresh();
     room::place(&mut buffer, 5, bytes);
-    let found = trace::read_at(&buffer, 5);
+    let found = traces::read_at(&buffer, 5);
     let there = found.what;
     let seen = Seen {
         numbers: any::trace_numbers(there),

@@ -4,8 +4,8 @@ use crate::any::Any;
 use crate::case::malformed;
 use crate::case::written_up_to;
 use crate::tally::Tally;
-use records::Record;
-use records::Reply;
+use answers::Reply;
+use traces::Record;
 
 // A link with these levels, the first bound and the last but one or the last.
 fn link(levels: u8, d2: u16, d7: u16, d8: u16) -> Any {

@@ -2,15 +2,13 @@
 use crate::any;
 use crate::room;
 use crate::tally::Tally;
-use records::Reply;
-use records::answer;
-use records::trace;
+use answers::Reply;
 
 // The trace has at a place a record with these numbers, of so many bytes.
 fn stands(at: usize, numbers: [u32; 11], bytes: usize) -> Tally {
     let input =
         b"LK\x01\x04\x00\x0A\x00CN\x01\x0A\x00\x04\x00PK\x00\x02\x00\x07\x00\x00\x00TK\x02\x00";
-    let found = trace::read_at(input, at);
+    let found = traces::read_at(input, at);
     if found.taken != bytes {
         return Tally::of(false);
     }
@@ -33,7 +31,7 @@ fn answered(what: Reply, room: &mut [u8], at: usize) -> usize {
         return at;
     }
     let part = &mut room[at..];
-    std::num::wrapping_add_u64(at as u64, answer::write(what, part) as u64) as usize
+    std::num::wrapping_add_u64(at as u64, answers::write(what, part) as u64) as usize
 }
 
 // The five answers out, one behind the other.

@@ -1,7 +1,7 @@
 // Trace records with the bytes that document 01's table gives them, each field at its least and its greatest, and all bytes of one record different.
 use crate::case::trace_case;
 use crate::tally::Tally;
-use records::Record;
+use traces::Record;
 
 fn link(levels: u8, largest: u16, d: [u16; 8]) -> Record {
     Record::Link {

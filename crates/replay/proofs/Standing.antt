@@ -13,7 +13,7 @@ use Rattle.sound.specs.SoundTables.{sound-tables}
 use Rattle.calls.specs.Acts.{sound-hub, members-of, places-of}
 use Rattle.calls.proofs.ActLaws.{is-sound, members-kept, places-kept}
 use Rattle.hub.proofs.Results.{written-reads-back}
-use Rattle.records.specs.Numbers.{pick}
+use Rattle.fields.specs.Numbers.{pick}
 use Rattle.log.specs.declared.Cursor.{Cursor}
 use Rattle.log.specs.declared.Status.the-variants.{GoOn, MoreRoom, NotSound}
 use Rattle.log.specs.declared.Stepped.{Stepped}

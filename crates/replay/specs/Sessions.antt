@@ -8,7 +8,7 @@ use lib.ListN.{length, take, drop, replicate}
 use Rattle.tables.specs.Places.{places-length}
 use Rattle.lines.specs.Members.{members-length}
 use Rattle.calls.specs.Acts.{sound-hub}
-use Rattle.records.specs.Numbers.{pick}
+use Rattle.fields.specs.Numbers.{pick}
 use Rattle.log.specs.declared.Cursor.{Cursor}
 use Rattle.log.specs.declared.Status.{Status}
 use Rattle.log.specs.declared.Status.the-variants.{GoOn, MoreRoom, NotSound}

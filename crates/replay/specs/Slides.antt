@@ -4,7 +4,7 @@ use mathlib.Core.List.{List}
 use lib.Dec.{ltb}
 use lib.ListN.{drop}
 use lib.Seq.{paste}
-use Rattle.records.specs.Numbers.{pick}
+use Rattle.fields.specs.Numbers.{pick}
 
 -- how many bytes lie from `from` to `to` in a buffer of n: none where that is no part of it
 abbrev pub slide-length : ℕ → ℕ → ℕ → ℕ

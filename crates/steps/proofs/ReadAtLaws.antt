@@ -5,7 +5,7 @@ use mathlib.Core.Path.{_≡_}
 use mathlib.Core.List.{List}
 use mathlib.Core.Option.{none}
 use borrow.Author.Tests.{lt-ltb, le-ltb}
-use Rattle.records.specs.Trace.{found, read-trace}
+use Rattle.traces.specs.Trace.{found, read-trace}
 use Rattle.log.specs.Log.{trace-limit, read-at}
 
 pub read-beyond : (at : ℕ) (bs : List ℕ) → trace-limit < at → found none ≡ read-at at bs

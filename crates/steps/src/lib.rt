@@ -3,8 +3,8 @@ ghost use mathlib.Core.Path.{_≡_};
 ghost use mathlib.Core.Bool.{true};
 ghost use Prim.Native.Nat.{_+_, _-_, _≤_};
 ghost use lib.ListN.{length};
-ghost use Rattle.records.specs.Answers.{answer-bytes};
-ghost use Rattle.records.specs.declared.Reply.the-variants.{Broken};
+ghost use Rattle.answers.specs.Answers.{answer-bytes};
+ghost use Rattle.answers.specs.declared.Reply.the-variants.{Broken};
 ghost use Rattle.service.specs.View.{view};
 ghost use Rattle.calls.specs.Acts.{sound-hub};
 ghost use Rattle.log.specs.declared.Phase.the-variants.{Reading, Finished};
@@ -12,17 +12,17 @@ ghost use Rattle.log.specs.declared.Status.the-variants.{Done};
 ghost use Rattle.log.specs.Log.{trace-limit, read-at, link-named};
 ghost use Rattle.log.specs.Steps.{longest-answer, link-next, admit-next, offer-next, found-next, read-next, next, weight};
 ghost use Rattle.ticks.specs.Tie.{cursor-at, point-of, over, nothing-done, Did, Facts};
+use answers::Reply;
 use log::Cursor;
 use log::Phase;
 use log::Status;
 use log::Stepped;
-use records::Found;
-use records::Record;
-use records::Reply;
 use rules::Connection;
 use rules::Link;
 use service::Hub;
 use service::Told;
+use traces::Found;
+use traces::Record;
 
 // No trace is longer.
 pub const LIMIT: usize = 16777216;
@@ -34,7 +34,7 @@ pub const LONGEST_RECORD: usize = 21;
 fn read_at(s: &[u8], at: u32) -> Found
     ensures { λ r. ⌜ (r ≡ read-at at (now (s .entry))) × (r .taken ≤ trace-limit - at) ⌝ }
 {
-    let f = records::trace::read(s);
+    let f = traces::read(s);
     let place = at as usize;
     if LIMIT < place {
         return Found {
@@ -167,7 +167,7 @@ fn broken_step(at: u32, h: Hub, out: &mut [u8]) -> Stepped
     requires { ⌜ longest-answer ≤ length (now out) ⌝ }
     ensures { λ r. ⌜ (r ≡ record { cursor = cursor-at at Finished h; used = 0; wrote = length (answer-bytes (Broken at)); status = Done }) × (now (out .exit) ≡ over (answer-bytes (Broken at)) (now (out .entry))) ⌝ }
 {
-    let wrote = records::answer::write(Reply::Broken { offset: at }, out);
+    let wrote = answers::write(Reply::Broken { offset: at }, out);
     Stepped {
         cursor: Cursor {
             at: at,

@@ -9,10 +9,10 @@ use borrow.Author.Tests.{eq-eqb, ne-eqb}
 use Rattle.rules.specs.declared.Packet.{Packet}
 use Rattle.rules.specs.Model.{Call, tick, Answer}
 use Rattle.rules.specs.Calls.{answer}
-use Rattle.records.specs.Answers.{answer-bytes}
-use Rattle.records.specs.Numbers.{pick}
-use Rattle.records.specs.declared.Reply.{Reply}
-use Rattle.records.specs.declared.Reply.the-variants.{Departed, Ticked}
+use Rattle.answers.specs.Answers.{answer-bytes}
+use Rattle.fields.specs.Numbers.{pick}
+use Rattle.answers.specs.declared.Reply.{Reply}
+use Rattle.answers.specs.declared.Reply.the-variants.{Departed, Ticked}
 use Rattle.service.specs.declared.Hub.{Hub}
 use Rattle.service.specs.declared.Told.{Told}
 use Rattle.service.specs.Candidates.{is-some, packet-or-unused}

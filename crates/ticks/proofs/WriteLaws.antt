@@ -6,12 +6,12 @@ use mathlib.Core.List.{List, [], _++_, append-nil}
 use lib.ListN.{length, take, drop, length-drop, drop-of-length-le}
 use lib.Seq.{take-all}
 use borrow.Author.Tests.{le-ltb}
-use Rattle.records.specs.Numbers.{little, put-fields}
-use Rattle.records.specs.Kinds.{bytes}
-use Rattle.records.specs.Formats.{laid, length-after, room-after}
-use Rattle.records.specs.Answers.{answer-bytes}
-use Rattle.records.specs.declared.Reply.{Reply}
-use Rattle.records.specs.declared.Reply.the-variants.{Linked, Admitted, Offered, Departed, Ticked}
+use Rattle.fields.specs.Numbers.{little, put-fields}
+use Rattle.fields.specs.Kinds.{bytes}
+use Rattle.fields.specs.Formats.{laid, length-after, room-after}
+use Rattle.answers.specs.Answers.{answer-bytes}
+use Rattle.answers.specs.declared.Reply.{Reply}
+use Rattle.answers.specs.declared.Reply.the-variants.{Linked, Admitted, Offered, Departed, Ticked}
 use Rattle.log.specs.Steps.{longest-answer}
 use Rattle.log.proofs.ReadLaws.{answer-short}
 use Rattle.ticks.specs.Tie.{over}

@@ -9,9 +9,9 @@ use Rattle.service.specs.declared.Hub.{Hub}
 use Rattle.service.specs.declared.Told.{Told}
 use Rattle.service.specs.View.{view, hub-of}
 use Rattle.calls.specs.Acts.{sound-hub, members-of, places-of}
-use Rattle.records.specs.Numbers.{pick}
-use Rattle.records.specs.declared.Reply.the-variants.{Departed}
-use Rattle.records.specs.Answers.{answer-bytes}
+use Rattle.fields.specs.Numbers.{pick}
+use Rattle.answers.specs.declared.Reply.the-variants.{Departed}
+use Rattle.answers.specs.Answers.{answer-bytes}
 use Rattle.log.specs.declared.Phase.{Phase}
 use Rattle.log.specs.declared.Cursor.{Cursor}
 use Rattle.log.specs.declared.Status.{Status}

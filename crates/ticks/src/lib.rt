@@ -5,7 +5,7 @@ ghost use Prim.Native.Nat.{_+_, _-_, _%_, _≤_, min};
 ghost use lib.ListN.{length};
 ghost use Rattle.rules.specs.Limits.{clock-end};
 ghost use Rattle.tables.specs.Places.{rows};
-ghost use Rattle.records.specs.Answers.{answer-bytes};
+ghost use Rattle.answers.specs.Answers.{answer-bytes};
 ghost use Rattle.service.specs.View.{view};
 ghost use Rattle.calls.specs.Acts.{sound-hub};
 ghost use Rattle.log.specs.declared.Phase.the-variants.{Reading, Ticking};
@@ -13,12 +13,12 @@ ghost use Rattle.log.specs.declared.Status.the-variants.{GoOn};
 ghost use Rattle.log.specs.Log.{all-done-verdict};
 ghost use Rattle.log.specs.Steps.{longest-answer, earliest, quiet-for, quiet-ticks, one-tick, tick-next};
 ghost use Rattle.ticks.specs.Tie.{cursor-at, over, told-log, passed-hub, Did};
+use answers::Reply;
 use calls::CLOCK_END;
 use log::Cursor;
 use log::Phase;
 use log::Status;
 use log::Stepped;
-use records::Reply;
 use service::Hub;
 use service::Told;
 
@@ -37,7 +37,7 @@ pub fn answered(at: u32, hub: Hub, used: usize, reply: Reply, out: &mut [u8]) ->
     requires { ⌜ longest-answer ≤ length (now out) ⌝ }
     ensures { λ r. ⌜ (r ≡ record { cursor = cursor-at at Reading hub; used = used; wrote = length (answer-bytes reply); status = GoOn }) × (now (out .exit) ≡ over (answer-bytes reply) (now (out .entry))) ⌝ }
 {
-    let wrote = records::answer::write(reply, out);
+    let wrote = answers::write(reply, out);
     Stepped {
         cursor: Cursor {
             at: at,
@@ -80,7 +80,7 @@ fn put_departure(told: Told, out: &mut [u8]) -> usize
         eligibility: p.eligibility,
         finish: told.hub.clock,
     };
-    records::answer::write(reply, out)
+    answers::write(reply, out)
 }
 
 // a less b, or 0 where b is more.

@@ -3,7 +3,7 @@ use Rattle.service.specs.declared.Told.{Told}
 use mathlib.Core.Path.{ap, _∙_}
 use Prim.Native.Nat.{_%_}
 use Rattle.ticks.proofs.WriteLaws.{admitted-low}
-use Rattle.records.specs.declared.Reply.the-variants.{Admitted}
+use Rattle.answers.specs.declared.Reply.the-variants.{Admitted}
 use Rattle.rules.specs.Model.{admit}
 use borrow.Author.Needs.{needs}
 use Rattle.steps.proofs.admit_step.Statement.{statement}

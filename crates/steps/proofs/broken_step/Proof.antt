@@ -1,6 +1,6 @@
 use Rattle.ticks.proofs.WriteLaws.{length-written, room-written}
 use mathlib.Core.Path.{_∙_}
-use Rattle.records.specs.declared.Reply.the-variants.{Broken}
+use Rattle.answers.specs.declared.Reply.the-variants.{Broken}
 use borrow.Author.Needs.{needs}
 use Rattle.steps.proofs.broken_step.Statement.{statement}
 use Rattle.steps.proofs.broken_step.Tie as tie

@@ -3,7 +3,7 @@ use Rattle.service.specs.declared.Told.{Told}
 use mathlib.Core.Path.{ap, _∙_}
 use Prim.Native.Nat.{_%_}
 use Rattle.ticks.proofs.WriteLaws.{linked-low}
-use Rattle.records.specs.declared.Reply.the-variants.{Linked}
+use Rattle.answers.specs.declared.Reply.the-variants.{Linked}
 use Rattle.rules.specs.Model.{link}
 use borrow.Author.Needs.{needs}
 use Rattle.steps.proofs.link_step.Statement.{statement}

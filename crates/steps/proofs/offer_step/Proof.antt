@@ -3,7 +3,7 @@ use Rattle.service.specs.declared.Told.{Told}
 use mathlib.Core.Path.{ap, _∙_}
 use Prim.Native.Nat.{_%_}
 use Rattle.ticks.proofs.WriteLaws.{offered-low}
-use Rattle.records.specs.declared.Reply.the-variants.{Offered}
+use Rattle.answers.specs.declared.Reply.the-variants.{Offered}
 use Rattle.rules.specs.Model.{offer}
 use borrow.Author.Needs.{needs}
 use Rattle.steps.proofs.offer_step.Statement.{statement}

@@ -1,6 +1,6 @@
 use Rattle.steps.proofs.ReadAtLaws.{read-beyond, read-crossing, read-inside}
 use Rattle.log.specs.Log.{trace-limit}
-use Rattle.records.specs.Trace.{read-trace}
+use Rattle.traces.specs.Trace.{read-trace}
 use Prim.Native.Nat.{_-_, _<_, _≤_}
 use native.Mathlib.Omega.{arith}
 use mathlib.Core.Path.{_∙_}

@@ -3,7 +3,7 @@ use mathlib.Core.Path.{ap, _∙_}
 use mathlib.Core.List.{List}
 use Prim.Native.Nat.{ℕ}
 use lib.ListN.{length}
-use Rattle.records.specs.declared.Reply.the-variants.{Departed}
+use Rattle.answers.specs.declared.Reply.the-variants.{Departed}
 use Rattle.ticks.specs.Tie.{over}
 use Rattle.ticks.proofs.WriteLaws.{length-written, room-written}
 use Rattle.ticks.proofs.CallLaws.{none-told, some-told}

@@ -1,0 +1,91 @@
+-- The laws of the answer kinds: what is their own.
+use mathlib.Core.Path.{_≡_, refl, sym, ap, _∙_}
+use mathlib.Core.Bool.{true}
+use mathlib.Core.List.{[], _∷_}
+use mathlib.Core.Option.{some}
+use native.Mathlib.Omega.{arith}
+use borrow.Author.Tests.{eqb-true}
+use lib.ListN.{getD}
+use Rattle.fields.specs.Numbers.{little, number, put-fields, get-fields, sum, Fit}
+use Rattle.fields.specs.Kinds.{bytes}
+use Rattle.answers.specs.Kinds.{LA, CA, PA, DP, TA, ER}
+use Rattle.fields.specs.Formats.{starts, read-rows, laid}
+use Rattle.answers.specs.Answers.{answers, answer-table, answer-layout, linked-row, admitted-row, offered-row, departed-row, ticked-row, broken-row}
+use Rattle.fields.specs.Laws.{Reads-back-what-is-written, Has-the-length-of}
+use Rattle.answers.specs.declared.Reply.the-variants.{Linked, Admitted, Offered, Departed, Ticked, Broken, Malformed}
+use Rattle.fields.proofs.NumberLaws.{one-byte}
+use Rattle.fields.proofs.MarkLaws.{distinct, absent}
+use Rattle.fields.proofs.WindowLaws.{All-within}
+use Rattle.fields.proofs.FormatLaws.{All-fair, two-letters, plain-fair, row-back, length-bytes}
+
+pub answer-marks : distinct (answers .rows) ≡ true
+unfolding distinct absent number
+answer-marks = refl
+
+pub answer-back : Reads-back-what-is-written answers
+unfolding read-rows starts laid bytes put-fields little Fit
+answer-back (Linked verdict) rest w = row-back linked-row (verdict ∷ []) rest _ refl (w .typed, tt) refl refl
+answer-back (Admitted verdict connection) rest w =
+    let t = w .typed in row-back admitted-row (verdict ∷ connection ∷ []) rest _ refl (t .0, (t .1, tt)) refl refl
+answer-back (Offered verdict eligibility) rest w =
+    let t = w .typed in row-back offered-row (verdict ∷ eligibility ∷ []) rest _ refl (t .0, (t .1, tt)) refl refl
+answer-back (Departed connection tag arrival eligibility finish) rest w =
+    let t = w .typed in
+    row-back departed-row (connection ∷ tag ∷ arrival ∷ eligibility ∷ finish ∷ []) rest _ refl (t .0, (t .1, (t .2, (t .3, (t .4, tt))))) refl refl
+answer-back (Ticked verdict ticks) rest w =
+    let t = w .typed in row-back ticked-row (verdict ∷ ticks ∷ []) rest _ refl (t .0, (t .1, tt)) refl refl
+answer-back (Broken offset) rest w = row-back broken-row (14 ∷ offset ∷ []) rest _ refl (omega arith, (w .typed, tt)) refl refl
+answer-back Malformed rest w = absurd (omega (arith, w .some-byte))
+
+pub answers-fair : All-fair answer-layout (answers .rows)
+unfolding All-fair get-fields
+answers-fair = (
+  plain-fair linked-row (two-letters 0x4C 0x41 (omega arith) (omega arith)) (λ b c. refl) (λ bs a. refl),
+  (
+    plain-fair admitted-row (two-letters 0x43 0x41 (omega arith) (omega arith)) (λ b c. refl) (λ bs a. refl),
+    (
+      plain-fair offered-row (two-letters 0x50 0x41 (omega arith) (omega arith)) (λ b c. refl) (λ bs a. refl),
+      (
+        plain-fair departed-row (two-letters 0x44 0x50 (omega arith) (omega arith)) (λ b c. refl) (λ bs a. refl),
+        (
+          plain-fair ticked-row (two-letters 0x54 0x41 (omega arith) (omega arith)) (λ b c. refl) (λ bs a. refl),
+          (
+            plain-fair broken-row (two-letters 0x45 0x52 (omega arith) (omega arith)) (λ b c. refl)
+                (λ bs a. ap (λ v. some (ER, v ∷ number 4 bs 3 ∷ [])) (sym (one-byte bs 2 ∙ eqb-true (getD bs 2 0) 14 a))),
+            tt,
+          ),
+        ),
+      ),
+    ),
+  ),
+)
+
+pub answer-length : Has-the-length-of answers answer-table
+unfolding laid sum
+answer-length (Linked verdict) h = length-bytes LA (verdict ∷ [])
+answer-length (Admitted verdict connection) h = length-bytes CA (verdict ∷ connection ∷ [])
+answer-length (Offered verdict eligibility) h = length-bytes PA (verdict ∷ eligibility ∷ [])
+answer-length (Departed connection tag arrival eligibility finish) h = length-bytes DP (connection ∷ tag ∷ arrival ∷ eligibility ∷ finish ∷ [])
+answer-length (Ticked verdict ticks) h = length-bytes TA (verdict ∷ ticks ∷ [])
+answer-length (Broken offset) h = length-bytes ER (14 ∷ offset ∷ [])
+answer-length Malformed h = absurd (omega arith)
+
+-- The longest answer is a departure.
+pub answers-within : All-within 19 (answers .rows)
+unfolding All-within sum
+answers-within = (
+  λ b a. omega arith,
+  (
+    λ b a. omega arith,
+    (
+      λ b a. omega arith,
+      (
+        λ b a. omega arith,
+        (
+          λ b a. omega arith,
+          (λ b a. omega arith, tt),
+        ),
+      ),
+    ),
+  ),
+)

@@ -1,0 +1,2 @@
+pub mod AnswerLaws
+pub mod Laws

@@ -1,0 +1,181 @@
+// The answer records of document 01, "Trace and answer records": their kinds as values, read and written.
+ghost use mathlib.Core.Path.{_≡_};
+ghost use mathlib.Core.Option.{none};
+ghost use lib.ListN.{getD};
+ghost use Rattle.fields.specs.Drafts.{Holds};
+ghost use Rattle.fields.specs.Formats.{whole, read-row, mark-among, length-after, room-after};
+ghost use Rattle.answers.specs.Answers.{answers, broken-row, departed-row, found-reply, read-answer, answer-bytes};
+use fields::Draft;
+use fields::read::four;
+use fields::read::known;
+use fields::read::one;
+use fields::read::two;
+
+// An answer record with its numbers, or malformed. `Broken` is the answer to a malformed trace record, and its verdict is always 14.
+pub enum Reply {
+    Linked {
+        verdict: u8,
+    },
+    Admitted {
+        verdict: u8,
+        connection: u8,
+    },
+    Offered {
+        verdict: u8,
+        eligibility: u32,
+    },
+    Departed {
+        connection: u8,
+        tag: u32,
+        arrival: u32,
+        eligibility: u32,
+        finish: u32,
+    },
+    Ticked {
+        verdict: u8,
+        ticks: u16,
+    },
+    Broken {
+        offset: u32,
+    },
+    Malformed,
+}
+
+// What reading found, and how many bytes it took: none where it is malformed.
+pub struct FoundReply {
+    pub what: Reply,
+    pub taken: usize,
+}
+
+// No answer, and no byte taken.
+fn nothing() -> FoundReply
+    ensures { λ r. ⌜ r ≡ found-reply none ⌝ }
+{
+    FoundReply {
+        what: Reply::Malformed,
+        taken: 0,
+    }
+}
+
+// An answer of so many bytes, where they are all there.
+fn whole_of(s: &[u8], size: usize, what: Reply) -> FoundReply
+    ensures { λ r. ⌜ r ≡ found-reply (whole size what (now (s .entry))) ⌝ }
+{
+    if s.len() < size {
+        return nothing();
+    }
+    FoundReply {
+        what: what,
+        taken: size,
+    }
+}
+
+// The mark that the bytes start with, as a number; 0 where it is none of an answer's.
+fn mark_of(s: &[u8]) -> u16
+    ensures { λ r. ⌜ r ≡ mark-among (answers .rows) (now (s .entry)) ⌝ }
+{
+    let mark = known(s, b"ER", 0);
+    let mark = known(s, b"TA", mark);
+    let mark = known(s, b"DP", mark);
+    let mark = known(s, b"PA", mark);
+    let mark = known(s, b"CA", mark);
+    known(s, b"LA", mark)
+}
+
+// The answer to a malformed record: the verdict before its offset is 14.
+fn read_broken(s: &[u8]) -> FoundReply
+    ensures { λ r. ⌜ r ≡ found-reply (read-row broken-row (getD (now (s .entry)) 2 0) (now (s .entry))) ⌝ }
+{
+    let verdict = one(s, 2);
+    match verdict {
+        14 => whole_of(s, 7, Reply::Broken { offset: four(s, 3) }),
+        _ => nothing(),
+    }
+}
+
+// A packet's departure.
+fn read_departed(s: &[u8]) -> FoundReply
+    ensures { λ r. ⌜ r ≡ found-reply (read-row departed-row (getD (now (s .entry)) 2 0) (now (s .entry))) ⌝ }
+{
+    let departed = Reply::Departed {
+        connection: one(s, 2),
+        tag: four(s, 3),
+        arrival: four(s, 7),
+        eligibility: four(s, 11),
+        finish: four(s, 15),
+    };
+    whole_of(s, 19, departed)
+}
+
+// The answer that the bytes start with: the marks are LA, CA, PA, DP, TA and ER as numbers.
+pub fn read(s: &[u8]) -> FoundReply
+    ensures { λ r. ⌜ r ≡ read-answer (now (s .entry)) ⌝ }
+{
+    let mark = mark_of(s);
+    match mark {
+        0x414C => whole_of(s, 3, Reply::Linked { verdict: one(s, 2) }),
+        0x4143 => {
+            let admitted = Reply::Admitted {
+                verdict: one(s, 2),
+                connection: one(s, 3),
+            };
+            whole_of(s, 4, admitted)
+        }
+        0x4150 => {
+            let offered = Reply::Offered {
+                verdict: one(s, 2),
+                eligibility: four(s, 3),
+            };
+            whole_of(s, 7, offered)
+        }
+        0x5044 => read_departed(s),
+        0x4154 => {
+            let ticked = Reply::Ticked {
+                verdict: one(s, 2),
+                ticks: two(s, 3),
+            };
+            whole_of(s, 5, ticked)
+        }
+        0x5245 => read_broken(s),
+        _ => nothing(),
+    }
+}
+
+// The bytes of an answer; none of a malformed one.
+fn draft(r: Reply) -> Draft
+    ensures { λ d. ⌜ Holds d (answer-bytes r) ⌝ }
+{
+    match r {
+        Reply::Linked { verdict } => Draft::marked(b"LA").one(verdict),
+        Reply::Admitted {
+            verdict,
+            connection,
+        } => Draft::marked(b"CA").one(verdict).one(connection),
+        Reply::Offered {
+            verdict,
+            eligibility,
+        } => Draft::marked(b"PA").one(verdict).four(eligibility),
+        Reply::Departed {
+            connection,
+            tag,
+            arrival,
+            eligibility,
+            finish,
+        } => Draft::marked(b"DP")
+            .one(connection)
+            .four(tag)
+            .four(arrival)
+            .four(eligibility)
+            .four(finish),
+        Reply::Ticked { verdict, ticks } => Draft::marked(b"TA").one(verdict).two(ticks),
+        Reply::Broken { offset } => Draft::marked(b"ER").one(14).four(offset),
+        Reply::Malformed => Draft::empty(),
+    }
+}
+
+// Writes an answer at the start of the room lent, and answers its length: 0, with no byte changed, where it is malformed or does not fit.
+pub fn write(r: Reply, room: &mut [u8]) -> usize
+    ensures { λ n. ⌜ (n ≡ length-after (answer-bytes r) (now (room .entry))) × (now (room .exit) ≡ room-after (answer-bytes r) (now (room .entry))) ⌝ }
+{
+    draft(r).into_room(room)
+}

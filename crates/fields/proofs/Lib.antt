@@ -1,0 +1,6 @@
+pub mod NumberLaws
+pub mod FieldLaws
+pub mod MarkLaws
+pub mod FormatLaws
+pub mod WindowLaws
+pub mod DraftLaws

@@ -1,7 +1,0 @@
-pub mod Numbers
-pub mod Kinds
-pub mod Formats
-pub mod Drafts
-pub mod Trace
-pub mod Answers
-pub mod Laws

@@ -1,0 +1,148 @@
+-- A link's bytes: how many bounds there are is one of its numbers.
+use mathlib.Core.Path.{_≡_, refl, sym, ap, _∙_}
+use mathlib.Core.Bool.{Bool, true, false}
+use mathlib.Core.List.{List, [], _∷_}
+use mathlib.Core.Option.{some, none}
+use Prim.Native.Nat.{ℕ, zero, suc, _+_, _*_, _<_, _≤_}
+use native.Mathlib.Omega.{arith}
+use borrow.Author.Tests.{lt-ltb, le-ltb, ne-eqb, ltb-false, eqb-true}
+use lib.ListN.{length, getD, take, drop, replicate, drop-of-length-le}
+use lib.Seq.{drop-cons}
+use native.Mathlib.Numerals.{add-one}
+use lib.Dec.{ltb, eqb}
+use Rattle.fields.specs.Numbers.{pick, number, get-fields, sum, Fit}
+use Rattle.traces.specs.Kinds.{LK}
+use Rattle.fields.specs.Formats.{whole, read-row, laid}
+use Rattle.traces.specs.Trace.{link-row, link-in, zeros, link-layout}
+use Rattle.fields.proofs.MarkLaws.{both}
+use Rattle.fields.proofs.NumberLaws.{one-byte, sum-pairs}
+
+-- A link's length.
+pub sum-link : (n : ℕ) → 2 + sum (1 ∷ 2 ∷ replicate n 2) ≡ 5 + 2 * n
+unfolding sum
+sum-link n = omega (arith, sum-pairs n)
+
+zero-unread : (bs : List ℕ) → read-row link-row 0 bs ≡ none
+unfolding read-row
+zero-unread bs = refl
+
+pub n-too-small : (bs : List ℕ) (n : ℕ) → n ≡ number 1 bs 2 → n < 1 → read-row link-row (getD bs 2 0) bs ≡ none
+n-too-small bs n e h =
+    let z : n ≡ 0 = omega arith in
+    ap (λ b. read-row link-row b bs) (sym (e ∙ one-byte bs 2) ∙ z) ∙ zero-unread bs
+
+pub n-too-large : (bs : List ℕ) (n : ℕ) → n ≡ number 1 bs 2 → 8 < n → read-row link-row (getD bs 2 0) bs ≡ none
+unfolding read-row
+n-too-large bs n e h = rw (← one-byte bs 2, ← e, le-ltb n 1 (omega arith), lt-ltb 8 n h)
+
+pub n-in-range : (bs : List ℕ) (n : ℕ) → n ≡ number 1 bs 2 → 1 ≤ n → n ≤ 8
+    → whole (5 + 2 * n) (link-in bs n) bs ≡ read-row link-row (getD bs 2 0) bs
+unfolding read-row get-fields
+n-in-range bs n e h k = rw (← one-byte bs 2, ← e, le-ltb n 1 h, le-ltb 8 n k, sum-link n)
+
+-- One bound more of a test of all those from a place on.
+pub zeros-stop : (ds : List ℕ) (i : ℕ) → i < length ds → (getD ds i 0 ≡ 0 → ⊥) → zeros (drop i ds) ≡ false
+unfolding zeros
+zeros-stop ds i h k = rw (drop-cons ds i 0, ne-eqb (getD ds i 0) 0 k)
+
+pub zeros-on : (ds : List ℕ) (i : ℕ) → i < length ds → getD ds i 0 ≡ 0 → zeros (drop i ds) ≡ zeros (drop (i + 1) ds)
+unfolding zeros
+zeros-on ds i h k = rw (add-one i, drop-cons ds i 0 h, k)
+
+pub zeros-end : (ds : List ℕ) (i : ℕ) → length ds ≤ i → zeros (drop i ds) ≡ true
+unfolding zeros
+zeros-end ds i h = rw (drop-of-length-le ds {i = i} h)
+
+-- When a link is written, and as which numbers.
+zero-unwritten : (s : ℕ) (ds : List ℕ) → link-layout 0 s ds ≡ none
+unfolding link-layout
+zero-unwritten s ds = refl
+
+pub unwritten-small : (n s : ℕ) (ds : List ℕ) → n < 1 → link-layout n s ds ≡ none
+unwritten-small n s ds h = let z : n ≡ 0 = omega arith in ap (λ m. link-layout m s ds) z ∙ zero-unwritten s ds
+
+pub unwritten-large : (n s : ℕ) (ds : List ℕ) → 8 < n → link-layout n s ds ≡ none
+unfolding link-layout
+unwritten-large n s ds h = rw (le-ltb n 1 (omega arith), lt-ltb 8 n h)
+
+pub unwritten-bound : (n s : ℕ) (ds : List ℕ) → 1 ≤ n → n ≤ 8 → zeros (drop n ds) ≡ false → link-layout n s ds ≡ none
+unfolding link-layout
+unwritten-bound n s ds h k z = rw (le-ltb n 1 h, le-ltb 8 n k, z)
+
+pub written-as : (n s : ℕ) (ds : List ℕ) → 1 ≤ n → n ≤ 8 → zeros (drop n ds) ≡ true → link-layout n s ds ≡ some (LK, n ∷ s ∷ take n ds)
+unfolding link-layout
+written-as n s ds h k z = rw (le-ltb n 1 h, le-ltb 8 n k, z)
+
+-- A link that has bytes is one that is written.
+pub link-written : (n s : ℕ) (ds : List ℕ) → 0 < length (laid (link-layout n s ds)) → (1 ≤ n) × (n ≤ 8) × (zeros (drop n ds) ≡ true)
+unfolding link-layout laid
+link-written n s ds = go (ltb n 1) refl (ltb 8 n) refl (zeros (drop n ds)) refl
+  where
+    go : (t : Bool) → ltb n 1 ≡ t → (u : Bool) → ltb 8 n ≡ u → (v : Bool) → zeros (drop n ds) ≡ v
+        → 0 < length (laid (pick (pick t false (pick u false true)) (pick v (some (LK, n ∷ s ∷ take n ds)) none) none))
+        → (1 ≤ n) × (n ≤ 8) × (zeros (drop n ds) ≡ true)
+    go true e u f v g h = absurd (omega arith)
+    go false e true f v g h = absurd (omega arith)
+    go false e false f true g h = (ltb-false n 1 e, ltb-false 8 n f, g)
+    go false e false f false g h = absurd (omega arith)
+
+-- The first n of numbers that are 0 from the n-th on are, with 0 past them, all of them.
+pub taken-all : (n : ℕ) (ds : List ℕ) (k : ℕ) → zeros (drop n ds) ≡ true → getD (take n ds) k 0 ≡ getD ds k 0
+unfolding zeros
+taken-all zero [] k z = refl
+taken-all zero (d ∷ ds) k z =
+    let t = both (eqb d 0) (zeros ds) z in
+    first k (eqb-true d 0 (t .0)) (taken-all zero ds)
+  where
+    first : (k : ℕ) → d ≡ 0 → ((k : ℕ) → zeros ds ≡ true → _≡_ {A = ℕ} 0 (getD ds k 0)) → _≡_ {A = ℕ} 0 (getD (d ∷ ds) k 0)
+    first zero e more = sym e
+    first (suc k) e more = more k (both (eqb d 0) (zeros ds) z .1)
+taken-all (suc n) [] k z = refl
+taken-all (suc n) (d ∷ ds) zero z = refl
+taken-all (suc n) (d ∷ ds) (suc k) z = taken-all n ds k z
+
+-- The numbers of a list from place i on, so many, with 0 past its end.
+unfoldable spread : ℕ → ℕ → List ℕ → List ℕ
+spread zero i xs = []
+spread (suc k) i xs = getD xs i 0 ∷ spread k (i + 1) xs
+
+spread-on : (k i x : ℕ) (xs : List ℕ) → spread k (i + 1) (x ∷ xs) ≡ spread k i xs
+unfolding spread
+spread-on zero i x xs = refl
+spread-on (suc k) i x xs = rw (add-one i) (ap (λ l. getD xs i 0 ∷ l) (rw (add-one i) at (spread-on k (i + 1) x xs)))
+
+take-spread : (k : ℕ) (xs : List ℕ) → length xs ≤ k → take (length xs) (spread k 0 xs) ≡ xs
+unfolding spread
+take-spread k [] h = refl
+take-spread zero (x ∷ xs) h = absurd (omega arith)
+take-spread (suc k) (x ∷ xs) h =
+    ap (λ l. x ∷ take (length xs) l) (spread-on k 0 x xs) ∙ ap (λ l. x ∷ l) (take-spread k xs (omega arith))
+
+zeros-spread : (k i : ℕ) → zeros (spread k i []) ≡ true
+unfolding zeros spread
+zeros-spread zero i = refl
+zeros-spread (suc k) i = zeros-spread k (i + 1)
+
+drop-spread : (k : ℕ) (xs : List ℕ) → length xs ≤ k → zeros (drop (length xs) (spread k 0 xs)) ≡ true
+unfolding spread
+drop-spread k [] h = zeros-spread k 0
+drop-spread zero (x ∷ xs) h = absurd (omega arith)
+drop-spread (suc k) (x ∷ xs) h =
+    ap (λ l. zeros (drop (length xs) l)) (spread-on k 0 x xs) ∙ drop-spread k xs (omega arith)
+
+-- The layout of a link with the bounds xs, of which there are n, and 0 past them.
+pub layout-of-link : (n s : ℕ) (xs : List ℕ) → length xs ≡ n → 1 ≤ n → n ≤ 8
+    → link-layout n s (getD xs 0 0 ∷ getD xs 1 0 ∷ getD xs 2 0 ∷ getD xs 3 0 ∷ getD xs 4 0 ∷ getD xs 5 0 ∷ getD xs 6 0 ∷ getD xs 7 0 ∷ [])
+    ≡ some (LK, n ∷ s ∷ xs)
+unfolding spread
+layout-of-link n s xs e h k =
+    let few : length xs ≤ 8 = omega arith in
+    let all = spread 8 0 xs in
+    written-as n s all h k (ap (λ m. zeros (drop m all)) (sym e) ∙ drop-spread 8 xs few)
+    ∙ ap (λ l. some (LK, n ∷ s ∷ l)) (ap (λ m. take m all) (sym e) ∙ take-spread 8 xs few)
+
+pub fit-pairs : (n : ℕ) (ds : List ℕ) → n ≤ length ds → Fit (replicate (length ds) 2) ds → Fit (replicate n 2) (take n ds)
+unfolding Fit
+fit-pairs zero ds h f = tt
+fit-pairs (suc n) [] h f = absurd (omega arith)
+fit-pairs (suc n) (d ∷ ds) h f = (f .0, fit-pairs n ds (omega arith) (f .1))

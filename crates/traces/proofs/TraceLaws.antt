@@ -1,0 +1,134 @@
+-- The laws of the trace kinds: what is their own.
+use mathlib.Core.Path.{_≡_, refl, ap, _∙_}
+use mathlib.Core.Bool.{true, false}
+use mathlib.Core.List.{List, [], _∷_, _++_}
+use mathlib.Core.Option.{some}
+use Prim.Native.Nat.{ℕ, _%_, _<_, _≤_}
+use native.Mathlib.Omega.{arith}
+use borrow.Author.Tests.{le-ltb, ltb-false}
+use lib.ListN.{length, getD, take, drop, replicate, length-replicate}
+use lib.Dec.{ltb}
+use Rattle.fields.specs.Numbers.{pick, little, number, put-fields, get-fields, sum, Fit}
+use Rattle.fields.specs.Kinds.{bytes}
+use Rattle.traces.specs.Kinds.{LK, CN, PK, TK}
+use Rattle.fields.specs.Formats.{starts, read-rows, laid}
+use Rattle.traces.specs.Trace.{trace, trace-table, link-from, zeros, link-layout, link-row, admit-row, offer-row, ticks-row, trace-layout}
+use Rattle.fields.specs.Laws.{Reads-back-what-is-written, Has-the-length-of}
+use Rattle.traces.specs.declared.Record.the-variants.{Link, Admit, Offer, Ticks, Malformed}
+use Rattle.fields.proofs.NumberLaws.{one-byte, length-get}
+use Rattle.fields.proofs.FormatLaws.{Fair, All-fair, two-letters, plain-fair, row-back, length-bytes}
+use Rattle.fields.proofs.WindowLaws.{All-within}
+use Rattle.fields.proofs.MarkLaws.{neither, distinct, absent}
+use Rattle.traces.proofs.LinkLaws.{sum-link, link-written, written-as, taken-all, layout-of-link, fit-pairs}
+
+pub trace-marks : distinct (trace .rows) ≡ true
+unfolding distinct absent number
+trace-marks = refl
+
+n-allowed : (n : ℕ) → 1 ≤ n → n ≤ 8 → LK .allows n ≡ true
+n-allowed n h k = rw (le-ltb n 1 h, le-ltb 8 n k)
+
+n-in-range : (n : ℕ) → LK .allows n ≡ true → (1 ≤ n) × (n ≤ 8)
+n-in-range n h =
+    let low = neither (ltb n 1) (pick (ltb 8 n) false true) h in
+    (ltb-false n 1 (low .0), ltb-false 8 n (neither (ltb 8 n) true (low .1) .0))
+
+-- A link is read back from its numbers: the bounds past n are 0.
+link-same : (n s d1 d2 d3 d4 d5 d6 d7 d8 : ℕ)
+    → let ds = d1 ∷ d2 ∷ d3 ∷ d4 ∷ d5 ∷ d6 ∷ d7 ∷ d8 ∷ [] in
+    zeros (drop n ds) ≡ true
+    → link-from (n ∷ s ∷ take n ds) ≡ Link n s d1 d2 d3 d4 d5 d6 d7 d8
+link-same n s d1 d2 d3 d4 d5 d6 d7 d8 z =
+    let ds = d1 ∷ d2 ∷ d3 ∷ d4 ∷ d5 ∷ d6 ∷ d7 ∷ d8 ∷ [] in
+    rw (taken-all n ds 0 z, taken-all n ds 1 z, taken-all n ds 2 z, taken-all n ds 3 z, taken-all n ds 4 z, taken-all n ds 5 z, taken-all n ds 6 z, taken-all n ds 7 z)
+
+-- A link that is written is read back. `ds` are its eight bounds.
+link-back : (n s : ℕ) (ds rest : List ℕ) → 1 ≤ n → n ≤ 8 → Fit (1 ∷ 2 ∷ replicate n 2) (n ∷ s ∷ take n ds)
+    → read-rows (trace .rows) (bytes LK (n ∷ s ∷ take n ds) ++ rest) ≡ some (link-from (n ∷ s ∷ take n ds), length (bytes LK (n ∷ s ∷ take n ds)))
+unfolding read-rows starts bytes put-fields little
+link-back n s ds rest h k fit =
+    let e : n % 256 ≡ n = omega arith in
+    row-back link-row (n ∷ s ∷ take n ds) rest (n % 256) refl fit (ap (LK .allows) e ∙ n-allowed n h k) (ap (LK .widths) e)
+
+-- The same of its layout.
+link-told : (n s d1 d2 d3 d4 d5 d6 d7 d8 : ℕ) (rest : List ℕ)
+    → let ds = d1 ∷ d2 ∷ d3 ∷ d4 ∷ d5 ∷ d6 ∷ d7 ∷ d8 ∷ [] in
+    0 < length (laid (link-layout n s ds))
+    → n < 256 → s < 65536 → Fit (replicate 8 2) ds
+    → read-rows (trace .rows) (laid (link-layout n s ds) ++ rest) ≡ some (Link n s d1 d2 d3 d4 d5 d6 d7 d8, length (laid (link-layout n s ds)))
+unfolding laid Fit
+link-told n s d1 d2 d3 d4 d5 d6 d7 d8 rest w hn hs fit =
+    let ds = d1 ∷ d2 ∷ d3 ∷ d4 ∷ d5 ∷ d6 ∷ d7 ∷ d8 ∷ [] in
+    let is = link-written n s ds w in
+    rw (written-as n s ds (is .0) (is .1) (is .2))
+    (link-back n s ds rest (is .0) (is .1) (hn, (hs, fit-pairs n ds (is .1) fit))
+    ∙ ap (λ r. some (r, length (bytes LK (n ∷ s ∷ take n ds)))) (link-same n s d1 d2 d3 d4 d5 d6 d7 d8 (is .2)))
+
+pub trace-back : Reads-back-what-is-written trace
+unfolding read-rows starts laid bytes Fit
+trace-back (Link n s d1 d2 d3 d4 d5 d6 d7 d8) rest w =
+    let t = w .typed in
+    link-told n s d1 d2 d3 d4 d5 d6 d7 d8 rest (w .some-byte) (t .0) (t .1) (t .2, (t .3, (t .4, (t .5, (t .6, (t .7, (t .8, (t .9, tt))))))))
+trace-back (Admit level gap size) rest w =
+    let t = w .typed in row-back admit-row (level ∷ gap ∷ size ∷ []) rest _ refl (t .0, (t .1, (t .2, tt))) refl refl
+trace-back (Offer connection len tag) rest w =
+    let t = w .typed in row-back offer-row (connection ∷ len ∷ tag ∷ []) rest _ refl (t .0, (t .1, (t .2, tt))) refl refl
+trace-back (Ticks ticks) rest w = row-back ticks-row (ticks ∷ []) rest _ refl (w .typed, tt) refl refl
+trace-back Malformed rest w = absurd (omega (arith, w .some-byte))
+
+link-layout-same : (bs : List ℕ) → LK .allows (getD bs 2 0) ≡ true
+    → trace-layout (link-from (get-fields (LK .widths (getD bs 2 0)) bs 2)) ≡ some (LK, get-fields (LK .widths (getD bs 2 0)) bs 2)
+unfolding get-fields
+link-layout-same bs a =
+    let n = getD bs 2 0 in
+    let r = n-in-range n a in
+    let ds = get-fields (replicate n 2) bs 5 in
+    let e : number 1 bs 2 ≡ n = one-byte bs 2 in
+    rw e (layout-of-link n (number 2 bs 3) ds (length-get (replicate n 2) bs 5 ∙ length-replicate n 2) (r .0) (r .1))
+
+link-fair : Fair trace-layout link-row
+unfolding get-fields
+link-fair =
+    record {
+      letters = two-letters 0x4C 0x4B (omega arith) (omega arith);
+      same-widths = λ bs a. ap (LK .widths) (one-byte bs 2);
+      same-layout = λ bs a. link-layout-same bs a;
+    }
+
+pub trace-fair : All-fair trace-layout (trace .rows)
+unfolding All-fair get-fields
+trace-fair = (
+  link-fair,
+  (
+    plain-fair admit-row (two-letters 0x43 0x4E (omega arith) (omega arith)) (λ b c. refl) (λ bs a. refl),
+    (
+      plain-fair offer-row (two-letters 0x50 0x4B (omega arith) (omega arith)) (λ b c. refl) (λ bs a. refl),
+      (plain-fair ticks-row (two-letters 0x54 0x4B (omega arith) (omega arith)) (λ b c. refl) (λ bs a. refl), tt),
+    ),
+  ),
+)
+
+pub trace-length : Has-the-length-of trace trace-table
+unfolding laid sum
+trace-length (Link n s d1 d2 d3 d4 d5 d6 d7 d8) h =
+    let ds = d1 ∷ d2 ∷ d3 ∷ d4 ∷ d5 ∷ d6 ∷ d7 ∷ d8 ∷ [] in
+    let is = link-written n s ds h in
+    ap (λ l. length (laid l)) (written-as n s ds (is .0) (is .1) (is .2)) ∙ length-bytes LK (n ∷ s ∷ take n ds) ∙ sum-link n
+trace-length (Admit level gap size) h = length-bytes CN (level ∷ gap ∷ size ∷ [])
+trace-length (Offer connection len tag) h = length-bytes PK (connection ∷ len ∷ tag ∷ [])
+trace-length (Ticks ticks) h = length-bytes TK (ticks ∷ [])
+trace-length Malformed h = absurd (omega arith)
+
+-- The longest trace record is a link of eight levels.
+pub trace-within : All-within 21 (trace .rows)
+unfolding All-within sum
+trace-within = (
+  λ b a. let r = n-in-range b a in let e = sum-link b in omega arith,
+  (
+    λ b a. omega arith,
+    (
+      λ b a. omega arith,
+      (λ b a. omega arith, tt),
+    ),
+  ),
+)

@@ -1,0 +1,25 @@
+-- `traces::mark_of` meets its contract: the marks are tried from the last of the table to the first.
+use Rattle.fields.specs.Formats.{mark-among}
+use borrow.Author.Needs.{needs}
+use Rattle.traces.proofs.mark_of.Statement.{statement}
+use Rattle.traces.proofs.mark_of.Tie as tie
+
+known-requires : tie.Need-known-requires
+known-requires c κs = search needs
+
+known-requires-2 : tie.Need-known-requires-2
+known-requires-2 c κs = search needs
+
+known-requires-3 : tie.Need-known-requires-3
+known-requires-3 c κs = search needs
+
+known-requires-4 : tie.Need-known-requires-4
+known-requires-4 c κs = search needs
+
+returns : tie.Need-returns
+unfolding mark-among
+returns c = rw (c .known4 .ensures, c .before .before .known3 .ensures, c .before .before .before .before .known2 .ensures, c .before .before .before .before .before .before .known .ensures)
+
+pub mark-of-spec : {M : Type 1} → statement M
+mark-of-spec =
+    tie.close (tie.spec known-requires known-requires-2 known-requires-3 known-requires-4 returns)

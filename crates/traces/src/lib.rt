@@ -1,0 +1,157 @@
+// The trace records of document 01, "Trace and answer records": their kinds as values, read and written.
+mod link; // link.rt: links, of which one number says how many follow
+
+ghost use mathlib.Core.Path.{_≡_};
+ghost use mathlib.Core.Option.{none};
+ghost use lib.ListN.{drop};
+ghost use Rattle.fields.specs.Formats.{whole, mark-among, length-after, room-after};
+ghost use Rattle.fields.specs.Drafts.{Holds};
+ghost use Rattle.traces.specs.Trace.{trace, found, read-trace, trace-bytes};
+use fields::Draft;
+use fields::read::four;
+use fields::read::known;
+use fields::read::one;
+use fields::read::two;
+
+// A trace record with its numbers, or malformed. Bounds past `levels` are 0.
+pub enum Record {
+    Link {
+        levels: u8,
+        largest: u16,
+        d1: u16,
+        d2: u16,
+        d3: u16,
+        d4: u16,
+        d5: u16,
+        d6: u16,
+        d7: u16,
+        d8: u16,
+    },
+    Admit {
+        level: u8,
+        gap: u16,
+        size: u16,
+    },
+    Offer {
+        connection: u8,
+        len: u16,
+        tag: u32,
+    },
+    Ticks {
+        ticks: u16,
+    },
+    Malformed,
+}
+
+// What reading found, and how many bytes it took: none where it is malformed.
+pub struct Found {
+    pub what: Record,
+    pub taken: usize,
+}
+
+// No record, and no byte taken.
+pub(crate) fn nothing() -> Found
+    ensures { λ r. ⌜ r ≡ found none ⌝ }
+{
+    Found {
+        what: Record::Malformed,
+        taken: 0,
+    }
+}
+
+// A record of so many bytes, where they are all there.
+pub(crate) fn whole_of(s: &[u8], size: usize, what: Record) -> Found
+    ensures { λ r. ⌜ r ≡ found (whole size what (now (s .entry))) ⌝ }
+{
+    if s.len() < size {
+        return nothing();
+    }
+    Found {
+        what: what,
+        taken: size,
+    }
+}
+
+// The mark that the bytes start with, as a number; 0 where it is none of a trace's.
+fn mark_of(s: &[u8]) -> u16
+    ensures { λ r. ⌜ r ≡ mark-among (trace .rows) (now (s .entry)) ⌝ }
+{
+    let mark = known(s, b"TK", 0);
+    let mark = known(s, b"PK", mark);
+    let mark = known(s, b"CN", mark);
+    known(s, b"LK", mark)
+}
+
+// The record that the bytes start with: the marks are LK, CN, PK and TK as numbers.
+pub fn read(s: &[u8]) -> Found
+    ensures { λ r. ⌜ r ≡ read-trace (now (s .entry)) ⌝ }
+{
+    let mark = mark_of(s);
+    match mark {
+        0x4B4C => link::read_link(s),
+        0x4E43 => {
+            let admit = Record::Admit {
+                level: one(s, 2),
+                gap: two(s, 3),
+                size: two(s, 5),
+            };
+            whole_of(s, 7, admit)
+        }
+        0x4B50 => {
+            let offer = Record::Offer {
+                connection: one(s, 2),
+                len: two(s, 3),
+                tag: four(s, 5),
+            };
+            whole_of(s, 9, offer)
+        }
+        0x4B54 => whole_of(s, 4, Record::Ticks { ticks: two(s, 2) }),
+        _ => nothing(),
+    }
+}
+
+// The record that starts at a place of a buffer.
+pub fn read_at(buf: &[u8], at: usize) -> Found
+    ensures { λ r. ⌜ r ≡ read-trace (drop at (now (buf .entry))) ⌝ }
+{
+    if buf.len() < at {
+        return nothing();
+    }
+    let rest = &buf[at..];
+    read(rest)
+}
+
+// The bytes of a record; none where it is not written.
+fn draft(r: Record) -> Draft
+    ensures { λ d. ⌜ Holds d (trace-bytes r) ⌝ }
+{
+    match r {
+        Record::Link {
+            levels,
+            largest,
+            d1,
+            d2,
+            d3,
+            d4,
+            d5,
+            d6,
+            d7,
+            d8,
+        } => link::draft_link(levels, largest, [d1, d2, d3, d4, d5, d6, d7, d8]),
+        Record::Admit { level, gap, size } => Draft::marked(b"CN").one(level).two(gap).two(size),
+        Record::Offer {
+            connection,
+            len,
+            tag,
+        } => Draft::marked(b"PK").one(connection).two(len).four(tag),
+        Record::Ticks { ticks } => Draft::marked(b"TK").two(ticks),
+        Record::Malformed => Draft::empty(),
+    }
+}
+
+// Writes a record at the start of the room lent, and answers its length: 0, with no byte changed, where it is not written or does not fit.
+pub fn write(r: Record, room: &mut [u8]) -> usize
+    ensures { λ n. ⌜ (n ≡ length-after (trace-bytes r) (now (room .entry))) × (now (room .exit) ≡ room-after (trace-bytes r) (now (room .entry))) ⌝ }
+{
+    draft(r).into_room(room)
+}

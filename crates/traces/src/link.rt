@@ -1,0 +1,89 @@
+// Links, read and written: the number of levels says how many bounds follow.
+ghost use mathlib.Core.Path.{_≡_};
+ghost use Prim.Native.Nat.{_<_, _≤_};
+ghost use lib.ListN.{getD, drop};
+ghost use Rattle.fields.specs.Formats.{read-row, laid};
+ghost use Rattle.fields.specs.Drafts.{Holds};
+ghost use Rattle.traces.specs.Trace.{link-row, link-in, bound-in, found, zeros, link-layout};
+use super::Found;
+use super::Record;
+use super::nothing;
+use super::whole_of;
+use fields::Draft;
+use fields::read::one;
+use fields::read::two;
+
+// Bound k, counted from 0, of a link with so many levels: 0 past them.
+fn bound(s: &[u8], levels: usize, k: usize) -> u16
+    requires { ⌜ k < 8 ⌝ }
+    ensures { λ r. ⌜ r ≡ bound-in (now (s .entry)) levels k ⌝ }
+{
+    if k < levels {
+        return two(s, 5 + 2 * k);
+    }
+    0
+}
+
+// The link with so many levels that the bytes hold.
+fn link_of(s: &[u8], levels: u8) -> Record
+    ensures { λ r. ⌜ r ≡ link-in (now (s .entry)) levels ⌝ }
+{
+    let n = levels as usize;
+    Record::Link {
+        levels: levels,
+        largest: two(s, 3),
+        d1: bound(s, n, 0),
+        d2: bound(s, n, 1),
+        d3: bound(s, n, 2),
+        d4: bound(s, n, 3),
+        d5: bound(s, n, 4),
+        d6: bound(s, n, 5),
+        d7: bound(s, n, 6),
+        d8: bound(s, n, 7),
+    }
+}
+
+// A link: the number of levels says how many bounds follow.
+pub(crate) fn read_link(s: &[u8]) -> Found
+    ensures { λ r. ⌜ r ≡ found (read-row link-row (getD (now (s .entry)) 2 0) (now (s .entry))) ⌝ }
+{
+    let levels = one(s, 2);
+    match levels {
+        1..=8 => whole_of(s, 5 + 2 * (levels as usize), link_of(s, levels)),
+        _ => nothing(),
+    }
+}
+
+// Whether the bounds from the k-th on, counted from 0, are all 0.
+fn zeros_from(bounds: [u16; 8], k: usize) -> bool
+    requires { ⌜ k ≤ 8 ⌝ }
+    ensures { λ r. ⌜ r ≡ zeros (drop k bounds) ⌝ }
+{
+    let mut i = k;
+    while i < 8 {
+        if bounds[i] != 0 {
+            return false;
+        }
+        i += 1;
+    }
+    true
+}
+
+// The bytes of a link; none where it is not written.
+pub(crate) fn draft_link(levels: u8, largest: u16, bounds: [u16; 8]) -> Draft
+    ensures { λ r. ⌜ Holds r (laid (link-layout levels largest bounds)) ⌝ }
+{
+    match levels {
+        1..=8 => {
+            let n = levels as usize;
+            if !zeros_from(bounds, n) {
+                return Draft::empty();
+            }
+            Draft::marked(b"LK")
+                .one(levels)
+                .two(largest)
+                .pairs(n, bounds)
+        }
+        _ => Draft::empty(),
+    }
+}
