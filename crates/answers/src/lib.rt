@@ -4,12 +4,26 @@ ghost use mathlib.Core.Option.{none};
 ghost use lib.ListN.{getD};
 ghost use Rattle.fields.specs.Drafts.{Holds};
 ghost use Rattle.fields.specs.Formats.{whole, read-row, mark-among, length-after, room-after};
+ghost use Rattle.answers.specs.declared.Reply.the-variants.{Departed};
 ghost use Rattle.answers.specs.Answers.{answers, broken-row, departed-row, found-reply, read-answer, answer-bytes};
 use fields::Draft;
 use fields::read::four;
 use fields::read::known;
 use fields::read::one;
 use fields::read::two;
+
+// The marks of the table, compared on reading and written on answering.
+const LA: [u8; 2] = *b"LA";
+
+const CA: [u8; 2] = *b"CA";
+
+const PA: [u8; 2] = *b"PA";
+
+const DP: [u8; 2] = *b"DP";
+
+const TA: [u8; 2] = *b"TA";
+
+const ER: [u8; 2] = *b"ER";
 
 // An answer record with its numbers, or malformed. `Broken` is the answer to a malformed trace record, and its verdict is always 14.
 pub enum Reply {
@@ -74,12 +88,12 @@ fn whole_of(s: &[u8], size: usize, what: Reply) -> FoundReply
 fn mark_of(s: &[u8]) -> u16
     ensures { λ r. ⌜ r ≡ mark-among (answers .rows) (now (s .entry)) ⌝ }
 {
-    let mark = known(s, b"ER", 0);
-    let mark = known(s, b"TA", mark);
-    let mark = known(s, b"DP", mark);
-    let mark = known(s, b"PA", mark);
-    let mark = known(s, b"CA", mark);
-    known(s, b"LA", mark)
+    let mark = known(s, ER, 0);
+    let mark = known(s, TA, mark);
+    let mark = known(s, DP, mark);
+    let mark = known(s, PA, mark);
+    let mark = known(s, CA, mark);
+    known(s, LA, mark)
 }
 
 // The answer to a malformed record: the verdict before its offset is 14.
@@ -112,18 +126,19 @@ pub fn read(s: &[u8]) -> FoundReply
     ensures { λ r. ⌜ r ≡ read-answer (now (s .entry)) ⌝ }
 {
     let mark = mark_of(s);
+    let verdict = one(s, 2);
     match mark {
-        0x414C => whole_of(s, 3, Reply::Linked { verdict: one(s, 2) }),
+        0x414C => whole_of(s, 3, Reply::Linked { verdict: verdict }),
         0x4143 => {
             let admitted = Reply::Admitted {
-                verdict: one(s, 2),
+                verdict: verdict,
                 connection: one(s, 3),
             };
             whole_of(s, 4, admitted)
         }
         0x4150 => {
             let offered = Reply::Offered {
-                verdict: one(s, 2),
+                verdict: verdict,
                 eligibility: four(s, 3),
             };
             whole_of(s, 7, offered)
@@ -131,7 +146,7 @@ pub fn read(s: &[u8]) -> FoundReply
         0x5044 => read_departed(s),
         0x4154 => {
             let ticked = Reply::Ticked {
-                verdict: one(s, 2),
+                verdict: verdict,
                 ticks: two(s, 3),
             };
             whole_of(s, 5, ticked)
@@ -141,34 +156,40 @@ pub fn read(s: &[u8]) -> FoundReply
     }
 }
 
+// The bytes of a departure.
+fn draft_departed(connection: u8, tag: u32, arrival: u32, eligibility: u32, finish: u32) -> Draft
+    ensures { λ d. ⌜ Holds d (answer-bytes (Departed connection tag arrival eligibility finish)) ⌝ }
+{
+    Draft::headed(DP, connection)
+        .four(tag)
+        .four(arrival)
+        .four(eligibility)
+        .four(finish)
+}
+
 // The bytes of an answer; none of a malformed one.
 fn draft(r: Reply) -> Draft
     ensures { λ d. ⌜ Holds d (answer-bytes r) ⌝ }
 {
     match r {
-        Reply::Linked { verdict } => Draft::marked(b"LA").one(verdict),
+        Reply::Linked { verdict } => Draft::headed(LA, verdict),
         Reply::Admitted {
             verdict,
             connection,
-        } => Draft::marked(b"CA").one(verdict).one(connection),
+        } => Draft::headed(CA, verdict).one(connection),
         Reply::Offered {
             verdict,
             eligibility,
-        } => Draft::marked(b"PA").one(verdict).four(eligibility),
+        } => Draft::headed(PA, verdict).four(eligibility),
         Reply::Departed {
             connection,
             tag,
             arrival,
             eligibility,
             finish,
-        } => Draft::marked(b"DP")
-            .one(connection)
-            .four(tag)
-            .four(arrival)
-            .four(eligibility)
-            .four(finish),
-        Reply::Ticked { verdict, ticks } => Draft::marked(b"TA").one(verdict).two(ticks),
-        Reply::Broken { offset } => Draft::marked(b"ER").one(14).four(offset),
+        } => draft_departed(connection, tag, arrival, eligibility, finish),
+        Reply::Ticked { verdict, ticks } => Draft::headed(TA, verdict).two(ticks),
+        Reply::Broken { offset } => Draft::headed(ER, 14).four(offset),
         Reply::Malformed => Draft::empty(),
     }
 }

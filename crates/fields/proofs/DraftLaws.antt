@@ -85,6 +85,34 @@ drafted {d} {r} k xs h f l =
       within = omega (arith, f .count, h .count);
     }
 
+-- A byte behind a mark; and all of a kind's numbers behind that byte, which is the first of them.
+pub head-held : {d r : Draft} (a b v : ℕ) → Holds d (a ∷ b ∷ []) → Adds d r 1 v → Holds r (a ∷ b ∷ v ∷ [])
+head-held {d} {r} a b v h f =
+    record {
+      bytes = f .bytes ∙ ap (λ l. l ++ little 1 v) (h .bytes) ∙ ap (λ l. a ∷ b ∷ l) (little-one v (f .fits));
+      count = omega (arith, f .count, h .count);
+      within = omega (arith, f .count, h .count);
+    }
+
+pub drafted-behind : {d r : Draft} {ws : List ℕ} (k : Kind) (v : ℕ) (xs : List ℕ) → v < 256 → k .widths v ≡ 1 ∷ ws → Holds d (k .mark ++ v ∷ [])
+    → Adds-all d r ws xs
+    → length (k .mark) + (1 + sum ws) ≤ 21
+    → Holds r (bytes k (v ∷ xs))
+unfolding bytes put-fields sum
+drafted-behind {d} {r} {ws} k v xs small e h f l =
+    let n : length (k .mark ++ v ∷ []) ≡ length (k .mark) + 1 = length-append (k .mark) (v ∷ []) in
+    let m : length (k .mark ++ put-fields (1 ∷ ws) (v ∷ xs)) ≡ length (k .mark) + (1 + sum ws) =
+    length-append (k .mark) (put-fields (1 ∷ ws) (v ∷ xs)) ∙ ap (λ i. length (k .mark) + i) (length-put (1 ∷ ws) (v ∷ xs)) in
+    rw e
+    (record {
+      bytes =
+          f .bytes
+          ∙ ap (λ b. b ++ put-fields ws xs) (h .bytes ∙ ap (λ l. k .mark ++ l) (sym (little-one v small)))
+          ∙ append-assoc (k .mark) (little 1 v) (put-fields ws xs);
+      count = omega (arith, f .count, h .count);
+      within = omega (arith, f .count, h .count);
+    })
+
 -- One number more, of those in two bytes each.
 pub put-snoc : (k : ℕ) (xs : List ℕ) → k < length xs
     → put-fields (replicate (suc k) 2) (take (suc k) xs) ≡ put-fields (replicate k 2) (take k xs) ++ little 2 (getD xs k 0)

@@ -5,10 +5,11 @@ use mathlib.Core.List.{List, [], _∷_}
 use mathlib.Core.Option.{Option, none}
 use Prim.Native.Nat.{ℕ}
 use native.Mathlib.Omega.{arith}
-use borrow.Author.Tests.{eq-eqb}
+use borrow.Author.Tests.{eq-eqb, ne-eqb}
 use lib.ListN.{getD}
 use lib.Dec.{eqb}
 use Rattle.fields.specs.Numbers.{pick, number}
+use Rattle.fields.proofs.NumberLaws.{one-byte}
 use Rattle.fields.specs.Formats.{Row, starts, read-row, read-rows, mark-among}
 
 -- Both parts of a test of the form `pick a b false`.
@@ -20,6 +21,27 @@ both false b h = let z : _≡_ {A = ℕ} 0 1 = cc in absurd (omega arith)
 pub neither : (a b : Bool) → pick a false b ≡ true → (a ≡ false) × (b ≡ true)
 neither false b h = (refl, h)
 neither true b h = let z : _≡_ {A = ℕ} 0 1 = cc in absurd (omega arith)
+
+-- What the letters that the bytes start with, `f` and `g`, tell of a mark.
+module _ (mark bs : List ℕ) {f : ℕ} (first : f ≡ number 1 bs 0) where
+  pub first-differs : (f ≡ getD mark 0 0 → ⊥) → starts mark bs ≡ false
+  unfolding starts
+  first-differs h = rw (ne-eqb (getD bs 0 0) (getD mark 0 0) (λ e. h (first ∙ one-byte bs 0 ∙ e)))
+
+  module _ {g : ℕ} (second : g ≡ number 1 bs 1) (e : f ≡ getD mark 0 0) where
+    a : getD bs 0 0 ≡ getD mark 0 0
+    a = sym (first ∙ one-byte bs 0) ∙ e
+
+    pub second-differs : (g ≡ getD mark 1 0 → ⊥) → starts mark bs ≡ false
+    unfolding starts
+    second-differs h =
+        rw (eq-eqb (getD bs 0 0) (getD mark 0 0) a, ne-eqb (getD bs 1 0) (getD mark 1 0) (λ k. h (second ∙ one-byte bs 1 ∙ k)))
+
+    pub both-same : g ≡ getD mark 1 0 → (starts mark bs ≡ true) × (number 2 bs 0 ≡ number 2 mark 0)
+    unfolding starts number
+    both-same k =
+        let b : getD bs 1 0 ≡ getD mark 1 0 = sym (second ∙ one-byte bs 1) ∙ k in
+        (rw (eq-eqb (getD bs 0 0) (getD mark 0 0) a, eq-eqb (getD bs 1 0) (getD mark 1 0) b), rw (a, b))
 
 module _ {R : Type 0} where
   -- A kind's mark as a number.

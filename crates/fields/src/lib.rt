@@ -27,10 +27,17 @@ impl Draft {
     }
 
     // A mark alone.
-    pub fn marked(mark: &[u8; 2]) -> Draft
-        ensures { λ r. ⌜ Holds r (getD (now (mark .entry)) 0 0 ∷ getD (now (mark .entry)) 1 0 ∷ []) ⌝ }
+    pub fn marked(mark: [u8; 2]) -> Draft
+        ensures { λ r. ⌜ Holds r (getD mark 0 0 ∷ getD mark 1 0 ∷ []) ⌝ }
     {
         Draft::empty().one(mark[0]).one(mark[1])
+    }
+
+    // A mark and the byte behind it.
+    pub fn headed(mark: [u8; 2], first: u8) -> Draft
+        ensures { λ r. ⌜ Holds r (getD mark 0 0 ∷ getD mark 1 0 ∷ first ∷ []) ⌝ }
+    {
+        Draft::marked(mark).one(first)
     }
 
     // One byte more.

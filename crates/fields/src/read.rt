@@ -34,22 +34,15 @@ pub fn four(s: &[u8], at: usize) -> u32
     low + 65536 * high
 }
 
-// Whether the bytes start with a mark.
-fn starts_with(s: &[u8], mark: &[u8; 2]) -> bool
-    ensures { λ r. ⌜ r ≡ starts (now (mark .entry)) (now (s .entry)) ⌝ }
+// The mark that the bytes start with, as a number, its first letter low, where it is the one handed in; else the number handed in.
+pub fn known(s: &[u8], mark: [u8; 2], otherwise: u16) -> u16
+    ensures { λ r. ⌜ r ≡ pick (starts mark (now (s .entry))) (number 2 mark 0) otherwise ⌝ }
 {
     if one(s, 0) != mark[0] {
-        return false;
+        return otherwise;
     }
-    one(s, 1) == mark[1]
-}
-
-// A mark as a number, its first letter low, where the bytes start with it; else the number handed in.
-pub fn known(s: &[u8], mark: &[u8; 2], otherwise: u16) -> u16
-    ensures { λ r. ⌜ r ≡ pick (starts (now (mark .entry)) (now (s .entry))) (number 2 (now (mark .entry)) 0) otherwise ⌝ }
-{
-    if starts_with(s, mark) {
-        return two(mark, 0);
+    if one(s, 1) != mark[1] {
+        return otherwise;
     }
-    otherwise
+    two(s, 0)
 }

@@ -13,8 +13,8 @@ use lib.Dec.{ltb, eqb}
 use Rattle.fields.specs.Numbers.{pick, number, get-fields, sum, Fit}
 use Rattle.traces.specs.Kinds.{LK}
 use Rattle.fields.specs.Formats.{whole, read-row, laid}
-use Rattle.traces.specs.Trace.{link-row, link-in, zeros, link-layout}
-use Rattle.fields.proofs.MarkLaws.{both}
+use Rattle.traces.specs.Trace.{link-row, link-in, zeros, link-written, link-layout}
+use Rattle.fields.proofs.MarkLaws.{both, neither}
 use Rattle.fields.proofs.NumberLaws.{one-byte, sum-pairs}
 
 -- A link's length.
@@ -40,6 +40,15 @@ pub n-in-range : (bs : List ℕ) (n : ℕ) → n ≡ number 1 bs 2 → 1 ≤ n �
 unfolding read-row get-fields
 n-in-range bs n e h k = rw (← one-byte bs 2, ← e, le-ltb n 1 h, le-ltb 8 n k, sum-link n)
 
+-- Which n are allowed behind the mark.
+pub range-allowed : (n : ℕ) → 1 ≤ n → n ≤ 8 → LK .allows n ≡ true
+range-allowed n h k = rw (le-ltb n 1 h, le-ltb 8 n k)
+
+pub allowed-range : (n : ℕ) → LK .allows n ≡ true → (1 ≤ n) × (n ≤ 8)
+allowed-range n h =
+    let low = neither (ltb n 1) (pick (ltb 8 n) false true) h in
+    (ltb-false n 1 (low .0), ltb-false 8 n (neither (ltb 8 n) true (low .1) .0))
+
 -- One bound more of a test of all those from a place on.
 pub zeros-stop : (ds : List ℕ) (i : ℕ) → i < length ds → (getD ds i 0 ≡ 0 → ⊥) → zeros (drop i ds) ≡ false
 unfolding zeros
@@ -54,37 +63,41 @@ unfolding zeros
 zeros-end ds i h = rw (drop-of-length-le ds {i = i} h)
 
 -- When a link is written, and as which numbers.
-zero-unwritten : (s : ℕ) (ds : List ℕ) → link-layout 0 s ds ≡ none
-unfolding link-layout
-zero-unwritten s ds = refl
+pub zero-unwritten : (ds : List ℕ) → link-written 0 ds ≡ false
+unfolding link-written
+zero-unwritten ds = refl
 
-pub unwritten-small : (n s : ℕ) (ds : List ℕ) → n < 1 → link-layout n s ds ≡ none
-unwritten-small n s ds h = let z : n ≡ 0 = omega arith in ap (λ m. link-layout m s ds) z ∙ zero-unwritten s ds
+pub large-unwritten : (n : ℕ) (ds : List ℕ) → 8 < n → link-written n ds ≡ false
+unfolding link-written
+large-unwritten n ds h = rw (le-ltb n 1 (omega arith), lt-ltb 8 n h)
 
-pub unwritten-large : (n s : ℕ) (ds : List ℕ) → 8 < n → link-layout n s ds ≡ none
-unfolding link-layout
-unwritten-large n s ds h = rw (le-ltb n 1 (omega arith), lt-ltb 8 n h)
+pub zeros-decide : (n : ℕ) (ds : List ℕ) → 1 ≤ n → n ≤ 8 → link-written n ds ≡ zeros (drop n ds)
+unfolding link-written
+zeros-decide n ds h k = rw (le-ltb n 1 h, le-ltb 8 n k)
 
-pub unwritten-bound : (n s : ℕ) (ds : List ℕ) → 1 ≤ n → n ≤ 8 → zeros (drop n ds) ≡ false → link-layout n s ds ≡ none
-unfolding link-layout
-unwritten-bound n s ds h k z = rw (le-ltb n 1 h, le-ltb 8 n k, z)
+pub written-in-range : (n : ℕ) (ds : List ℕ) → link-written n ds ≡ true → (1 ≤ n) × (n ≤ 8) × (zeros (drop n ds) ≡ true)
+unfolding link-written
+written-in-range n ds h =
+    let t = both (LK .allows n) (zeros (drop n ds)) h in
+    let r = allowed-range n (t .0) in
+    (r .0, r .1, t .1)
 
-pub written-as : (n s : ℕ) (ds : List ℕ) → 1 ≤ n → n ≤ 8 → zeros (drop n ds) ≡ true → link-layout n s ds ≡ some (LK, n ∷ s ∷ take n ds)
+pub unwritten-as : (n s : ℕ) (ds : List ℕ) → link-written n ds ≡ false → link-layout n s ds ≡ none
 unfolding link-layout
-written-as n s ds h k z = rw (le-ltb n 1 h, le-ltb 8 n k, z)
+unwritten-as n s ds h = rw h
+
+pub written-as : (n s : ℕ) (ds : List ℕ) → link-written n ds ≡ true → link-layout n s ds ≡ some (LK, n ∷ s ∷ take n ds)
+unfolding link-layout
+written-as n s ds h = rw h
 
 -- A link that has bytes is one that is written.
-pub link-written : (n s : ℕ) (ds : List ℕ) → 0 < length (laid (link-layout n s ds)) → (1 ≤ n) × (n ≤ 8) × (zeros (drop n ds) ≡ true)
+pub has-bytes : (n s : ℕ) (ds : List ℕ) → 0 < length (laid (link-layout n s ds)) → link-written n ds ≡ true
 unfolding link-layout laid
-link-written n s ds = go (ltb n 1) refl (ltb 8 n) refl (zeros (drop n ds)) refl
+has-bytes n s ds = go (link-written n ds)
   where
-    go : (t : Bool) → ltb n 1 ≡ t → (u : Bool) → ltb 8 n ≡ u → (v : Bool) → zeros (drop n ds) ≡ v
-        → 0 < length (laid (pick (pick t false (pick u false true)) (pick v (some (LK, n ∷ s ∷ take n ds)) none) none))
-        → (1 ≤ n) × (n ≤ 8) × (zeros (drop n ds) ≡ true)
-    go true e u f v g h = absurd (omega arith)
-    go false e true f v g h = absurd (omega arith)
-    go false e false f true g h = (ltb-false n 1 e, ltb-false 8 n f, g)
-    go false e false f false g h = absurd (omega arith)
+    go : (t : Bool) → 0 < length (laid (pick t (some (LK, n ∷ s ∷ take n ds)) none)) → t ≡ true
+    go true h = refl
+    go false h = absurd (omega arith)
 
 -- The first n of numbers that are 0 from the n-th on are, with 0 past them, all of them.
 pub taken-all : (n : ℕ) (ds : List ℕ) (k : ℕ) → zeros (drop n ds) ≡ true → getD (take n ds) k 0 ≡ getD ds k 0
@@ -138,7 +151,7 @@ unfolding spread
 layout-of-link n s xs e h k =
     let few : length xs ≤ 8 = omega arith in
     let all = spread 8 0 xs in
-    written-as n s all h k (ap (λ m. zeros (drop m all)) (sym e) ∙ drop-spread 8 xs few)
+    written-as n s all (zeros-decide n all h k ∙ ap (λ m. zeros (drop m all)) (sym e) ∙ drop-spread 8 xs few)
     ∙ ap (λ l. some (LK, n ∷ s ∷ l)) (ap (λ m. take m all) (sym e) ∙ take-spread 8 xs few)
 
 pub fit-pairs : (n : ℕ) (ds : List ℕ) → n ≤ length ds → Fit (replicate (length ds) 2) ds → Fit (replicate n 2) (take n ds)

@@ -5,9 +5,7 @@ use mathlib.Core.List.{List, [], _∷_, _++_}
 use mathlib.Core.Option.{some}
 use Prim.Native.Nat.{ℕ, _%_, _<_, _≤_}
 use native.Mathlib.Omega.{arith}
-use borrow.Author.Tests.{le-ltb, ltb-false}
 use lib.ListN.{length, getD, take, drop, replicate, length-replicate}
-use lib.Dec.{ltb}
 use Rattle.fields.specs.Numbers.{pick, little, number, put-fields, get-fields, sum, Fit}
 use Rattle.fields.specs.Kinds.{bytes}
 use Rattle.traces.specs.Kinds.{LK, CN, PK, TK}
@@ -18,20 +16,12 @@ use Rattle.traces.specs.declared.Record.the-variants.{Link, Admit, Offer
 use Rattle.fields.proofs.NumberLaws.{one-byte, length-get}
 use Rattle.fields.proofs.FormatLaws.{Fair, All-fair, two-letters, plain-fair, row-back, length-bytes}
 use Rattle.fields.proofs.WindowLaws.{All-within}
-use Rattle.fields.proofs.MarkLaws.{neither, distinct, absent}
-use Rattle.traces.proofs.LinkLaws.{sum-link, link-written, written-as, taken-all, layout-of-link, fit-pairs}
+use Rattle.fields.proofs.MarkLaws.{distinct, absent}
+use Rattle.traces.proofs.LinkLaws.{sum-link, allowed-range, range-allowed, has-bytes, written-in-range, written-as, taken-all, layout-of-link, fit-pairs}
 
 pub trace-marks : distinct (trace .rows) ≡ true
 unfolding distinct absent number
 trace-marks = refl
-
-n-allowed : (n : ℕ) → 1 ≤ n → n ≤ 8 → LK .allows n ≡ true
-n-allowed n h k = rw (le-ltb n 1 h, le-ltb 8 n k)
-
-n-in-range : (n : ℕ) → LK .allows n ≡ true → (1 ≤ n) × (n ≤ 8)
-n-in-range n h =
-    let low = neither (ltb n 1) (pick (ltb 8 n) false true) h in
-    (ltb-false n 1 (low .0), ltb-false 8 n (neither (ltb 8 n) true (low .1) .0))
 
 -- A link is read back from its numbers: the bounds past n are 0.
 link-same : (n s d1 d2 d3 d4 d5 d6 d7 d8 : ℕ)
@@ -48,7 +38,7 @@ link-back : (n s : ℕ) (ds rest : List ℕ) → 1 ≤ n → n ≤ 8 → Fit (1 
 unfolding read-rows starts bytes put-fields little
 link-back n s ds rest h k fit =
     let e : n % 256 ≡ n = omega arith in
-    row-back link-row (n ∷ s ∷ take n ds) rest (n % 256) refl fit (ap (LK .allows) e ∙ n-allowed n h k) (ap (LK .widths) e)
+    row-back link-row (n ∷ s ∷ take n ds) rest (n % 256) refl fit (ap (LK .allows) e ∙ range-allowed n h k) (ap (LK .widths) e)
 
 -- The same of its layout.
 link-told : (n s d1 d2 d3 d4 d5 d6 d7 d8 : ℕ) (rest : List ℕ)
@@ -59,8 +49,9 @@ link-told : (n s d1 d2 d3 d4 d5 d6 d7 d8 : ℕ) (rest : List ℕ)
 unfolding laid Fit
 link-told n s d1 d2 d3 d4 d5 d6 d7 d8 rest w hn hs fit =
     let ds = d1 ∷ d2 ∷ d3 ∷ d4 ∷ d5 ∷ d6 ∷ d7 ∷ d8 ∷ [] in
-    let is = link-written n s ds w in
-    rw (written-as n s ds (is .0) (is .1) (is .2))
+    let there = has-bytes n s ds w in
+    let is = written-in-range n ds there in
+    rw (written-as n s ds there)
     (link-back n s ds rest (is .0) (is .1) (hn, (hs, fit-pairs n ds (is .1) fit))
     ∙ ap (λ r. some (r, length (bytes LK (n ∷ s ∷ take n ds)))) (link-same n s d1 d2 d3 d4 d5 d6 d7 d8 (is .2)))
 
@@ -81,7 +72,7 @@ link-layout-same : (bs : List ℕ) → LK .allows (getD bs 2 0) ≡ true
 unfolding get-fields
 link-layout-same bs a =
     let n = getD bs 2 0 in
-    let r = n-in-range n a in
+    let r = allowed-range n a in
     let ds = get-fields (replicate n 2) bs 5 in
     let e : number 1 bs 2 ≡ n = one-byte bs 2 in
     rw e (layout-of-link n (number 2 bs 3) ds (length-get (replicate n 2) bs 5 ∙ length-replicate n 2) (r .0) (r .1))
@@ -112,8 +103,7 @@ pub trace-length : Has-the-length-of trace trace-table
 unfolding laid sum
 trace-length (Link n s d1 d2 d3 d4 d5 d6 d7 d8) h =
     let ds = d1 ∷ d2 ∷ d3 ∷ d4 ∷ d5 ∷ d6 ∷ d7 ∷ d8 ∷ [] in
-    let is = link-written n s ds h in
-    ap (λ l. length (laid l)) (written-as n s ds (is .0) (is .1) (is .2)) ∙ length-bytes LK (n ∷ s ∷ take n ds) ∙ sum-link n
+    ap (λ l. length (laid l)) (written-as n s ds (has-bytes n s ds h)) ∙ length-bytes LK (n ∷ s ∷ take n ds) ∙ sum-link n
 trace-length (Admit level gap size) h = length-bytes CN (level ∷ gap ∷ size ∷ [])
 trace-length (Offer connection len tag) h = length-bytes PK (connection ∷ len ∷ tag ∷ [])
 trace-length (Ticks ticks) h = length-bytes TK (ticks ∷ [])
@@ -123,7 +113,7 @@ trace-length Malformed h = absurd (omega arith)
 pub trace-within : All-within 21 (trace .rows)
 unfolding All-within sum
 trace-within = (
-  λ b a. let r = n-in-range b a in let e = sum-link b in omega arith,
+  λ b a. let r = allowed-range b a in let e = sum-link b in omega arith,
   (
     λ b a. omega arith,
     (

@@ -44,9 +44,13 @@ unfoldable pub zeros : List ℕ → Bool
 zeros [] = true
 zeros (d ∷ ds) = pick (eqb d 0) (zeros ds) false
 
--- A link's n, S and first n bounds. "One with n out of range or a bound past n not 0" is not written.
+-- Whether a link with these bounds is written: "one with n out of range or a bound past n not 0" is not.
+unfoldable pub link-written : ℕ → List ℕ → Bool
+link-written n ds = pick (LK .allows n) (zeros (drop n ds)) false
+
+-- A link's n, S and first n bounds.
 unfoldable pub link-layout : ℕ → ℕ → List ℕ → Option (Kind × List ℕ)
-link-layout n s ds = pick (LK .allows n) (pick (zeros (drop n ds)) (some (LK, n ∷ s ∷ take n ds)) none) none
+link-layout n s ds = pick (link-written n ds) (some (LK, n ∷ s ∷ take n ds)) none
 
 abbrev pub trace-layout : Record → Option (Kind × List ℕ)
 trace-layout (Link n s d1 d2 d3 d4 d5 d6 d7 d8) = link-layout n s (d1 ∷ d2 ∷ d3 ∷ d4 ∷ d5 ∷ d6 ∷ d7 ∷ d8 ∷ [])

@@ -13,6 +13,15 @@ use fields::read::known;
 use fields::read::one;
 use fields::read::two;
 
+// The marks of the table, compared on reading and written on writing.
+const LK: [u8; 2] = *b"LK";
+
+const CN: [u8; 2] = *b"CN";
+
+const PK: [u8; 2] = *b"PK";
+
+const TK: [u8; 2] = *b"TK";
+
 // A trace record with its numbers, or malformed. Bounds past `levels` are 0.
 pub enum Record {
     Link {
@@ -76,10 +85,10 @@ pub(crate) fn whole_of(s: &[u8], size: usize, what: Record) -> Found
 fn mark_of(s: &[u8]) -> u16
     ensures { λ r. ⌜ r ≡ mark-among (trace .rows) (now (s .entry)) ⌝ }
 {
-    let mark = known(s, b"TK", 0);
-    let mark = known(s, b"PK", mark);
-    let mark = known(s, b"CN", mark);
-    known(s, b"LK", mark)
+    let mark = known(s, TK, 0);
+    let mark = known(s, PK, mark);
+    let mark = known(s, CN, mark);
+    known(s, LK, mark)
 }
 
 // The record that the bytes start with: the marks are LK, CN, PK and TK as numbers.
@@ -87,11 +96,12 @@ pub fn read(s: &[u8]) -> Found
     ensures { λ r. ⌜ r ≡ read-trace (now (s .entry)) ⌝ }
 {
     let mark = mark_of(s);
+    let first = one(s, 2);
     match mark {
-        0x4B4C => link::read_link(s),
+        0x4B4C => link::read(s),
         0x4E43 => {
             let admit = Record::Admit {
-                level: one(s, 2),
+                level: first,
                 gap: two(s, 3),
                 size: two(s, 5),
             };
@@ -99,7 +109,7 @@ pub fn read(s: &[u8]) -> Found
         }
         0x4B50 => {
             let offer = Record::Offer {
-                connection: one(s, 2),
+                connection: first,
                 len: two(s, 3),
                 tag: four(s, 5),
             };
@@ -137,14 +147,14 @@ fn draft(r: Record) -> Draft
             d6,
             d7,
             d8,
-        } => link::draft_link(levels, largest, [d1, d2, d3, d4, d5, d6, d7, d8]),
-        Record::Admit { level, gap, size } => Draft::marked(b"CN").one(level).two(gap).two(size),
+        } => link::draft(levels, largest, [d1, d2, d3, d4, d5, d6, d7, d8]),
+        Record::Admit { level, gap, size } => Draft::headed(CN, level).two(gap).two(size),
         Record::Offer {
             connection,
             len,
             tag,
-        } => Draft::marked(b"PK").one(connection).two(len).four(tag),
-        Record::Ticks { ticks } => Draft::marked(b"TK").two(ticks),
+        } => Draft::headed(PK, connection).two(len).four(tag),
+        Record::Ticks { ticks } => Draft::marked(TK).two(ticks),
         Record::Malformed => Draft::empty(),
     }
 }

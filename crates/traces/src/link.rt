@@ -1,11 +1,12 @@
 // Links, read and written: the number of levels says how many bounds follow.
 ghost use mathlib.Core.Path.{_≡_};
-ghost use Prim.Native.Nat.{_<_, _≤_};
-ghost use lib.ListN.{getD, drop};
+ghost use Prim.Native.Nat.{_<_};
+ghost use lib.ListN.{getD};
 ghost use Rattle.fields.specs.Formats.{read-row, laid};
 ghost use Rattle.fields.specs.Drafts.{Holds};
-ghost use Rattle.traces.specs.Trace.{link-row, link-in, bound-in, found, zeros, link-layout};
+ghost use Rattle.traces.specs.Trace.{link-row, link-in, bound-in, found, link-written, link-layout};
 use super::Found;
+use super::LK;
 use super::Record;
 use super::nothing;
 use super::whole_of;
@@ -44,7 +45,7 @@ fn link_of(s: &[u8], levels: u8) -> Record
 }
 
 // A link: the number of levels says how many bounds follow.
-pub(crate) fn read_link(s: &[u8]) -> Found
+pub(crate) fn read(s: &[u8]) -> Found
     ensures { λ r. ⌜ r ≡ found (read-row link-row (getD (now (s .entry)) 2 0) (now (s .entry))) ⌝ }
 {
     let levels = one(s, 2);
@@ -54,12 +55,17 @@ pub(crate) fn read_link(s: &[u8]) -> Found
     }
 }
 
-// Whether the bounds from the k-th on, counted from 0, are all 0.
-fn zeros_from(bounds: [u16; 8], k: usize) -> bool
-    requires { ⌜ k ≤ 8 ⌝ }
-    ensures { λ r. ⌜ r ≡ zeros (drop k bounds) ⌝ }
+// Whether a link is written: its number of levels is in range, and the bounds past them are all 0.
+fn is_written(levels: usize, bounds: [u16; 8]) -> bool
+    ensures { λ r. ⌜ r ≡ link-written levels bounds ⌝ }
 {
-    let mut i = k;
+    if levels == 0 {
+        return false;
+    }
+    if 8 < levels {
+        return false;
+    }
+    let mut i = levels;
     while i < 8 {
         if bounds[i] != 0 {
             return false;
@@ -70,20 +76,12 @@ fn zeros_from(bounds: [u16; 8], k: usize) -> bool
 }
 
 // The bytes of a link; none where it is not written.
-pub(crate) fn draft_link(levels: u8, largest: u16, bounds: [u16; 8]) -> Draft
+pub(crate) fn draft(levels: u8, largest: u16, bounds: [u16; 8]) -> Draft
     ensures { λ r. ⌜ Holds r (laid (link-layout levels largest bounds)) ⌝ }
 {
-    match levels {
-        1..=8 => {
-            let n = levels as usize;
-            if !zeros_from(bounds, n) {
-                return Draft::empty();
-            }
-            Draft::marked(b"LK")
-                .one(levels)
-                .two(largest)
-                .pairs(n, bounds)
-        }
-        _ => Draft::empty(),
+    let n = levels as usize;
+    if !is_written(n, bounds) {
+        return Draft::empty();
     }
+    Draft::headed(LK, levels).two(largest).pairs(n, bounds)
 }

@@ -24,7 +24,7 @@ known-requires-6 c κs = search needs
 
 returns : tie.Need-returns
 unfolding mark-among
-returns c = rw (c .known6 .ensures, c .before .before .known5 .ensures, c .before .before .before .before .known4 .ensures, c .before .before .before .before .before .before .known3 .ensures, c .before .before .before .before .before .before .before .before .known2 .ensures, c .before .before .before .before .before .before .before .before .before .before .known .ensures)
+returns c = rw (c .known6 .ensures, c .before .known5 .ensures, c .before .before .known4 .ensures, c .before .before .before .known3 .ensures, c .before .before .before .before .known2 .ensures, c .before .before .before .before .before .known .ensures)
 
 pub mark-of-spec : {M : Type 1} → statement M
 mark-of-spec =

@@ -1,11 +1,11 @@
 -- `answers::read` meets its contract: each arm reads the kind whose mark has its number.
-use Rattle.answers.specs.Answers.{answers}
-use Rattle.fields.proofs.MarkLaws.{numbered, read-numbered}
-use Rattle.answers.proofs.AnswerLaws.{answer-marks}
 use mathlib.Core.Path.{refl}
 use borrow.Author.Tests.{ne-eqb}
-use Rattle.fields.specs.Formats.{read-row}
 use Rattle.fields.specs.Numbers.{number, get-fields, sum}
+use Rattle.fields.specs.Formats.{read-row}
+use Rattle.fields.proofs.MarkLaws.{numbered, read-numbered}
+use Rattle.answers.specs.Answers.{answers}
+use Rattle.answers.proofs.AnswerLaws.{answer-marks}
 use borrow.Author.Needs.{needs}
 use Rattle.answers.proofs.read.Statement.{statement}
 use Rattle.answers.proofs.read.Tie as tie
@@ -22,14 +22,8 @@ whole-of-requires c κs = search needs
 one-requires-2 : tie.Need-one-requires-2
 one-requires-2 c κs = search needs
 
-one-requires-3 : tie.Need-one-requires-3
-one-requires-3 c κs = search needs
-
 whole-of-requires-2 : tie.Need-whole-of-requires-2
 whole-of-requires-2 c κs = search needs
-
-one-requires-4 : tie.Need-one-requires-4
-one-requires-4 c κs = search needs
 
 four-requires : tie.Need-four-requires
 four-requires c κs = search needs
@@ -39,9 +33,6 @@ whole-of-requires-3 c κs = search needs
 
 read-departed-requires : tie.Need-read-departed-requires
 read-departed-requires c κs = search needs
-
-one-requires-5 : tie.Need-one-requires-5
-one-requires-5 c κs = search needs
 
 two-requires : tie.Need-two-requires
 two-requires c κs = search needs
@@ -58,44 +49,58 @@ nothing-requires c κs = search needs
 returns : tie.Need-returns
 unfolding read-numbered number read-row get-fields sum
 returns c =
-    rw (numbered (answers .rows) (c .before .before .before .before .before .args .s .now) (c .before .before .before .mark-of .result) 0x414C answer-marks (c .before .before .before .mark-of .ensures) (search needs))
-    (rw (c .whole-of .ensures, c .before .one .ensures))
+    let m = c .before .before .before .mark-of in
+    rw (numbered (answers .rows) (c .before .before .before .before .before .args .s .now) (m .result) 0x414C answer-marks (m .ensures) (search needs))
+    (rw (c .whole-of .ensures, c .before .before .one .ensures))
 
 returns-2 : tie.Need-returns-2
 unfolding read-numbered number read-row get-fields sum
 returns-2 c =
-    rw (numbered (answers .rows) (c .before .before .before .before .before .before .args .s .now) (c .before .before .before .before .mark-of .result) 0x4143 answer-marks (c .before .before .before .before .mark-of .ensures) (search needs))
-    (rw (c .whole-of2 .ensures, c .before .before .one2 .ensures, c .before .one3 .ensures))
+    let m = c .before .before .before .before .mark-of in
+    rw (numbered (answers .rows) (c .before .before .before .before .before .before .args .s .now) (m .result) 0x4143 answer-marks (m .ensures) (search needs))
+    (rw (c .whole-of2 .ensures, c .before .before .before .one .ensures, c .before .one2 .ensures))
 
 returns-3 : tie.Need-returns-3
 unfolding read-numbered number read-row get-fields sum
 returns-3 c =
-    rw (numbered (answers .rows) (c .before .before .before .before .before .before .args .s .now) (c .before .before .before .before .mark-of .result) 0x4150 answer-marks (c .before .before .before .before .mark-of .ensures) (search needs))
-    (rw (c .whole-of3 .ensures, c .before .before .one4 .ensures, c .before .four .ensures))
+    let m = c .before .before .before .before .mark-of in
+    rw (numbered (answers .rows) (c .before .before .before .before .before .before .args .s .now) (m .result) 0x4150 answer-marks (m .ensures) (search needs))
+    (rw (c .whole-of3 .ensures, c .before .before .before .one .ensures, c .before .four .ensures))
 
 returns-4 : tie.Need-returns-4
 unfolding read-numbered number
 returns-4 c =
-    rw (numbered (answers .rows) (c .before .before .before .before .args .s .now) (c .before .before .mark-of .result) 0x5044 answer-marks (c .before .before .mark-of .ensures) (search needs))
+    let m = c .before .before .before .mark-of in
+    rw (numbered (answers .rows) (c .before .before .before .before .before .args .s .now) (m .result) 0x5044 answer-marks (m .ensures) (search needs))
     (c .read-departed .ensures)
 
 returns-5 : tie.Need-returns-5
 unfolding read-numbered number read-row get-fields sum
 returns-5 c =
-    rw (numbered (answers .rows) (c .before .before .before .before .before .before .args .s .now) (c .before .before .before .before .mark-of .result) 0x4154 answer-marks (c .before .before .before .before .mark-of .ensures) (search needs))
-    (rw (c .whole-of4 .ensures, c .before .before .one5 .ensures, c .before .two .ensures))
+    let m = c .before .before .before .before .mark-of in
+    rw (numbered (answers .rows) (c .before .before .before .before .before .before .args .s .now) (m .result) 0x4154 answer-marks (m .ensures) (search needs))
+    (rw (c .whole-of4 .ensures, c .before .before .before .one .ensures, c .before .two .ensures))
 
 returns-6 : tie.Need-returns-6
 unfolding read-numbered number
 returns-6 c =
-    rw (numbered (answers .rows) (c .before .before .before .before .args .s .now) (c .before .before .mark-of .result) 0x5245 answer-marks (c .before .before .mark-of .ensures) (search needs))
+    let m = c .before .before .before .mark-of in
+    rw (numbered (answers .rows) (c .before .before .before .before .before .args .s .now) (m .result) 0x5245 answer-marks (m .ensures) (search needs))
     (c .read-broken .ensures)
 
 returns-7 : tie.Need-returns-7
 unfolding read-numbered number
 returns-7 c =
-    let m = c .before .before .mark-of .result in
-    rw (numbered (answers .rows) (c .before .before .before .before .args .s .now) m m answer-marks (c .before .before .mark-of .ensures) refl, ne-eqb m 0x414C (search needs), ne-eqb m 0x4143 (search needs), ne-eqb m 0x4150 (search needs), ne-eqb m 0x5044 (search needs), ne-eqb m 0x4154 (search needs), ne-eqb m 0x5245 (search needs))
+    let m = c .before .before .before .mark-of in
+    rw (
+      numbered (answers .rows) (c .before .before .before .before .before .args .s .now) (m .result) (m .result) answer-marks (m .ensures) refl,
+      ne-eqb (m .result) 0x414C (search needs),
+      ne-eqb (m .result) 0x4143 (search needs),
+      ne-eqb (m .result) 0x4150 (search needs),
+      ne-eqb (m .result) 0x5044 (search needs),
+      ne-eqb (m .result) 0x4154 (search needs),
+      ne-eqb (m .result) 0x5245 (search needs),
+    )
     (c .nothing .ensures)
 
 pub read-spec : {M : Type 1} → statement M
@@ -106,13 +111,10 @@ read-spec =
     one-requires
     whole-of-requires
     one-requires-2
-    one-requires-3
     whole-of-requires-2
-    one-requires-4
     four-requires
     whole-of-requires-3
     read-departed-requires
-    one-requires-5
     two-requires
     whole-of-requires-4
     read-broken-requires

@@ -1,9 +1,10 @@
 -- `traces::draft` meets its contract: each record is put together as its kind and its numbers.
-use Rattle.traces.specs.Kinds.{CN, PK, TK}
+use mathlib.Core.Path.{refl}
+use native.Mathlib.Omega.{arith}
 use Rattle.fields.specs.Formats.{laid}
 use Rattle.fields.specs.Numbers.{sum}
-use Rattle.fields.proofs.DraftLaws.{done, before, drafted}
-use native.Mathlib.Omega.{arith}
+use Rattle.fields.proofs.DraftLaws.{done, before, drafted, drafted-behind}
+use Rattle.traces.specs.Kinds.{CN, PK, TK}
 use borrow.Author.Needs.{needs}
 use Rattle.traces.proofs.draft.Statement.{statement}
 use Rattle.traces.proofs.draft.Tie as tie
@@ -11,17 +12,14 @@ use Rattle.traces.proofs.draft.Tie as tie
 enum-known-r : tie.Need-enum-known-r
 enum-known-r c = search needs
 
-draft-link-requires : tie.Need-draft-link-requires
-draft-link-requires c κs = search needs
+draft-requires : tie.Need-draft-requires
+draft-requires c κs = search needs
 
 enum-known-r-2 : tie.Need-enum-known-r-2
 enum-known-r-2 c = search needs
 
-marked-requires : tie.Need-marked-requires
-marked-requires c κs = search needs
-
-one-requires : tie.Need-one-requires
-one-requires c κs = search needs
+headed-requires : tie.Need-headed-requires
+headed-requires c κs = search needs
 
 two-requires : tie.Need-two-requires
 two-requires c κs = search needs
@@ -32,11 +30,8 @@ two-requires-2 c κs = search needs
 enum-known-r-3 : tie.Need-enum-known-r-3
 enum-known-r-3 c = search needs
 
-marked-requires-2 : tie.Need-marked-requires-2
-marked-requires-2 c κs = search needs
-
-one-requires-2 : tie.Need-one-requires-2
-one-requires-2 c κs = search needs
+headed-requires-2 : tie.Need-headed-requires-2
+headed-requires-2 c κs = search needs
 
 two-requires-3 : tie.Need-two-requires-3
 two-requires-3 c κs = search needs
@@ -47,8 +42,8 @@ four-requires c κs = search needs
 enum-known-r-4 : tie.Need-enum-known-r-4
 enum-known-r-4 c = search needs
 
-marked-requires-3 : tie.Need-marked-requires-3
-marked-requires-3 c κs = search needs
+marked-requires : tie.Need-marked-requires
+marked-requires c κs = search needs
 
 two-requires-4 : tie.Need-two-requires-4
 two-requires-4 c κs = search needs
@@ -60,22 +55,19 @@ empty-requires : tie.Need-empty-requires
 empty-requires c κs = search needs
 
 returns : tie.Need-returns
-returns c = rw (c .before .before .r .given .1) (c .draft-link .ensures)
+returns c = rw (c .before .before .r .given .1) (c .draft .ensures)
 
 returns-2 : tie.Need-returns-2
 unfolding laid sum
-returns-2 c =
-    rw (c .before .before .before .before .before .before .r2 .given .1) (drafted CN _ (c .before .before .before .marked .ensures) (before (c .before .before .one .ensures) (before (c .before .two .ensures) (before (c .two2 .ensures) done))) (omega arith))
+returns-2 c = rw (c .before .before .before .before .r2 .given .1) (drafted-behind CN _ _ (search needs) refl (c .before .before .headed .ensures) (before (c .before .two .ensures) (before (c .two2 .ensures) done)) (omega arith))
 
 returns-3 : tie.Need-returns-3
 unfolding laid sum
-returns-3 c =
-    rw (c .before .before .before .before .before .before .r3 .given .1) (drafted PK _ (c .before .before .before .marked2 .ensures) (before (c .before .before .one2 .ensures) (before (c .before .two3 .ensures) (before (c .four .ensures) done))) (omega arith))
+returns-3 c = rw (c .before .before .before .before .r3 .given .1) (drafted-behind PK _ _ (search needs) refl (c .before .before .headed2 .ensures) (before (c .before .two3 .ensures) (before (c .four .ensures) done)) (omega arith))
 
 returns-4 : tie.Need-returns-4
 unfolding laid sum
-returns-4 c =
-    rw (c .before .before .before .before .r4 .given .1) (drafted TK _ (c .before .marked3 .ensures) (before (c .two4 .ensures) done) (omega arith))
+returns-4 c = rw (c .before .before .before .r4 .given .1) (drafted TK _ (c .before .marked .ensures) (before (c .two4 .ensures) done) (omega arith))
 
 returns-5 : tie.Need-returns-5
 unfolding laid
@@ -86,19 +78,17 @@ draft-spec =
     tie.close
     (tie.spec
     enum-known-r
-    draft-link-requires
+    draft-requires
     enum-known-r-2
-    marked-requires
-    one-requires
+    headed-requires
     two-requires
     two-requires-2
     enum-known-r-3
-    marked-requires-2
-    one-requires-2
+    headed-requires-2
     two-requires-3
     four-requires
     enum-known-r-4
-    marked-requires-3
+    marked-requires
     two-requires-4
     enum-told
     empty-requires

@@ -18,7 +18,7 @@ known-requires-4 c κs = search needs
 
 returns : tie.Need-returns
 unfolding mark-among
-returns c = rw (c .known4 .ensures, c .before .before .known3 .ensures, c .before .before .before .before .known2 .ensures, c .before .before .before .before .before .before .known .ensures)
+returns c = rw (c .known4 .ensures, c .before .known3 .ensures, c .before .before .known2 .ensures, c .before .before .before .known .ensures)
 
 pub mark-of-spec : {M : Type 1} → statement M
 mark-of-spec =

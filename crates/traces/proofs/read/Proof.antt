@@ -1,11 +1,11 @@
 -- `traces::read` meets its contract: each arm reads the kind whose mark has its number.
-use Rattle.traces.specs.Trace.{trace}
-use Rattle.fields.proofs.MarkLaws.{numbered, read-numbered}
-use Rattle.traces.proofs.TraceLaws.{trace-marks}
 use mathlib.Core.Path.{refl}
 use borrow.Author.Tests.{ne-eqb}
-use Rattle.fields.specs.Formats.{read-row}
 use Rattle.fields.specs.Numbers.{number, get-fields, sum}
+use Rattle.fields.specs.Formats.{read-row}
+use Rattle.fields.proofs.MarkLaws.{numbered, read-numbered}
+use Rattle.traces.specs.Trace.{trace}
+use Rattle.traces.proofs.TraceLaws.{trace-marks}
 use borrow.Author.Needs.{needs}
 use Rattle.traces.proofs.read.Statement.{statement}
 use Rattle.traces.proofs.read.Tie as tie
@@ -13,11 +13,11 @@ use Rattle.traces.proofs.read.Tie as tie
 mark-of-requires : tie.Need-mark-of-requires
 mark-of-requires c κs = search needs
 
-read-link-requires : tie.Need-read-link-requires
-read-link-requires c κs = search needs
-
 one-requires : tie.Need-one-requires
 one-requires c κs = search needs
+
+read-requires : tie.Need-read-requires
+read-requires c κs = search needs
 
 two-requires : tie.Need-two-requires
 two-requires c κs = search needs
@@ -27,9 +27,6 @@ two-requires-2 c κs = search needs
 
 whole-of-requires : tie.Need-whole-of-requires
 whole-of-requires c κs = search needs
-
-one-requires-2 : tie.Need-one-requires-2
-one-requires-2 c κs = search needs
 
 two-requires-3 : tie.Need-two-requires-3
 two-requires-3 c κs = search needs
@@ -52,32 +49,42 @@ nothing-requires c κs = search needs
 returns : tie.Need-returns
 unfolding read-numbered number
 returns c =
-    rw (numbered (trace .rows) (c .before .before .before .before .args .s .now) (c .before .before .mark-of .result) 0x4B4C trace-marks (c .before .before .mark-of .ensures) (search needs))
-    (c .read-link .ensures)
+    let m = c .before .before .before .mark-of in
+    rw (numbered (trace .rows) (c .before .before .before .before .before .args .s .now) (m .result) 0x4B4C trace-marks (m .ensures) (search needs))
+    (c .read .ensures)
 
 returns-2 : tie.Need-returns-2
 unfolding read-numbered number read-row get-fields sum
 returns-2 c =
-    rw (numbered (trace .rows) (c .before .before .before .before .before .before .before .args .s .now) (c .before .before .before .before .before .mark-of .result) 0x4E43 trace-marks (c .before .before .before .before .before .mark-of .ensures) (search needs))
-    (rw (c .whole-of .ensures, c .before .before .before .one .ensures, c .before .before .two .ensures, c .before .two2 .ensures))
+    let m = c .before .before .before .before .before .mark-of in
+    rw (numbered (trace .rows) (c .before .before .before .before .before .before .before .args .s .now) (m .result) 0x4E43 trace-marks (m .ensures) (search needs))
+    (rw (c .whole-of .ensures, c .before .before .before .before .one .ensures, c .before .before .two .ensures, c .before .two2 .ensures))
 
 returns-3 : tie.Need-returns-3
 unfolding read-numbered number read-row get-fields sum
 returns-3 c =
-    rw (numbered (trace .rows) (c .before .before .before .before .before .before .before .args .s .now) (c .before .before .before .before .before .mark-of .result) 0x4B50 trace-marks (c .before .before .before .before .before .mark-of .ensures) (search needs))
-    (rw (c .whole-of2 .ensures, c .before .before .before .one2 .ensures, c .before .before .two3 .ensures, c .before .four .ensures))
+    let m = c .before .before .before .before .before .mark-of in
+    rw (numbered (trace .rows) (c .before .before .before .before .before .before .before .args .s .now) (m .result) 0x4B50 trace-marks (m .ensures) (search needs))
+    (rw (c .whole-of2 .ensures, c .before .before .before .before .one .ensures, c .before .before .two3 .ensures, c .before .four .ensures))
 
 returns-4 : tie.Need-returns-4
 unfolding read-numbered number read-row get-fields sum
 returns-4 c =
-    rw (numbered (trace .rows) (c .before .before .before .before .before .args .s .now) (c .before .before .before .mark-of .result) 0x4B54 trace-marks (c .before .before .before .mark-of .ensures) (search needs))
+    let m = c .before .before .before .before .mark-of in
+    rw (numbered (trace .rows) (c .before .before .before .before .before .before .args .s .now) (m .result) 0x4B54 trace-marks (m .ensures) (search needs))
     (rw (c .whole-of3 .ensures, c .before .two4 .ensures))
 
 returns-5 : tie.Need-returns-5
 unfolding read-numbered number
 returns-5 c =
-    let m = c .before .before .mark-of .result in
-    rw (numbered (trace .rows) (c .before .before .before .before .args .s .now) m m trace-marks (c .before .before .mark-of .ensures) refl, ne-eqb m 0x4B4C (search needs), ne-eqb m 0x4E43 (search needs), ne-eqb m 0x4B50 (search needs), ne-eqb m 0x4B54 (search needs))
+    let m = c .before .before .before .mark-of in
+    rw (
+      numbered (trace .rows) (c .before .before .before .before .before .args .s .now) (m .result) (m .result) trace-marks (m .ensures) refl,
+      ne-eqb (m .result) 0x4B4C (search needs),
+      ne-eqb (m .result) 0x4E43 (search needs),
+      ne-eqb (m .result) 0x4B50 (search needs),
+      ne-eqb (m .result) 0x4B54 (search needs),
+    )
     (c .nothing .ensures)
 
 pub read-spec : {M : Type 1} → statement M
@@ -85,12 +92,11 @@ read-spec =
     tie.close
     (tie.spec
     mark-of-requires
-    read-link-requires
     one-requires
+    read-requires
     two-requires
     two-requires-2
     whole-of-requires
-    one-requires-2
     two-requires-3
     four-requires
     whole-of-requires-2

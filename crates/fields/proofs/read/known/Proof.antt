@@ -1,20 +1,48 @@
--- `fields::read::known` meets its contract: the mark decides.
-use mathlib.Core.Path.{sym, _∙_}
+-- `fields::read::known` meets its contract: a letter differs, or both are the mark's.
+use Rattle.fields.proofs.MarkLaws.{first-differs, second-differs, both-same}
+use mathlib.Core.Path.{_∙_}
 use borrow.Author.Needs.{needs}
 use Rattle.fields.proofs.read.known.Statement.{statement}
 use Rattle.fields.proofs.read.known.Tie as tie
 
-starts-with-requires : tie.Need-starts-with-requires
-starts-with-requires c κs = search needs
+one-requires : tie.Need-one-requires
+one-requires c κs = search needs
+
+array-read-if1 : tie.Need-array-read-if1
+array-read-if1 c = search needs
+
+returns : tie.Need-returns
+returns c = let a = c .before .before .before .args in rw (first-differs (a .t2) (a .s .now) (c .before .one .ensures) (c .if1 .taken))
+
+one-requires-2 : tie.Need-one-requires-2
+one-requires-2 c κs = search needs
+
+array-read-if2 : tie.Need-array-read-if2
+array-read-if2 c = search needs
+
+returns-2 : tie.Need-returns-2
+returns-2 c =
+    let a = c .before .before .before .before .before .args in
+    rw (second-differs (a .t2) (a .s .now) (c .before .before .before .one .ensures) (c .before .one2 .ensures) (search needs) (c .if2 .taken))
 
 two-requires : tie.Need-two-requires
 two-requires c κs = search needs
 
-returns : tie.Need-returns
-returns c = rw (sym (c .before .before .before .starts-with .ensures) ∙ c .before .before .if1 .taken) (c .two .ensures)
-
-returns-2 : tie.Need-returns-2
-returns-2 c = rw (sym (c .before .starts-with .ensures) ∙ c .if1 .left)
+returns-3 : tie.Need-returns-3
+returns-3 c =
+    let a = c .before .before .before .before .before .before .args in
+    let same = both-same (a .t2) (a .s .now) (c .before .before .before .before .one .ensures) (c .before .before .one2 .ensures) (search needs) (search needs) in
+    rw (same .0) (c .two .ensures ∙ same .1)
 
 pub known-spec : {M : Type 1} → statement M
-known-spec = tie.close (tie.spec starts-with-requires two-requires returns returns-2)
+known-spec =
+    tie.close
+    (tie.spec
+    one-requires
+    array-read-if1
+    returns
+    one-requires-2
+    array-read-if2
+    returns-2
+    two-requires
+    returns-3)

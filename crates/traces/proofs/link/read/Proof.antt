@@ -1,4 +1,4 @@
--- `traces::link::read_link` meets its contract: n in range, or nothing.
+-- `traces::link::read` meets its contract: n in range, or nothing.
 use Prim.Native.Nat.{_+_, _*_}
 use Rattle.fields.specs.Formats.{whole}
 use Rattle.traces.specs.Trace.{found}
@@ -6,8 +6,8 @@ use mathlib.Core.Logic.{⊎-elim}
 use mathlib.Core.Path.{sym, ap, _∙_}
 use Rattle.traces.proofs.LinkLaws.{n-in-range, n-too-small, n-too-large}
 use borrow.Author.Needs.{needs}
-use Rattle.traces.proofs.link.read_link.Statement.{statement}
-use Rattle.traces.proofs.link.read_link.Tie as tie
+use Rattle.traces.proofs.link.read.Statement.{statement}
+use Rattle.traces.proofs.link.read.Tie as tie
 
 one-requires : tie.Need-one-requires
 one-requires c κs = search needs
@@ -48,8 +48,8 @@ returns-2 c =
     (λ w. sym (n-too-large s n (c .before .before .one .ensures) (search needs)))
     (c .before .if1 .came))
 
-pub read-link-spec : {M : Type 1} → statement M
-read-link-spec =
+pub read-spec : {M : Type 1} → statement M
+read-spec =
     tie.close
     (tie.spec
     one-requires
