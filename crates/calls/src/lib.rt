@@ -7,7 +7,7 @@ ghost use lib.ListN.{length};
 ghost use Rattle.rules.specs.Model.{link, admit, offer, tick};
 ghost use Rattle.rules.specs.Service.{of};
 ghost use Rattle.rules.specs.Calls.{verdict};
-ghost use Rattle.tables.specs.Places.{rows};
+ghost use Rattle.tables.specs.Places.{rows, places, places-length};
 ghost use Rattle.lines.specs.Members.{members};
 ghost use Rattle.service.specs.View.{view, refusal};
 ghost use Rattle.calls.specs.Acts.{sound-hub, Acts};
@@ -122,9 +122,10 @@ fn one_if_same(a: u32, b: u32) -> u64
 
 // How many packets connection c holds.
 fn held_by(t: &[u32], c: u32) -> u64
+    requires { ⌜ (now t ≡ places (rows (now t))) × (length (now t) ≡ places-length) ⌝ }
     ensures { λ r. ⌜ r ≡ length (of c (rows (now (t .entry)))) ⌝ }
 {
-    let held = tables::held(t);
+    let held = tables::count(t);
     let mut n: u64 = 0;
     let mut i: usize = 0;
     while i < held {
@@ -173,7 +174,7 @@ fn accept(h: Hub, cs: &mut [u32], t: &mut [u32], c: u32, len: u32, tag: u32) -> 
     let k = c as usize;
     let m = lines::member_at(cs, k);
     let e = lines::next_eligibility(m.sent, m.last, m.gap, h.clock) as u32;
-    let held = tables::held(t);
+    let held = tables::count(t);
     tables::append(
         t,
         held,

@@ -6,7 +6,8 @@ ghost use Prim.Native.Nat.{_<_};
 ghost use Rattle.rules.specs.Limits.{clock-end};
 ghost use Rattle.rules.specs.Service.{choice, with-line, started, after-unit, ticked};
 ghost use Rattle.tables.specs.Table.{formed};
-ghost use Rattle.tables.specs.Places.{rows};
+ghost use lib.ListN.{length};
+ghost use Rattle.tables.specs.Places.{rows, places, places-length};
 ghost use Rattle.lines.specs.Members.{members-length, member-of};
 ghost use Rattle.service.specs.Candidates.{option, best-of, candidate, ahead, level-in};
 ghost use Rattle.service.specs.View.{view, hub-of, passed-on, Gives};
@@ -66,12 +67,12 @@ fn best_with(cs: &[u32], best: Best, p: Packet, clock: u32) -> Best
     next
 }
 
-// The packet that the line takes next, if one is eligible. One pass upward: a row of length 0 is the first that is unused.
+// The packet that the line takes next, if one is eligible. One pass upward over the held rows.
 pub fn choose(cs: &[u32], t: &[u32], clock: u32) -> Best
-    requires { ⌜ formed member-of members-length (now cs) ≡ true ⌝ }
+    requires { ⌜ (formed member-of members-length (now cs) ≡ true) × (now t ≡ places (rows (now t))) × (length (now t) ≡ places-length) ⌝ }
     ensures { λ r. ⌜ r ≡ best-of (choice (level-in (now (cs .entry))) clock (rows (now (t .entry)))) ⌝ }
 {
-    let n = t.len() / 5;
+    let n = tables::count(t);
     let mut best = Best {
         found: false,
         packet: tables::no_packet(),
@@ -79,9 +80,6 @@ pub fn choose(cs: &[u32], t: &[u32], clock: u32) -> Best
     let mut i: usize = 0;
     while i < n {
         let p = tables::row(t, i);
-        if p.len == 0 {
-            return best;
-        }
         best = best_with(cs, best, p, clock);
         i += 1;
     }
@@ -100,7 +98,7 @@ fn with_line(h: Hub, serving: u32, units: u32) -> Hub
 
 // Step 1: an idle line takes the chosen packet. While one is in service nothing interrupts it, so no row is looked at.
 fn start(h: Hub, cs: &[u32], t: &[u32]) -> Hub
-    requires { ⌜ formed member-of members-length (now cs) ≡ true ⌝ }
+    requires { ⌜ (formed member-of members-length (now cs) ≡ true) × (now t ≡ places (rows (now t))) × (length (now t) ≡ places-length) ⌝ }
     ensures { λ r. ⌜ r ≡ hub-of (started (view h (now (cs .entry)) (now (t .entry)))) ⌝ }
 {
     if h.units != 0 {
@@ -132,7 +130,7 @@ fn depart(g: Hub, t: &mut [u32]) -> Told
     requires { ⌜ In-place g (now t) × (g .units ≡ 1) ⌝ }
     ensures { λ r. ⌜ Gives (after-unit (view g [] (now (t .entry))) 1) r (now (t .exit)) ⌝ }
 {
-    let held = tables::held(t);
+    let held = tables::count(t);
     let i = tables::find(t, held, g.serving);
     let p = tables::row(t, i);
     tables::remove(t, held, i);

@@ -7,8 +7,8 @@ use Prim.Native.Nat.{ℕ, zero, suc, _+_, _*_, _-_, _≤_, _<_}
 use native.Mathlib.Nat.{le-of-suc-le-suc}
 use native.Mathlib.Omega.{arith}
 use native.Mathlib.Numerals.{add-one}
-use lib.Dec.{eqb}
-use borrow.Author.Tests.{eqb-true, eq-eqb, ne-eqb}
+use lib.Dec.{ltb, eqb}
+use borrow.Author.Tests.{ltb-true, ltb-false, eqb-true, eq-eqb, ne-eqb}
 use lib.ListN.{length, getD, set, take, drop, replicate, length-drop}
 use lib.Seq.{drop-cons, drop-length, getD-drop, paste-zero, paste-suc, take-paste, drop-paste, length-paste, drop-drop, take-at, drop-at}
 use Rattle.rules.specs.declared.Packet.{Packet}
@@ -16,7 +16,7 @@ use Rattle.rules.specs.Service.{first, without}
 use Rattle.rules.proofs.Tests.{and-true}
 use Rattle.tables.specs.Table.{write, zeros, formed}
 use Rattle.tables.specs.Places.{put, shifted, cut, place, rows, places, places-length, five-of, packet-of, no-packet, row-at}
-use Rattle.tables.proofs.TableLaws.{written-back, read-at, held-end, held-stop, held-more, length-write, write-append, take-rows, drop-rows, put-eq, five-more, length-padded, put-last}
+use Rattle.tables.proofs.TableLaws.{zeros-rep, drop-write, written-back, read-at, held-end, held-stop, held-more, length-write, write-append, take-rows, drop-rows, put-eq, five-more, length-padded, put-last}
 
 -- a packet put behind the rows
 put-behind : (ps : List Packet) (p : Packet) → 5 * length ps + 5 ≤ places-length → put (places ps) (length ps) p ≡ places (ps ++ p ∷ [])
@@ -198,3 +198,29 @@ first-none c (p ∷ ps) l = go (eqb (p .connection) c) l (first-none c ps)
 pub append-table : (t : List ℕ) (held : ℕ) (p : Packet) → t ≡ places (rows t) → held ≡ length (rows t) → 5 * held + 5 ≤ places-length → put t held p ≡ places (rows t ++ p ∷ [])
 append-table t held p e n h =
     ap (λ (u : List ℕ). put u held p) e ∙ ap (λ (m : ℕ). put (places (rows t)) m p) n ∙ put-behind (rows t) p (omega arith)
+
+-- ---- rows by halving: used ones before, unused ones behind
+
+pub used-below : (t : List ℕ) (i : ℕ) → getD t (5 * i + 1) 0 ≡ 0 → length (rows t) ≤ i
+used-below t i z = go (ltb i (length (rows t))) refl
+  where
+    go : (b : Bool) → ltb i (length (rows t)) ≡ b → length (rows t) ≤ i
+    go true e = let l : i < length (rows t) = ltb-true _ _ e in absurd (omega (arith, rows-stop t i (omega arith) z))
+    go false e = ltb-false _ _ e
+
+unused-behind : (t : List ℕ) → t ≡ places (rows t) → zeros (drop (5 * length (rows t)) t) ≡ true
+unfolding places
+unused-behind t e =
+    ap (λ (l : List ℕ). zeros (drop (5 * length (rows t)) l)) e
+    ∙ ap zeros (drop-write packet-of five-of (rows t) (replicate (places-length - 5 * length (rows t)) 0))
+    ∙ zeros-rep (places-length - 5 * length (rows t))
+
+pub unused-above : (t : List ℕ) (i : ℕ) → t ≡ places (rows t) → (getD t (5 * i + 1) 0 ≡ 0 → ⊥) → i < length (rows t)
+unused-above t i e n = go (ltb i (length (rows t))) refl
+  where
+    go : (b : Bool) → ltb i (length (rows t)) ≡ b → i < length (rows t)
+    go true q = ltb-true _ _ q
+    go false q =
+        let l : length (rows t) ≤ i = ltb-false _ _ q in
+        let k : 5 * length (rows t) + (5 * i + 1 - 5 * length (rows t)) ≡ 5 * i + 1 = omega arith in
+        absurd (n (rw (← k) (sym (getD-drop (5 * length (rows t)) t (5 * i + 1 - 5 * length (rows t)) 0) ∙ zero-at (drop (5 * length (rows t)) t) (5 * i + 1 - 5 * length (rows t)) (unused-behind t e))))

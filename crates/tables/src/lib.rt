@@ -120,6 +120,24 @@ pub fn held(t: &[u32]) -> usize
     i
 }
 
+// The number of rows of a places table with zeros behind them, by halving.
+pub fn count(t: &[u32]) -> usize
+    requires { ⌜ (now t ≡ places (rows (now t))) × (length (now t) ≡ places-length) ⌝ }
+    ensures { λ r. ⌜ r ≡ length (rows (now (t .entry))) ⌝ }
+{
+    let mut low: usize = 0;
+    let mut high: usize = PLACES / 5;
+    while low < high {
+        let mid = low + (high - low) / 2;
+        if t[5 * mid + 1] == 0 {
+            high = mid;
+        } else {
+            low = mid + 1;
+        }
+    }
+    low
+}
+
 // All numbers from `from` on are 0.
 pub fn zero_from(t: &[u32], from: usize) -> bool
     requires { ⌜ from ≤ length (now t) ⌝ }

@@ -48,10 +48,6 @@ module _ (t : List ℕ) where
         let e : i + 1 ≡ suc i = omega arith in
         rw e (omega (arith, next-row))
 
-    -- one that is eligible now
-    pub seen-now : (first clock : ℕ) → Seen t first i → getD t (5 * i + 4) 0 ≤ clock → 0 ≡ earliest (rows t) - clock
-    seen-now first clock s l = omega (arith, next-row)
-
 -- ---- the line
 
 pub in-service-for : (u : ℕ) (held : List Packet) (clock : ℕ) → (u ≡ 0 → ⊥) → u - 1 ≡ quiet-for u held clock

@@ -4,7 +4,7 @@ ghost use mathlib.Core.Bool.{true};
 ghost use Prim.Native.Nat.{_+_, _-_, _%_, _≤_, min};
 ghost use lib.ListN.{length};
 ghost use Rattle.rules.specs.Limits.{clock-end};
-ghost use Rattle.tables.specs.Places.{rows};
+ghost use Rattle.tables.specs.Places.{rows, places, places-length};
 ghost use Rattle.answers.specs.Answers.{answer-bytes};
 ghost use Rattle.service.specs.View.{view};
 ghost use Rattle.calls.specs.Acts.{sound-hub};
@@ -105,20 +105,14 @@ fn least(a: u32, b: u32) -> u32
 
 // How long no packet becomes eligible: up to the clock's end, and not at all where one is.
 fn wait(t: &[u32], clock: u32) -> u32
+    requires { ⌜ (now t ≡ places (rows (now t))) × (length (now t) ≡ places-length) ⌝ }
     ensures { λ r. ⌜ r ≡ earliest (rows (now (t .entry))) - clock ⌝ }
 {
-    let n = t.len() / 5;
+    let n = tables::count(t);
     let mut first = CLOCK_END;
     let mut i: usize = 0;
     while i < n {
-        if t[5 * i + 1] == 0 {
-            return without(first, clock);
-        }
-        let e = t[5 * i + 4];
-        if e <= clock {
-            return 0;
-        }
-        first = least(first, e);
+        first = least(first, t[5 * i + 4]);
         i += 1;
     }
     without(first, clock)
@@ -126,6 +120,7 @@ fn wait(t: &[u32], clock: u32) -> u32
 
 // The ticks in which nothing starts and nothing departs, by the line and the places alone.
 fn quiet_for(h: Hub, t: &[u32]) -> u32
+    requires { ⌜ (now t ≡ places (rows (now t))) × (length (now t) ≡ places-length) ⌝ }
     ensures { λ r. ⌜ r ≡ quiet-for (h .units) (rows (now (t .entry))) (h .clock) ⌝ }
 {
     if h.units != 0 {

@@ -1,4 +1,3 @@
-use borrow.Author.Needs.{needs}
 use Rattle.calls.proofs.ActLaws as A
 use Rattle.lines.proofs.MemberLaws as M
 use native.Mathlib.Omega.{arith}
@@ -20,13 +19,15 @@ cast-e c =
     let e = A.offer-eligibility (a .h) (a .cs .now) (a .t .now) (c .before .before .before .before .before .pre .0) (a .c) (a .len) (a .tag) (c .before .before .before .before .before .pre .1) (c .before .member-at .result) (c .next-eligibility .result) (c .before .member-at .ensures) (c .next-eligibility .ensures) in
     omega (arith, e, A.offer-fits (a .h) (a .cs .now) (a .t .now) (c .before .before .before .before .before .pre .0) (a .c) (a .len) (a .tag) (c .before .before .before .before .before .pre .1))
 
-held-requires : tie.Need-held-requires
-held-requires c κs = search needs
+count-requires : tie.Need-count-requires
+count-requires c κs =
+    let s = c .before .before .before .before .before .before in
+    (A.places-kept (s .args .h) (s .args .cs .now) (s .args .t .now) (s .pre .0), A.places-size (s .args .h) (s .args .cs .now) (s .args .t .now) (s .pre .0))
 
 append-requires : tie.Need-append-requires
 append-requires c κs =
     let a = c .before .before .before .before .before .before .before .before .args in
-    (A.places-kept (a .h) (a .cs .now) (a .t .now) (c .before .before .before .before .before .before .before .before .pre .0), c .before .held .ensures, omega (arith, c .before .held .ensures, A.offer-room (a .h) (a .cs .now) (a .t .now) (c .before .before .before .before .before .before .before .before .pre .0) (a .c) (a .len) (a .tag) (c .before .before .before .before .before .before .before .before .pre .1)), A.places-size (a .h) (a .cs .now) (a .t .now) (c .before .before .before .before .before .before .before .before .pre .0))
+    (A.places-kept (a .h) (a .cs .now) (a .t .now) (c .before .before .before .before .before .before .before .before .pre .0), c .before .count .ensures, omega (arith, c .before .count .ensures, A.offer-room (a .h) (a .cs .now) (a .t .now) (c .before .before .before .before .before .before .before .before .pre .0) (a .c) (a .len) (a .tag) (c .before .before .before .before .before .before .before .before .pre .1)), A.places-size (a .h) (a .cs .now) (a .t .now) (c .before .before .before .before .before .before .before .before .pre .0))
 
 put-past-requires : tie.Need-put-past-requires
 put-past-requires c κs =
@@ -57,7 +58,7 @@ accept-spec =
     member-at-requires
     next-eligibility-requires
     cast-e
-    held-requires
+    count-requires
     append-requires
     put-past-requires
     say-requires

@@ -20,20 +20,20 @@ Inv-loop t c held n₀ i₀ n i = (i ≤ held) × (n ≤ i) × (n + length (of c
 abbrev μ-loop : tie.MeasureT-loop
 μ-loop t c held n₀ i₀ n i = held - i
 
-held-requires : tie.Need-held-requires Inv-loop μ-loop
-held-requires c κs = search needs
+count-requires : tie.Need-count-requires Inv-loop μ-loop
+count-requires c κs = search needs
 
 loop-holds : tie.Need-loop-holds Inv-loop μ-loop
 loop-holds c = (search needs, search needs, omega arith)
 
 row-requires : tie.Need-row-requires Inv-loop μ-loop
-row-requires c κs = omega (arith, P.rows-end (c .before .before .before .before .args .t .now), c .before .before .held .ensures)
+row-requires c κs = omega (arith, P.rows-end (c .before .before .before .before .args .t .now), c .before .before .count .ensures)
 
 one-if-same-requires : tie.Need-one-if-same-requires Inv-loop μ-loop
 one-if-same-requires c κs = search needs
 
 add-n : tie.Need-add-n Inv-loop μ-loop
-add-n c = omega (arith, A.bit-le (c .before .row .result .connection) (c .before .before .before .before .before .before .args .c), c .one-if-same .ensures, P.rows-end (c .before .before .before .before .before .before .args .t .now), c .before .before .before .before .held .ensures, c .before .before .before .loop .inv .1)
+add-n c = omega (arith, A.bit-le (c .before .row .result .connection) (c .before .before .before .before .before .before .args .c), c .one-if-same .ensures, P.rows-end (c .before .before .before .before .before .before .args .t .now), c .before .before .before .before .count .ensures, c .before .before .before .loop .inv .1)
 
 add-i : tie.Need-add-i Inv-loop μ-loop
 add-i c = search needs
@@ -45,7 +45,7 @@ loop-again : tie.Need-loop-again Inv-loop μ-loop
 loop-again c =
     let a = c .before .before .before .before .before .before .args in
     let i = c .before .before .before .loop .i in
-    let e = P.rows-from (a .t .now) i (omega (arith, c .before .before .before .before .held .ensures)) in
+    let e = P.rows-from (a .t .now) i (omega (arith, c .before .before .before .before .count .ensures)) in
     let k = A.one-more (a .c) (drop i (rows (a .t .now))) (row-at (a .t .now) i) (drop (suc i) (rows (a .t .now))) e in
     let j : c .one-if-same .result ≡ cond (eqb (row-at (a .t .now) i .connection) (a .c)) 1 0 = c .one-if-same .ensures ∙ ap (λ (p : Packet). cond (eqb (p .connection) (a .c)) 1 0) (c .before .row .ensures) in (
       search needs,
@@ -56,7 +56,7 @@ loop-again c =
 returns : tie.Need-returns Inv-loop μ-loop
 returns c =
     let a = c .before .before .before .before .args in
-    let e : c .before .loop .i ≡ length (rows (a .t .now)) = omega (arith, c .before .before .held .ensures) in
+    let e : c .before .loop .i ≡ length (rows (a .t .now)) = omega (arith, c .before .before .count .ensures) in
     A.all-counted (a .c) (rows (a .t .now)) (c .before .loop .n) (c .before .loop .i) e (c .before .loop .inv .2)
 
 pub held-by-spec : {M : Type 1} → statement M
@@ -65,7 +65,7 @@ held-by-spec =
     (tie.spec
     Inv-loop
     μ-loop
-    held-requires
+    count-requires
     loop-holds
     row-requires
     one-if-same-requires

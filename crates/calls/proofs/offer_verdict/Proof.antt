@@ -1,4 +1,3 @@
-use borrow.Author.Needs.{needs}
 use Rattle.calls.proofs.ActLaws as A
 use Rattle.calls.proofs.VerdictLaws as W
 use Rattle.lines.proofs.MemberLaws as M
@@ -70,7 +69,9 @@ reserve-requires c κs =
     F.figure-at (a .h .link) (connections (a .cs .now)) (A.figures-in-limits (a .h) (a .cs .now) (a .t .now) (c .before .before .before .before .before .before .before .before .before .before .before .pre) (c .before .before .before .before .before .before .if1 .left)) (a .c) (c .before .before .before .connection-at .result) (omega arith) (c .before .before .before .connection-at .ensures) .0
 
 held-by-requires : tie.Need-held-by-requires
-held-by-requires c κs = search needs
+held-by-requires c κs =
+    let s = c .before .before .before .before .before .before .before .before .before .before .before .before in
+    (A.places-kept (s .args .h) (s .args .cs .now) (s .args .t .now) (s .pre), A.places-size (s .args .h) (s .args .cs .now) (s .args .t .now) (s .pre))
 
 returns-5 : tie.Need-returns-5
 returns-5 c =

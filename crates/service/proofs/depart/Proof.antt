@@ -8,8 +8,8 @@ use borrow.Author.Needs.{needs}
 use Rattle.service.proofs.depart.Statement.{statement}
 use Rattle.service.proofs.depart.Tie as tie
 
-held-requires : tie.Need-held-requires
-held-requires c κs = search needs
+count-requires : tie.Need-count-requires
+count-requires c κs = search needs
 
 find-requires : tie.Need-find-requires
 find-requires c κs = search needs
@@ -47,7 +47,7 @@ pub depart-spec : {M : Type 1} → statement M
 depart-spec =
     tie.close
     (tie.spec
-    held-requires
+    count-requires
     find-requires
     row-requires
     remove-requires

@@ -1,3 +1,4 @@
+use Rattle.calls.proofs.ActLaws.{places-kept, places-size}
 use native.Mathlib.Omega.{arith}
 use Rattle.ticks.proofs.QuietLaws.{none-without-link, clock-in-time, some-quiet}
 use borrow.Author.Needs.{needs}
@@ -10,7 +11,9 @@ returns c =
     none-without-link (a .h) (a .cs .now) (a .t .now) (c .before .before .before .before .pre) (a .left) (search needs)
 
 quiet-for-requires : tie.Need-quiet-for-requires
-quiet-for-requires c κs = search needs
+quiet-for-requires c κs =
+    let s = c .before .before .before .before in
+    (places-kept (s .args .h) (s .args .cs .now) (s .args .t .now) (s .pre), places-size (s .args .h) (s .args .cs .now) (s .args .t .now) (s .pre))
 
 sub-least : tie.Need-sub-least
 sub-least c =
