@@ -15,10 +15,11 @@ use Rattle.rules.specs.Calls.{answer}
 use Rattle.rules.proofs.SoundKept.{kept}
 use Rattle.traces.specs.declared.Record.{Record}
 use Rattle.traces.specs.declared.Record.the-variants.{Link as LinkRecord, Admit, Offer, Ticks, Malformed}
+use Rattle.named.specs.Named.{link-named, connection-named}
 use Rattle.log.specs.declared.Phase.{Phase}
 use Rattle.log.specs.declared.Phase.the-variants.{Reading, Ticking, Finished}
 use Rattle.log.specs.declared.Status.the-variants.{GoOn, MoreBytes, MoreRoom, NotSound, Done}
-use Rattle.log.specs.Log.{read-at, link-named}
+use Rattle.log.specs.Log.{read-at}
 use Rattle.log.specs.Steps.{longest-record, Point, point, Next, record-next, read-next, one-tick, quiet-ticks, tick-next, phase-next, next, is-go, onward, steps}
 use Rattle.log.proofs.ReadLaws.{pick-by}
 use Rattle.log.proofs.QuietLaws.{quiet-passes}
@@ -48,7 +49,7 @@ module _ (w : List ℕ) (n : Next) (S : Sound (n .point .state)) where
 module _ (s : State) (S : Sound s) where
   record-ends : (w : List ℕ) (r : Record) (k at : ℕ) → Ends-well w (record-next r k at s)
   record-ends w (LinkRecord a b d1 d2 d3 d4 d5 d6 d7 d8) k at = goes-well w _ (kept (link (link-named a b d1 d2 d3 d4 d5 d6 d7 d8)) s S) refl
-  record-ends w (Admit a b d) k at = goes-well w _ (kept (admit (record { level = a; gap = b; size = d })) s S) refl
+  record-ends w (Admit a b d) k at = goes-well w _ (kept (admit (connection-named a b d)) s S) refl
   record-ends w (Offer a b d) k at = goes-well w _ (kept (offer a b d) s S) refl
   record-ends w (Ticks a) k at = goes-well w _ S refl
   record-ends w Malformed k at = done-well w _ S refl refl

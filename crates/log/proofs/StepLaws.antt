@@ -15,9 +15,10 @@ use Rattle.traces.specs.declared.Record.{Record}
 use Rattle.traces.specs.declared.Record.the-variants.{Link as LinkRecord, Admit, Offer, Ticks, Malformed}
 use Rattle.answers.specs.declared.Reply.the-variants.{Linked, Admitted, Offered, Ticked, Broken}
 use Rattle.answers.specs.Answers.{answer-bytes}
+use Rattle.named.specs.Named.{link-named, connection-named}
 use Rattle.log.specs.declared.Phase.{Phase}
 use Rattle.log.specs.declared.Phase.the-variants.{Reading, Ticking, Finished}
-use Rattle.log.specs.Log.{read-at, tick-log, all-done-verdict, ticks-log, ticks-end, link-named, record-log, log-within, log-from}
+use Rattle.log.specs.Log.{read-at, tick-log, all-done-verdict, ticks-log, ticks-end, record-log, log-within, log-from}
 use Rattle.log.specs.Steps.{longest-record, Point, point, Next, goes, record-next, found-next, read-next, one-tick, quiet-ticks, tick-next, phase-next, next, is-go, onward, steps, to-come}
 use Rattle.log.proofs.ReadLaws.{pick-by, read-lies, read-onward}
 use Rattle.log.proofs.QuietLaws.{quiet-passes}
@@ -32,7 +33,7 @@ record-same m n (LinkRecord a b d1 d2 d3 d4 d5 d6 d7 d8) (suc k) at s bs none f 
     let q = answer (link (link-named a b d1 d2 d3 d4 d5 d6 d7 d8)) s in
     ap (λ l. answer-bytes (Linked (q .verdict)) ++ l) (f (at + suc k) (q .next) (omega arith))
 record-same m n (Admit a b d) (suc k) at s bs none f =
-    let q = answer (admit (record { level = a; gap = b; size = d })) s in
+    let q = answer (admit (connection-named a b d)) s in
     ap (λ l. answer-bytes (Admitted (q .verdict) (q .number)) ++ l) (f (at + suc k) (q .next) (omega arith))
 record-same m n (Offer a b d) (suc k) at s bs none f =
     let q = answer (offer a b d) s in

@@ -6,7 +6,6 @@ use mathlib.Core.List.{List, [], _∷_, _++_}
 use mathlib.Core.Option.{Option, none, some}
 use lib.Dec.{ltb, eqb}
 use lib.ListN.{length, drop}
-use Rattle.rules.specs.declared.Link.{Link}
 use Rattle.rules.specs.declared.Packet.{Packet}
 use Rattle.rules.specs.Words.{first-number}
 use Rattle.rules.specs.Model.{State, link, admit, offer, tick, Answer, fresh}
@@ -19,6 +18,7 @@ use Rattle.answers.specs.declared.Reply.the-variants.{Linked, Admitted, Offered
 use Rattle.traces.specs.declared.Found.{Found}
 use Rattle.traces.specs.Trace.{found, read-trace}
 use Rattle.answers.specs.Answers.{answer-bytes}
+use Rattle.named.specs.Named.{link-named, connection-named}
 
 -- "A trace of up to 16,777,216 bytes"
 abbrev pub trace-limit : ℕ
@@ -62,10 +62,6 @@ ticks-end (suc left) s = pick (eqb (answer tick s .verdict) 0) (ticks-end left (
 
 -- ---- a record, and a trace
 
--- the link that an `LK` names, all eight bounds
-abbrev pub link-named : ℕ → ℕ → ℕ → ℕ → ℕ → ℕ → ℕ → ℕ → ℕ → ℕ → Link
-link-named n s d1 d2 d3 d4 d5 d6 d7 d8 = record { levels = n; largest = s; bounds = d1 ∷ d2 ∷ d3 ∷ d4 ∷ d5 ∷ d6 ∷ d7 ∷ d8 ∷ [] }
-
 -- a record of k bytes at the start of bs, which starts at offset `at`: its answer from the state s, and then the rest by `more`, from the offset, the
 -- state and the bytes behind it. Of a malformed one `ER` with its offset, and nothing more
 abbrev pub record-log : (ℕ → State → List ℕ → List ℕ) → Record → ℕ → ℕ → State → List ℕ → List ℕ
@@ -73,7 +69,7 @@ record-log more (LinkRecord n m d1 d2 d3 d4 d5 d6 d7 d8) k at s bs =
     let a = answer (link (link-named n m d1 d2 d3 d4 d5 d6 d7 d8)) s in
     answer-bytes (Linked (a .verdict)) ++ more (at + k) (a .next) (drop k bs)
 record-log more (Admit level gap size) k at s bs =
-    let a = answer (admit (record { level = level; gap = gap; size = size })) s in
+    let a = answer (admit (connection-named level gap size)) s in
     answer-bytes (Admitted (a .verdict) (a .number)) ++ more (at + k) (a .next) (drop k bs)
 record-log more (Offer c len tag) k at s bs =
     let a = answer (offer c len tag) s in

@@ -17,11 +17,12 @@ use Rattle.traces.specs.declared.Record.the-variants.{Link as LinkRecord, Admit
 use Rattle.answers.specs.declared.Reply.the-variants.{Linked, Admitted, Offered, Ticked, Broken}
 use Rattle.traces.specs.declared.Found.{Found}
 use Rattle.answers.specs.Answers.{answer-bytes}
+use Rattle.named.specs.Named.{link-named, connection-named}
 use Rattle.log.specs.declared.Phase.{Phase}
 use Rattle.log.specs.declared.Phase.the-variants.{Reading, Ticking, Finished}
 use Rattle.log.specs.declared.Status.{Status}
 use Rattle.log.specs.declared.Status.the-variants.{GoOn, MoreBytes, MoreRoom, NotSound, Done}
-use Rattle.log.specs.Log.{trace-limit, read-at, tick-log, all-done-verdict, ticks-log, ticks-end, link-named, log-from}
+use Rattle.log.specs.Log.{trace-limit, read-at, tick-log, all-done-verdict, ticks-log, ticks-end, log-from}
 
 -- bytes of the longest trace record and of the longest answer record
 abbrev pub longest-record : ℕ
@@ -74,7 +75,7 @@ offer-next c len tag k to s =
 -- a step with a record of k bytes at offset `at`: a `TK` begins, a malformed record ends the log
 abbrev pub record-next : Record → ℕ → ℕ → State → Next
 record-next (LinkRecord n m d1 d2 d3 d4 d5 d6 d7 d8) k at s = link-next (link-named n m d1 d2 d3 d4 d5 d6 d7 d8) k (at + k) s
-record-next (Admit level gap size) k at s = admit-next (record { level = level; gap = gap; size = size }) k (at + k) s
+record-next (Admit level gap size) k at s = admit-next (connection-named level gap size) k (at + k) s
 record-next (Offer c len tag) k at s = offer-next c len tag k (at + k) s
 record-next (Ticks n) k at s = goes (at + k) (Ticking n n) s k []
 record-next Malformed k at s = record { point = point at Finished s; used = 0; bytes = answer-bytes (Broken at); status = Done }

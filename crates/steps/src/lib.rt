@@ -9,7 +9,7 @@ ghost use Rattle.service.specs.View.{view};
 ghost use Rattle.calls.specs.Acts.{sound-hub};
 ghost use Rattle.log.specs.declared.Phase.the-variants.{Reading, Finished};
 ghost use Rattle.log.specs.declared.Status.the-variants.{Done};
-ghost use Rattle.log.specs.Log.{trace-limit, read-at, link-named};
+ghost use Rattle.log.specs.Log.{trace-limit, read-at};
 ghost use Rattle.log.specs.Steps.{longest-answer, link-next, admit-next, offer-next, found-next, read-next, next, weight};
 ghost use Rattle.ticks.specs.Tie.{cursor-at, point-of, over, nothing-done, Did, Facts};
 use answers::Reply;
@@ -115,37 +115,6 @@ fn offer_step(
     ticks::answered(at, told.hub, used, reply, out)
 }
 
-// The link that an `LK` names.
-fn link_named(
-    levels: u8,
-    largest: u16,
-    d1: u16,
-    d2: u16,
-    d3: u16,
-    d4: u16,
-    d5: u16,
-    d6: u16,
-    d7: u16,
-    d8: u16,
-) -> Link
-    ensures { λ r. ⌜ r ≡ link-named levels largest d1 d2 d3 d4 d5 d6 d7 d8 ⌝ }
-{
-    Link {
-        levels: levels as u32,
-        largest: largest as u32,
-        bounds: [
-            d1 as u32,
-            d2 as u32,
-            d3 as u32,
-            d4 as u32,
-            d5 as u32,
-            d6 as u32,
-            d7 as u32,
-            d8 as u32,
-        ],
-    }
-}
-
 // Nothing is taken or written.
 pub fn waits(at: u32, phase: Phase, h: Hub, status: Status) -> Stepped
     ensures { λ r. ⌜ r ≡ nothing-done (cursor-at at phase h) status ⌝ }
@@ -202,15 +171,11 @@ fn record_step(f: Found, at: u32, h: Hub, cs: &mut [u32], t: &mut [u32], out: &m
             d7,
             d8,
         } => {
-            let l = link_named(levels, largest, d1, d2, d3, d4, d5, d6, d7, d8);
+            let l = named::link_named(levels, largest, d1, d2, d3, d4, d5, d6, d7, d8);
             link_step(h, cs, t, l, to, used, out)
         }
         Record::Admit { level, gap, size } => {
-            let x = Connection {
-                level: level as u32,
-                gap: gap as u32,
-                size: size as u32,
-            };
+            let x = named::connection_named(level, gap, size);
             admit_step(h, cs, t, x, to, used, out)
         }
         Record::Offer {

@@ -25,14 +25,8 @@ link-step-requires c κs = search needs
 enum-known-what-2 : tie.Need-enum-known-what-2
 enum-known-what-2 c = search needs
 
-cast-t37 : tie.Need-cast-t37
-cast-t37 c = search needs
-
-cast-t38 : tie.Need-cast-t38
-cast-t38 c = search needs
-
-cast-t39 : tie.Need-cast-t39
-cast-t39 c = search needs
+connection-named-requires : tie.Need-connection-named-requires
+connection-named-requires c κs = search needs
 
 admit-step-requires : tie.Need-admit-step-requires
 admit-step-requires c κs = search needs
@@ -84,7 +78,7 @@ same-length-6 c = search needs
 returns-2 : tie.Need-returns-2
 returns-2 c =
     let k = c .before .before .before .before .admit-step in
-    (rw (c .before .before .before .before .before .before .before .before .before .what2 .given .1) (k .ensures), rw (k .ensures .answers) (omega arith))
+    (rw (c .before .before .before .before .before .before .before .before .before .before .what2 .given .1) (rw (c .before .before .before .before .before .before .before .before .connection-named .ensures) at (k .ensures)), rw (k .ensures .answers) (omega arith))
 
 same-length-7 : tie.Need-same-length-7
 same-length-7 c = search needs
@@ -124,9 +118,7 @@ record-step-spec =
     link-named-requires
     link-step-requires
     enum-known-what-2
-    cast-t37
-    cast-t38
-    cast-t39
+    connection-named-requires
     admit-step-requires
     enum-known-what-3
     cast-offer-step
