@@ -65,13 +65,15 @@ link-limits l e =
 
 pub record Figure-limits (l : Link) (x : Connection) : Type 0 where
   pub some-gap : 1 ≤ x .gap
+  pub some-size : 1 ≤ x .size
   pub size-le : x .size ≤ l .largest
 
 pub figure-limits : (l : Link) (x : Connection) → figures-within l x ≡ true → Figure-limits l x
 unfolding figures-within
 figure-limits l x e =
     let a = and-true (within 1 max-gap (x .gap)) (within 1 (l .largest) (x .size)) e in
-    record { some-gap = within-true 1 max-gap (x .gap) (a .0) .0; size-le = within-true 1 (l .largest) (x .size) (a .1) .1 }
+    let b = within-true 1 (l .largest) (x .size) (a .1) in
+    record { some-gap = within-true 1 max-gap (x .gap) (a .0) .0; some-size = b .0; size-le = b .1 }
 
 -- ---- counts and shares
 

@@ -193,6 +193,19 @@ pub fn level_test(l: Link, cs: &[u32], n: usize, x: Connection) -> Shortage
     Shortage { level: 0, units: 0 }
 }
 
+// The level test over the first n connections. Nobody new is counted: a connection of a level above all others adds to no sum.
+pub fn standing_test(l: Link, cs: &[u32], n: usize) -> Shortage
+    requires { ⌜ (n ≡ length (members (now cs))) × (n ≤ max-connections) × Within l (connections (now cs)) ⌝ }
+    ensures { λ r. ⌜ short-of r ≡ level-test l (connections (now (cs .entry))) ⌝ }
+{
+    let nobody = Connection {
+        level: l.levels + 1,
+        gap: 1,
+        size: 0,
+    };
+    level_test(l, cs, n, nobody)
+}
+
 // All reservations of the first n connections together.
 pub fn reserved_by(l: Link, cs: &[u32], n: usize) -> u64
     requires { ⌜ (n ≡ length (members (now cs))) × (n ≤ max-connections) × Within l (connections (now cs)) ⌝ }

@@ -46,7 +46,7 @@ done-verdict (admit x) s = refl
 done-verdict (offer c len tag) s = refl
 done-verdict tick s = unit-done (started s) (started s .to-go)
 
-answer-verdict : (k : Call) (s : State) → answer k s .verdict ≡ verdict k s
+pub answer-verdict : (k : Call) (s : State) → answer k s .verdict ≡ verdict k s
 answer-verdict k s = go (verdict k s)
   where
     go : (v : ℕ) → settle k s v .verdict ≡ v

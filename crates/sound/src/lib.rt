@@ -100,7 +100,8 @@ pub fn figures_ok(l: Link, x: Connection) -> bool
     x.size <= l.largest
 }
 
-fn connection_ok(l: Link, x: Connection) -> bool
+// Level, gap and size within their limits.
+pub fn connection_ok(l: Link, x: Connection) -> bool
     ensures { λ r. ⌜ r ≡ connection-sound l x ⌝ }
 {
     if !level_ok(l, x) {
@@ -125,17 +126,12 @@ fn connections_ok(l: Link, cs: &[u32], n: usize) -> bool
     true
 }
 
-// All level tests hold. Nobody new is counted: a connection of a level above all others adds to no sum.
+// All level tests hold.
 fn tests_ok(l: Link, cs: &[u32], n: usize) -> bool
     requires { ⌜ (n ≡ length (members (now cs))) × (n ≤ max-connections) × Within l (connections (now cs)) ⌝ }
     ensures { λ r. ⌜ r ≡ passes l (connections (now (cs .entry))) ⌝ }
 {
-    let nobody = Connection {
-        level: l.levels + 1,
-        gap: 1,
-        size: 0,
-    };
-    let short = lines::level_test(l, cs, n, nobody);
+    let short = lines::standing_test(l, cs, n);
     short.level == 0
 }
 
