@@ -1,0 +1,68 @@
+-- The table that the rows are laid out in: what is read of it, and a row more. Assumes nothing.
+use Prim.Native.Nat.{ℕ, zero, suc, _+_, _≤_, _<_}
+use native.Mathlib.Omega.{arith}
+use native.Mathlib.Numerals.{add-one}
+use mathlib.Core.Path.{_≡_, refl, sym, ap, _∙_, subst}
+use mathlib.Core.Bool.{true}
+use mathlib.Core.List.{List, [], _∷_, _++_}
+use lib.ListN.{length, replicate, length-append}
+use Rattle.rules.specs.declared.Connection.{Connection}
+use Rattle.rules.specs.Limits.{max-connections}
+use Rattle.rules.specs.Model.{no-past, nth}
+use Rattle.rules.proofs.Tests.{and-true}
+use Rattle.tables.specs.Table.{formed}
+use Rattle.tables.proofs.TableLaws.{formed-length}
+use Rattle.lines.specs.Members.{members-length, member-of, members, connections, pasts, written-members, members-formed}
+use Rattle.lines.proofs.MemberLaws.{connections-length}
+use Rattle.lines.proofs.WrittenLaws.{connections-back, pasts-back, members-formed-back}
+use Rattle.firmware.specs.Questions.{row-asked, first-rows}
+use Rattle.firmware.specs.Laid.{no-pasts, laid-out}
+use Rattle.firmware.proofs.AskedLaws.{length-first, nth-first}
+
+-- an empty table
+pub blank : (rows : List ℕ) → replicate members-length 0 ≡ laid-out 0 rows
+unfolding written-members
+blank rows = refl
+
+length-none : (n : ℕ) → length (no-pasts n) ≡ n
+length-none zero = refl
+length-none (suc n) = omega (arith, length-append (no-pasts n) (no-past ∷ []), length-none n)
+
+formed-long : (t : List ℕ) → members-formed t ≡ true → length t ≡ members-length
+unfolding members-formed
+formed-long t h = formed-length member-of members-length t (and-true (formed member-of members-length t) _ h .0)
+
+module _ (rows : List ℕ) (n : ℕ) (few : n ≤ max-connections) (sized : (i : ℕ) → i < n → 1 ≤ row-asked rows i .size)
+    (t : List ℕ) (e : t ≡ laid-out n rows) where
+  each-past : length (no-pasts n) ≡ length (first-rows n rows)
+  each-past = length-none n ∙ sym (length-first rows n)
+
+  used : (c : ℕ) → c < length (first-rows n rows) → 0 < nth (first-rows n rows) c .size
+  used c h =
+      let k : c < n = omega (arith, length-first rows n) in
+      subst (λ (x : Connection). 0 < x .size) (sym (nth-first rows n c k)) (sized c k)
+
+  fit : length (first-rows n rows) ≤ max-connections
+  fit = omega (arith, length-first rows n)
+
+  pub connections-laid : connections t ≡ first-rows n rows
+  connections-laid = ap connections e ∙ connections-back (first-rows n rows) (no-pasts n) each-past used fit
+
+  pasts-laid : pasts t ≡ no-pasts n
+  pasts-laid = ap pasts e ∙ pasts-back (first-rows n rows) (no-pasts n) each-past used fit
+
+  pub count-laid : n ≡ length (members t)
+  count-laid = sym (length-first rows n) ∙ ap (λ (xs : List Connection). length xs) (sym connections-laid) ∙ connections-length t
+
+  pub length-laid : length t ≡ members-length
+  length-laid =
+      ap (λ (u : List ℕ). length u) e
+      ∙ formed-long (laid-out n rows) (members-formed-back (first-rows n rows) (no-pasts n) each-past used fit)
+
+  pub written-laid : t ≡ written-members (connections t) (pasts t)
+  written-laid = e ∙ rw (connections-laid, pasts-laid)
+
+  -- with row n behind the others
+  pub next-laid : (x : Connection) → x ≡ row-asked rows n
+      → written-members (connections t ++ x ∷ []) (pasts t ++ no-past ∷ []) ≡ laid-out (n + 1) rows
+  next-laid x k = rw (connections-laid, pasts-laid, k, add-one n)

@@ -1,0 +1,65 @@
+-- THE TWO QUESTIONS, answered by the rules' own definitions. Document 01, "Two questions from C firmware". Assumes nothing.
+use Prim.Native.Nat.{ℕ, zero, suc, _*_, _/_}
+use mathlib.Core.Bool.{Bool, cond, not, _&&_}
+use mathlib.Core.List.{List, [], _∷_, _++_}
+use lib.Dec.{eqb, leb}
+use lib.ListN.{length, take, drop}
+use Rattle.rules.specs.declared.Link.{Link}
+use Rattle.rules.specs.declared.Connection.{Connection}
+use Rattle.rules.specs.Words.{every}
+use Rattle.rules.specs.Limits.{max-connections}
+use Rattle.rules.specs.Model.{no-link}
+use Rattle.rules.specs.Admission.{link-within, level-within, figures-within, level-test}
+use Rattle.rules.specs.Service.{next-eligibility}
+use Rattle.traces.specs.Kinds.{CN}
+use Rattle.traces.specs.Trace.{read-trace}
+use Rattle.named.specs.Named.{link-of, connection-of}
+
+-- ---- (a)
+
+-- "from a flag (0: no earlier packet; any other number: one), the last eligibility, a gap and the present tick .. the next eligibility":
+-- of a connection only its gap counts
+unfoldable pub next-asked : ℕ → ℕ → ℕ → ℕ → ℕ
+next-asked flag last gap now = next-eligibility (record { level = 0; gap = gap; size = 0 }) (record { sent = not (eqb flag 0); last = last }) now
+
+-- ---- (b)
+
+-- "one whole `LK` record": the link that it names. No link, which is within no limits, where the bytes are malformed, of another kind, or more
+-- than the record
+unfoldable pub link-asked : List ℕ → Link
+link-asked lk = cond (eqb (read-trace lk .taken) (length lk)) (link-of (read-trace lk .what)) no-link
+
+-- "a table of 5-byte rows laid out as in `CN` after its mark": how many, row i, and the connections of the first n
+abbrev pub row-bytes : ℕ
+row-bytes = 5
+
+abbrev pub rows-asked : List ℕ → ℕ
+rows-asked rows = length rows / row-bytes
+
+unfoldable pub row-asked : List ℕ → ℕ → Connection
+row-asked rows i = connection-of (read-trace (CN .mark ++ take row-bytes (drop (row-bytes * i) rows)) .what)
+
+abbrev pub first-rows : ℕ → List ℕ → List Connection
+first-rows zero rows = []
+first-rows (suc n) rows = first-rows n rows ++ row-asked rows n ∷ []
+
+abbrev pub all-rows : List ℕ → List Connection
+all-rows rows = first-rows (rows-asked rows) rows
+
+-- "a .. connection limit": level 1 to n, gap and size within theirs
+abbrev pub row-within : Link → List ℕ → ℕ → Bool
+row-within l rows i = level-within l (row-asked rows i) && figures-within l (row-asked rows i)
+
+-- no "length doesn't fit, the bytes are malformed, a link or connection limit is broken or there are more than 64 rows"
+unfoldable pub well-asked : List ℕ → List ℕ → Bool
+well-asked lk rows =
+    link-within (link-asked lk)
+    && (eqb (length rows) (row-bytes * rows-asked rows)
+    && (leb (rows-asked rows) max-connections && every (rows-asked rows) (row-within (link-asked lk) rows)))
+
+abbrev pub not-well-asked : ℕ
+not-well-asked = 255
+
+-- "0 if all level tests hold, else the lowest failing level, or 255"
+unfoldable pub short-level : List ℕ → List ℕ → ℕ
+short-level lk rows = cond (well-asked lk rows) (level-test (link-asked lk) (all-rows rows) .level) not-well-asked
