@@ -3,9 +3,9 @@ use Prim.Native.Nat.{ℕ, zero, suc, _+_, _≤_, _<_}
 use native.Mathlib.Omega.{arith}
 use mathlib.Core.Path.{_≡_, refl, sym, ap, _∙_, subst}
 use mathlib.Core.Bool.{Bool, true, false, cond}
-use mathlib.Core.List.{List, [], _∷_}
+use mathlib.Core.List.{List, [], _∷_, _++_}
 use mathlib.Core.Option.{Option, none, some}
-use lib.ListN.{getElem?}
+use lib.ListN.{length, getElem?}
 use Rattle.rules.specs.declared.Packet.{Packet}
 use Rattle.rules.specs.Words.{push}
 use Rattle.rules.specs.Limits.{clock-end}
@@ -14,14 +14,15 @@ use Rattle.rules.specs.Service.{of, first, after-unit, started}
 use Rattle.rules.specs.SoundState.{Sound}
 use Rattle.rules.specs.SoundTest.{sound}
 use Rattle.rules.specs.Calls.{verdict, done, refused-number, answer}
-use Rattle.rules.specs.Runs.{History, taken, leaving, after, run-from, nothing-yet, run, departures, bound-of}
+use Rattle.rules.specs.Runs.{History, taken, leaving, after, run-from, nothing-yet, run, departures, bound-of, allowed, Keeps-its-gap}
+use Rattle.rules.specs.Promises.{Kept-promise}
 use Rattle.rules.proofs.Sums.{cond-is}
 use Rattle.rules.proofs.Tests.{and-intro}
 use Rattle.rules.proofs.Verdicts.{settled}
 use Rattle.rules.proofs.SoundExact.{exact}
 use Rattle.rules.proofs.SoundKept.{kept}
 use Rattle.rules.proofs.Every.{fresh-invariant}
-use Rattle.rules.proofs.Results.{demand-1-refusals, runs-are-sound, demand-3-first, demand-3-second}
+use Rattle.rules.proofs.Results.{demand-1-refusals, verdict-1-exactly, runs-are-sound, demand-3-first, demand-3-second}
 use Rattle.tables.specs.Table.{formed}
 use Rattle.tables.specs.Places.{places, places-length, packet-of}
 use Rattle.lines.specs.Members.{members-formed, written-members}
@@ -32,9 +33,9 @@ use Rattle.service.specs.Candidates.{is-some, packet-or-unused}
 use Rattle.service.specs.View.{view, hub-of, told-of, refusal}
 use Rattle.calls.specs.Acts.{sound-hub, members-of, places-of}
 use Rattle.calls.proofs.ActLaws.{is-sound, members-kept, places-kept}
-use Rattle.hub.specs.Does.{tells, leaves-members, leaves-places}
+use Rattle.hub.specs.Does.{tells, leaves-members, leaves-places, Does}
 use Rattle.hub.specs.Sequence.{Notes, brought, went, call, calls-from, blank, calls, notes-of}
-use Rattle.hub.specs.Promises.{One-outcome, Written-reads-back, Sound-is-written, Demand-1-of-the-code, Follows-the-rules, Demand-3-first-of-the-code, Demand-3-second-of-the-code}
+use Rattle.hub.specs.Promises.{One-outcome, Written-reads-back, Sound-is-written, Demand-1-of-the-code, Verdict-1-of-the-code, Sound-is-kept-by-the-code, Follows-the-rules, Noted-by, Demand-3-first-of-the-code, Kept-by-the-code, Demand-3-second-of-the-code}
 
 -- ---- one outcome
 
@@ -71,14 +72,29 @@ demand-1-of-the-code k h cs t r cs′ t′ D n = go (sound-hub h cs t) refl (D .
         → r ≡ cond b (told-of (answer k (view h cs t))) (refusal h 1 (refused-number k))
         → cs′ ≡ cond b (members-of (answer k (view h cs t) .next)) cs
         → t′ ≡ cond b (places-of (answer k (view h cs t) .next)) t
-        → (r .hub ≡ h) × (cs′ ≡ cs) × (t′ ≡ t)
-    go false e a b c = (ap (λ (x : Told). x .hub) a, b, c)
+        → (r .hub ≡ h) × (cs′ ≡ cs) × (t′ ≡ t) × (r .number ≡ refused-number k) × (r .gone ≡ false)
+    go false e a b c = (ap (λ (x : Told). x .hub) a, b, c, ap (λ (x : Told). x .number) a, ap (λ (x : Told). x .gone) a)
     go true e a b c =
-        let k = demand-1-refusals k (view h cs t) (λ z. n (ap (λ (x : Told). x .verdict) a ∙ z)) in (
-          ap (λ (x : Told). x .hub) a ∙ ap hub-of (k .0),
-          b ∙ ap members-of (k .0) ∙ sym (members-kept h cs t e),
-          c ∙ ap places-of (k .0) ∙ sym (places-kept h cs t e),
+        let d = demand-1-refusals k (view h cs t) (λ z. n (ap (λ (x : Told). x .verdict) a ∙ z)) in (
+          ap (λ (x : Told). x .hub) a ∙ ap hub-of (d .0),
+          b ∙ ap members-of (d .0) ∙ sym (members-kept h cs t e),
+          c ∙ ap places-of (d .0) ∙ sym (places-kept h cs t e),
+          ap (λ (x : Told). x .number) a ∙ d .2,
+          ap (λ (x : Told). x .gone) a ∙ ap is-some (d .1),
         )
+
+pub verdict-1-of-the-code : Verdict-1-of-the-code
+unfolding tells
+verdict-1-of-the-code k h cs t r cs′ t′ D = (
+  λ e. rw (D .answers, e) refl,
+  λ e z. verdict-1-exactly k (view h cs t) .0 (rw (D .answers, e) at z) (is-sound h cs t e),
+)
+
+pub sound-is-kept-by-the-code : Sound-is-kept-by-the-code
+unfolding tells leaves-members leaves-places
+sound-is-kept-by-the-code k h cs t r cs′ t′ D e =
+    rw (D .answers, D .connections, D .table, e)
+    (written-reads-back (answer k (view h cs t) .next) (kept k (view h cs t) (is-sound h cs t e)) .1)
 
 -- ---- any calls follow the rules
 
@@ -157,16 +173,45 @@ demand-3-first-of-the-code ks c i p is over =
     let k = demand-3-first ks c i p (subst (λ (g : Notes). getElem? (of c (g .accepted)) i ≡ some p) e is) (subst (λ (g : Notes). p .eligibility + bound-of (run ks .now) c ≤ g .hub .clock) e over) in
     record { finish = k .finish; is-departure = subst (λ (g : Notes). getElem? (departures c (g .departed)) i ≡ some (record { what = p; finish = k .finish })) (sym e) (k .is-departure); in-time = k .in-time }
 
+module _ (earlier later : List Call) (c len tag : ℕ) (word : Keeps-its-gap c (earlier ++ offer c len tag ∷ [])) (good : allowed (run earlier .now) c len ≡ true) where
+  promise : Kept-promise earlier later c len tag
+  promise = demand-3-second earlier later c len tag word good
+
+  same-clock : calls earlier .hub .clock ≡ run earlier .now .clock
+  same-clock = ap (λ (g : Notes). g .hub .clock) (follows-the-rules earlier)
+
+  told : (r : Told) (cs t : List ℕ) → Does (offer c len tag) (calls earlier .hub) (calls earlier .members) (calls earlier .places) r cs t
+      → r ≡ told-of (answer (offer c len tag) (run earlier .now))
+  told r cs t D =
+      D .answers
+      ∙ ap (λ (g : Notes). tells (offer c len tag) (g .hub) (g .members) (g .places)) (follows-the-rules earlier)
+      ∙ same-tells (run earlier .now) (runs-are-sound earlier) (offer c len tag)
+
+  -- the packet in the notes g of the calls before it and G of all
+  abbrev Noted : Notes → Notes → Type 0
+  Noted g G =
+      Noted-by G c (length (of c (g .accepted))) (record { connection = c; len = len; tag = tag; arrival = g .hub .clock; eligibility = g .hub .clock })
+      (g .hub .clock + bound-of (run earlier .now) c)
+
+  noted : run earlier .now .clock < clock-end
+      → run earlier .now .clock + bound-of (run earlier .now) c ≤ run (earlier ++ offer c len tag ∷ later) .now .clock
+      → Noted (calls earlier) (calls (earlier ++ offer c len tag ∷ later))
+  noted l over =
+      let q = promise .in-time l over in
+      subst (λ (g : Notes). Noted g (calls (earlier ++ offer c len tag ∷ later))) (sym (follows-the-rules earlier))
+      (subst (Noted (notes-of (run earlier))) (sym (follows-the-rules (earlier ++ offer c len tag ∷ later)))
+      (record { finish = q .finish; is-departure = q .is-departure; in-time = q .in-time }))
+
+  kept-by-the-code : Kept-by-the-code earlier later c len tag
+  kept-by-the-code = record {
+    never-for-room = λ r cs t D z. promise .never-for-room (sym (ap (λ (x : Told). x .verdict) (told r cs t D)) ∙ z);
+    accepted = λ r cs t D l.
+        let a = told r cs t D in
+        let running : run earlier .now .clock < clock-end = omega (arith, same-clock) in
+        (ap (λ (x : Told). x .verdict) a ∙ promise .accepted running, ap (λ (x : Told). x .number) a ∙ promise .on-arrival running ∙ sym same-clock);
+    in-time = λ l over.
+        noted (omega (arith, same-clock)) (omega (arith, same-clock, ap (λ (g : Notes). g .hub .clock) (follows-the-rules (earlier ++ offer c len tag ∷ later))));
+  }
+
 pub demand-3-second-of-the-code : Demand-3-second-of-the-code
-demand-3-second-of-the-code earlier c len tag word ok r cs t D =
-    let e = follows-the-rules earlier in
-    let k = demand-3-second earlier [] c len tag word ok in
-    let S = runs-are-sound earlier in
-    let a : r ≡ told-of (answer (offer c len tag) (run earlier .now)) = D .answers ∙ ap (λ (g : Notes). tells (offer c len tag) (g .hub) (g .members) (g .places)) e ∙ same-tells (run earlier .now) S (offer c len tag) in
-    let v = ap (λ (x : Told). x .verdict) a in
-    let clock : calls earlier .hub .clock ≡ run earlier .now .clock = ap (λ (g : Notes). g .hub .clock) e in (
-      λ z. k .never-for-room (sym v ∙ z),
-      λ l.
-          let running : run earlier .now .clock < clock-end = omega arith in
-          (v ∙ k .accepted running, ap (λ (x : Told). x .number) a ∙ k .on-arrival running ∙ sym clock),
-    )
+demand-3-second-of-the-code earlier later c len tag word good = kept-by-the-code earlier later c len tag word good

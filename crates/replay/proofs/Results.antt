@@ -2,7 +2,7 @@
 use Prim.Native.Nat.{ℕ, _/_, _<_, _≤_}
 use native.Mathlib.Omega.{arith}
 use mathlib.Core.Path.{_≡_, refl, sym, ap, _∙_, subst}
-use mathlib.Core.Bool.{Bool, true}
+use mathlib.Core.Bool.{Bool, true, false}
 use mathlib.Core.List.{List, [], _++_, append-assoc, append-nil}
 use mathlib.Core.Logic.{inl, inr}
 use lib.Dec.{ltb}
@@ -13,6 +13,7 @@ use Rattle.rules.specs.SoundState.{Sound}
 use Rattle.rules.proofs.Every.{fresh-invariant}
 use Rattle.tables.specs.Places.{places, places-length}
 use Rattle.lines.specs.Members.{written-members, members-length}
+use Rattle.calls.specs.Acts.{sound-hub}
 use Rattle.log.specs.declared.Phase.{Phase}
 use Rattle.log.specs.declared.Phase.the-variants.{Finished}
 use Rattle.log.specs.declared.Cursor.{Cursor}
@@ -26,7 +27,7 @@ use Rattle.log.proofs.OutcomeLaws.{Ends-well, step-ends-well, steps-end-well}
 use Rattle.ticks.specs.Tie.{point-of, cursor-of, stepped-of, Did, in-room, Does}
 use Rattle.replay.specs.Sessions.{Steps, Pumps, Session}
 use Rattle.replay.specs.Sessions.Session.{start, more, step, pump}
-use Rattle.replay.specs.Promises.{Writes-the-log, Of-every-call, Done-is-finished, Never-refused, Asks-when-short}
+use Rattle.replay.specs.Promises.{Writes-the-log, Of-every-call, Done-is-finished, Never-refused, Asks-when-short, Same-outcome, One-outcome}
 use Rattle.replay.proofs.Standing.{Stands, stands-sound, stands-there, stands-then}
 
 -- at any time of a session: what was written, and what is to come, is the log
@@ -129,3 +130,16 @@ never-refused trace wrote c cs t w unread S last g o a cs′ t′ o′ D l =
 
 pub asks-when-short : Asks-when-short
 asks-when-short trace wrote c cs t w unread S last g o a cs′ t′ o′ D = tells trace wrote c cs t w unread S last g o a cs′ t′ o′ D .short
+
+pub one-outcome : One-outcome
+one-outcome n c cs t o a a′ ds ds′ u u′ p p′ D E = go (sound-hub (c .hub) cs t) refl
+  where
+    go : (b : Bool) → sound-hub (c .hub) cs t ≡ b → Same-outcome a a′ ds ds′ u u′ p p′
+    go true ok =
+        let d = D .where-sound ok in
+        let e = E .where-sound ok in
+        record { answer = d .answers ∙ sym (e .answers); connections = d .connections ∙ sym (e .connections); table = d .table ∙ sym (e .table); room = d .room ∙ sym (e .room) }
+    go false not =
+        let d = D .where-not not in
+        let e = E .where-not not in
+        record { answer = d .0 ∙ sym (e .0); connections = d .1 ∙ sym (e .1); table = d .2 ∙ sym (e .2); room = d .3 ∙ sym (e .3) }

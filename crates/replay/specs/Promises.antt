@@ -10,7 +10,8 @@ use Rattle.log.specs.declared.Cursor.{Cursor}
 use Rattle.log.specs.declared.Status.the-variants.{MoreBytes, MoreRoom, NotSound, Done}
 use Rattle.log.specs.declared.Stepped.{Stepped}
 use Rattle.log.specs.Log.{log}
-use Rattle.log.specs.Steps.{longest-record, longest-answer}
+use Rattle.log.specs.Steps.{longest-record, longest-answer, Next}
+use Rattle.ticks.specs.Tie.{Does}
 use Rattle.replay.specs.Sessions.{Steps, Pumps, Session}
 
 -- THE THEOREM: for any bytes, in any pieces, the steps until the cursor says that it is finished write exactly the log of the trace
@@ -41,3 +42,17 @@ Never-refused = Of-every-call (λ w o a. longest-answer ≤ length o → (a .sta
 -- a call that asks for bytes leaves fewer than the longest record has: a window of that length can always be filled further
 abbrev pub Asks-when-short : Type 0
 Asks-when-short = Of-every-call (λ w o a. a .status ≡ MoreBytes → length (drop (a .used) w) < longest-record)
+
+-- any two answers, tables and rooms that the contract of `step` or of `pump` allows are equal
+pub record Same-outcome (a a′ : Stepped) (cs cs′ t t′ o o′ : List ℕ) : Type 0 where
+  pub answer : a ≡ a′
+  pub connections : cs ≡ cs′
+  pub table : t ≡ t′
+  pub room : o ≡ o′
+
+abbrev pub One-outcome : Type 0
+One-outcome =
+    (n : Next) (c : Cursor) (cs t o : List ℕ) (a a′ : Stepped) (ds ds′ u u′ p p′ : List ℕ)
+    → Does n c cs t o a ds u p
+    → Does n c cs t o a′ ds′ u′ p′
+    → Same-outcome a a′ ds ds′ u u′ p p′
