@@ -1,0 +1,70 @@
+/* How firmware asks the hub's two questions: the admissions and offers P1 to P10 of document 01, "Table of proved examples". */
+#include <inttypes.h>
+#include <stdio.h>
+
+#include "mtredovim.h"
+
+/* Link A: two levels, S 4, bounds 10 and 20. */
+static const uint8_t link_a[] = {0x4C, 0x4B, 2, 4, 0, 10, 0, 20, 0};
+
+/* Rows of level, gap and size. */
+enum { ROW = 5 };
+
+/* P1, P2, P3, P5 and P6, one after the other. */
+static const uint8_t in_turn[] = {
+    1, 10, 0, 4, 0,
+    2, 20, 0, 4, 0,
+    1, 9,  0, 1, 0,
+    2, 20, 0, 1, 0,
+    2, 20, 0, 1, 0,
+};
+
+/* P4 instead of P3. */
+static const uint8_t instead[] = {
+    1, 10, 0, 4, 0,
+    2, 20, 0, 4, 0,
+    1, 9,  0, 2, 0,
+};
+
+/* P7: three of level 2, and one of level 1. */
+static const uint8_t behind_three[] = {
+    2, 20, 0, 4, 0,
+    2, 20, 0, 4, 0,
+    2, 20, 0, 4, 0,
+    1, 10, 0, 4, 0,
+};
+
+/* Would the last of these rows be let in beside the others? */
+static void may_join(const char *name, const uint8_t *rows, size_t count)
+{
+    unsigned answer = mtredovim_short_level(link_a, sizeof link_a, rows, ROW * count);
+
+    if (answer == 0)
+        printf("%s: every level holds\n", name);
+    else if (answer == 255)
+        printf("%s: not well asked\n", name);
+    else
+        printf("%s: level %u is short\n", name, answer);
+}
+
+/* When would a packet that is offered now be eligible? */
+static void when(const char *name, uint32_t flag, uint32_t last, uint32_t gap, uint32_t now)
+{
+    printf("%s: eligible at %" PRIu64 "\n", name, mtredovim_next_eligibility(flag, last, gap, now));
+}
+
+int main(void)
+{
+    may_join("no rows", in_turn, 0);
+    may_join("P1", in_turn, 1);
+    may_join("P2", in_turn, 2);
+    may_join("P3", in_turn, 3);
+    may_join("P4", instead, 3);
+    may_join("P5", in_turn, 4);
+    may_join("P6", in_turn, 5);
+    may_join("P7", behind_three, 4);
+    when("P8, connection 1 at 0", 0, 0, 20, 0);
+    when("P8, connection 0 at 1", 0, 0, 10, 1);
+    when("P10, connection 0 at 8", 1, 1, 10, 8);
+    return 0;
+}

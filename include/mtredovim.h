@@ -1,0 +1,40 @@
+/* The two questions that the hub's firmware asks (document 01, "Two questions from C firmware"), answered by the same rules as the hub's
+   own calls: the archive's functions are proved equal to the rules' definitions.
+
+   Link with the archive that `rt staticlib firmware` writes, target/staticlib/libfirmware.a, for x86-64. It needs `memset` of the C library
+   and nothing else. Both functions may be called at any time and from any thread: they keep nothing, write nothing that the caller can see,
+   take no memory but some 1,500 bytes of stack, and always return. */
+#ifndef MTREDOVIM_H
+#define MTREDOVIM_H
+
+#include <stddef.h>
+#include <stdint.h>
+
+#ifdef __cplusplus
+extern "C" {
+#endif
+
+/* The tick at which the next packet of a connection is eligible, were it accepted now. Any numbers are allowed, also those that no hub gives.
+     flag  0: no packet of the connection was accepted yet; any other number: one was
+     last  the eligibility of the one accepted last, in ticks; with flag 0 it doesn't count
+     gap   the connection's gap, in ticks
+     now   the present tick
+   Answer, in ticks: `now` with flag 0, else the greater of `now` and `last` + `gap`. The sum can pass 32 bits, the answer can't pass 64. */
+uint64_t mtredovim_next_eligibility(uint32_t flag, uint32_t last, uint32_t gap, uint32_t now);
+
+/* Which level would be short, were the connections of all these rows admitted to the link.
+     lk    one whole `LK` record: 4C 4B, n (1 byte), S (2, units), n delay bounds (2 each, ticks); numbers low byte first; lk_len is 5 + 2n
+     rows  a connection to each 5 bytes, in any order: level (1), gap (2, ticks), size (2, units); rows_len is 5 times their number, at most 64
+   Answer: 0 if the level test holds at every level, else the lowest level 1 to 8 at which it fails. 255 if the question is not well asked: a
+   length doesn't fit, the bytes are no `LK`, a limit of the link or of a connection is broken, or there are more than 64 rows. A bad row gives
+   255 wherever it stands, also where a level fails. No rows and a good `LK`: 0. Whether all reservations find room is not asked.
+
+   The caller sees to it that each pointer is valid for reading as many bytes as its length says, while the function runs. With length 0 any
+   pointer will do that is not null: nothing is read there. Null is never allowed. */
+uint8_t mtredovim_short_level(const uint8_t *lk, size_t lk_len, const uint8_t *rows, size_t rows_len);
+
+#ifdef __cplusplus
+}
+#endif
+
+#endif

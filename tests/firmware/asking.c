@@ -1,0 +1,100 @@
+/* The bytes that are lent lie against memory that can't be read: a byte read before or behind them ends the test. */
+#define _DEFAULT_SOURCE
+#include "asking.h"
+
+#include <inttypes.h>
+#include <stdio.h>
+#include <stdlib.h>
+#include <string.h>
+#include <sys/mman.h>
+
+#include "mtredovim.h"
+#include "reference.h"
+
+enum { SPAN = 65536, SHOWN = 10 };
+
+struct tally tally;
+
+/* SPAN bytes between two spans that can't be read. */
+static uint8_t *lk_span;
+static uint8_t *rows_span;
+
+static uint8_t *fenced_span(void)
+{
+    uint8_t *all = mmap(NULL, 3 * (size_t)SPAN, PROT_NONE, MAP_PRIVATE | MAP_ANONYMOUS, -1, 0);
+
+    if (all == MAP_FAILED || mprotect(all + SPAN, SPAN, PROT_READ | PROT_WRITE) != 0) {
+        perror("no memory to lend from");
+        exit(2);
+    }
+    return all + SPAN;
+}
+
+void prepare(void)
+{
+    lk_span = fenced_span();
+    rows_span = fenced_span();
+}
+
+/* A copy that starts the span in every other question, else ends it. */
+static uint8_t *lent(uint8_t *span, const uint8_t *bytes, size_t len)
+{
+    uint8_t *at = tally.asked % 2 == 0 ? span : span + SPAN - len;
+
+    if (len > SPAN) {
+        fprintf(stderr, "%zu bytes are too many to lend\n", len);
+        exit(2);
+    }
+    if (len > 0)
+        memcpy(at, bytes, len);
+    return at;
+}
+
+void differs(const char *what)
+{
+    tally.differing++;
+    if (tally.differing <= SHOWN)
+        printf("DIFFERS: %s\n", what);
+}
+
+static void show(const char *name, const uint8_t *bytes, size_t len)
+{
+    printf("  %s", name);
+    for (size_t i = 0; i < len; i++)
+        printf(" %02X", bytes[i]);
+    printf("\n");
+}
+
+uint64_t ask_next(uint32_t flag, uint32_t last, uint32_t gap, uint32_t now)
+{
+    uint64_t given = mtredovim_next_eligibility(flag, last, gap, now);
+    uint64_t expected = reference_next(flag, last, gap, now);
+
+    tally.asked++;
+    if (given != expected) {
+        differs("next eligibility");
+        printf("  flag %" PRIu32 " last %" PRIu32 " gap %" PRIu32 " now %" PRIu32, flag, last, gap, now);
+        printf(": %" PRIu64 ", expected %" PRIu64 "\n", given, expected);
+    }
+    return given;
+}
+
+uint8_t ask_level(const uint8_t *lk, size_t lk_len, const uint8_t *rows, size_t rows_len)
+{
+    uint8_t *lk_lent = lent(lk_span, lk, lk_len);
+    uint8_t *rows_lent = lent(rows_span, rows, rows_len);
+    uint8_t given = mtredovim_short_level(lk_lent, lk_len, rows_lent, rows_len);
+    uint8_t expected = reference_level(lk, lk_len, rows, rows_len);
+
+    tally.asked++;
+    tally.levels[given]++;
+    if (given != expected) {
+        differs("level");
+        show("LK", lk, lk_len);
+        show("rows", rows, rows_len);
+        printf("  %d, expected %d\n", given, expected);
+    }
+    if ((lk_len > 0 && memcmp(lk_lent, lk, lk_len) != 0) || (rows_len > 0 && memcmp(rows_lent, rows, rows_len) != 0))
+        differs("bytes that were lent were changed");
+    return given;
+}

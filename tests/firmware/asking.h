@@ -1,0 +1,27 @@
+/* Each question is put to the archive and to the reference, and the two answers are compared. */
+#ifndef ASKING_H
+#define ASKING_H
+
+#include <stddef.h>
+#include <stdint.h>
+
+struct tally {
+    unsigned long asked;
+    unsigned long differing;
+    unsigned long levels[256]; /* how often each answer to the level question was given */
+};
+
+extern struct tally tally;
+
+/* Before the first question. */
+void prepare(void);
+
+/* The archive's answer. */
+uint64_t ask_next(uint32_t flag, uint32_t last, uint32_t gap, uint32_t now);
+
+uint8_t ask_level(const uint8_t *lk, size_t lk_len, const uint8_t *rows, size_t rows_len);
+
+/* Says that something is not as it must be, and counts it as a difference. */
+void differs(const char *what);
+
+#endif

@@ -1,0 +1,264 @@
+/* Every limit at its last good and first bad value, every length, every mark, rows in every order, sums about their bounds and about 2^32. */
+#include <string.h>
+
+#include "asking.h"
+#include "questions.h"
+
+enum { REFUSED = 255, LAST_BOUND = 32768, MOST_LARGEST = 2048, MOST_GAP = 65535 };
+
+/* n bounds that end at `last`, one apart. */
+static void bounds_up_to(unsigned last, unsigned n, unsigned *bounds)
+{
+    for (unsigned m = 0; m < n; m++)
+        bounds[m] = last - (n - 1 - m);
+}
+
+/* A link that nothing breaks: S 4, bounds 16 apart from 16 on. */
+static void plain_link(struct question *q, unsigned n)
+{
+    unsigned bounds[BOUNDS];
+
+    for (unsigned m = 0; m < n; m++)
+        bounds[m] = 16 * (m + 1);
+    put_link(q, n, 4, bounds);
+}
+
+static void next_numbers(void)
+{
+    static const uint32_t edges[] = {0,          1,          2,          65534,      65535,      65536,      0x7FFFFFFF,
+                                     0x80000000, 3999999999, 4000000000, 4000000001, 0xFFFFFFFE, 0xFFFFFFFF};
+    enum { EDGES = sizeof edges / sizeof edges[0] };
+
+    for (unsigned f = 0; f < EDGES; f++)
+        for (unsigned l = 0; l < EDGES; l++)
+            for (unsigned g = 0; g < EDGES; g++) {
+                for (unsigned n = 0; n < EDGES; n++)
+                    ask_next(edges[f], edges[l], edges[g], edges[n]);
+                /* the present tick one before, at and one behind the spaced one */
+                for (uint32_t away = 0; away < 3; away++)
+                    ask_next(edges[f], edges[l], edges[g], edges[l] + edges[g] + away - 1);
+            }
+    if (ask_next(1, 0xFFFFFFFF, 0xFFFFFFFF, 0) != 8589934590u)
+        differs("the largest sum");
+}
+
+/* All marks before a good rest. */
+static void marks(void)
+{
+    struct question q;
+
+    plain_link(&q, 1);
+    for (unsigned mark = 0; mark < 65536; mark++) {
+        q.lk[0] = (uint8_t)(mark % 256);
+        q.lk[1] = (uint8_t)(mark / 256);
+        expect(&q, mark == ('L' | 'K' << 8) ? 0 : REFUSED, "mark");
+    }
+}
+
+/* Every n with every length about it. */
+static void link_lengths(void)
+{
+    struct question q;
+
+    for (unsigned n = 0; n < 256; n++)
+        for (size_t len = 0; len <= sizeof q.lk; len++) {
+            plain_link(&q, BOUNDS);
+            q.lk[2] = (uint8_t)n;
+            q.lk_len = len;
+            expect(&q, n >= 1 && n <= MOST_LEVELS && len == 5 + 2 * (size_t)n ? 0 : REFUSED, "length of LK");
+        }
+}
+
+/* Every number of bytes of rows: none, whole rows up to 64, and all others. */
+static void row_lengths(void)
+{
+    struct question q;
+
+    plain_link(&q, 1);
+    while (q.rows_len + ROW <= sizeof q.rows)
+        put_row(&q, 1, MOST_GAP, 1);
+    for (size_t len = 0; len <= sizeof q.rows; len++) {
+        q.rows_len = len;
+        ask(&q);
+        if (len % ROW != 0 || len > ROW * MOST_ROWS)
+            expect(&q, REFUSED, "length of rows");
+    }
+    q.rows_len = 0;
+    expect(&q, 0, "no rows");
+    q.rows_len = ROW * 12;
+    expect(&q, 0, "12 rows of 1 unit and S 4 with bound 16");
+    q.rows_len = ROW * MOST_ROWS;
+    expect(&q, 1, "64 rows");
+    q.rows_len = ROW * (MOST_ROWS + 1);
+    expect(&q, REFUSED, "65 rows");
+}
+
+/* S, the first bound against it, each bound against the one before, the last bound. */
+static void link_limits(void)
+{
+    static const unsigned largest[] = {0, 1, 2, 2047, 2048, 2049, 4096, 65535};
+    struct question q;
+    unsigned bounds[MOST_LEVELS];
+
+    for (unsigned n = 1; n <= MOST_LEVELS; n++) {
+        for (unsigned s = 0; s < sizeof largest / sizeof largest[0]; s++)
+            for (unsigned away = 0; away < 3; away++) {
+                bounds_up_to(largest[s] + away + n - 2, n, bounds);
+                put_link(&q, n, largest[s], bounds);
+                ask(&q);
+            }
+        for (unsigned last = LAST_BOUND - 1; last <= LAST_BOUND + 1; last++) {
+            bounds_up_to(last, n, bounds);
+            put_link(&q, n, 4, bounds);
+            expect(&q, last <= LAST_BOUND ? 0 : REFUSED, "last bound");
+        }
+        for (unsigned m = 1; m < n; m++)
+            for (unsigned away = 0; away < 3; away++) {
+                bounds_up_to(1000, n, bounds);
+                for (unsigned k = m; k < n; k++)
+                    bounds[k] += away;
+                bounds[m - 1] += 1;
+                put_link(&q, n, 4, bounds);
+                expect(&q, away >= 1 ? 0 : REFUSED, "bounds that rise");
+            }
+    }
+}
+
+/* Each number of a row at its limits, in each of seven places; a bad row wins over a level that fails. */
+static void row_limits(void)
+{
+    static const unsigned edges[] = {0, 1, 2, 3, 4, 5, 7, 8, 9, 255, 256, 1023, 1024, 32768, 65534, 65535};
+    enum { EDGES = sizeof edges / sizeof edges[0], PLACES = 7 };
+    struct question q;
+
+    for (unsigned n = 1; n <= MOST_LEVELS; n++)
+        for (unsigned place = 0; place < PLACES; place++)
+            for (unsigned e = 0; e < 3 * EDGES; e++) {
+                unsigned edge = edges[e % EDGES];
+
+                plain_link(&q, n);
+                for (unsigned i = 0; i < PLACES; i++) {
+                    unsigned of = i == place ? e / EDGES : 3;
+
+                    put_row(&q, of == 0 ? edge : 1, of == 1 ? edge : 8, of == 2 ? edge : 4);
+                }
+                ask(&q);
+                if (edge == 0)
+                    expect(&q, REFUSED, "a row with a 0, where level 1 fails");
+            }
+}
+
+/* At each level of each link: a sum one below its bound, at it and one above it. */
+static void sums_about_the_bound(void)
+{
+    struct question q;
+
+    for (unsigned n = 1; n <= MOST_LEVELS; n++)
+        for (unsigned m = 1; m <= n; m++)
+            for (unsigned away = 0; away < 3; away++) {
+                unsigned left = 16 * m - 4 - 1 + away;
+
+                plain_link(&q, n);
+                for (; left > 4; left -= 4)
+                    put_row(&q, m, MOST_GAP, 4);
+                put_row(&q, m, MOST_GAP, left);
+                expect(&q, away < 2 ? 0 : m, "a sum about its bound");
+            }
+}
+
+/* Rounding up: a gap one below, at and one above each divisor of the bound. */
+static void gaps_about_divisors(void)
+{
+    static const unsigned bound[] = {LAST_BOUND};
+    struct question q;
+
+    for (unsigned packets = 1; packets <= 300; packets++)
+        for (unsigned away = 0; away < 3; away++)
+            for (unsigned size = 1; size <= 3; size++) {
+                unsigned gap = LAST_BOUND / packets + away - 1;
+
+                for (unsigned rows = 1; rows <= MOST_ROWS; rows += 21) {
+                    put_link(&q, 1, LAST_BOUND / 64, bound);
+                    for (unsigned i = 0; i < rows; i++)
+                        put_row(&q, 1, gap, size * 32);
+                    ask(&q);
+                }
+            }
+}
+
+/* 64 rows of the most that a row can add, 2^26: their sum is 2^32, and S comes on top. A row of size 2,047 takes 2^15 off; nothing between the two
+   can be reached. In 32 bits 2^32 + 2,048 would pass for 2,048. */
+static void sums_about_32_bits(void)
+{
+    struct question q;
+    unsigned bounds[MOST_LEVELS];
+
+    for (unsigned n = 1; n <= MOST_LEVELS; n++)
+        for (unsigned rows = MOST_ROWS - 1; rows <= MOST_ROWS; rows++)
+            for (unsigned smaller = 0; smaller <= rows; smaller++) {
+                bounds_up_to(LAST_BOUND, n, bounds);
+                put_link(&q, n, MOST_LARGEST, bounds);
+                for (unsigned i = 0; i < rows; i++)
+                    put_row(&q, n, 1, i < smaller ? MOST_LARGEST - 1 : MOST_LARGEST);
+                expect(&q, n, "a sum about 2^32");
+            }
+}
+
+/* Swaps two rows. */
+static void swap_rows(struct question *q, unsigned i, unsigned j)
+{
+    uint8_t row[ROW];
+
+    memcpy(row, q->rows + ROW * i, ROW);
+    memmove(q->rows + ROW * i, q->rows + ROW * j, ROW);
+    memcpy(q->rows + ROW * j, row, ROW);
+}
+
+/* All orders of the rows from `from` on, by exchanges; each must be answered alike. */
+static void every_order(struct question *q, unsigned from, unsigned count, unsigned answer)
+{
+    if (from == count) {
+        expect(q, answer, "rows in another order");
+        return;
+    }
+    for (unsigned i = from; i < count; i++) {
+        swap_rows(q, from, i);
+        every_order(q, from + 1, count, answer);
+        swap_rows(q, from, i);
+    }
+}
+
+static void orders(void)
+{
+    struct question q;
+
+    /* 12 of 16 at level 1, 24 of 32 at level 2, 51 of 48 at level 3; level 4 fails too */
+    plain_link(&q, 4);
+    put_row(&q, 1, 16, 4);
+    put_row(&q, 1, 4, 1);
+    put_row(&q, 2, 32, 4);
+    put_row(&q, 3, 7, 2);
+    put_row(&q, 4, 3, 3);
+    put_row(&q, 3, 48, 1);
+    every_order(&q, 0, 6, 3);
+    /* 20 of 16 at level 1 */
+    put_row(&q, 1, 4, 2);
+    every_order(&q, 0, 7, 1);
+    /* a level too many in one of them */
+    q.rows[ROW] = 5;
+    every_order(&q, 0, 7, REFUSED);
+}
+
+void boundary_questions(void)
+{
+    next_numbers();
+    marks();
+    link_lengths();
+    row_lengths();
+    link_limits();
+    row_limits();
+    sums_about_the_bound();
+    gaps_about_divisors();
+    sums_about_32_bits();
+    orders();
+}

@@ -1,0 +1,44 @@
+#include "questions.h"
+
+#include <string.h>
+
+#include "asking.h"
+
+static void put_two(uint8_t *at, unsigned value)
+{
+    at[0] = (uint8_t)(value % 256);
+    at[1] = (uint8_t)(value / 256 % 256);
+}
+
+void put_link(struct question *q, unsigned n, unsigned largest, const unsigned *bounds)
+{
+    memset(q, 0, sizeof *q);
+    q->lk[0] = 'L';
+    q->lk[1] = 'K';
+    q->lk[2] = (uint8_t)n;
+    put_two(q->lk + 3, largest);
+    for (unsigned m = 0; m < n && m < BOUNDS; m++)
+        put_two(q->lk + 5 + 2 * m, bounds[m]);
+    q->lk_len = 5 + 2 * (size_t)n;
+}
+
+void put_row(struct question *q, unsigned level, unsigned gap, unsigned size)
+{
+    uint8_t *row = q->rows + q->rows_len;
+
+    row[0] = (uint8_t)level;
+    put_two(row + 1, gap);
+    put_two(row + 3, size);
+    q->rows_len += ROW;
+}
+
+uint8_t ask(const struct question *q)
+{
+    return ask_level(q->lk, q->lk_len, q->rows, q->rows_len);
+}
+
+void expect(const struct question *q, unsigned answer, const char *what)
+{
+    if (ask(q) != answer)
+        differs(what);
+}

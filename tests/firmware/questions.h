@@ -1,0 +1,39 @@
+/* The kinds of questions. */
+#ifndef QUESTIONS_H
+#define QUESTIONS_H
+
+#include <stddef.h>
+#include <stdint.h>
+
+enum { ROW = 5, MOST_ROWS = 64, MOST_LEVELS = 8, BOUNDS = 10 };
+
+/* A level question while it is put together, with room for two levels too many. */
+struct question {
+    uint8_t lk[5 + 2 * BOUNDS];
+    size_t lk_len;
+    uint8_t rows[ROW * (MOST_ROWS + 8)];
+    size_t rows_len;
+};
+
+/* An LK with S and n bounds, at most BOUNDS. */
+void put_link(struct question *q, unsigned n, unsigned largest, const unsigned *bounds);
+
+/* A row more. */
+void put_row(struct question *q, unsigned level, unsigned gap, unsigned size);
+
+uint8_t ask(const struct question *q);
+
+/* The same, where the answer is known. */
+void expect(const struct question *q, unsigned answer, const char *what);
+
+void boundary_questions(void);
+
+/* So many of each of the two. */
+void random_questions(unsigned long count);
+
+/* Questions with worked answers, one to a line: `flag last gap now answer`; `LK rows answer`, bytes in hexadecimal, `-` for none. */
+void next_vectors(const char *path);
+
+void level_vectors(const char *path);
+
+#endif

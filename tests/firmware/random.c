@@ -1,0 +1,123 @@
+/* Random questions from a fixed seed: mostly well asked, with sums about their bounds; some damaged. */
+#include "asking.h"
+#include "questions.h"
+
+/* Each answer to the level question must be met this often, or the questions are too much alike. */
+enum { AT_LEAST = 1000, REFUSED = 255 };
+
+static uint64_t state = 20240601;
+
+/* splitmix64 */
+static uint64_t next_random(void)
+{
+    uint64_t z = state += 0x9E3779B97F4A7C15u;
+
+    z = (z ^ z >> 30) * 0xBF58476D1CE4E5B9u;
+    z = (z ^ z >> 27) * 0x94D049BB133111EBu;
+    return z ^ z >> 31;
+}
+
+/* A number from low to high. */
+static unsigned between(unsigned low, unsigned high)
+{
+    return low + (unsigned)(next_random() % (high - low + 1));
+}
+
+/* A number of up to 32 bits, of any size, often near a power of 2. */
+static uint32_t any_number(void)
+{
+    uint64_t power = (uint64_t)1 << between(0, 32);
+
+    if (between(0, 1) == 0)
+        return (uint32_t)(next_random() % power);
+    return (uint32_t)(power + between(0, 4) - 2);
+}
+
+static void random_next(void)
+{
+    uint32_t last = any_number();
+    uint32_t gap = any_number();
+    uint32_t now = between(0, 3) == 0 ? last + gap + between(0, 4) - 2 : any_number();
+
+    ask_next(between(0, 2) == 0 ? 0 : any_number(), last, gap, now);
+}
+
+/* Bounds that rise from S on, with some room between them. */
+static void random_link(struct question *q, unsigned n)
+{
+    unsigned bounds[MOST_LEVELS];
+    unsigned largest = between(1, between(0, 2) == 0 ? 2048 : 40);
+    unsigned most = largest + n + between(0, between(0, 1) == 0 ? 2000 : 30000);
+    unsigned below = largest;
+
+    if (most > 32768)
+        most = 32768;
+    for (unsigned m = 0; m < n; m++) {
+        unsigned room = most - (n - 1 - m) - below;
+        unsigned share = 2 * room / (n - m);
+
+        bounds[m] = below + between(0, share < room ? share : room);
+        below = bounds[m] + 1;
+    }
+    put_link(q, n, largest, bounds);
+}
+
+/* Rows whose packets together fill about the line: a gap of rows times size. Most are of one level or above it, so that each level comes to be
+   the lowest that fails. */
+static void random_rows(struct question *q, unsigned n, unsigned count)
+{
+    unsigned largest = q->lk[3] + 256u * q->lk[4];
+    unsigned low = between(1, n);
+
+    for (unsigned i = 0; i < count; i++) {
+        unsigned size = between(1, largest);
+        unsigned fair = size * count * between(1, 4) / 2 + 1;
+        unsigned gap = between(0, 9) == 0 ? between(1, 65535) : between(fair / 2 + 1, 2 * fair);
+
+        put_row(q, between(0, 3) == 0 ? between(1, n) : between(low, n), gap > 65535 ? 65535 : gap, size);
+    }
+}
+
+/* A byte changed, or a length. */
+static void damage(struct question *q)
+{
+    switch (between(0, 3)) {
+    case 0:
+        q->lk[between(0, (unsigned)q->lk_len - 1)] = (uint8_t)between(0, 255);
+        break;
+    case 1:
+        q->lk_len = between(0, sizeof q->lk);
+        break;
+    case 2:
+        q->rows_len = between(0, (unsigned)q->rows_len);
+        break;
+    default:
+        q->rows[between(0, (unsigned)q->rows_len)] = (uint8_t)between(0, 10);
+        break;
+    }
+}
+
+static void random_level(void)
+{
+    struct question q;
+    unsigned n = between(1, MOST_LEVELS);
+
+    random_link(&q, n);
+    random_rows(&q, n, between(0, 7) == 0 ? between(0, MOST_ROWS) : between(0, 12));
+    if (between(0, 5) == 0)
+        damage(&q);
+    ask(&q);
+}
+
+void random_questions(unsigned long count)
+{
+    for (unsigned long i = 0; i < count; i++) {
+        random_next();
+        random_level();
+    }
+    for (unsigned level = 0; level <= MOST_LEVELS; level++)
+        if (tally.levels[level] < AT_LEAST)
+            differs("an answer is hardly ever met");
+    if (tally.levels[REFUSED] < AT_LEAST)
+        differs("255 is hardly ever met");
+}

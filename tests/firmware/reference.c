@@ -1,0 +1,96 @@
+/* Document 01, "Eligibility", "Link, connections, places", "The level test" and "Two questions from C firmware". */
+#include <stdbool.h>
+
+#include "reference.h"
+
+enum {
+    MOST_LEVELS = 8,
+    MOST_LARGEST = 2048,
+    LAST_BOUND = 32768,
+    MOST_ROWS = 64,
+    ROW = 5,
+    REFUSED = 255
+};
+
+struct link {
+    unsigned levels;
+    unsigned largest;
+    unsigned bound[MOST_LEVELS + 1]; /* by level, from 1 */
+};
+
+uint64_t reference_next(uint32_t flag, uint32_t last, uint32_t gap, uint32_t now)
+{
+    uint64_t spaced = (uint64_t)last + gap;
+
+    return flag != 0 && spaced > now ? spaced : now;
+}
+
+static unsigned two_bytes(const uint8_t *at)
+{
+    return at[0] | (unsigned)at[1] << 8;
+}
+
+/* One whole LK record: its mark, n from 1 to 8, S, n bounds, and no byte more. */
+static bool read_link(const uint8_t *lk, size_t lk_len, struct link *link)
+{
+    if (lk_len < 5 || lk[0] != 'L' || lk[1] != 'K')
+        return false;
+    link->levels = lk[2];
+    if (link->levels < 1 || link->levels > MOST_LEVELS || lk_len != 5 + 2 * (size_t)link->levels)
+        return false;
+    link->largest = two_bytes(lk + 3);
+    for (unsigned m = 1; m <= link->levels; m++)
+        link->bound[m] = two_bytes(lk + 3 + 2 * m);
+    return true;
+}
+
+/* S from 1 to 2,048; the bounds rise strictly, the first is at least S, the last at most 32,768. */
+static bool link_allowed(const struct link *link)
+{
+    if (link->largest < 1 || link->largest > MOST_LARGEST || link->bound[1] < link->largest)
+        return false;
+    for (unsigned m = 2; m <= link->levels; m++)
+        if (link->bound[m] <= link->bound[m - 1])
+            return false;
+    return link->bound[link->levels] <= LAST_BOUND;
+}
+
+/* Level 1 to n; gap at least 1, and two bytes hold no more than 65,535; size 1 to S. */
+static bool row_allowed(const struct link *link, const uint8_t *row)
+{
+    unsigned size = two_bytes(row + 3);
+
+    return row[0] >= 1 && row[0] <= link->levels && two_bytes(row + 1) >= 1 && size >= 1 && size <= link->largest;
+}
+
+/* Over all rows of levels 1 to m: bound divided by gap, rounded up, times size; and S. */
+static uint64_t level_sum(const struct link *link, unsigned m, const uint8_t *rows, size_t count)
+{
+    uint64_t sum = link->largest;
+
+    for (size_t i = 0; i < count; i++) {
+        const uint8_t *row = rows + ROW * i;
+        unsigned gap = two_bytes(row + 1);
+        uint64_t packets = link->bound[m] / gap + (link->bound[m] % gap != 0);
+
+        if (row[0] <= m)
+            sum += packets * two_bytes(row + 3);
+    }
+    return sum;
+}
+
+uint8_t reference_level(const uint8_t *lk, size_t lk_len, const uint8_t *rows, size_t rows_len)
+{
+    struct link link;
+    size_t count = rows_len / ROW;
+
+    if (!read_link(lk, lk_len, &link) || !link_allowed(&link) || rows_len % ROW != 0 || count > MOST_ROWS)
+        return REFUSED;
+    for (size_t i = 0; i < count; i++)
+        if (!row_allowed(&link, rows + ROW * i))
+            return REFUSED;
+    for (unsigned m = 1; m <= link.levels; m++)
+        if (level_sum(&link, m, rows, count) > link.bound[m])
+            return (uint8_t)m;
+    return 0;
+}
