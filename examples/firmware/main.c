@@ -1,4 +1,4 @@
-/* How firmware asks the hub's two questions: the admissions and offers P1 to P10 of document 01, "Table of proved examples". */
+/* How firmware asks the hub's two questions: the admissions P1 to P7 and the offers of P8 and P10 of document 01, "Table of proved examples". */
 #include <inttypes.h>
 #include <stdio.h>
 
