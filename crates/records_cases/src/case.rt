@@ -1,113 +1,167 @@
-// What must hold of a record and its bytes, whichever it is.
-use crate::any;
-use crate::any::Any;
-use crate::any::Seen;
-use crate::room;
-use crate::tally::Tally;
-use answers::Reply;
+// What must hold of a record and its bytes, whichever it is. The bytes stand in a buffer from START up to an end; all else in it is as in a fresh one, so that
+// the buffer is also what a room should look like when the record is written to the same place of it.
+ghost use mathlib.Core.Path.{_≡_};
+ghost use Prim.Native.Nat.{_≤_};
+ghost use lib.ListN.{length};
+ghost use Rattle.records_cases.specs.Buffers.{Ends};
+use crate::kinds::NONE;
+use crate::kinds::again;
+use crate::kinds::seen;
+use crate::kinds::seen_at;
+use crate::tally::case;
+use crate::words::START;
+use fields::read::one;
+use fields::read::two;
 use traces::Record;
 
-pub fn malformed(seen: Seen) -> bool {
-    if seen.taken != 0 {
+// A room in which nothing was written: bytes that no record starts with.
+pub fn fresh() -> [u8; 64] {
+    [0xEEu8; 64]
+}
+
+// What was read is what the line says, behind its place.
+fn same(a: [u64; 12], numbers: &[u64; 13]) -> bool {
+    let mut i: usize = 0;
+    while i < 12 {
+        if a[i] != numbers[i + 1] {
+            return false;
+        }
+        i += 1;
+    }
+    true
+}
+
+// What the bytes up to an end are read as.
+fn read(traced: bool, buffer: &[u8], end: usize) -> [u64; 12]
+    requires { ⌜ Ends (now buffer) end ⌝ }
+{
+    seen(traced, &buffer[START..end])
+}
+
+// What the bytes from a place on are read as is written to the same place of a room, up to an end. The place behind it.
+fn put(traced: bool, buffer: &[u8], room: &mut [u8], at: usize, end: usize) -> usize
+    requires { ⌜ (length (now buffer) ≡ 64) × (length (now room) ≡ 64) × (end ≤ 64) ⌝ }
+{
+    if end < at {
+        return at;
+    }
+    let n = again(traced, &buffer[at..], &mut room[at..end]);
+    std::num::wrapping_add_u64(at as u64, n as u64) as usize
+}
+
+// The same of a fresh room, at START: whether that leads to a place, and the room then looks as it should.
+fn written(traced: bool, buffer: &[u8], end: usize, to: usize, should: &[u8]) -> bool
+    requires { ⌜ (length (now buffer) ≡ 64) × (end ≤ 64) ⌝ }
+{
+    let mut room = fresh();
+    if put(traced, buffer, &mut room, START, end) != to {
         return false;
     }
-    let numbers = seen.numbers;
-    room::equal(numbers, [0u32; 11])
+    check::same(&room, should)
 }
 
-fn seen_as(seen: Seen, what: Any, taken: usize) -> bool {
-    if seen.taken != taken {
+// A beginning of a record is malformed, and a room that ends there is not written.
+fn too_short(traced: bool, buffer: &[u8], end: usize) -> bool
+    requires { ⌜ Ends (now buffer) end ⌝ }
+{
+    let a = read(traced, buffer, end);
+    if a[0] != 0 {
         return false;
     }
-    let numbers = seen.numbers;
-    room::equal(numbers, any::numbers(what))
-}
-
-// Written to a room that is larger, and to nothing behind.
-fn written(what: Any, bytes: &[u8]) -> bool {
-    let mut room = room::fresh();
-    let n = any::write(what, &mut room);
-    if n != bytes.len() {
+    if a[1] != NONE {
         return false;
     }
-    room::holds(&room, bytes)
+    let untouched = fresh();
+    written(traced, buffer, end, START, &untouched)
 }
 
-// How many bytes are written to a room up to a place; 99 where one behind them was touched.
-fn written_to(what: Any, room: &mut [u8], end: usize) -> usize {
-    if room.len() < end {
-        return 99;
-    }
-    let n = any::write(what, &mut room[0..end]);
-    if !room::untouched(room, n) {
-        return 99;
-    }
-    n
-}
-
-// The same of a fresh room.
-pub fn written_up_to(what: Any, end: usize) -> usize {
-    let mut room = room::fresh();
-    written_to(what, &mut room, end)
-}
-
-// Written where the room is just enough, and not where it is one byte short.
-fn fits(what: Any, bytes: &[u8]) -> bool {
-    let n = bytes.len();
-    if n == 0 {
-        return false;
-    }
-    if written_up_to(what, n) != n {
-        return false;
-    }
-    written_up_to(what, n - 1) == 0
-}
-
-// Read with bytes behind, from the middle of a buffer.
-fn amid(what: Any, bytes: &[u8]) -> bool {
-    let mut buffer = room::fresh();
-    room::place(&mut buffer, 3, bytes);
-    seen_as(
-        any::read(any::traced(what), &buffer[3..]),
-        what,
-        bytes.len(),
-    )
-}
-
-// How many of the record's beginnings are malformed, of all that lack a byte.
-fn cut(traced: bool, bytes: &[u8]) -> Tally {
-    let mut t = Tally::none();
-    let mut k = 0;
-    while k < bytes.len() {
-        let start = &bytes[0..k];
-        t = t.and(Tally::of(malformed(any::read(traced, start))));
-        k += 1;
+// All of its beginnings that lack a byte: a case for each.
+fn cut(traced: bool, buffer: &[u8], end: usize, t: u64) -> u64
+    requires { ⌜ Ends (now buffer) end ⌝ }
+{
+    let mut t = t;
+    let mut e = START;
+    while e < end {
+        t = case(t, too_short(traced, buffer, e));
+        e += 1;
     }
     t
 }
 
-// All of this of one record.
-fn case(what: Any, bytes: &[u8]) -> Tally {
-    let t = Tally::of(written(what, bytes));
-    let t = t.and(Tally::of(fits(what, bytes)));
-    let t = t.and(Tally::of(seen_as(any::read(any::traced(what), bytes), what, bytes.len())));
-    let t = t.and(Tally::of(amid(what, bytes)));
-    t.and(cut(any::traced(what), bytes))
+// A record: written to a larger room and to one just long enough; read alone, and with bytes behind it; cut short. A trace record is also read at its place.
+pub fn vector(traced: bool, buffer: &[u8], end: usize, numbers: &[u64; 13], t: u64) -> u64
+    requires { ⌜ Ends (now buffer) end ⌝ }
+{
+    let t = case(t, written(traced, buffer, 64, end, buffer));
+    let t = case(t, written(traced, buffer, end, end, buffer));
+    let t = case(t, same(read(traced, buffer, end), numbers));
+    let t = case(t, same(read(traced, buffer, 64), numbers));
+    let t = cut(traced, buffer, end, t);
+    if traced {
+        return case(t, same(seen_at(buffer, START), numbers));
+    }
+    t
 }
 
-// Of a trace record, which is also read at its place in a buffer.
-pub fn trace_case(what: Record, bytes: &[u8]) -> Tally {
-    let mut buffer = room::fresh();
-    room::place(&mut buffer, 5, bytes);
-    let found = traces::read_at(&buffer, 5);
-    let there = found.what;
-    let seen = Seen {
-        numbers: any::trace_numbers(there),
-        taken: found.taken,
-    };
-    Tally::of(seen_as(seen, Any::Trace(what), bytes.len())).and(case(Any::Trace(what), bytes))
+// The trace record at the line's place.
+pub fn at(buffer: &[u8], end: usize, numbers: &[u64; 13], t: u64) -> u64
+    requires { ⌜ Ends (now buffer) end ⌝ }
+{
+    let place = numbers[0] as usize;
+    case(t, same(seen_at(&buffer[START..end], place), numbers))
 }
 
-pub fn answer_case(what: Reply, bytes: &[u8]) -> Tally {
-    case(Any::Answer(what), bytes)
+// The answer that the bytes start with.
+pub fn reply(buffer: &[u8], end: usize, numbers: &[u64; 13], t: u64) -> u64
+    requires { ⌜ Ends (now buffer) end ⌝ }
+{
+    case(t, same(read(false, buffer, end), numbers))
+}
+
+// The link whose n and whose bounds 2, 7 and 8 are the bytes.
+pub fn link(buffer: &[u8]) -> Record {
+    Record::Link {
+        levels: one(buffer, 10),
+        largest: 4,
+        d1: 10,
+        d2: two(buffer, 11),
+        d3: 0,
+        d4: 0,
+        d5: 0,
+        d6: 0,
+        d7: two(buffer, 13),
+        d8: two(buffer, 15),
+    }
+}
+
+// Nothing is written of a record.
+pub fn refused(r: Record) -> bool {
+    let mut room = fresh();
+    if traces::write(r, &mut room) != 0 {
+        return false;
+    }
+    let untouched = fresh();
+    check::same(&room, &untouched)
+}
+
+// Nothing is written of what is malformed, as a trace record and as an answer.
+pub fn none(buffer: &[u8], t: u64) -> u64
+    requires { ⌜ length (now buffer) ≡ 64 ⌝ }
+{
+    let t = case(t, written(true, buffer, 64, START, buffer));
+    case(t, written(false, buffer, 64, START, buffer))
+}
+
+// Five answers are written one behind the other.
+pub fn five(buffer: &[u8], end: usize, t: u64) -> u64
+    requires { ⌜ length (now buffer) ≡ 64 ⌝ }
+{
+    let mut room = fresh();
+    let mut at = START;
+    let mut k: usize = 0;
+    while k < 5 {
+        at = put(false, buffer, &mut room, at, 64);
+        k += 1;
+    }
+    case(case(t, at == end), check::same(&room, buffer))
 }

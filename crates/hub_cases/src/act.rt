@@ -1,0 +1,111 @@
+// What an instruction of the script does to the world, by the number of its form.
+use crate::text::Form;
+use crate::text::count;
+use crate::text::find;
+use crate::world;
+use crate::world::ASKED;
+use crate::world::CALL;
+use crate::world::CLOCK;
+use crate::world::LENT;
+use crate::world::NOWHERE;
+use crate::world::PLACES;
+use crate::world::READ;
+use crate::world::VALUE;
+use crate::world::World;
+use crate::world::bound;
+use crate::world::connection;
+use crate::world::copy;
+use crate::world::get;
+use crate::world::place;
+use crate::world::put;
+use rules::Packet;
+use service::Told;
+use std::num::wrapping_add_u32;
+use std::num::wrapping_add_usize;
+use std::num::wrapping_sub_u32;
+
+// Which form it is: 0 to 6 calls; 7 more; 8, 9 looks; 10 to 14 acts; 15 to 30 numbers changed by hand; then end, group, recipe, and nothing at all.
+pub fn number_of(f: Form) -> u32 {
+    let forms =
+        b":link##########=#:admit###=##:offer###=##:refusedtick=#:tick=##:ticks#=##:gone######:more######:clockis#:rowsare#\
+        :fresh:undo:lengths##:connectionsall#:placesall#:clock#:serving#:units#:levels#:largest#:bound##:level##:size##:gap##\
+        :sent##:last##:connection##:length##:tag##:arrival##:eligibility##:end:group:recipe::";
+    let text = f.text;
+    wrapping_sub_u32(count(forms, find(forms, text, f.bytes), b':'), 2)
+}
+
+// The fresh hub, tables of zeros, lent in their lengths.
+pub fn fresh() -> World {
+    let zeros = World { n: [0; 3456] };
+    let none = Packet {
+        connection: 0,
+        len: 0,
+        tag: 0,
+        arrival: 0,
+        eligibility: 0,
+    };
+    let told = Told {
+        verdict: 0,
+        number: 0,
+        gone: false,
+        packet: none,
+        hub: hub::fresh_hub(),
+    };
+    put(put(world::told(zeros, told), LENT, 320), LENT + 1, 2560)
+}
+
+// Where the number stands that a form changes by hand, in the row n where there are rows.
+pub fn changed(k: u32, n: u32) -> usize {
+    match k {
+        15..=19 => CLOCK + (k - 15) as usize,
+        20 => bound(n),
+        21..=25 => connection(n) + (k - 21) as usize,
+        26..=30 => place(n) + (k - 26) as usize,
+        _ => NOWHERE,
+    }
+}
+
+// The world after an act.
+pub fn acted(w: World, k: u32) -> World {
+    let v = get(w, VALUE);
+    match k {
+        12 => copy(w, LENT, READ, 2),
+        // a number that goes to the next place, and on from there, fills them all
+        13 => copy(put(w, 0, v), 1, 0, 319),
+        _ => copy(put(w, PLACES, v), PLACES + 1, PLACES, 2559),
+    }
+}
+
+// How often a call is made: many ticks are one call.
+fn times(w: World) -> u32 {
+    if get(w, CALL) == 5 {
+        return get(w, ASKED);
+    }
+    1
+}
+
+// The world after the call.
+pub fn called(w: World) -> World {
+    let times = times(w);
+    let mut x = w;
+    let mut i: u32 = 0;
+    while i < times {
+        let n = x.n;
+        x = world::call(x, n, n);
+        i += 1;
+    }
+    x
+}
+
+// The numbers that were read, but for the first, are added to those of the last call.
+pub fn more(w: World) -> World {
+    let mut x = w;
+    let mut i: usize = 0;
+    while i < 5 {
+        let at = wrapping_add_usize(ASKED, i);
+        let by = get(x, wrapping_add_usize(READ + 1, i));
+        x = put(x, at, wrapping_add_u32(get(x, at), by));
+        i += 1;
+    }
+    x
+}

@@ -1,0 +1,87 @@
+// What a call is expected to answer and to leave, by its numbers in the script.
+use crate::world::ASKED;
+use crate::world::CALL;
+use crate::world::CLOCK;
+use crate::world::GONE;
+use crate::world::LEVELS;
+use crate::world::NONE;
+use crate::world::NUMBER;
+use crate::world::PACKET;
+use crate::world::SERVING;
+use crate::world::VERDICT;
+use crate::world::World;
+use crate::world::connection;
+use crate::world::copy;
+use crate::world::get;
+use crate::world::place;
+use crate::world::put;
+use std::num::wrapping_add_u32;
+
+// The first row of the places that is not used: its length is 0.
+pub fn rows(w: World) -> u32 {
+    let mut i: u32 = 0;
+    while i < 600 {
+        if get(w, place(i) + 1) == 0 {
+            return i;
+        }
+        i += 1;
+    }
+    i
+}
+
+// A row of the connections: level, size, gap.
+fn admitted(w: World) -> World {
+    let at = connection(get(w, NUMBER));
+    let x = copy(w, at, ASKED, 1);
+    let y = copy(x, at + 1, ASKED + 2, 1);
+    copy(y, at + 2, ASKED + 1, 1)
+}
+
+// A row behind the others, and what is remembered of the connection.
+fn offered(w: World) -> World {
+    let at = place(rows(w));
+    let x = copy(w, at, ASKED, 3);
+    let y = copy(x, at + 3, CLOCK, 1);
+    let z = copy(y, at + 4, NUMBER, 1);
+    let past = connection(get(w, ASKED)) + 3;
+    copy(put(z, past, 1), past + 1, NUMBER, 1)
+}
+
+// Ticks with no departure: the line after them stands at a place.
+fn quiet(w: World, n: u32, line: usize) -> World {
+    let x = put(w, CLOCK, wrapping_add_u32(get(w, CLOCK), n));
+    copy(x, SERVING, line, 2)
+}
+
+// The packet of a row has gone: the later rows move up, the line is idle.
+fn gone(w: World) -> World {
+    let x = put(quiet(w, 1, NONE), GONE, 1);
+    let y = copy(x, PACKET, ASKED + 1, 5);
+    let at = place(get(w, ASKED));
+    copy(y, at, at + 5, 3000)
+}
+
+// The answer, a verdict and a number with no packet, and where the verdict is 0 what the call does; the rest stays as it is.
+pub fn expect(w: World) -> World {
+    let call = get(w, CALL);
+    let at = match call {
+        0 => ASKED + 10,
+        1 | 2 => ASKED + 3,
+        3 => ASKED,
+        _ => NONE,
+    };
+    let x = put(copy(w, VERDICT, at, 2), GONE, 0);
+    let y = copy(x, PACKET, GONE, 5);
+    if get(y, VERDICT) != 0 {
+        return y;
+    }
+    match call {
+        0 => copy(y, LEVELS, ASKED, 10),
+        1 => admitted(y),
+        2 => offered(y),
+        3 => y,
+        4 => quiet(y, 1, ASKED),
+        5 => quiet(y, get(y, ASKED), ASKED + 1),
+        _ => gone(y),
+    }
+}

@@ -1,0 +1,228 @@
+// The way through the script, and the cases so far.
+use crate::act;
+use crate::expect;
+use crate::text;
+use crate::text::Form;
+use crate::world::ASKED;
+use crate::world::CALL;
+use crate::world::CLOCK;
+use crate::world::NOWHERE;
+use crate::world::READ;
+use crate::world::VALUE;
+use crate::world::World;
+use crate::world::copy;
+use crate::world::get;
+use crate::world::put;
+use crate::world::same;
+use libc::STDOUT_FILENO;
+use std::num::wrapping_add_u64;
+use std::num::wrapping_add_usize;
+use std::num::wrapping_sub_usize;
+
+pub struct State {
+    // the world, and what it was after the last case: changes by hand are taken back to it
+    pub now: World,
+    pub kept: World,
+    // where the instruction begins, and the next one
+    pub here: usize,
+    pub next: usize,
+    // where the script goes on after a recipe, 0 outside of one; 1 if all cases of the recipe agreed
+    pub back: usize,
+    pub all: u64,
+    // the cases of the group, those that agreed, and how many before the first that did not
+    pub cases: u64,
+    pub agreed: u64,
+    pub before: u64,
+}
+
+fn write(text: &[u8], n: u64) {
+    io::write_all(STDOUT_FILENO, text);
+    io::print_decimal(STDOUT_FILENO, n);
+}
+
+// Behind the group's name: the cases that agreed, the cases, and the first that did not agree, where so many came before it.
+pub fn say(agreed: u64, cases: u64, before: u64) {
+    if cases == 0 {
+        return;
+    }
+    write(b": ", agreed);
+    write(b" of ", cases);
+    if before == cases {
+        io::write_all(STDOUT_FILENO, b"\n");
+        return;
+    }
+    write(b", case ", wrapping_add_u64(before, 1));
+    io::write_all(STDOUT_FILENO, b" differs\n");
+}
+
+fn complain(text: &[u8], at: usize) {
+    let line = wrapping_add_u64(text::count(text, at, b'\n') as u64, 1);
+    write(b", line ", line);
+    io::write_all(STDOUT_FILENO, b": not understood");
+}
+
+// A case more. All cases of a recipe are one.
+fn counted(s: State, w: World, agreed: bool) -> State {
+    let ok = agreed as u64;
+    let mut x = s;
+    x.now = w;
+    if s.back != 0 {
+        x.all = s.all & ok;
+        return x;
+    }
+    x.kept = w;
+    x.before = wrapping_add_u64(s.before, ok & (s.before == s.cases) as u64);
+    x.agreed = wrapping_add_u64(s.agreed, ok);
+    x.cases = wrapping_add_u64(s.cases, 1);
+    x
+}
+
+// The end of a recipe: the script goes on where it was called.
+fn ended(text: &[u8], s: State) -> State {
+    if s.back == 0 {
+        complain(text, s.here);
+        return s;
+    }
+    let mut x = s;
+    let w = s.now;
+    x.next = s.back;
+    x.back = 0;
+    counted(x, w, s.all != 0)
+}
+
+// The name of a group.
+fn write_name(text: &[u8], from: usize, to: usize) {
+    if to <= from {
+        return;
+    }
+    if text.len() < to {
+        return;
+    }
+    io::write_all(STDOUT_FILENO, &text[from..to]);
+}
+
+// A group begins: the one before it is done.
+fn opened(text: &[u8], s: State) -> State {
+    say(s.agreed, s.cases, s.before);
+    write_name(
+        text,
+        wrapping_add_usize(s.here, 7),
+        wrapping_sub_usize(s.next, 1),
+    );
+    let mut x = s;
+    x.cases = 0;
+    x.agreed = 0;
+    x.before = 0;
+    x
+}
+
+// A word that is no form is the name of a recipe.
+fn called(text: &[u8], f: Form, s: State) -> State {
+    let form = f.text;
+    let at = text::find(text, form, f.bytes);
+    if at == 0 {
+        complain(text, s.here);
+        return s;
+    }
+    let mut x = s;
+    x.back = s.next;
+    x.all = 1;
+    x.next = at;
+    x
+}
+
+// The call whose numbers the world has.
+fn case(s: State, w: World) -> State {
+    let after = act::called(w);
+    counted(s, after, same(expect::expect(w), after))
+}
+
+// The last call again and again, with other numbers.
+fn repeated(s: State) -> State {
+    let mut x = s;
+    let w = s.now;
+    let n = get(w, READ);
+    let mut i: u32 = 0;
+    while i < n {
+        let v = x.now;
+        x = case(x, act::more(v));
+        i += 1;
+    }
+    x
+}
+
+// A number is changed by hand, if there is such a place.
+fn changed(text: &[u8], s: State, k: u32) -> State {
+    let w = s.now;
+    let at = act::changed(k, get(w, READ));
+    if NOWHERE <= at {
+        complain(text, s.here);
+        return s;
+    }
+    let y = put(w, at, get(w, VALUE));
+    let mut x = s;
+    x.now = y;
+    x
+}
+
+// What the form with a number says.
+fn obey(text: &[u8], f: Form, s: State, k: u32) -> State {
+    let w = s.now;
+    let mut x = s;
+    match k {
+        0..=6 => case(s, put(copy(w, ASKED, READ, 15), CALL, k)),
+        7 => repeated(s),
+        8 => counted(s, w, get(w, CLOCK) == get(w, READ)),
+        9 => counted(s, w, expect::rows(w) == get(w, READ)),
+        10 => {
+            let y = act::fresh();
+            x.now = y;
+            x.kept = y;
+            x
+        }
+        11 => {
+            let y = s.kept;
+            x.now = y;
+            x
+        }
+        12..=14 => {
+            let y = act::acted(w, k);
+            x.now = y;
+            x
+        }
+        15..=30 => changed(text, s, k),
+        31 => ended(text, s),
+        32 => opened(text, s),
+        // the script ends where the recipes begin
+        33 => {
+            x.next = text.len();
+            x
+        }
+        34 => s,
+        _ => called(text, f, s),
+    }
+}
+
+// The numbers that were read.
+fn with_numbers(w: World, a: [u32; 16]) -> World {
+    let mut x = w;
+    let mut i: usize = 0;
+    while i < 16 {
+        x.n[READ + i] = a[i];
+        i += 1;
+    }
+    x
+}
+
+// One instruction, or the heading of a group or a recipe.
+pub fn step(text: &[u8], s: State) -> State {
+    let f = text::read(text, s.next);
+    let a = f.a;
+    let w = s.now;
+    let y = put(with_numbers(w, a), VALUE, f.value);
+    let mut x = s;
+    x.now = y;
+    x.here = s.next;
+    x.next = f.next;
+    obey(text, f, x, act::number_of(f))
+}
