@@ -26,6 +26,7 @@ pub mod InTime
 pub mod Bounds
 pub mod Room
 pub mod Keeper
+pub mod Fields
 pub mod Results
 pub mod SoundExact
 pub mod Examples

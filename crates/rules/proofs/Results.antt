@@ -13,12 +13,12 @@ use Rattle.rules.specs.Words.{push, within}
 use Rattle.rules.specs.Limits.{clock-end}
 use Rattle.rules.specs.Model.{Link, Connection, Packet, State, Call, link, admit, offer, tick, figures}
 use Rattle.rules.specs.Admission.{stands, bound, reservation}
-use Rattle.rules.specs.Service.{Spaced, of, started, after-unit}
+use Rattle.rules.specs.Service.{Spaced, of, started}
 use Rattle.rules.specs.SoundState.{Sound}
 use Rattle.rules.specs.SoundTest.{sound}
 use Rattle.rules.specs.Calls.{verdicts, verdict, eligibility-now, done, refused-number, settle, answer}
 use Rattle.rules.specs.Runs.{History, taken, logged, after, run-from, nothing-yet, run, bound-of, allowed, offer-tick, offer-ticks-from, offer-ticks, Keeps-its-gap}
-use Rattle.rules.specs.Promises.{Demand-1-refusals, Test-is-exact, Verdict-1-exactly, No-link-means-zero, Sound-is-kept, Runs-are-sound, Rows-fit, Eligibilities-fit, Conservation, Left-by, Demand-3-first, Demand-3-second}
+use Rattle.rules.specs.Promises.{Demand-1-refusals, Test-is-exact, Verdict-1-exactly, No-link-means-zero, Sound-is-kept, Runs-are-sound, Rows-fit, Eligibilities-fit, Answers-fit, Conservation, Left-by, Demand-3-first, Demand-3-second}
 use Rattle.rules.proofs.Sums.{cond-is}
 use Rattle.rules.proofs.Tests.{and-true, and-intro, not-true-false, never-number}
 use Rattle.rules.proofs.Rows.{of-append}
@@ -30,15 +30,11 @@ use Rattle.rules.proofs.SoundKept.{kept}
 use Rattle.rules.proofs.Every.{fresh-invariant, invariant}
 use Rattle.rules.proofs.InTime.{conserved-lists, left-in-time}
 use Rattle.rules.proofs.Bounds.{rows-fit-places, eligibilities-fit-32}
+use Rattle.rules.proofs.Fields.{unit-done, answer-fits}
 use Rattle.rules.proofs.Room.{not-for-room, welcome}
 use Rattle.rules.proofs.Keeper.{stays, All-taken, all-taken, on-arrival, has-room}
 
 -- ---- demand 1
-
-unit-done : (s : State) (u : ℕ) → after-unit s u .verdict ≡ 0
-unit-done s zero = refl
-unit-done s (suc zero) = refl
-unit-done s (suc (suc u)) = refl
 
 done-verdict : (k : Call) (s : State) → done k s .verdict ≡ 0
 done-verdict (link l) s = refl
@@ -94,6 +90,9 @@ rows-fit s S = rows-fit-places s S
 
 pub eligibilities-fit : Eligibilities-fit
 eligibilities-fit s S = eligibilities-fit-32 s S
+
+pub answers-fit : Answers-fit
+answers-fit k s S = answer-fits k s S
 
 -- ---- conservation, and the first sentence of demand 3
 

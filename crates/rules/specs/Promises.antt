@@ -8,7 +8,7 @@ use mathlib.Core.Option.{none, some}
 use lib.ListN.{length, getElem?}
 use Rattle.rules.specs.Words.{All}
 use Rattle.rules.specs.Limits.{max-reserved, clock-end, beyond-32-bits}
-use Rattle.rules.specs.Model.{Packet, State, Call, offer, fresh, past}
+use Rattle.rules.specs.Model.{Packet, State, Call, link, admit, offer, tick, Answer, fresh, past}
 use Rattle.rules.specs.Service.{of}
 use Rattle.rules.specs.SoundState.{Sound}
 use Rattle.rules.specs.SoundTest.{sound}
@@ -55,6 +55,28 @@ Eligibilities-fit =
     (s : State) → Sound s
     → All (λ p. p .eligibility < beyond-32-bits) (s .held)
     × ((c : ℕ) → (past s c .last < beyond-32-bits) × (eligibility-now s c < beyond-32-bits))
+
+-- an answer's numbers fit the fields of its record (document 01, "Trace and answer records"), whatever the call: one byte of verdict, one of a connection's
+-- number, four of an eligibility, of an arrival and of a finish, which is the clock then. A departed packet's tag is as it was offered (`Conservation`)
+abbrev pub number-limit : Call → ℕ
+number-limit (link l) = beyond-32-bits
+number-limit (admit x) = 256
+number-limit (offer c len tag) = beyond-32-bits
+number-limit tick = beyond-32-bits
+
+pub record Packet-fits (p : Packet) : Type 0 where
+  pub connection : p .connection < 256
+  pub arrival : p .arrival < beyond-32-bits
+  pub eligibility : p .eligibility < beyond-32-bits
+
+pub record Answer-fits (k : Call) (a : Answer) : Type 0 where
+  pub verdict : a .verdict < 256
+  pub number : a .number < number-limit k
+  pub departed : (p : Packet) → a .departed ≡ some p → Packet-fits p
+  pub finish : a .next .clock < beyond-32-bits
+
+abbrev pub Answers-fit : Type 0
+Answers-fit = (k : Call) (s : State) → Sound s → Answer-fits k (answer k s)
 
 -- ---- conservation: for each connection, accepted = departed followed by held, as lists
 
