@@ -1,4 +1,4 @@
--- What reading a record at an offset gives: it lies in the bytes and within the size limit, and bytes behind the longest record change nothing.
+-- What reading a record at an offset gives: it lies in the bytes, and bytes behind the longest record change nothing.
 -- Assumes nothing.
 use Prim.Native.Nat.{ℕ, zero, suc, _+_, _≤_}
 use native.Mathlib.Omega.{arith}
@@ -8,7 +8,6 @@ use mathlib.Core.List.{List, [], _∷_, _++_}
 use mathlib.Core.Option.{Option, none, some}
 use lib.Dec.{ltb}
 use lib.ListN.{length, getD}
-use borrow.Author.Tests.{ltb-false}
 use Rattle.fields.specs.Numbers.{pick}
 use Rattle.fields.specs.Formats.{Row, starts, read-row, read-rows}
 use Rattle.traces.specs.declared.Record.{Record}
@@ -57,13 +56,6 @@ unfolding read-at
 read-lies at bs =
     pick-by (Lies-in bs) (ltb trace-limit (at + read-trace bs .taken)) (found none) (read-trace bs)
     (λ _. record { fits = omega arith; no-byte = λ _. refl }) (λ _. rows-lie (trace .rows) bs)
-
--- and ends within the limit
-pub read-ends : (at : ℕ) (bs : List ℕ) → at ≤ trace-limit → at + read-at at bs .taken ≤ trace-limit
-unfolding read-at
-read-ends at bs h =
-    pick-by (λ f. at + f .taken ≤ trace-limit) (ltb trace-limit (at + read-trace bs .taken)) (found none) (read-trace bs)
-    (λ _. omega arith) (λ e. ltb-false _ _ e)
 
 -- bytes behind a window that holds the longest record change nothing
 pub read-onward : (at : ℕ) (w u : List ℕ) → longest-record ≤ length w → read-at at (w ++ u) ≡ read-at at w
