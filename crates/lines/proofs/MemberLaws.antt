@@ -18,7 +18,7 @@ use Rattle.rules.proofs.Tests.{and-true}
 use Rattle.rules.proofs.Sums.{split}
 use Rattle.tables.specs.Table.{put-numbers, read, write, padded, zeros, formed}
 use Rattle.tables.specs.Places.{rows, packet-of}
-use Rattle.tables.proofs.TableLaws.{read-same, written-back, read-at, held-end, put-last}
+use Rattle.tables.proofs.TableLaws.{read-same, read-at, held-end, put-last}
 use Rattle.tables.proofs.PlacesLaws.{zero-at}
 use Rattle.lines.specs.declared.Member.{Member}
 use Rattle.lines.specs.Members.{members-length, member-of, five-of-member, no-member, member-in, members, connection-of, past-of, connections, pasts, member, paired, written-members}
@@ -50,10 +50,6 @@ members-rows t = read-same packet-of member-of t
 pub members-shape : (n m : ℕ) (t : List ℕ) → length t ≡ n → m ≡ length (rows t) → zeros (drop (5 * m) t) ≡ formed member-of n t
 unfolding members
 members-shape n m t h e = rw (eq-eqb (length t) n h, e ∙ members-rows t)
-
-pub members-back : (t : List ℕ) → formed member-of members-length t ≡ true → t ≡ padded five-of-member members-length (members t)
-unfolding members
-members-back t h = written-back member-of five-of-member (λ a b c d e. refl) members-length t h
 
 pub members-end : (t : List ℕ) → 5 * length (members t) ≤ length t
 unfolding members
@@ -107,7 +103,7 @@ paired-snoc [] (k ∷ hs) x h e = absurd (omega arith)
 paired-snoc (c ∷ cs) [] x h e = absurd (omega arith)
 paired-snoc (c ∷ cs) (k ∷ hs) x h e = ap (λ (l : List Member). member c k ∷ l) (paired-snoc cs hs x h (omega arith))
 
-paired-all : (cs : List Connection) (hs : List Past) → length hs ≡ length cs → length (paired cs hs) ≡ length cs
+pub paired-all : (cs : List Connection) (hs : List Past) → length hs ≡ length cs → length (paired cs hs) ≡ length cs
 paired-all [] hs e = refl
 paired-all (c ∷ cs) [] e = absurd (omega arith)
 paired-all (c ∷ cs) (h ∷ hs) e = ap suc (paired-all cs hs (omega arith))

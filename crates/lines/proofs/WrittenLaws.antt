@@ -25,6 +25,7 @@ use Rattle.tables.proofs.TableLaws.{read-back, formed-back, written-back}
 use Rattle.lines.specs.declared.Member.{Member}
 use Rattle.lines.specs.Members.{members-length, member-of, five-of-member, members, connection-of, past-of, connections, pasts, member, paired, written-members, members-formed}
 use Rattle.lines.specs.StateRead.{state-read}
+use Rattle.lines.proofs.MemberLaws.{paired-all}
 
 -- ---- a table of connections that is formed is what is written of what is read
 
@@ -68,11 +69,6 @@ module _ where
   pasts-paired (c ∷ cs) [] e = absurd (omega arith)
   pasts-paired (c ∷ cs) (h ∷ hs) e = rw (past-back c h, pasts-paired cs hs (omega arith))
 
-  paired-few : (cs : List Connection) (hs : List Past) → length hs ≡ length cs → length (paired cs hs) ≡ length cs
-  paired-few [] hs e = refl
-  paired-few (c ∷ cs) [] e = absurd (omega arith)
-  paired-few (c ∷ cs) (h ∷ hs) e = ap suc (paired-few cs hs (omega arith))
-
   paired-marked : (cs : List Connection) (hs : List Past) → All (λ m. leb (m .sent) 1 ≡ true) (paired cs hs)
   paired-marked [] hs = tt
   paired-marked (c ∷ cs) [] = tt
@@ -102,7 +98,7 @@ module _ (cs : List Connection) (hs : List Past) (e : length hs ≡ length cs) (
   unfolding members-formed written-members
   members-formed-back =
       and-intro (formed member-of members-length (written-members cs hs)) (each (λ m. leb (m .sent) 1) (members (written-members cs hs)))
-      (formed-back member-of five-of-member (λ m. refl) (paired cs hs) members-length (paired-used cs hs used) (omega (arith, paired-few cs hs e)))
+      (formed-back member-of five-of-member (λ m. refl) (paired cs hs) members-length (paired-used cs hs used) (omega (arith, paired-all cs hs e)))
       (subst (λ (ms : List Member). each (λ m. leb (m .sent) 1) ms ≡ true) (sym members-back) (each-intro (λ (m : Member). leb (m .sent) 1) (paired cs hs) (paired-marked cs hs)))
 
 -- ---- a sound state
