@@ -4,7 +4,7 @@ use mathlib.Core.Bool.{Bool, true, false, cond, _&&_}
 use mathlib.Core.Logic.{_⊎_, inl, inr}
 use mathlib.Core.List.{List, [], _∷_, _++_}
 use mathlib.Core.Option.{Option, some}
-use Prim.Native.Nat.{ℕ, zero, suc, _+_, _≤_, _<_}
+use Prim.Native.Nat.{ℕ, _+_, _≤_, _<_}
 use native.Mathlib.Omega.{arith}
 use native.Mathlib.Numerals.{add-one}
 use lib.Dec.{eqb, leb}
@@ -22,7 +22,6 @@ use Rattle.rules.specs.Admission.{reservation}
 use Rattle.rules.specs.Service.{of, eligibilities}
 use Rattle.rules.specs.SoundTest.{latest, in-pace, paced, remembered, queue-sound}
 use Rattle.rules.proofs.Sums.{same}
-use Rattle.rules.proofs.Tests.{never, and-intro, every-true, not-true-false}
 use Rattle.rules.proofs.Rows.{of-snoc-same, of-snoc-other, eligibilities-snoc-same, eligibilities-snoc-other}
 use Rattle.rules.proofs.Queue.{latest-snoc}
 use Rattle.tables.specs.Places.{rows, row-at, no-packet}
@@ -31,6 +30,7 @@ use Rattle.lines.specs.declared.Member.{Member}
 use Rattle.lines.specs.Members.{members, connections, pasts, past-of, member-in, no-member}
 use Rattle.lines.specs.StateRead.{state-read}
 use Rattle.lines.proofs.MemberLaws.{member-is, connections-length}
+use Rattle.pace.proofs.EveryLaws.{every-same}
 use Rattle.pace.specs.Pace.{seen-option, Tally, Known, row-paced, queue-fits, tally-fits}
 
 -- ---- the tally
@@ -163,17 +163,6 @@ module _ (l : Link) (cs : List ℕ) (clock c n a : ℕ) {x : Connection} {r : �
   queue-tested h k g =
       rw (le-leb n (reservation l (nth (connections cs) c)) (omega (arith, reserved-here)))
       (ap (λ (u : Past). remembered clock u (seen-option n a)) (ap past-of g ∙ sym (past-is cs c k)))
-
--- one that fails, fails them all; one more that fits
-pub every-bad : (n : ℕ) (f : ℕ → Bool) (i : ℕ) → i < n → f i ≡ false → false ≡ every n f
-every-bad n f i l e = sym (not-true-false (every n f) (λ g. never (sym e ∙ every-true n f g i l)))
-
-pub every-more : (f : ℕ → Bool) (i : ℕ) → every i f ≡ true → f i ≡ true → every (i + 1) f ≡ true
-every-more f i h e = rw (add-one i) (and-intro (every i f) (f i) h e)
-
-every-same : (n : ℕ) (f g : ℕ → Bool) → ((c : ℕ) → c < n → f c ≡ g c) → every n f ≡ every n g
-every-same zero f g h = refl
-every-same (suc n) f g h = rw (every-same n f g (λ c l. h c (omega arith)), h n (omega arith))
 
 -- by the tally of all rows, what fits is what the rules ask
 pub queues-sound : (l : Link) (cs t : List ℕ) (clock n : ℕ) (seen prev : List ℕ) → n ≡ length (members cs) → Known cs t → Tally seen prev (rows t)

@@ -1,4 +1,4 @@
-use Rattle.sound.proofs.ChainLaws as C
+use Rattle.pace.proofs.EveryLaws as E
 use Prim.Native.Nat.{_≤_, _-_}
 use native.Mathlib.Omega.{arith}
 use mathlib.Core.Path.{_≡_, refl, sym, ap, _∙_}
@@ -29,7 +29,7 @@ connection-ok-requires c κs = search needs
 returns : tie.Need-returns Inv-loop μ-loop
 returns c =
     let a = c .before .before .before .before .before .before .args in
-    C.every-fails (a .n) (row-within (a .l) (a .rows .now)) (c .before .before .before .before .loop .i) (search needs)
+    E.every-fails (a .n) (row-within (a .l) (a .rows .now)) (c .before .before .before .before .loop .i) (search needs)
     (ap (connection-sound (a .l)) (sym (c .before .before .row-asked .ensures)) ∙ sym (c .before .connection-ok .ensures) ∙ not-true _ (c .if1 .taken))
 
 add-i : tie.Need-add-i Inv-loop μ-loop
@@ -43,7 +43,7 @@ loop-again c =
     let a = c .before .before .before .before .before .before .args in
     let k = c .before .before .before .before .loop in (
       search needs,
-      C.every-next (k .i) (row-within (a .l) (a .rows .now)) (k .inv .1)
+      E.every-next (k .i) (row-within (a .l) (a .rows .now)) (k .inv .1)
           (ap (connection-sound (a .l)) (sym (c .before .before .row-asked .ensures)) ∙ sym (c .before .connection-ok .ensures) ∙ not-false _ (c .if1 .left)),
     )
 

@@ -6,7 +6,7 @@ use borrow.Author.Needs.{needs}
 use borrow.Author.Tests.{not-true, not-false}
 use Rattle.rules.specs.Words.{every}
 use Rattle.pace.specs.Pace.{tally-fits}
-use Rattle.pace.proofs.PaceLaws as L
+use Rattle.pace.proofs.EveryLaws as E
 use Rattle.pace.proofs.each_queue_ok.Statement.{statement}
 use Rattle.pace.proofs.each_queue_ok.Tie as tie
 
@@ -38,7 +38,7 @@ returns : tie.Need-returns Inv-loop μ-loop
 returns c =
     let k = c .before .before .before .before .before in
     let a = k .before .before .before .before .args in
-    L.every-bad (a .n) (tally-fits (a .l) (a .cs .now) (a .clock) (a .seen .now) (a .prev .now)) (k .loop .c) (omega arith) (sym (c .before .queue-ok .ensures) ∙ not-true _ (c .if1 .taken))
+    E.every-fails (a .n) (tally-fits (a .l) (a .cs .now) (a .clock) (a .seen .now) (a .prev .now)) (k .loop .c) (omega arith) (sym (c .before .queue-ok .ensures) ∙ not-true _ (c .if1 .taken))
 
 add-c : tie.Need-add-c Inv-loop μ-loop
 add-c c = search needs
@@ -50,7 +50,7 @@ loop-again : tie.Need-loop-again Inv-loop μ-loop
 loop-again c =
     let k = c .before .before .before .before .before in
     let a = k .before .before .before .before .args in
-    (search needs, L.every-more (tally-fits (a .l) (a .cs .now) (a .clock) (a .seen .now) (a .prev .now)) (k .loop .c) (k .loop .inv .1) (sym (c .before .queue-ok .ensures) ∙ not-false _ (c .if1 .left)))
+    (search needs, E.every-next (k .loop .c) (tally-fits (a .l) (a .cs .now) (a .clock) (a .seen .now) (a .prev .now)) (k .loop .inv .1) (sym (c .before .queue-ok .ensures) ∙ not-false _ (c .if1 .left)))
 
 returns-2 : tie.Need-returns-2 Inv-loop μ-loop
 returns-2 c =

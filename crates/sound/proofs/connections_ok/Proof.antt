@@ -1,5 +1,5 @@
 use borrow.Author.Needs.{needs}
-use Rattle.sound.proofs.ChainLaws as C
+use Rattle.pace.proofs.EveryLaws as E
 use Rattle.lines.proofs.MemberLaws as M
 use borrow.Author.Tests.{not-true, not-false}
 use Prim.Native.Nat.{ℕ, _≤_, _-_}
@@ -33,7 +33,7 @@ returns : tie.Need-returns Inv-loop μ-loop
 returns c =
     let a = c .before .before .before .before .before .before .args in
     let i = c .before .before .before .before .loop .i in
-    C.every-fails (length (connections (a .cs .now))) (λ (k : ℕ). connection-sound (a .l) (nth (connections (a .cs .now)) k)) i (omega (arith, M.connections-length (a .cs .now)))
+    E.every-fails (length (connections (a .cs .now))) (λ (k : ℕ). connection-sound (a .l) (nth (connections (a .cs .now)) k)) i (omega (arith, M.connections-length (a .cs .now)))
     (ap (connection-sound (a .l)) (sym (c .before .before .connection-at .ensures)) ∙ sym (c .before .connection-ok .ensures) ∙ not-true _ (c .if1 .taken))
 
 add-i : tie.Need-add-i Inv-loop μ-loop
@@ -47,7 +47,7 @@ loop-again c =
     let a = c .before .before .before .before .before .before .args in
     let i = c .before .before .before .before .loop .i in (
       search needs,
-      C.every-next i (λ (k : ℕ). connection-sound (a .l) (nth (connections (a .cs .now)) k)) (c .before .before .before .before .loop .inv .1)
+      E.every-next i (λ (k : ℕ). connection-sound (a .l) (nth (connections (a .cs .now)) k)) (c .before .before .before .before .loop .inv .1)
           (ap (connection-sound (a .l)) (sym (c .before .before .connection-at .ensures)) ∙ sym (c .before .connection-ok .ensures) ∙ not-false _ (c .if1 .left)),
     )
 
