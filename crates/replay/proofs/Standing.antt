@@ -9,12 +9,14 @@ use lib.ListN.{length}
 use borrow.Author.Tests.{lt-ltb, le-ltb, ltb-false}
 use Rattle.rules.specs.Model.{State}
 use Rattle.rules.specs.SoundState.{Sound}
+use Rattle.rules.proofs.Tests.{never}
 use Rattle.sound.specs.SoundTables.{sound-tables}
 use Rattle.calls.specs.Acts.{sound-hub, members-of, places-of}
 use Rattle.calls.proofs.ActLaws.{is-sound, members-kept, places-kept}
 use Rattle.hub.proofs.Results.{written-reads-back}
 use Rattle.fields.specs.Numbers.{pick}
 use Rattle.log.specs.declared.Cursor.{Cursor}
+use Rattle.log.specs.declared.Status.{Status}
 use Rattle.log.specs.declared.Status.the-variants.{GoOn, MoreRoom, NotSound}
 use Rattle.log.specs.declared.Stepped.{Stepped}
 use Rattle.log.specs.Steps.{longest-answer, Point, point, Next, still, is-go}
@@ -61,54 +63,43 @@ module _ (c : Cursor) (cs t : List ℕ) (r : ℕ) where
   unfolding readiness sound-hub
   is-ready b e f l = rw (sym e ∙ f, le-ltb r longest-answer l)
 
-  -- what readiness says
-  pub record Ready-facts : Type 0 where
-    pub sound : sound-hub (c .hub) cs t ≡ true
-    pub room : longest-answer ≤ r
-
-  pub ready-facts : is-go (readiness c cs t r) ≡ true → Ready-facts
+-- what follows where `ready` has answered k, and `goes_on` b of it
+module _ (c : Cursor) (cs t o : List ℕ) {k : Status} {b : Bool} (asked : k ≡ readiness c cs t (length o)) (told : b ≡ is-go k) where
+  pub may-go : b ≡ true → (sound-hub (c .hub) cs t ≡ true) × (longest-answer ≤ length o)
   unfolding readiness
-  ready-facts g = go (sound-hub (c .hub) cs t) refl (ltb r longest-answer) refl g
+  may-go g = go (sound-hub (c .hub) cs t) refl (ltb (length o) longest-answer) refl (ap is-go (sym asked) ∙ (sym told ∙ g))
     where
-      never : {A : Type 0} → false ≡ true → A
-      never e = let y : _≡_ {A = ℕ} 0 1 = cc in absurd (omega arith)
-
-      go : (b : Bool) → sound-hub (c .hub) cs t ≡ b → (d : Bool) → ltb r longest-answer ≡ d → is-go (pick b (pick d MoreRoom GoOn) NotSound) ≡ true → Ready-facts
+      go : (s : Bool) → sound-hub (c .hub) cs t ≡ s → (d : Bool) → ltb (length o) longest-answer ≡ d → is-go (pick s (pick d MoreRoom GoOn) NotSound) ≡ true
+          → (sound-hub (c .hub) cs t ≡ true) × (longest-answer ≤ length o)
       go false e d f z = never z
       go true e true f z = never z
-      go true e false f z = record { sound = e; room = ltb-false _ _ f }
+      go true e false f z = (e, ltb-false _ _ f)
 
-module _ (c : Cursor) (cs t w o : List ℕ) (last : Bool) where
-  -- nothing was done
-  pub does-nothing : (n : Next) → is-go (readiness c cs t (length o)) ≡ false
-      → Does (in-room (length o) (point-of c cs t) n) c cs t o (nothing-done c (readiness c cs t (length o))) cs t o
-      × Facts c (length w) last (length o) (nothing-done c (readiness c cs t (length o)))
+  -- nothing is done
+  pub does-nothing : (w : List ℕ) {last : Bool} (n : Next) → b ≡ false
+      → Does (in-room (length o) (point-of c cs t) n) c cs t o (nothing-done c k) cs t o × Facts c (length w) last (length o) (nothing-done c k)
   unfolding readiness
-  does-nothing n g = go (sound-hub (c .hub) cs t) refl (ltb (length o) longest-answer) refl g
+  does-nothing w {last} n g = rw asked (go (sound-hub (c .hub) cs t) refl (ltb (length o) longest-answer) refl (ap is-go (sym asked) ∙ (sym told ∙ g)))
     where
-      never : {A : Type 0} → true ≡ false → A
-      never e = let y : _≡_ {A = ℕ} 0 1 = cc in absurd (omega arith)
-
-      go : (b : Bool) → sound-hub (c .hub) cs t ≡ b → (d : Bool) → ltb (length o) longest-answer ≡ d → is-go (pick b (pick d MoreRoom GoOn) NotSound) ≡ false
-          → Does (pick d (still (point-of c cs t) MoreRoom) n) c cs t o (nothing-done c (pick b (pick d MoreRoom GoOn) NotSound)) cs t o
-          × Facts c (length w) last (length o) (nothing-done c (pick b (pick d MoreRoom GoOn) NotSound))
+      go : (s : Bool) → sound-hub (c .hub) cs t ≡ s → (d : Bool) → ltb (length o) longest-answer ≡ d → is-go (pick s (pick d MoreRoom GoOn) NotSound) ≡ false
+          → Does (pick d (still (point-of c cs t) MoreRoom) n) c cs t o (nothing-done c (pick s (pick d MoreRoom GoOn) NotSound)) cs t o
+          × Facts c (length w) last (length o) (nothing-done c (pick s (pick d MoreRoom GoOn) NotSound))
       go false e d f z = (
-        record { where-sound = λ k. never (sym k ∙ e); where-not = λ _. (refl, refl, refl, refl) },
-        waits-facts (c .at) (c .phase) (c .phase) (c .hub) (length w) last (length o) NotSound (omega arith) refl (λ k. cc),
+        record { where-sound = λ j. never (sym e ∙ j); where-not = λ _. (refl, refl, refl, refl) },
+        waits-facts (c .at) (c .phase) (c .phase) (c .hub) (length w) last (length o) NotSound (omega arith) refl (λ j. cc),
       )
       go true e true f z =
           let S = stands-of c cs t e in (
             record {
               where-sound = λ _. record { answers = refl; connections = S .connections; table = S .table; room = refl };
-              where-not = λ k. never (sym e ∙ k);
+              where-not = λ j. never (sym j ∙ e);
             },
-            waits-facts (c .at) (c .phase) (c .phase) (c .hub) (length w) last (length o) MoreRoom (omega arith) refl (λ k. cc),
+            waits-facts (c .at) (c .phase) (c .phase) (c .hub) (length w) last (length o) MoreRoom (omega arith) refl (λ j. cc),
           )
-      go true e false f z = never z
+      go true e false f z = never (sym z)
 
-  -- the step was made
-  pub does-all : (n : Next) (a : Stepped) (cs′ t′ o′ : List ℕ) → sound-hub (c .hub) cs t ≡ true → longest-answer ≤ length o → Did n a cs′ t′ o o′
-      → Does (in-room (length o) (point-of c cs t) n) c cs t o a cs′ t′ o′
-  does-all n a cs′ t′ o′ ok l D =
-      rw (le-ltb (length o) longest-answer l)
-      (record { where-sound = λ _. D; where-not = λ k. let z : _≡_ {A = Bool} true false = sym ok ∙ k in let y : _≡_ {A = ℕ} 0 1 = cc in absurd (omega arith) })
+  -- all is done
+  pub does-all : {n : Next} {a : Stepped} {cs′ t′ o′ : List ℕ} → b ≡ true → Did n a cs′ t′ o o′ → Does (in-room (length o) (point-of c cs t) n) c cs t o a cs′ t′ o′
+  does-all g D =
+      let m = may-go g in
+      rw (le-ltb (length o) longest-answer (m .1)) (record { where-sound = λ _. D; where-not = λ j. never (sym j ∙ m .0) })
