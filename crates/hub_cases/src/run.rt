@@ -13,6 +13,7 @@ use crate::world::World;
 use crate::world::copy;
 use crate::world::get;
 use crate::world::put;
+use crate::world::put_all;
 use crate::world::same;
 use libc::STDOUT_FILENO;
 use std::num::wrapping_add_u64;
@@ -203,23 +204,12 @@ fn obey(text: &[u8], f: Form, s: State, k: u32) -> State {
     }
 }
 
-// The numbers that were read.
-fn with_numbers(w: World, a: [u32; 16]) -> World {
-    let mut x = w;
-    let mut i: usize = 0;
-    while i < 16 {
-        x.n[READ + i] = a[i];
-        i += 1;
-    }
-    x
-}
-
 // One instruction, or the heading of a group or a recipe.
 pub fn step(text: &[u8], s: State) -> State {
     let f = text::read(text, s.next);
     let a = f.a;
     let w = s.now;
-    let y = put(with_numbers(w, a), VALUE, f.value);
+    let y = put(put_all(w, READ, &a), VALUE, f.value);
     let mut x = s;
     x.now = y;
     x.here = s.next;

@@ -63,6 +63,21 @@ pub fn put(w: World, at: usize, v: u32) -> World {
     x
 }
 
+// These numbers stand from a place on.
+pub fn put_all(w: World, to: usize, a: &[u32]) -> World {
+    let mut x = w;
+    let mut i: usize = 0;
+    while i < a.len() {
+        let at = wrapping_add_usize(to, i);
+        if NOWHERE <= at {
+            return x;
+        }
+        x.n[at] = a[i];
+        i += 1;
+    }
+    x
+}
+
 // n numbers become those from another place on, the first one first.
 pub fn copy(w: World, to: usize, from: usize, n: usize) -> World {
     let mut x = w;
@@ -140,23 +155,13 @@ fn hub_of(w: World) -> Hub {
     }
 }
 
-fn with_bounds(w: World, b: [u32; 8]) -> World {
-    let mut x = w;
-    let mut i: usize = 0;
-    while i < 8 {
-        x.n[BOUNDS + i] = b[i];
-        i += 1;
-    }
-    x
-}
-
 // What a call answered and the hub that it left.
 pub fn told(w: World, r: Told) -> World {
     let h = r.hub;
     let l = h.link;
     let p = r.packet;
     let b = l.bounds;
-    let x = with_bounds(w, b);
+    let x = put_all(w, BOUNDS, &b);
     let x = put(x, 400, r.verdict);
     let x = put(x, 401, r.number);
     let x = put(x, 402, r.gone as u32);
