@@ -1,5 +1,5 @@
-// What must hold of a record and its bytes, whichever it is. The bytes stand in a buffer from START up to an end; all else in it is as in a fresh one, so that
-// the buffer is also what a room should look like when the record is written to the same place of it.
+// What must hold of a record and its bytes, whichever it is. The bytes stand in a buffer from START up to an end; all else in it is as in a fresh one,
+// so that the buffer is also what a room should look like when the record is written to the same place of it.
 ghost use mathlib.Core.Path.{_≡_};
 ghost use Prim.Native.Nat.{_≤_};
 ghost use lib.ListN.{length};
@@ -88,7 +88,8 @@ fn cut(traced: bool, buffer: &[u8], end: usize, t: u64) -> u64
     t
 }
 
-// A record: written to a larger room and to one just long enough; read alone, and with bytes behind it; cut short. A trace record is also read at its place.
+// A record: written to a larger room and to one just long enough; read alone, and with bytes behind it; cut short.
+// A trace record is also read at its place.
 pub fn vector(traced: bool, buffer: &[u8], end: usize, numbers: &[u64; 13], t: u64) -> u64
     requires { ⌜ Ends (now buffer) end ⌝ }
 {

@@ -1,4 +1,5 @@
-// What is read, as the twelve numbers that a line has behind its place: how many bytes it takes, its kind, its fields, and 0 for those that it does not have.
+// What is read, as the twelve numbers that a line has behind its place: how many bytes it takes, its kind, its fields,
+// and 0 for those that it does not have.
 use answers::Reply;
 use traces::Record;
 

@@ -4,7 +4,8 @@ ghost use Prim.Native.Nat.{_≤_};
 // Where a line's bytes are put in their buffer, so that others stand before and behind them.
 pub const START: usize = 10;
 
-// While a line is read: less than BYTES is the number of the word; up to MOST twice the place in the buffer, and 1 for the second digit; LOST is neither.
+// While a line is read: less than BYTES is the number of the word; up to MOST twice the place in the buffer, and 1 for the second digit;
+// LOST is neither.
 const BYTES: usize = 20;
 
 const MOST: usize = 100;
