@@ -11,18 +11,14 @@ ghost use Rattle.tables.specs.Places.{rows, places, places-length};
 ghost use Rattle.lines.specs.Members.{members};
 ghost use Rattle.service.specs.View.{view, refusal};
 ghost use Rattle.calls.specs.Acts.{sound-hub, Acts};
+use lines::MAX_CONNECTIONS;
 use rules::Connection;
 use rules::Link;
 use rules::Packet;
 use service::Hub;
 use service::Told;
-
-const MAX_CONNECTIONS: usize = 64;
-
-const MAX_RESERVED: u64 = 512;
-
-// The clock's end.
-pub const CLOCK_END: u32 = 4000000000;
+use sound::CLOCK_END;
+use sound::MAX_RESERVED;
 
 const NO_CONNECTION: u32 = 255;
 

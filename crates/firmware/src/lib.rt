@@ -8,13 +8,13 @@ ghost use Rattle.rules.specs.Limits.{max-connections};
 ghost use Rattle.rules.specs.Admission.{link-within, level-test};
 ghost use Rattle.firmware.specs.Questions.{next-asked, link-asked, row-bytes, row-asked, first-rows, row-within, short-level};
 ghost use Rattle.firmware.specs.Laid.{laid-out};
+use lines::MAX_CONNECTIONS;
+use lines::MEMBERS;
 use rules::Connection;
 use rules::Link;
 
 // The bytes of a row.
 const ROW: usize = 5;
-
-const MAX_ROWS: usize = 64;
 
 // The answer where a question is not well asked.
 const NOT_WELL_ASKED: u8 = 255;
@@ -94,7 +94,7 @@ fn short_over(l: Link, rows: &[u8], n: usize) -> u8
     requires { ⌜ (link-within l ≡ true) × (n ≤ max-connections) × (row-bytes * n ≤ length (now rows)) × (every n (row-within l (now rows)) ≡ true) ⌝ }
     ensures { λ r. ⌜ r ≡ level-test l (first-rows n (now (rows .entry))) .level ⌝ }
 {
-    let mut cs = [0u32; 320];
+    let mut cs = [0u32; MEMBERS];
     lay_out(rows, n, &mut cs);
     let short = lines::standing_test(l, &cs, n);
     short.level as u8
@@ -113,7 +113,7 @@ pub extern "C" fn mtredovim_short_level(lk: &[u8], rows: &[u8]) -> u8
     if rows.len() != ROW * n {
         return NOT_WELL_ASKED;
     }
-    if MAX_ROWS < n {
+    if MAX_CONNECTIONS < n {
         return NOT_WELL_ASKED;
     }
     if !rows_ok(l, rows, n) {

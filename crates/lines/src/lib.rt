@@ -16,8 +16,12 @@ use rules::Connection;
 use rules::Link;
 use tables::Five;
 
-// The numbers of the table of connections: 64 rows of five.
-pub const MEMBERS: usize = 320;
+pub const MAX_LEVELS: u32 = 8;
+
+pub const MAX_CONNECTIONS: usize = 64;
+
+// The numbers of the table of connections, five to a row.
+pub const MEMBERS: usize = 5 * MAX_CONNECTIONS;
 
 // A row of the table: a connection's figures, 1 if a packet of it was accepted else 0, and the last eligibility.
 pub struct Member {
@@ -95,7 +99,7 @@ pub fn bound_of(l: Link, level: u32) -> u32
     if level < 1 {
         return 0;
     }
-    if 8 < level {
+    if MAX_LEVELS < level {
         return 0;
     }
     let k = (level - 1) as usize;

@@ -14,11 +14,9 @@ ghost use Rattle.lines.specs.Members.{members, connections};
 ghost use Rattle.lines.specs.Within.{Within};
 ghost use Rattle.lines.specs.StateRead.{state-read};
 ghost use Rattle.pace.specs.Pace.{seen-option, Tally, Known, row-paced, queue-fits, tally-fits};
+use lines::MAX_CONNECTIONS;
 use rules::Link;
 use rules::Packet;
-
-// The most connections that stand.
-const CONNECTIONS: usize = 64;
 
 // In 64 bits, where no sum of two is lost.
 fn wide(x: u32) -> u64
@@ -150,8 +148,8 @@ pub fn queues_ok(l: Link, cs: &[u32], n: usize, t: &[u32], held: usize, clock: u
     requires { ⌜ (n ≡ length (members (now cs))) × (held ≡ length (rows (now t))) × Within l (connections (now cs)) × Known (now cs) (now t) ⌝ }
     ensures { λ r. ⌜ r ≡ (paced (connections (now (cs .entry))) clock [] (rows (now (t .entry))) && every (length (connections (now (cs .entry)))) (queue-sound (state-read l (now (cs .entry)) (now (t .entry)) clock 0 0))) ⌝ }
 {
-    let mut seen = [0u32; CONNECTIONS];
-    let mut prev = [0u32; CONNECTIONS];
+    let mut seen = [0u32; MAX_CONNECTIONS];
+    let mut prev = [0u32; MAX_CONNECTIONS];
     if !scan(cs, t, held, clock, &mut seen, &mut prev) {
         return false;
     }

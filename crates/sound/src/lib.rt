@@ -15,11 +15,11 @@ ghost use Rattle.lines.specs.Members.{members, connections, members-formed};
 ghost use Rattle.lines.specs.Within.{Within};
 ghost use Rattle.lines.specs.StateRead.{state-read};
 ghost use Rattle.sound.specs.SoundTables.{places-formed, unused, Counted, linked-sound, sound-tables};
+use lines::MAX_CONNECTIONS;
+use lines::MAX_LEVELS;
 use rules::Connection;
 use rules::Link;
 use rules::Packet;
-
-const MAX_LEVELS: u32 = 8;
 
 const MAX_LARGEST: u32 = 2048;
 
@@ -27,11 +27,9 @@ const MAX_BOUND: u32 = 32768;
 
 const MAX_GAP: u32 = 65535;
 
-const MAX_CONNECTIONS: usize = 64;
+pub const MAX_RESERVED: u64 = 512;
 
-const MAX_RESERVED: u64 = 512;
-
-const CLOCK_END: u32 = 4000000000;
+pub const CLOCK_END: u32 = 4000000000;
 
 // Bounds that rise strictly from `lowest` on, n of them, none above its limit, and zeros behind.
 fn bounds_ok(lowest: u32, n: usize, bounds: [u32; 8]) -> bool

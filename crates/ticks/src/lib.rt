@@ -14,13 +14,13 @@ ghost use Rattle.log.specs.Log.{all-done-verdict};
 ghost use Rattle.log.specs.Steps.{longest-answer, earliest, quiet-for, quiet-ticks, one-tick, tick-next};
 ghost use Rattle.ticks.specs.Tie.{cursor-at, over, told-log, passed-hub, Did};
 use answers::Reply;
-use calls::CLOCK_END;
 use log::Cursor;
 use log::Phase;
 use log::Status;
 use log::Stepped;
 use service::Hub;
 use service::Told;
+use sound::CLOCK_END;
 
 // The longest answer.
 pub const LONGEST_ANSWER: usize = 19;
