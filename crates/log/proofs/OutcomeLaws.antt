@@ -1,7 +1,6 @@
 -- What a status says of a step: where it is done nothing is to come, and where it wants bytes the window is short; a step keeps the state sound, and is refused nowhere.
 -- Assumes nothing.
 use Prim.Native.Nat.{ℕ, zero, suc, _<_}
-use native.Mathlib.Omega.{arith}
 use mathlib.Core.Path.{_≡_, refl}
 use mathlib.Core.Bool.{Bool}
 use mathlib.Core.List.{List}
@@ -12,6 +11,7 @@ use borrow.Author.Tests.{eqb-false, ltb-true}
 use Rattle.rules.specs.Model.{State, link, admit, offer, tick}
 use Rattle.rules.specs.SoundState.{Sound}
 use Rattle.rules.specs.Calls.{answer}
+use Rattle.rules.proofs.Tests.{never}
 use Rattle.rules.proofs.SoundKept.{kept}
 use Rattle.traces.specs.declared.Record.{Record}
 use Rattle.traces.specs.declared.Record.the-variants.{Link as LinkRecord, Admit, Offer, Ticks, Malformed}
@@ -31,10 +31,6 @@ pub record Ends-well (w : List ℕ) (n : Next) : Type 0 where
   pub room-enough : n .status ≡ MoreRoom → ⊥
   pub never-unsound : n .status ≡ NotSound → ⊥
   pub sound : Sound (n .point .state)
-
--- two different statuses are not one
-never : {A : Type 0} → _≡_ {A = ℕ} 0 1 → A
-never e = absurd (omega arith)
 
 module _ (w : List ℕ) (n : Next) (S : Sound (n .point .state)) where
   goes-well : n .status ≡ GoOn → Ends-well w n

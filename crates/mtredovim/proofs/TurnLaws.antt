@@ -7,6 +7,7 @@ use mathlib.Core.List.{List, [], _∷_, _++_, append-nil}
 use lib.ListN.{length, take, drop, length-drop, take-append-drop}
 use lib.Seq.{length-take-le, take-append-add, take-nil, drop-drop, take-append-seam, take-length}
 use borrow.Author.Tests.{le-ltb}
+use Rattle.rules.proofs.Tests.{never}
 use Rattle.log.specs.declared.Cursor.{Cursor}
 use Rattle.log.specs.declared.Stepped.{Stepped}
 use Rattle.log.specs.declared.Status.the-variants.{GoOn, MoreBytes, Done}
@@ -97,18 +98,15 @@ refilled b from to ys g h k =
     rw (e, take-slid b from (to - from) (omega arith))
     (ap (λ i. take (i + g) (window b from to ++ ys)) (sym d) ∙ take-append-add (window b from to) ys g)
 
-pub never : {A : Type 0} (b : Bool) → b ≡ true → b ≡ false → A
-never b p q = let z : _≡_ {A = Bool} true false = sym p ∙ q in let y : _≡_ {A = ℕ} 0 1 = cc in absurd (omega arith)
-
 module _ (c : Cursor) (cs t w : List ℕ) (last : Bool) (o : List ℕ) (a : Stepped) (cs2 t2 o2 w2 : List ℕ) (P : Pumps c cs t w last o a cs2 t2 o2) (v : Turn)
     (k : v .cursor ≡ a .cursor) where
-  pub turned-halt : v .stop ≡ true → (v .broken ≡ false → a .status ≡ Done) → Turned c cs t w last o v cs2 t2 o2 w2
-  turned-halt s b =
-      record { answer = a; pumps = P; cursor = k; rest = λ f. never (v .stop) s f; done = λ _ f. b f }
+  -- a turn that stops; of one that goes on, all may then be said
+  pub turned-halt : {A : Type 0} → v .stop ≡ true → (v .broken ≡ false → a .status ≡ Done) → Turned c cs t w last o v cs2 t2 o2 w2 × (v .stop ≡ false → A)
+  turned-halt s b = (record { answer = a; pumps = P; cursor = k; rest = λ f. never (sym f ∙ s); done = λ _ f. b f }, λ f. never (sym f ∙ s))
 
   pub turned-go : v .stop ≡ false → take (length (drop (a .used) w)) w2 ≡ drop (a .used) w → Turned c cs t w last o v cs2 t2 o2 w2
   turned-go s e =
-      record { answer = a; pumps = P; cursor = k; rest = λ _. e; done = λ f _. never (v .stop) f s }
+      record { answer = a; pumps = P; cursor = k; rest = λ _. e; done = λ f _. never (sym s ∙ f) }
 
 -- ---- a turn goes on with the session: the bytes behind the old window are the next of the trace, and what is written out is what `pump` wrote
 
@@ -143,4 +141,4 @@ module _ (b S ys : List ℕ) (from to n : ℕ) (h : from ≤ to) (k : to ≤ len
   pub refill-some : (c : Cursor) (g : ℕ) → Refilled c (record { cursor = c; from = 0; to = n + g; last = false; stop = false; broken = false })
       (window b from to) (window (take n S ++ (ys ++ drop (length S - n) (drop n S))) 0 (n + g))
   refill-some c g =
-      record { cursor = refl; goes = refl; rest = rw (behind g) (take-append-seam (window b from to) (take g ys)); ended = λ z. never false z refl }
+      record { cursor = refl; goes = refl; rest = rw (behind g) (take-append-seam (window b from to) (take g ys)); ended = λ z. never z }

@@ -10,6 +10,7 @@ use lib.ListN.{length, take, drop, replicate}
 use lib.Seq.{take-append-seam}
 use borrow.Author.Tests.{ltb-true}
 use Rattle.rules.specs.SoundState.{Sound}
+use Rattle.rules.proofs.Tests.{never}
 use Rattle.rules.proofs.Every.{fresh-invariant}
 use Rattle.tables.specs.Places.{places, places-length}
 use Rattle.lines.specs.Members.{written-members, members-length}
@@ -68,14 +69,11 @@ module _ (trace wrote : List ℕ) (c : Cursor) (cs t w unread : List ℕ) (H : H
   outcome o n K E =
       pick-by (Outcome o) (ltb (length o) longest-answer) (still (H .here) MoreRoom) n
       (λ e. let l : length o < longest-answer = ltb-true _ _ e in (
-        record { finished = λ z. cc; short = λ z. differ cc; room-enough = λ k z. omega arith; never-unsound = λ z. differ cc },
+        record { finished = λ z. cc; short = λ z. never cc; room-enough = λ k z. omega arith; never-unsound = λ z. never cc },
         refl,
         H .stands .sound,
       ))
       (λ _. (record { finished = E .finished; short = E .short; room-enough = λ _. E .room-enough; never-unsound = E .never-unsound }, K, E .sound))
-    where
-      differ : {A : Type 0} → _≡_ {A = ℕ} 0 1 → A
-      differ e = absurd (omega arith)
 
   -- what a call may do, whatever its room
   call-holds : (n : Point → Next) (last : Bool) (a : Stepped) (cs′ t′ o o′ : List ℕ)

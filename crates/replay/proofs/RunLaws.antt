@@ -7,6 +7,7 @@ use mathlib.Core.Bool.{Bool, true, false}
 use mathlib.Core.List.{List, _++_, append-assoc}
 use lib.ListN.{length, take, drop, length-append}
 use lib.Seq.{take-append-seam, drop-append-seam, drop-drop}
+use Rattle.rules.proofs.Tests.{never}
 use Rattle.log.specs.declared.Cursor.{Cursor}
 use Rattle.log.specs.declared.Status.{Status}
 use Rattle.log.specs.declared.Status.the-variants.{GoOn, MoreBytes, MoreRoom, NotSound, Done}
@@ -50,7 +51,7 @@ go-true NotSound e = cc
 go-true Done e = cc
 
 go-false : (k : Status) → is-go k ≡ false → k ≡ GoOn → ⊥
-go-false k e g = let z : _≡_ {A = Bool} true false = sym (ap is-go g) ∙ e in let y : _≡_ {A = ℕ} 0 1 = cc in omega arith
+go-false k e g = never (sym e ∙ ap is-go g)
 
 module _ (c : Cursor) (cs t w : List ℕ) (last : Bool) (o : List ℕ) (ok : sound-hub (c .hub) cs t ≡ true) where
   -- the place reached stands for the rules' point

@@ -11,6 +11,7 @@ use borrow.Author.Tests.{eq-eqb, ne-eqb, lt-ltb, le-ltb, eqb-false}
 use Rattle.rules.specs.declared.Packet.{Packet}
 use Rattle.rules.specs.Model.{State, tick}
 use Rattle.rules.specs.Calls.{answer}
+use Rattle.rules.proofs.Tests.{never}
 use Rattle.traces.specs.declared.Record.{Record}
 use Rattle.traces.specs.declared.Record.the-variants.{Link as LinkRecord, Admit, Offer, Ticks, Malformed}
 use Rattle.answers.specs.declared.Reply.the-variants.{Linked, Admitted, Offered, Departed, Ticked, Broken}
@@ -38,7 +39,7 @@ waits-facts at q q′ h len last r k w g m =
       place = omega arith;
       within = λ l. l;
       never-more = omega arith;
-      less = λ e. let z : _≡_ {A = Bool} true false = sym (ap is-go e) ∙ g in let y : _≡_ {A = ℕ} 0 1 = cc in absurd (omega arith);
+      less = λ e. never (sym g ∙ ap is-go e);
       wants = m;
     }
 
@@ -76,10 +77,10 @@ record-facts w k at s h len last r a e z l f m b = go w k e z l f
 
     go : (v : Record) (j : ℕ) → a ≡ stepped-of (record-next v j at s) → (j ≡ 0 → v ≡ Malformed) → j ≤ len → j ≤ trace-limit - at
         → Facts (cursor-at at Reading h) len last r a
-    go (LinkRecord n q d1 d2 d3 d4 d5 d6 d7 d8) zero d z i g = let y : _≡_ {A = ℕ} 0 1 = cc (z refl) in absurd (omega arith)
-    go (Admit x y c) zero d z i g = let y : _≡_ {A = ℕ} 0 1 = cc (z refl) in absurd (omega arith)
-    go (Offer x y c) zero d z i g = let y : _≡_ {A = ℕ} 0 1 = cc (z refl) in absurd (omega arith)
-    go (Ticks n) zero d z i g = let y : _≡_ {A = ℕ} 0 1 = cc (z refl) in absurd (omega arith)
+    go (LinkRecord n q d1 d2 d3 d4 d5 d6 d7 d8) zero d z i g = never (cc (z refl))
+    go (Admit x y c) zero d z i g = never (cc (z refl))
+    go (Offer x y c) zero d z i g = never (cc (z refl))
+    go (Ticks n) zero d z i g = never (cc (z refl))
     go (LinkRecord n q d1 d2 d3 d4 d5 d6 d7 d8) (suc j) d z i g =
         taken-facts at (suc j) h len last r a (omega arith) i g (short (LinkRecord n q d1 d2 d3 d4 d5 d6 d7 d8) (suc j) d) (rw d) (rw d) b (rw d (λ e. cc))
     go (Admit x y c) (suc j) d z i g = taken-facts at (suc j) h len last r a (omega arith) i g (short (Admit x y c) (suc j) d) (rw d) (rw d) b (rw d (λ e. cc))
@@ -93,7 +94,7 @@ record-facts w k at s h len last r a e z l f m b = go w k e z l f
           place = omega arith;
           within = λ l. l;
           never-more = omega arith;
-          less = λ e. let y : _≡_ {A = ℕ} 0 1 = cc in absurd (omega arith);
+          less = λ e. never cc;
           wants = λ e. cc;
         })
 

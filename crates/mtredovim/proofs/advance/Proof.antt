@@ -1,8 +1,9 @@
 use native.Mathlib.Omega.{arith}
-use mathlib.Core.Path.{refl}
+use mathlib.Core.Path.{refl, sym, _∙_}
 use lib.ListN.{length, length-take}
 use lib.Seq.{take-length}
-use Rattle.mtredovim.proofs.TurnLaws.{never, turned-halt, turned-go, window-drop, length-window, wanted, went, wanting}
+use Rattle.rules.proofs.Tests.{never}
+use Rattle.mtredovim.proofs.TurnLaws.{turned-halt, turned-go, window-drop, length-window, wanted, went, wanting}
 use borrow.Author.Needs.{needs}
 use Rattle.mtredovim.proofs.advance.Statement.{statement}
 use Rattle.mtredovim.proofs.advance.Tie as tie
@@ -51,10 +52,8 @@ same-length-4 c = search needs
 returns : tie.Need-returns
 returns c =
     let a = c .before .before .before .before .before .before .before .before .before .before .before .before .before .before .before .before .before .before .before .before .before .args in
-    let R = c .before .before .before .before .before .before .before .before .before .before .before .before .before .before .before .before .before .before .before .before .before .pre in
     let p = c .before .before .before .before .before .before .before .before .before .before .before .pump in
-    let F = rw (length-window (a .buf .now) (a .from) (a .to) (R .order) (R .inside)) at (p .ensures .1) in
-    (turned-halt (a .c) (a .cs .now) (a .t .now) _ (a .last) (a .out .now) (p .result) _ _ _ _ (p .ensures .0) (c .halt .result) (c .halt .ensures .2) (c .halt .ensures .0) (λ f. never (c .halt .result .broken) (c .halt .ensures .1) f), λ e. never (c .halt .result .stop) (c .halt .ensures .0) e)
+    turned-halt (a .c) (a .cs .now) (a .t .now) _ (a .last) (a .out .now) (p .result) _ _ _ _ (p .ensures .0) (c .halt .result) (c .halt .ensures .2) (c .halt .ensures .0) (λ f. never (sym f ∙ c .halt .ensures .1))
 
 add-next : tie.Need-add-next
 add-next c =
@@ -157,10 +156,8 @@ same-length-16 c = search needs
 returns-4 : tie.Need-returns-4
 returns-4 c =
     let a = c .before .before .before .before .before .before .before .before .before .before .before .before .before .before .before .before .before .before .before .before .before .before .before .before .args in
-    let R = c .before .before .before .before .before .before .before .before .before .before .before .before .before .before .before .before .before .before .before .before .before .before .before .before .pre in
     let p = c .before .before .before .before .before .before .before .before .before .before .before .before .before .before .pump in
-    let F = rw (length-window (a .buf .now) (a .from) (a .to) (R .order) (R .inside)) at (p .ensures .1) in
-    (turned-halt (a .c) (a .cs .now) (a .t .now) _ (a .last) (a .out .now) (p .result) _ _ _ _ (p .ensures .0) (c .halt2 .result) (c .halt2 .ensures .2) (c .halt2 .ensures .0) (λ f. never (c .halt2 .result .broken) (c .halt2 .ensures .1) f), λ e. never (c .halt2 .result .stop) (c .halt2 .ensures .0) e)
+    turned-halt (a .c) (a .cs .now) (a .t .now) _ (a .last) (a .out .now) (p .result) _ _ _ _ (p .ensures .0) (c .halt2 .result) (c .halt2 .ensures .2) (c .halt2 .ensures .0) (λ f. never (sym f ∙ c .halt2 .ensures .1))
 
 same-length-17 : tie.Need-same-length-17
 same-length-17 c = search needs
@@ -177,10 +174,8 @@ same-length-20 c = search needs
 returns-5 : tie.Need-returns-5
 returns-5 c =
     let a = c .before .before .before .before .before .before .before .before .before .before .before .before .before .before .before .before .before .before .before .before .before .before .before .before .args in
-    let R = c .before .before .before .before .before .before .before .before .before .before .before .before .before .before .before .before .before .before .before .before .before .before .before .before .pre in
     let p = c .before .before .before .before .before .before .before .before .before .before .before .before .before .before .pump in
-    let F = rw (length-window (a .buf .now) (a .from) (a .to) (R .order) (R .inside)) at (p .ensures .1) in
-    (turned-halt (a .c) (a .cs .now) (a .t .now) _ (a .last) (a .out .now) (p .result) _ _ _ _ (p .ensures .0) (c .halt3 .result) (c .halt3 .ensures .2) (c .halt3 .ensures .0) (λ f. never (c .halt3 .result .broken) (c .halt3 .ensures .1) f), λ e. never (c .halt3 .result .stop) (c .halt3 .ensures .0) e)
+    turned-halt (a .c) (a .cs .now) (a .t .now) _ (a .last) (a .out .now) (p .result) _ _ _ _ (p .ensures .0) (c .halt3 .result) (c .halt3 .ensures .2) (c .halt3 .ensures .0) (λ f. never (sym f ∙ c .halt3 .ensures .1))
 
 same-length-21 : tie.Need-same-length-21
 same-length-21 c = search needs
@@ -197,10 +192,8 @@ same-length-24 c = search needs
 returns-6 : tie.Need-returns-6
 returns-6 c =
     let a = c .before .before .before .before .before .before .before .before .before .before .before .before .before .before .before .before .before .before .before .before .before .before .before .before .args in
-    let R = c .before .before .before .before .before .before .before .before .before .before .before .before .before .before .before .before .before .before .before .before .before .before .before .before .pre in
     let p = c .before .before .before .before .before .before .before .before .before .before .before .before .before .before .pump in
-    let F = rw (length-window (a .buf .now) (a .from) (a .to) (R .order) (R .inside)) at (p .ensures .1) in
-    (turned-halt (a .c) (a .cs .now) (a .t .now) _ (a .last) (a .out .now) (p .result) _ _ _ _ (p .ensures .0) (c .halt4 .result) (c .halt4 .ensures .2) (c .halt4 .ensures .0) (λ f. c .before .enum-told5 .given .1), λ e. never (c .halt4 .result .stop) (c .halt4 .ensures .0) e)
+    turned-halt (a .c) (a .cs .now) (a .t .now) _ (a .last) (a .out .now) (p .result) _ _ _ _ (p .ensures .0) (c .halt4 .result) (c .halt4 .ensures .2) (c .halt4 .ensures .0) (λ f. c .before .enum-told5 .given .1)
 
 pub advance-spec : {M : Type 1} → statement M
 advance-spec =
