@@ -1,7 +1,8 @@
-//! The state of the hub and its calls: link, admit, offer, tick.
+//! The state of the hub and its calls: link, admit, offer, offer of a notice, tick.
 
 use crate::level_test::lowest_failing_level;
 use crate::link::{Connection, Link, MOST_CONNECTIONS, MOST_RESERVED};
+use crate::notices::{Notice, Notices};
 use crate::verdict::Refusal;
 
 /// A moment in whole ticks.
@@ -42,7 +43,14 @@ struct Standing {
 #[derive(Clone, Copy, Debug, PartialEq, Eq)]
 enum Line {
     Idle,
-    Serving { row: usize, units_to_go: u16 },
+    Serving { sent: Sent, units_to_go: u16 },
+}
+
+/// What is in service: a held packet, named by its row, or the first notice.
+#[derive(Clone, Copy, Debug, PartialEq, Eq)]
+enum Sent {
+    Row(usize),
+    FirstNotice,
 }
 
 /// The whole state.
@@ -51,6 +59,7 @@ pub struct Hub {
     link: Option<Link>,
     standing: Vec<Standing>,
     places: Vec<Held>,
+    notices: Notices,
     line: Line,
     clock: Tick,
 }
@@ -67,6 +76,7 @@ impl Hub {
             link: None,
             standing: Vec::new(),
             places: Vec::new(),
+            notices: Notices::default(),
             line: Line::Idle,
             clock: 0,
         }
@@ -92,6 +102,11 @@ impl Hub {
             .iter()
             .filter(|held| held.connection == connection)
             .count()
+    }
+
+    /// How many notices wait; one in service counts until its last unit has gone.
+    pub fn notices_waiting(&self) -> usize {
+        self.notices.count()
     }
 
     /// Sets the link: verdicts 3 and 4.
@@ -159,6 +174,28 @@ impl Hub {
         Ok(eligibility)
     }
 
+    /// Offers a notice and gives its eligibility, the present tick: verdicts 2, 11, 13, 15
+    /// in that order.
+    pub fn offer_notice(&mut self, length: u16, tag: u32) -> Result<Tick, Refusal> {
+        let largest = self.link()?.largest();
+        if !(1..=largest).contains(&length) {
+            return Err(Refusal::Length);
+        }
+        if self.clock >= CLOCK_END {
+            return Err(Refusal::ClockEnded);
+        }
+        if self.notices.are_full() {
+            return Err(Refusal::NoticesFull);
+        }
+        let arrival = self.clock;
+        self.notices.add(Notice {
+            length,
+            tag,
+            arrival,
+        });
+        Ok(arrival)
+    }
+
     /// One tick (section "One tick"): verdicts 2 and 13.
     pub fn tick(&mut self) -> Result<Option<Departure>, Refusal> {
         self.link()?;
@@ -173,14 +210,14 @@ impl Hub {
         Ok(departure)
     }
 
-    /// Step 1: the chosen packet, if there is one, starts.
+    /// Step 1: the chosen packet starts; only where none is eligible the first notice.
     fn start_chosen(&mut self) {
-        if let Some(row) = self.chosen_row() {
-            self.line = Line::Serving {
-                row,
-                units_to_go: self.places[row].length,
-            };
-        }
+        let (sent, units_to_go) = match (self.chosen_row(), self.notices.first()) {
+            (Some(row), _) => (Sent::Row(row), self.places[row].length),
+            (None, Some(notice)) => (Sent::FirstNotice, notice.length),
+            (None, None) => return,
+        };
+        self.line = Line::Serving { sent, units_to_go };
     }
 
     /// Step 1: among the eligible, lowest level number, then earliest eligibility, then
@@ -194,32 +231,42 @@ impl Hub {
             .map(|(row, _)| row)
     }
 
-    /// Step 2: one unit goes; with the last one the packet departs and later rows move up.
+    /// Step 2: one unit goes; with the last one the packet or the notice departs.
     fn send_one_unit(&mut self) -> Option<Departure> {
-        let (row, units_to_go) = match self.line {
-            Line::Serving { row, units_to_go } => (row, units_to_go),
+        let (sent, units_to_go) = match self.line {
+            Line::Serving { sent, units_to_go } => (sent, units_to_go),
             _ => return None,
         };
         if units_to_go > 1 {
             self.line = Line::Serving {
-                row,
+                sent,
                 units_to_go: units_to_go - 1,
             };
             return None;
         }
         self.line = Line::Idle;
+        let finish = self.clock + 1;
+        match sent {
+            Sent::Row(row) => Some(self.depart_row(row, finish)),
+            Sent::FirstNotice => self.notices.depart_first(finish),
+        }
+    }
+
+    /// Step 2: the row of a departed packet is removed and later rows move up.
+    fn depart_row(&mut self, row: usize, finish: Tick) -> Departure {
         let held = self.places.remove(row);
-        Some(Departure {
+        Departure {
             connection: held.connection,
             tag: held.tag,
             arrival: held.arrival,
             eligibility: held.eligibility,
-            finish: self.clock + 1,
-        })
+            finish,
+        }
     }
 
     /// How many ticks from now on are sure to be quiet: in each of them the line either sends
-    /// a unit that is not the last, or stays idle because no held packet is eligible yet.
+    /// a unit that is not the last, or stays idle because no held packet is eligible yet and no
+    /// notice waits.
     pub fn quiet_ticks(&self) -> Tick {
         if self.link.is_none() {
             return 0;
@@ -227,6 +274,7 @@ impl Hub {
         let to_the_end = CLOCK_END - self.clock;
         let quiet = match self.line {
             Line::Serving { units_to_go, .. } => Tick::from(units_to_go) - 1,
+            Line::Idle if self.notices.count() > 0 => 0,
             Line::Idle => self.ticks_until_one_is_eligible().unwrap_or(to_the_end),
         };
         quiet.min(to_the_end)

@@ -1,7 +1,7 @@
 //! A second opinion on the packet hub: the trace job of document 01 in ordinary Rust.
 //!
 //! Nothing here is shared with the hub's own library. Every rule names the section of
-//! document 01 that it follows. The simulator never tests its own state for soundness:
+//! document 01 that it follows, or the request of docs/RULES-AFTER-BASE.md. The simulator never tests its own state for soundness:
 //! a trace starts from an empty state, so verdict 1 cannot occur.
 
 pub mod firmware;
@@ -9,6 +9,7 @@ pub mod hub;
 pub mod kinds;
 pub mod level_test;
 pub mod link;
+pub mod notices;
 pub mod random;
 pub mod record;
 pub mod replay;

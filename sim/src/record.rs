@@ -1,4 +1,4 @@
-//! Trace and answer records (section "Trace and answer records").
+//! Trace and answer records (section "Trace and answer records"; `NQ` and `NA` by R-1).
 
 use crate::hub::{Departure, Tick};
 use crate::link::MOST_LEVELS;
@@ -28,6 +28,10 @@ pub enum Record {
         length: u16,
         tag: u32,
     },
+    Notice {
+        length: u16,
+        tag: u32,
+    },
     Ticks {
         asked: u16,
     },
@@ -49,6 +53,10 @@ impl Record {
                 length: fields.two()?,
                 tag: fields.four()?,
             },
+            b"NQ" => Record::Notice {
+                length: fields.two()?,
+                tag: fields.four()?,
+            },
             b"TK" => Record::Ticks {
                 asked: fields.two()?,
             },
@@ -64,14 +72,7 @@ impl Record {
                 levels,
                 largest,
                 bounds,
-            } => {
-                out.extend_from_slice(b"LK");
-                out.push(levels);
-                out.extend_from_slice(&largest.to_le_bytes());
-                for bound in bounds.iter().take(usize::from(levels)) {
-                    out.extend_from_slice(&bound.to_le_bytes());
-                }
-            }
+            } => append_link(out, levels, largest, &bounds),
             Record::Connection { level, gap, size } => {
                 out.extend_from_slice(b"CN");
                 out.push(level);
@@ -88,11 +89,25 @@ impl Record {
                 out.extend_from_slice(&length.to_le_bytes());
                 out.extend_from_slice(&tag.to_le_bytes());
             }
+            Record::Notice { length, tag } => {
+                out.extend_from_slice(b"NQ");
+                out.extend_from_slice(&length.to_le_bytes());
+                out.extend_from_slice(&tag.to_le_bytes());
+            }
             Record::Ticks { asked } => {
                 out.extend_from_slice(b"TK");
                 out.extend_from_slice(&asked.to_le_bytes());
             }
         }
+    }
+}
+
+fn append_link(out: &mut Vec<u8>, levels: u8, largest: u16, bounds: &[u16; MOST_LEVELS]) {
+    out.extend_from_slice(b"LK");
+    out.push(levels);
+    out.extend_from_slice(&largest.to_le_bytes());
+    for bound in bounds.iter().take(usize::from(levels)) {
+        out.extend_from_slice(&bound.to_le_bytes());
     }
 }
 
@@ -145,6 +160,7 @@ pub enum Answer {
     Link { verdict: u8 },
     Connection { verdict: u8, connection: u8 },
     Packet { verdict: u8, eligibility: Tick },
+    Notice { verdict: u8, eligibility: Tick },
     Departed(Departure),
     Ticks { verdict: u8, done: u16 },
     Malformed { offset: u32 },
@@ -157,6 +173,7 @@ impl Answer {
             Answer::Link { verdict }
             | Answer::Connection { verdict, .. }
             | Answer::Packet { verdict, .. }
+            | Answer::Notice { verdict, .. }
             | Answer::Ticks { verdict, .. } => Some(verdict),
             Answer::Departed(_) => None,
             Answer::Malformed { .. } => Some(Refusal::Malformed.number()),
@@ -176,6 +193,13 @@ impl Answer {
                 eligibility,
             } => {
                 out.extend_from_slice(&[b'P', b'A', verdict]);
+                append_tick(out, eligibility);
+            }
+            Answer::Notice {
+                verdict,
+                eligibility,
+            } => {
+                out.extend_from_slice(&[b'N', b'A', verdict]);
                 append_tick(out, eligibility);
             }
             Answer::Departed(departure) => append_departure(out, &departure),

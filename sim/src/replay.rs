@@ -51,33 +51,48 @@ impl Job {
                 levels,
                 largest,
                 bounds,
-            } => {
-                let result = self.hub.set_link(Link::new(levels, largest, bounds));
-                Answer::Link {
-                    verdict: number_of(&result),
-                }
-            }
-            Record::Connection { level, gap, size } => {
-                let result = self.hub.admit(level, gap, size);
-                Answer::Connection {
-                    verdict: number_of(&result),
-                    connection: result.unwrap_or(NO_CONNECTION),
-                }
-            }
+            } => self.set_link(Link::new(levels, largest, bounds)),
+            Record::Connection { level, gap, size } => self.admit(level, gap, size),
             Record::Packet {
                 connection,
                 length,
                 tag,
-            } => {
-                let result = self.hub.offer(connection, length, tag);
-                Answer::Packet {
-                    verdict: number_of(&result),
-                    eligibility: result.unwrap_or(0),
-                }
-            }
+            } => self.offer(connection, length, tag),
+            Record::Notice { length, tag } => self.offer_notice(length, tag),
             Record::Ticks { asked } => self.run_ticks(asked, hand_over)?,
         };
         hand_over(answer)
+    }
+
+    fn set_link(&mut self, link: Option<Link>) -> Answer {
+        let result = self.hub.set_link(link);
+        Answer::Link {
+            verdict: number_of(&result),
+        }
+    }
+
+    fn admit(&mut self, level: u8, gap: u16, size: u16) -> Answer {
+        let result = self.hub.admit(level, gap, size);
+        Answer::Connection {
+            verdict: number_of(&result),
+            connection: result.unwrap_or(NO_CONNECTION),
+        }
+    }
+
+    fn offer(&mut self, connection: u8, length: u16, tag: u32) -> Answer {
+        let result = self.hub.offer(connection, length, tag);
+        Answer::Packet {
+            verdict: number_of(&result),
+            eligibility: result.unwrap_or(0),
+        }
+    }
+
+    fn offer_notice(&mut self, length: u16, tag: u32) -> Answer {
+        let result = self.hub.offer_notice(length, tag);
+        Answer::Notice {
+            verdict: number_of(&result),
+            eligibility: result.unwrap_or(0),
+        }
     }
 
     /// `TK`: the asked ticks one by one, stopping at the first refused one.

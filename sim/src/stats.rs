@@ -4,6 +4,7 @@ use std::fmt::Write as _;
 use std::io::{self, Read};
 use std::ops::AddAssign;
 
+use crate::notices::NOTICE_NUMBER;
 use crate::record::Answer;
 use crate::replay::{walk, Pace};
 use crate::verdict::HIGHEST;
@@ -11,13 +12,15 @@ use crate::verdict::HIGHEST;
 const VERDICTS: usize = HIGHEST as usize + 1;
 
 /// The answers that carry a verdict.
-const MARKS: [&str; 5] = ["LA", "CA", "PA", "TA", "ER"];
+const MARKS: [&str; 6] = ["LA", "CA", "PA", "TA", "ER", "NA"];
 
-/// How often each answer carried each verdict, and how many packets departed.
+/// How often each answer carried each verdict, how many packets departed and how many notices
+/// were among them.
 #[derive(Clone, Debug, Default, PartialEq, Eq)]
 pub struct Stats {
     counts: [[u64; VERDICTS]; MARKS.len()],
     pub departures: u64,
+    pub notices: u64,
     pub ticks: u64,
 }
 
@@ -41,8 +44,10 @@ impl Stats {
                 3
             }
             Answer::Malformed { .. } => 4,
-            Answer::Departed(_) => {
+            Answer::Notice { .. } => 5,
+            Answer::Departed(departure) => {
                 self.departures += 1;
+                self.notices += u64::from(departure.connection == NOTICE_NUMBER);
                 return;
             }
         };
@@ -61,7 +66,7 @@ impl Stats {
 
     /// The head line for `line` and for `table`.
     pub fn head(name: &str) -> String {
-        let mut head = format!("{name:<12}");
+        let mut head = format!("{name:<15}");
         for verdict in shown() {
             let _ = write!(head, "{verdict:>9}");
         }
@@ -70,11 +75,12 @@ impl Stats {
 
     /// All calls in one line.
     pub fn line(&self, name: &str) -> String {
-        let mut line = format!("{name:<12}");
+        let mut line = format!("{name:<15}");
         for verdict in shown() {
             let _ = write!(line, "{:>9}", self.verdict(verdict as u8));
         }
-        let _ = write!(line, "{:>11}{:>15}", self.departures, self.ticks);
+        let (departures, notices) = (self.departures, self.notices);
+        let _ = write!(line, "{departures:>11}{notices:>8}{:>15}", self.ticks);
         line
     }
 
@@ -82,12 +88,13 @@ impl Stats {
     pub fn table(&self) -> String {
         let mut table = Stats::head("answer");
         for (mark, row) in MARKS.iter().zip(&self.counts) {
-            let _ = write!(table, "\n{mark:<12}");
+            let _ = write!(table, "\n{mark:<15}");
             for verdict in shown() {
                 let _ = write!(table, "{:>9}", row[verdict]);
             }
         }
         let _ = write!(table, "\ndepartures {}", self.departures);
+        let _ = write!(table, "\nnotices among them {}", self.notices);
         let _ = write!(table, "\nticks done {}", self.ticks);
         table
     }
@@ -105,6 +112,7 @@ impl AddAssign<&Stats> for Stats {
             *count += more;
         }
         self.departures += other.departures;
+        self.notices += other.notices;
         self.ticks += other.ticks;
     }
 }

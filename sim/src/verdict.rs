@@ -1,4 +1,4 @@
-//! The verdict numbers (section "Verdict numbers").
+//! The verdict numbers (section "Verdict numbers"; 15 by R-1).
 
 /// Why a call was refused. The number of each case is its verdict number.
 #[derive(Clone, Copy, Debug, PartialEq, Eq)]
@@ -17,13 +17,14 @@ pub enum Refusal {
     ReservationFull = 12,
     ClockEnded = 13,
     Malformed = 14,
+    NoticesFull = 15,
 }
 
 /// The verdict of a call that was done.
 pub const DONE: u8 = 0;
 
 /// The highest verdict number.
-pub const HIGHEST: u8 = Refusal::Malformed as u8;
+pub const HIGHEST: u8 = Refusal::NoticesFull as u8;
 
 impl Refusal {
     pub fn number(self) -> u8 {

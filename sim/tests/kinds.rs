@@ -18,7 +18,7 @@ fn total(name: &str) -> Stats {
 
 #[test]
 fn the_same_seed_gives_the_same_trace() {
-    for kind in KINDS.iter().filter(|kind| kind.name != "limit") {
+    for kind in KINDS.iter().filter(|kind| !kind.name.ends_with("limit")) {
         assert!(kind.trace(3, None) == kind.trace(3, None));
         assert!(kind.trace(3, None) != kind.trace(4, None));
     }
@@ -26,7 +26,7 @@ fn the_same_seed_gives_the_same_trace() {
 
 #[test]
 fn both_paces_agree() {
-    let slow = ["limit", "clockend"];
+    let slow = ["limit", "clockend", "noticelimit", "noticeend"];
     for kind in KINDS.iter().filter(|kind| !slow.contains(&kind.name)) {
         for seed in 0..SEEDS {
             let trace = kind.trace(seed, None);
@@ -76,9 +76,27 @@ fn tight_tests_hold_and_fail() {
 }
 
 #[test]
+fn notices_wait_depart_and_are_refused() {
+    for name in ["notices", "noticeflood", "noticefull", "noticerefusals"] {
+        assert!(total(name).notices > 300, "{name}");
+    }
+    for name in ["noticeflood", "noticefull", "noticerefusals"] {
+        assert!(total(name).verdict(15) > 200, "{name}");
+    }
+    assert!(total("noticeflood").departures > total("noticeflood").notices + 200);
+    let refusals = total("noticerefusals");
+    assert!(refusals.verdict(2) > 20 && refusals.verdict(11) > 100);
+    let end = total("noticeend");
+    assert!(end.notices > 100);
+    assert!(end.verdict(11) > 20 && end.verdict(13) > 100 && end.verdict(15) > 0);
+}
+
+#[test]
 fn damage_is_noticed() {
     let malformed = total("malformed");
     assert!(malformed.verdict(14) > SEEDS / 2);
     assert!(malformed.departures > 50);
     assert_eq!(total("badrecord").verdict(14), SEEDS);
+    assert!(total("noticedamage").verdict(14) > SEEDS / 2);
+    assert!(total("badnotice").verdict(14) > SEEDS / 2);
 }

@@ -2,8 +2,9 @@
 
 use std::io::{self, Read};
 
-use sim::hub::CLOCK_END;
+use sim::hub::{Departure, CLOCK_END};
 use sim::kinds::KINDS;
+use sim::notices::NOTICE_NUMBER;
 use sim::record::{Answer, Record};
 use sim::replay::{answers, replay, Job, Pace, SIZE_LIMIT};
 
@@ -215,7 +216,7 @@ impl Read for Pieces<'_> {
 
 #[test]
 fn short_pieces() {
-    for kind in KINDS.iter().filter(|kind| kind.name != "limit") {
+    for kind in KINDS.iter().filter(|kind| !kind.name.ends_with("limit")) {
         let trace = kind.trace(1, None);
         let mut given = Vec::new();
         let pieces = Pieces {
@@ -230,7 +231,7 @@ fn short_pieces() {
 
 #[test]
 fn reading_what_is_written_gives_the_record_back() {
-    for kind in KINDS.iter().filter(|kind| kind.name != "limit") {
+    for kind in KINDS.iter().filter(|kind| !kind.name.ends_with("limit")) {
         let trace = kind.trace(2, None);
         let mut rest = &trace[..];
         while let Some((record, length)) = Record::read(rest) {
@@ -246,7 +247,7 @@ fn reading_what_is_written_gives_the_record_back() {
 #[test]
 fn the_bound_is_kept() {
     // Each accepted packet with eligibility e at a level with bound d finishes by e + d.
-    for kind in KINDS.iter().filter(|kind| kind.name != "limit") {
+    for kind in KINDS.iter().filter(|kind| !kind.name.ends_with("limit")) {
         for seed in 0..10 {
             let trace = kind.trace(seed, None);
             check_bounds(&trace, kind.name, seed);
@@ -267,7 +268,8 @@ fn check_bounds(trace: &[u8], kind: &str, seed: u64) {
             Ok(())
         });
         assert_eq!(result, Ok(()));
-        for departure in departed {
+        let of_levels = |departure: &Departure| departure.connection != NOTICE_NUMBER;
+        for departure in departed.into_iter().filter(of_levels) {
             let link = job.hub().link().expect("a link");
             let level = job.hub().connections()[usize::from(departure.connection)].level();
             let bound = u64::from(link.bound(level));
@@ -280,7 +282,7 @@ fn check_bounds(trace: &[u8], kind: &str, seed: u64) {
 #[test]
 fn lines_that_keep_their_gap_are_eligible_on_arrival() {
     let mut checked = 0;
-    for kind in KINDS.iter().filter(|kind| kind.name != "limit") {
+    for kind in KINDS.iter().filter(|kind| !kind.name.ends_with("limit")) {
         for seed in 0..10 {
             checked += check_gaps(&kind.trace(seed, None), kind.name, seed);
         }

@@ -8,11 +8,11 @@ use borrow.Author.Tests.{eqb-true}
 use lib.ListN.{getD}
 use Rattle.fields.specs.Numbers.{little, number, put-fields, get-fields, sum, Fit}
 use Rattle.fields.specs.Kinds.{bytes}
-use Rattle.answers.specs.Kinds.{LA, CA, PA, DP, TA, ER}
+use Rattle.answers.specs.Kinds.{LA, CA, PA, NA, DP, TA, ER}
 use Rattle.fields.specs.Formats.{starts, read-rows, laid}
-use Rattle.answers.specs.Answers.{answers, answer-table, answer-layout, linked-row, admitted-row, offered-row, departed-row, ticked-row, broken-row}
+use Rattle.answers.specs.Answers.{answers, answer-table, answer-layout, linked-row, admitted-row, offered-row, noticed-row, departed-row, ticked-row, broken-row}
 use Rattle.fields.specs.Laws.{Reads-back-what-is-written, Has-the-length-of}
-use Rattle.answers.specs.declared.Reply.the-variants.{Linked, Admitted, Offered, Departed, Ticked, Broken, Malformed}
+use Rattle.answers.specs.declared.Reply.the-variants.{Linked, Admitted, Offered, Noticed, Departed, Ticked, Broken, Malformed}
 use Rattle.fields.proofs.NumberLaws.{one-byte}
 use Rattle.fields.proofs.MarkLaws.{distinct, absent}
 use Rattle.fields.proofs.WindowLaws.{All-within}
@@ -29,6 +29,8 @@ answer-back (Admitted verdict connection) rest w =
     let t = w .typed in row-back admitted-row (verdict ∷ connection ∷ []) rest _ refl (t .0, (t .1, tt)) refl refl
 answer-back (Offered verdict eligibility) rest w =
     let t = w .typed in row-back offered-row (verdict ∷ eligibility ∷ []) rest _ refl (t .0, (t .1, tt)) refl refl
+answer-back (Noticed verdict eligibility) rest w =
+    let t = w .typed in row-back noticed-row (verdict ∷ eligibility ∷ []) rest _ refl (t .0, (t .1, tt)) refl refl
 answer-back (Departed connection tag arrival eligibility finish) rest w =
     let t = w .typed in
     row-back departed-row (connection ∷ tag ∷ arrival ∷ eligibility ∷ finish ∷ []) rest _ refl (t .0, (t .1, (t .2, (t .3, (t .4, tt))))) refl refl
@@ -46,13 +48,16 @@ answers-fair = (
     (
       plain-fair offered-row (two-letters 0x50 0x41 (omega arith) (omega arith)) (λ b c. refl) (λ bs a. refl),
       (
-        plain-fair departed-row (two-letters 0x44 0x50 (omega arith) (omega arith)) (λ b c. refl) (λ bs a. refl),
+        plain-fair noticed-row (two-letters 0x4E 0x41 (omega arith) (omega arith)) (λ b c. refl) (λ bs a. refl),
         (
-          plain-fair ticked-row (two-letters 0x54 0x41 (omega arith) (omega arith)) (λ b c. refl) (λ bs a. refl),
+          plain-fair departed-row (two-letters 0x44 0x50 (omega arith) (omega arith)) (λ b c. refl) (λ bs a. refl),
           (
-            plain-fair broken-row (two-letters 0x45 0x52 (omega arith) (omega arith)) (λ b c. refl)
-                (λ bs a. ap (λ v. some (ER, v ∷ number 4 bs 3 ∷ [])) (sym (one-byte bs 2 ∙ eqb-true (getD bs 2 0) 14 a))),
-            tt,
+            plain-fair ticked-row (two-letters 0x54 0x41 (omega arith) (omega arith)) (λ b c. refl) (λ bs a. refl),
+            (
+              plain-fair broken-row (two-letters 0x45 0x52 (omega arith) (omega arith)) (λ b c. refl)
+                  (λ bs a. ap (λ v. some (ER, v ∷ number 4 bs 3 ∷ [])) (sym (one-byte bs 2 ∙ eqb-true (getD bs 2 0) 14 a))),
+              tt,
+            ),
           ),
         ),
       ),
@@ -65,6 +70,7 @@ unfolding laid sum
 answer-length (Linked verdict) h = length-bytes LA (verdict ∷ [])
 answer-length (Admitted verdict connection) h = length-bytes CA (verdict ∷ connection ∷ [])
 answer-length (Offered verdict eligibility) h = length-bytes PA (verdict ∷ eligibility ∷ [])
+answer-length (Noticed verdict eligibility) h = length-bytes NA (verdict ∷ eligibility ∷ [])
 answer-length (Departed connection tag arrival eligibility finish) h = length-bytes DP (connection ∷ tag ∷ arrival ∷ eligibility ∷ finish ∷ [])
 answer-length (Ticked verdict ticks) h = length-bytes TA (verdict ∷ ticks ∷ [])
 answer-length (Broken offset) h = length-bytes ER (14 ∷ offset ∷ [])
@@ -83,7 +89,10 @@ answers-within = (
         λ b a. omega arith,
         (
           λ b a. omega arith,
-          (λ b a. omega arith, tt),
+          (
+            λ b a. omega arith,
+            (λ b a. omega arith, tt),
+          ),
         ),
       ),
     ),

@@ -1,13 +1,13 @@
--- Document 01, "Trace and answer records": the six answer kinds.
+-- Document 01, "Trace and answer records": the six answer kinds; and document 02, R-1: a seventh, the answer to a notice.
 use mathlib.Core.List.{List, [], _∷_}
 use mathlib.Core.Option.{Option, some, none}
 use Prim.Native.Nat.{ℕ, _<_}
 use lib.ListN.{getD}
 use Rattle.fields.specs.Kinds.{Kind}
-use Rattle.answers.specs.Kinds.{LA, CA, PA, DP, TA, ER}
+use Rattle.answers.specs.Kinds.{LA, CA, PA, NA, DP, TA, ER}
 use Rattle.fields.specs.Formats.{Row, Format, read-rows, laid}
 use Rattle.answers.specs.declared.Reply.{Reply}
-use Rattle.answers.specs.declared.Reply.the-variants.{Linked, Admitted, Offered, Departed, Ticked, Broken, Malformed}
+use Rattle.answers.specs.declared.Reply.the-variants.{Linked, Admitted, Offered, Noticed, Departed, Ticked, Broken, Malformed}
 use Rattle.answers.specs.declared.FoundReply.{FoundReply}
 
 -- The kinds, and the answers that the numbers of each make.
@@ -19,6 +19,9 @@ admitted-row = record { kind = CA; make = λ xs. Admitted (getD xs 0 0) (getD xs
 
 abbrev pub offered-row : Row Reply
 offered-row = record { kind = PA; make = λ xs. Offered (getD xs 0 0) (getD xs 1 0) }
+
+abbrev pub noticed-row : Row Reply
+noticed-row = record { kind = NA; make = λ xs. Noticed (getD xs 0 0) (getD xs 1 0) }
 
 abbrev pub departed-row : Row Reply
 departed-row =
@@ -36,6 +39,7 @@ abbrev pub answer-layout : Reply → Option (Kind × List ℕ)
 answer-layout (Linked verdict) = some (LA, verdict ∷ [])
 answer-layout (Admitted verdict connection) = some (CA, verdict ∷ connection ∷ [])
 answer-layout (Offered verdict eligibility) = some (PA, verdict ∷ eligibility ∷ [])
+answer-layout (Noticed verdict eligibility) = some (NA, verdict ∷ eligibility ∷ [])
 answer-layout (Departed connection tag arrival eligibility finish) =
     some (DP, connection ∷ tag ∷ arrival ∷ eligibility ∷ finish ∷ [])
 answer-layout (Ticked verdict ticks) = some (TA, verdict ∷ ticks ∷ [])
@@ -47,17 +51,18 @@ abbrev pub answer-typed : Reply → Type 0
 answer-typed (Linked verdict) = verdict < 256
 answer-typed (Admitted verdict connection) = (verdict < 256) × (connection < 256)
 answer-typed (Offered verdict eligibility) = (verdict < 256) × (eligibility < 4294967296)
+answer-typed (Noticed verdict eligibility) = (verdict < 256) × (eligibility < 4294967296)
 answer-typed (Departed connection tag arrival eligibility finish) =
     (connection < 256) × (tag < 4294967296) × (arrival < 4294967296) × (eligibility < 4294967296) × (finish < 4294967296)
 answer-typed (Ticked verdict ticks) = (verdict < 256) × (ticks < 65536)
 answer-typed (Broken offset) = offset < 4294967296
 answer-typed Malformed = Unit {0}
 
--- The format of answers: the six answer kinds.
+-- The format of answers: the six answer kinds, and the answer to a notice behind the one to an offer.
 abbrev pub answers : Format Reply
 answers =
     record {
-      rows = linked-row ∷ admitted-row ∷ offered-row ∷ departed-row ∷ ticked-row ∷ broken-row ∷ [];
+      rows = linked-row ∷ admitted-row ∷ offered-row ∷ noticed-row ∷ departed-row ∷ ticked-row ∷ broken-row ∷ [];
       layout = answer-layout;
       typed = answer-typed;
     }
@@ -75,11 +80,12 @@ read-answer bs = found-reply (read-rows (answers .rows) bs)
 abbrev pub answer-bytes : Reply → List ℕ
 answer-bytes r = laid (answers .layout r)
 
--- The table's column "Bytes".
+-- The tables' column "Bytes".
 abbrev pub answer-table : Reply → ℕ
 answer-table (Linked verdict) = 3
 answer-table (Admitted verdict connection) = 4
 answer-table (Offered verdict eligibility) = 7
+answer-table (Noticed verdict eligibility) = 7
 answer-table (Departed connection tag arrival eligibility finish) = 19
 answer-table (Ticked verdict ticks) = 5
 answer-table (Broken offset) = 7

@@ -1,4 +1,4 @@
--- Document 01, "Trace and answer records": the answer kinds of its table, in its order.
+-- Document 01, "Trace and answer records": the answer kinds of its table, in its order; and the one of document 02, R-1, behind `PA`.
 use mathlib.Core.List.{[], _∷_}
 use lib.Dec.{eqb}
 use Rattle.fields.specs.Kinds.{Kind, plain}
@@ -14,6 +14,10 @@ CA = plain (0x43 ∷ 0x41 ∷ []) (1 ∷ 1 ∷ [])
 -- "verdict (1), eligibility (4)"
 abbrev pub PA : Kind
 PA = plain (0x50 ∷ 0x41 ∷ []) (1 ∷ 4 ∷ [])
+
+-- document 02, R-1, as docs/RULES-AFTER-BASE.md lays it out: "verdict (1), eligibility (4)"
+abbrev pub NA : Kind
+NA = plain (0x4E ∷ 0x41 ∷ []) (1 ∷ 4 ∷ [])
 
 -- "connection (1), tag, arrival, eligibility, finish (4 each)"
 abbrev pub DP : Kind

@@ -1,4 +1,4 @@
-// The answer records of document 01, "Trace and answer records": their kinds as values, read and written.
+// The answer records of document 01, "Trace and answer records", and of document 02, R-1: their kinds as values, read and written.
 ghost use mathlib.Core.Path.{_≡_};
 ghost use mathlib.Core.Option.{none};
 ghost use lib.ListN.{getD};
@@ -12,12 +12,14 @@ use fields::read::known;
 use fields::read::one;
 use fields::read::two;
 
-// The marks of the table, compared on reading and written on answering.
+// The marks of the tables, compared on reading and written on answering.
 const LA: [u8; 2] = *b"LA";
 
 const CA: [u8; 2] = *b"CA";
 
 const PA: [u8; 2] = *b"PA";
+
+const NA: [u8; 2] = *b"NA";
 
 const DP: [u8; 2] = *b"DP";
 
@@ -35,6 +37,10 @@ pub enum Reply {
         connection: u8,
     },
     Offered {
+        verdict: u8,
+        eligibility: u32,
+    },
+    Noticed {
         verdict: u8,
         eligibility: u32,
     },
@@ -91,6 +97,7 @@ fn mark_of(s: &[u8]) -> u16
     let mark = known(s, ER, 0);
     let mark = known(s, TA, mark);
     let mark = known(s, DP, mark);
+    let mark = known(s, NA, mark);
     let mark = known(s, PA, mark);
     let mark = known(s, CA, mark);
     known(s, LA, mark)
@@ -121,7 +128,7 @@ fn read_departed(s: &[u8]) -> FoundReply
     whole_of(s, 19, departed)
 }
 
-// The answer that the bytes start with: the marks are LA, CA, PA, DP, TA and ER as numbers.
+// The answer that the bytes start with: the marks are LA, CA, PA, NA, DP, TA and ER as numbers.
 pub fn read(s: &[u8]) -> FoundReply
     ensures { λ r. ⌜ r ≡ read-answer (now (s .entry)) ⌝ }
 {
@@ -142,6 +149,13 @@ pub fn read(s: &[u8]) -> FoundReply
                 eligibility: four(s, 3),
             };
             whole_of(s, 7, offered)
+        }
+        0x414E => {
+            let noticed = Reply::Noticed {
+                verdict: verdict,
+                eligibility: four(s, 3),
+            };
+            whole_of(s, 7, noticed)
         }
         0x5044 => read_departed(s),
         0x4154 => {
@@ -181,6 +195,10 @@ fn draft(r: Reply) -> Draft
             verdict,
             eligibility,
         } => Draft::headed(PA, verdict).four(eligibility),
+        Reply::Noticed {
+            verdict,
+            eligibility,
+        } => Draft::headed(NA, verdict).four(eligibility),
         Reply::Departed {
             connection,
             tag,

@@ -6,20 +6,22 @@ use mathlib.Core.Bool.{Bool, true, false, cond, not, _&&_}
 use mathlib.Core.List.{List, [], _∷_, _++_}
 use lib.Dec.{eqb}
 use borrow.Author.Tests.{ne-eqb}
-use lib.ListN.{length, getD, set, drop, length-append, List·getD-map}
+use lib.ListN.{length, getD, set, drop, length-append, length-map, List·getD-map}
 use lib.Seq.{getD-append-seam, drop-length}
 use Rattle.rules.specs.declared.Link.{Link}
 use Rattle.rules.specs.declared.Connection.{Connection}
 use Rattle.rules.specs.declared.Past.{Past}
 use Rattle.rules.specs.declared.Packet.{Packet}
-use Rattle.rules.specs.Words.{sum}
-use Rattle.rules.specs.Limits.{max-connections, clock-end, beyond-32-bits}
-use Rattle.rules.specs.Model.{Call, link, admit, offer, nth, figures}
+use Rattle.rules.specs.Words.{All, sum}
+use Rattle.rules.specs.Limits.{max-connections, clock-end, beyond-32-bits, notice-number}
+use Rattle.rules.specs.Model.{Call, link, admit, offer, notice, nth, figures, notice-packet}
 use Rattle.rules.specs.Admission.{reservation, reserved}
 use Rattle.rules.specs.Service.{next-eligibility, remember, of, ticked}
 use Rattle.rules.specs.SoundState.{Sound-with-link, Sound}
-use Rattle.rules.specs.SoundTest.{sound, line-sound, rows-sound, admissions-sound}
+use Rattle.rules.specs.SoundTest.{nothing-used, sound, line-sound, rows-sound, notices-sound, admissions-sound}
 use Rattle.rules.specs.Calls.{verdict, done, refused-number, settle, eligibility-now, placed}
+use Rattle.rules.proofs.Lists.{all-map}
+use Rattle.rules.proofs.Rows.{map-append}
 use Rattle.rules.proofs.Tests.{and-true}
 use Rattle.rules.proofs.Sums.{sum-eq, cond-is}
 use Rattle.rules.proofs.Standing.{nth-old, stands-below}
@@ -27,11 +29,13 @@ use Rattle.rules.proofs.Line.{tick-leaves}
 use Rattle.rules.proofs.SoundExact.{exact}
 use Rattle.rules.proofs.Bounds.{rows-fit-places, eligibilities-fit-32}
 use Rattle.rules.proofs.SoundKept.{done-sound}
-use Rattle.rules.proofs.Verdicts.{admit-done, Offer-done, offer-done}
+use Rattle.rules.proofs.Verdicts.{admit-done, Offer-done, offer-done, notice-done}
 use Rattle.tables.specs.Table.{formed}
-use Rattle.tables.specs.Places.{places-length, packet-of, rows, places}
+use Rattle.tables.specs.Places.{places-length, packet-of, rows, places, table-of}
+use Rattle.tables.specs.Notices.{notices-length, notice-of, notices, notices-formed}
 use Rattle.tables.proofs.TableLaws.{formed-length}
 use Rattle.tables.proofs.PlacesLaws.{table-back}
+use Rattle.tables.proofs.NoticeLaws.{notices-length-is, notice-rows, notices-table, notices-back}
 use Rattle.lines.specs.declared.Member.{Member}
 use Rattle.lines.specs.Members.{members-length, member-of, no-member, member-in, members, connections, pasts, connection-of, past-of, written-members, members-formed}
 use Rattle.lines.specs.Within.{Within, gap-only}
@@ -44,32 +48,37 @@ use Rattle.service.specs.declared.Told.{Told}
 use Rattle.service.specs.View.{view, told-of, refusal}
 use Rattle.service.specs.Ready.{Ready}
 use Rattle.service.proofs.ReadyLaws.{ready}
-use Rattle.calls.specs.Acts.{sound-hub, members-of, places-of, Acts}
+use Rattle.calls.specs.Acts.{sound-hub, members-of, places-of, notices-of, Acts}
 
 -- ---- what a sound hub says
 
-pub record Tested (h : Hub) (cs t : List ℕ) : Type 0 where
-  pub state : sound (view h cs t) ≡ true
+pub record Tested (h : Hub) (cs t q : List ℕ) : Type 0 where
+  pub state : sound (view h cs t q) ≡ true
   pub members-shape : members-formed cs ≡ true
   pub places-shape : formed packet-of places-length t ≡ true
+  pub notices-shape : notices-formed q ≡ true
 
-module _ (h : Hub) (cs t : List ℕ) (ok : sound-hub h cs t ≡ true) where
-  pub tested : Tested h cs t
+module _ (h : Hub) (cs t q : List ℕ) (ok : sound-hub h cs t q ≡ true) where
+  pub tested : Tested h cs t q
   unfolding sound-hub sound-tables places-formed
   tested =
       let a = and-true (places-formed t) _ ok in
-      let b = and-true (members-formed cs) (sound (view h cs t)) (a .1) in
-      record { state = b .1; members-shape = b .0; places-shape = a .0 }
+      let b = and-true (members-formed cs) _ (a .1) in
+      let c = and-true (notices-formed q) (sound (view h cs t q)) (b .1) in
+      record { state = c .1; members-shape = b .0; places-shape = a .0; notices-shape = c .0 }
 
-  pub is-sound : Sound (view h cs t)
-  is-sound = exact (view h cs t) .0 (tested .state)
+  pub is-sound : Sound (view h cs t q)
+  is-sound = exact (view h cs t q) .0 (tested .state)
 
-  -- both tables are what is written of what is read
-  pub members-kept : cs ≡ members-of (view h cs t)
+  -- the tables are what is written of what is read
+  pub members-kept : cs ≡ members-of (view h cs t q)
   members-kept = members-written cs (tested .members-shape)
 
-  pub places-kept : t ≡ places-of (view h cs t)
+  pub places-kept : t ≡ places-of (view h cs t q)
   places-kept = table-back t (tested .places-shape)
+
+  pub notices-kept : q ≡ notices-of (view h cs t q)
+  notices-kept = notices-back q (tested .notices-shape)
 
   pub members-size : length cs ≡ members-length
   unfolding members-formed
@@ -79,38 +88,51 @@ module _ (h : Hub) (cs t : List ℕ) (ok : sound-hub h cs t ≡ true) where
   places-size = formed-length packet-of places-length t (tested .places-shape)
 
   -- a refusal: the rules leave the state, and writing what was read gives the tables back
-  pub refuses : (k : Call) (v w n : ℕ) (r : Told) → verdict k (view h cs t) ≡ v → v ≡ suc w → n ≡ refused-number k → r ≡ refusal h v n → Acts k h cs t r cs t
+  pub refuses : (k : Call) (v w n : ℕ) (r : Told) → verdict k (view h cs t q) ≡ v → v ≡ suc w → n ≡ refused-number k → r ≡ refusal h v n → Acts k h cs t q r cs t q
   refuses k v w n r e f g i =
-      let j : suc w ≡ verdict k (view h cs t) = sym f ∙ sym e in
+      let j : suc w ≡ verdict k (view h cs t q) = sym f ∙ sym e in
       record {
-        answers = i ∙ ap (λ (u : ℕ). refusal h u n) f ∙ ap (refusal h (suc w)) g ∙ ap (λ (u : ℕ). told-of (settle k (view h cs t) u)) j;
-        connections = members-kept ∙ ap (λ (u : ℕ). members-of (settle k (view h cs t) u .next)) j;
-        table = places-kept ∙ ap (λ (u : ℕ). places-of (settle k (view h cs t) u .next)) j;
+        answers = i ∙ ap (λ (u : ℕ). refusal h u n) f ∙ ap (refusal h (suc w)) g ∙ ap (λ (u : ℕ). told-of (settle k (view h cs t q) u)) j;
+        connections = members-kept ∙ ap (λ (u : ℕ). members-of (settle k (view h cs t q) u .next)) j;
+        table = places-kept ∙ ap (λ (u : ℕ). places-of (settle k (view h cs t q) u .next)) j;
+        queue = notices-kept ∙ ap (λ (u : ℕ). notices-of (settle k (view h cs t q) u .next)) j;
       }
 
   -- a call done
-  pub acts : (k : Call) (r : Told) (cs′ t′ : List ℕ) → verdict k (view h cs t) ≡ 0
-      → r ≡ told-of (done k (view h cs t)) → cs′ ≡ members-of (done k (view h cs t) .next) → t′ ≡ places-of (done k (view h cs t) .next)
-      → Acts k h cs t r cs′ t′
-  acts k r cs′ t′ e a b c = record {
-    answers = a ∙ ap (λ (w : ℕ). told-of (settle k (view h cs t) w)) (sym e);
-    connections = b ∙ ap (λ (w : ℕ). members-of (settle k (view h cs t) w .next)) (sym e);
-    table = c ∙ ap (λ (w : ℕ). places-of (settle k (view h cs t) w .next)) (sym e);
+  pub acts : (k : Call) (r : Told) (cs′ t′ q′ : List ℕ) → verdict k (view h cs t q) ≡ 0
+      → r ≡ told-of (done k (view h cs t q)) → cs′ ≡ members-of (done k (view h cs t q) .next) → t′ ≡ places-of (done k (view h cs t q) .next)
+      → q′ ≡ notices-of (done k (view h cs t q) .next)
+      → Acts k h cs t q r cs′ t′ q′
+  acts k r cs′ t′ q′ e a b c d = record {
+    answers = a ∙ ap (λ (w : ℕ). told-of (settle k (view h cs t q) w)) (sym e);
+    connections = b ∙ ap (λ (w : ℕ). members-of (settle k (view h cs t q) w .next)) (sym e);
+    table = c ∙ ap (λ (w : ℕ). places-of (settle k (view h cs t q) w .next)) (sym e);
+    queue = d ∙ ap (λ (w : ℕ). notices-of (settle k (view h cs t q) w .next)) (sym e);
   }
 
   -- ---- a tick
 
   module _ (n : h .link .levels ≡ 0 → ⊥) where
-    linked : Sound-with-link (view h cs t)
+    linked : Sound-with-link (view h cs t q)
     linked = is-sound .with-one n
 
-    pub ready-to-tick : h .clock < clock-end → Ready h cs t
-    unfolding sound members-formed
+    -- each row names a connection, which has another number than the notices
+    others : All (λ p. p .connection ≡ notice-number → ⊥) (rows t)
+    others = all-map (λ p f e. omega (arith, linked .few, stands-below (connections cs) (p .connection) (f .standing))) (rows t) (linked .fit)
+
+    -- the line's clause of the test
+    line-holds : line-sound (view h cs t q) ≡ true
+    unfolding sound
+    line-holds =
+        let s = view h cs t q in
+        let a = and-true (admissions-sound s) _ (sym (cond-is (nothing-used s) _ (ne-eqb (h .link .levels) 0 n)) ∙ tested .state) in
+        let b = and-true (rows-sound s) (notices-sound s && line-sound s) (a .1) in
+        and-true (notices-sound s) (line-sound s) (b .1) .1
+
+    pub ready-to-tick : h .clock < clock-end → Ready h cs t q
+    unfolding members-formed
     ready-to-tick r =
-        ready h cs t (tested .places-shape) (and-true (formed member-of members-length cs) _ (tested .members-shape) .0)
-        (and-true (rows-sound (view h cs t)) (line-sound (view h cs t))
-        (and-true (admissions-sound (view h cs t)) _ (sym (cond-is _ (admissions-sound (view h cs t) && (rows-sound (view h cs t) && line-sound (view h cs t))) (ne-eqb (h .link .levels) 0 n)) ∙ tested .state) .1) .1)
-        r
+        ready h cs t q (tested .places-shape) (and-true (formed member-of members-length cs) _ (tested .members-shape) .0) (tested .notices-shape) others line-holds r
 
     -- ---- the figures
 
@@ -120,15 +142,15 @@ module _ (h : Hub) (cs t : List ℕ) (ok : sound-hub h cs t ≡ true) where
     pub few-members-of : (k : ℕ) → k ≡ length (members cs) → k ≤ max-connections
     few-members-of k e = omega (arith, linked .few, connections-length cs)
 
-  pub tick-members : cs ≡ members-of (ticked (view h cs t) .next)
+  pub tick-members : cs ≡ members-of (ticked (view h cs t q) .next)
   tick-members =
-      let l = tick-leaves (view h cs t) in
-      members-kept ∙ ap (λ (xs : List Connection). written-members xs (pasts cs)) (sym (l .connections)) ∙ ap (written-members (ticked (view h cs t) .next .connections)) (sym (l .pasts))
+      let l = tick-leaves (view h cs t q) in
+      members-kept ∙ ap (λ (xs : List Connection). written-members xs (pasts cs)) (sym (l .connections)) ∙ ap (written-members (ticked (view h cs t q) .next .connections)) (sym (l .pasts))
 
 -- ---- an admission
 
-pub admit-room : (h : Hub) (cs t : List ℕ) (x : Connection) (n : ℕ) → verdict (admit x) (view h cs t) ≡ 0 → n ≡ length (members cs) → n < max-connections
-admit-room h cs t x n e f = omega (arith, admit-done (view h cs t) x e .few, connections-length cs)
+pub admit-room : (h : Hub) (cs t q : List ℕ) (x : Connection) (n : ℕ) → verdict (admit x) (view h cs t q) ≡ 0 → n ≡ length (members cs) → n < max-connections
+admit-room h cs t q x n e f = omega (arith, admit-done (view h cs t q) x e .few, connections-length cs)
 
 -- reservations with a newcomer
 
@@ -159,9 +181,9 @@ bit-le a b = go (eqb a b)
 pub all-counted : (c : ℕ) (ps : List Packet) (n i : ℕ) → i ≡ length ps → n + length (of c (drop i ps)) ≡ length (of c ps) → n ≡ length (of c ps)
 all-counted c ps n i e h = omega (arith, ap (λ (l : List Packet). length (of c l)) (ap (λ (j : ℕ). drop j ps) e ∙ drop-length ps))
 
-module _ (h : Hub) (cs t : List ℕ) (ok : sound-hub h cs t ≡ true) (c len tag : ℕ) (good : verdict (offer c len tag) (view h cs t) ≡ 0) where
-  did : Offer-done (view h cs t) c len
-  did = offer-done (view h cs t) c len tag good
+module _ (h : Hub) (cs t q : List ℕ) (ok : sound-hub h cs t q ≡ true) (c len tag : ℕ) (good : verdict (offer c len tag) (view h cs t q) ≡ 0) where
+  did : Offer-done (view h cs t q) c len
+  did = offer-done (view h cs t q) c len tag good
 
   pub offer-below : c < length (members cs)
   offer-below = omega (arith, stands-below (connections cs) c (did .standing), connections-length cs)
@@ -171,29 +193,56 @@ module _ (h : Hub) (cs t : List ℕ) (ok : sound-hub h cs t ≡ true) (c len tag
   offer-room =
       omega (
         arith,
-        rows-fit-places (placed (view h cs t) c len tag) (done-sound (offer c len tag) (view h cs t) (is-sound h cs t ok) good),
-        length-append (rows t) (record { connection = c; len = len; tag = tag; arrival = h .clock; eligibility = eligibility-now (view h cs t) c } ∷ []),
+        rows-fit-places (placed (view h cs t q) c len tag) (done-sound (offer c len tag) (view h cs t q) (is-sound h cs t q ok) good),
+        length-append (rows t) (record { connection = c; len = len; tag = tag; arrival = h .clock; eligibility = eligibility-now (view h cs t q) c } ∷ []),
       )
 
   -- the eligibility of the row read
-  pub offer-eligibility : (m : Member) (e : ℕ) → m ≡ member-in cs c → e ≡ next-eligibility (gap-only (m .gap)) (record { sent = not (eqb (m .sent) 0); last = m .last }) (h .clock) → e ≡ eligibility-now (view h cs t) c
+  pub offer-eligibility : (m : Member) (e : ℕ) → m ≡ member-in cs c → e ≡ next-eligibility (gap-only (m .gap)) (record { sent = not (eqb (m .sent) 0); last = m .last }) (h .clock) → e ≡ eligibility-now (view h cs t q) c
   unfolding next-eligibility
   offer-eligibility m e i j =
       j
       ∙ ap (λ (m : Member). next-eligibility (connection-of m) (past-of m) (h .clock)) (i ∙ sym (member-is cs c offer-below))
       ∙ ap (λ (x : Connection). next-eligibility x (past-of (getD (members cs) c no-member)) (h .clock)) (sym (List·getD-map connection-of (members cs) c no-member))
-      ∙ ap (λ (y : Past). next-eligibility (figures (view h cs t) c) y (h .clock)) (sym (List·getD-map past-of (members cs) c no-member))
+      ∙ ap (λ (y : Past). next-eligibility (figures (view h cs t q) c) y (h .clock)) (sym (List·getD-map past-of (members cs) c no-member))
 
-  pub offer-fits : eligibility-now (view h cs t) c < beyond-32-bits
-  offer-fits = eligibilities-fit-32 (view h cs t) (is-sound h cs t ok) .1 c .1
+  pub offer-fits : eligibility-now (view h cs t q) c < beyond-32-bits
+  offer-fits = eligibilities-fit-32 (view h cs t q) (is-sound h cs t q ok) .1 c .1
 
-  pub offer-acts : (r : Told) (e : ℕ) (cs′ t′ : List ℕ) → e ≡ eligibility-now (view h cs t) c → r ≡ refusal h 0 e
+  pub offer-acts : (r : Told) (e : ℕ) (cs′ t′ : List ℕ) → e ≡ eligibility-now (view h cs t q) c → r ≡ refusal h 0 e
       → cs′ ≡ written-members (connections cs) (set (pasts cs) c (record { sent = true; last = e }))
       → t′ ≡ places (rows t ++ record { connection = c; len = len; tag = tag; arrival = h .clock; eligibility = e } ∷ [])
-      → Acts (offer c len tag) h cs t r cs′ t′
+      → Acts (offer c len tag) h cs t q r cs′ t′ q
   unfolding remember
   offer-acts r e cs′ t′ i j k l =
-      acts h cs t ok (offer c len tag) r cs′ t′ good
+      acts h cs t q ok (offer c len tag) r cs′ t′ q good
       (j ∙ ap (refusal h 0) i)
       (k ∙ ap (λ (u : ℕ). written-members (connections cs) (set (pasts cs) c (record { sent = true; last = u }))) i)
       (l ∙ ap (λ (u : ℕ). places (rows t ++ record { connection = c; len = len; tag = tag; arrival = h .clock; eligibility = u } ∷ [])) i)
+      (notices-kept h cs t q ok)
+
+-- ---- a notice
+
+module _ (h : Hub) (cs t q : List ℕ) (ok : sound-hub h cs t q ≡ true) where
+  pub notices-size : length q ≡ notices-length
+  notices-size = notices-length-is q (tested h cs t q ok .notices-shape)
+
+  pub notices-as-table : q ≡ table-of (length q) (rows q)
+  notices-as-table = notices-table q (tested h cs t q ok .notices-shape) ∙ ap (λ (n : ℕ). table-of n (rows q)) (sym notices-size)
+
+  module _ (len tag : ℕ) (good : verdict (notice len tag) (view h cs t q) ≡ 0) where
+    abbrev note : Packet
+    note = record { connection = notice-number; len = len; tag = tag; arrival = h .clock; eligibility = h .clock }
+
+    -- a place is left
+    pub notice-room : 5 * length (rows q) + 5 ≤ length q
+    notice-room = omega (arith, notices-size, notice-done (view h cs t q) len tag good .room, length-map (rows q) notice-of)
+
+    pub notice-acts : (r : Told) (q′ : List ℕ) → r ≡ refusal h 0 (h .clock) → q′ ≡ table-of (length q) (rows q ++ note ∷ [])
+        → Acts (notice len tag) h cs t q r cs t q′
+    notice-acts r q′ j l =
+        acts h cs t q ok (notice len tag) r cs t q′ good j (members-kept h cs t q ok) (places-kept h cs t q ok)
+        (l
+        ∙ ap (λ (n : ℕ). table-of n (rows q ++ note ∷ [])) notices-size
+        ∙ ap (λ (ps : List Packet). table-of notices-length (ps ++ note ∷ [])) (sym (notice-rows q (tested h cs t q ok .notices-shape)))
+        ∙ ap (table-of notices-length) (sym (map-append notice-packet (notices q) (record { len = len; tag = tag; arrival = h .clock } ∷ []))))

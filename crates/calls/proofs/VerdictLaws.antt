@@ -6,10 +6,10 @@ use mathlib.Core.List.{[], _∷_, _++_}
 use lib.ListN.{length}
 use borrow.Author.Tests.{le-leb, lt-leb, lt-ltb, le-ltb, eq-eqb, ne-eqb}
 use Rattle.rules.specs.Words.{within}
-use Rattle.rules.specs.Limits.{max-connections, max-reserved, clock-end}
+use Rattle.rules.specs.Limits.{max-connections, max-reserved, clock-end, max-notices}
 use Rattle.rules.specs.declared.Link.{Link}
 use Rattle.rules.specs.declared.Connection.{Connection}
-use Rattle.rules.specs.Model.{State, link, admit, offer, tick, figures}
+use Rattle.rules.specs.Model.{State, link, admit, offer, notice, tick, figures}
 use Rattle.rules.specs.Admission.{link-within, level-within, figures-within, stands, reservation, reserved, passes}
 use Rattle.rules.specs.Service.{of}
 use Rattle.rules.specs.SoundTest.{sound}
@@ -114,3 +114,29 @@ module _ (s : State) (ok : sound s ≡ true) where
             unfolding verdicts stands
             offer-good e =
                 rw (ok, ne-eqb (s .link .levels) 0 n, lt-ltb c (length (s .connections)) h, w, lt-leb (reservation (s .link) (figures s c)) (length (of c (s .held))) k, lt-leb clock-end (s .clock) e)
+
+  -- ---- notice
+
+  module _ (len tag : ℕ) where
+    pub notice-unset : s .link .levels ≡ 0 → verdict (notice len tag) s ≡ 2
+    unfolding verdicts
+    notice-unset z = rw (ok, eq-eqb (s .link .levels) 0 z)
+
+    module _ (n : s .link .levels ≡ 0 → ⊥) where
+      pub notice-length : within 1 (s .link .largest) len ≡ false → verdict (notice len tag) s ≡ 11
+      unfolding verdicts
+      notice-length e = rw (ok, ne-eqb (s .link .levels) 0 n, e)
+
+      module _ (w : within 1 (s .link .largest) len ≡ true) where
+        pub notice-ended : clock-end ≤ s .clock → verdict (notice len tag) s ≡ 13
+        unfolding verdicts
+        notice-ended h = rw (ok, ne-eqb (s .link .levels) 0 n, w, le-leb clock-end (s .clock) h)
+
+        module _ (h : s .clock < clock-end) where
+          pub notice-full : max-notices ≤ length (s .notices) → verdict (notice len tag) s ≡ 15
+          unfolding verdicts
+          notice-full k = rw (ok, ne-eqb (s .link .levels) 0 n, w, lt-leb clock-end (s .clock) h, le-leb max-notices (length (s .notices)) k)
+
+          pub notice-good : length (s .notices) < max-notices → verdict (notice len tag) s ≡ 0
+          unfolding verdicts
+          notice-good k = rw (ok, ne-eqb (s .link .levels) 0 n, w, lt-leb clock-end (s .clock) h, lt-leb max-notices (length (s .notices)) k)

@@ -1,10 +1,10 @@
-// The four calls on a state that has been tested: same rules, no second test. A run that has tested once uses these.
+// The five calls on a state that has been tested: same rules, no second test. A run that has tested once uses these.
 ghost use mathlib.Core.Path.{_≡_};
 ghost use mathlib.Core.Bool.{true, cond};
 ghost use Prim.Native.Nat.{ℕ};
 ghost use lib.Dec.{eqb};
 ghost use lib.ListN.{length};
-ghost use Rattle.rules.specs.Model.{link, admit, offer, tick};
+ghost use Rattle.rules.specs.Model.{link, admit, offer, notice, tick};
 ghost use Rattle.rules.specs.Service.{of};
 ghost use Rattle.rules.specs.Calls.{verdict};
 ghost use Rattle.tables.specs.Places.{rows, places, places-length};
@@ -19,6 +19,8 @@ use service::Hub;
 use service::Told;
 use sound::CLOCK_END;
 use sound::MAX_RESERVED;
+use tables::MAX_NOTICES;
+use tables::NOTICE_NUMBER;
 
 const NO_CONNECTION: u32 = 255;
 
@@ -36,9 +38,9 @@ pub fn say(h: Hub, verdict: u32, number: u32) -> Told
 }
 
 // A link is set, once.
-pub fn link_tested(h: Hub, cs: &[u32], t: &[u32], l: Link) -> Told
-    requires { ⌜ sound-hub h (now cs) (now t) ≡ true ⌝ }
-    ensures { λ r. ⌜ Acts (link l) h (now (cs .entry)) (now (t .entry)) r (now (cs .entry)) (now (t .entry)) ⌝ }
+pub fn link_tested(h: Hub, cs: &[u32], t: &[u32], q: &[u32], l: Link) -> Told
+    requires { ⌜ sound-hub h (now cs) (now t) (now q) ≡ true ⌝ }
+    ensures { λ r. ⌜ Acts (link l) h (now (cs .entry)) (now (t .entry)) (now (q .entry)) r (now (cs .entry)) (now (t .entry)) (now (q .entry)) ⌝ }
 {
     if h.link.levels != 0 {
         return say(h, 3, 0);
@@ -52,9 +54,9 @@ pub fn link_tested(h: Hub, cs: &[u32], t: &[u32], l: Link) -> Told
 }
 
 // One tick.
-pub fn tick_tested(h: Hub, cs: &[u32], t: &mut [u32]) -> Told
-    requires { ⌜ sound-hub h (now cs) (now t) ≡ true ⌝ }
-    ensures { λ r. ⌜ Acts tick h (now (cs .entry)) (now (t .entry)) r (now (cs .entry)) (now (t .exit)) ⌝ }
+pub fn tick_tested(h: Hub, cs: &[u32], t: &mut [u32], q: &mut [u32]) -> Told
+    requires { ⌜ sound-hub h (now cs) (now t) (now q) ≡ true ⌝ }
+    ensures { λ r. ⌜ Acts tick h (now (cs .entry)) (now (t .entry)) (now (q .entry)) r (now (cs .entry)) (now (t .exit)) (now (q .exit)) ⌝ }
 {
     if h.link.levels == 0 {
         return say(h, 2, 0);
@@ -62,13 +64,13 @@ pub fn tick_tested(h: Hub, cs: &[u32], t: &mut [u32]) -> Told
     if CLOCK_END <= h.clock {
         return say(h, 13, 0);
     }
-    service::run_tick(h, cs, t)
+    service::run_tick(h, cs, t, q)
 }
 
 // The verdict of an admission.
-fn admit_verdict(h: Hub, cs: &[u32], t: &[u32], n: usize, x: Connection) -> u32
-    requires { ⌜ (sound-hub h (now cs) (now t) ≡ true) × (n ≡ length (members (now cs))) ⌝ }
-    ensures { λ r. ⌜ r ≡ verdict (admit x) (view h (now (cs .entry)) (now (t .entry))) ⌝ }
+fn admit_verdict(h: Hub, cs: &[u32], t: &[u32], q: &[u32], n: usize, x: Connection) -> u32
+    requires { ⌜ (sound-hub h (now cs) (now t) (now q) ≡ true) × (n ≡ length (members (now cs))) ⌝ }
+    ensures { λ r. ⌜ r ≡ verdict (admit x) (view h (now (cs .entry)) (now (t .entry)) (now (q .entry))) ⌝ }
 {
     let l = h.link;
     if l.levels == 0 {
@@ -94,12 +96,12 @@ fn admit_verdict(h: Hub, cs: &[u32], t: &[u32], n: usize, x: Connection) -> u32
 }
 
 // A connection asks to be admitted.
-pub fn admit_tested(h: Hub, cs: &mut [u32], t: &[u32], x: Connection) -> Told
-    requires { ⌜ sound-hub h (now cs) (now t) ≡ true ⌝ }
-    ensures { λ r. ⌜ Acts (admit x) h (now (cs .entry)) (now (t .entry)) r (now (cs .exit)) (now (t .entry)) ⌝ }
+pub fn admit_tested(h: Hub, cs: &mut [u32], t: &[u32], q: &[u32], x: Connection) -> Told
+    requires { ⌜ sound-hub h (now cs) (now t) (now q) ≡ true ⌝ }
+    ensures { λ r. ⌜ Acts (admit x) h (now (cs .entry)) (now (t .entry)) (now (q .entry)) r (now (cs .exit)) (now (t .entry)) (now (q .entry)) ⌝ }
 {
     let n = tables::held(cs);
-    let v = admit_verdict(h, cs, t, n, x);
+    let v = admit_verdict(h, cs, t, q, n, x);
     if v != 0 {
         return say(h, v, NO_CONNECTION);
     }
@@ -133,9 +135,9 @@ fn held_by(t: &[u32], c: u32) -> u64
 }
 
 // The verdict of an offer.
-fn offer_verdict(h: Hub, cs: &[u32], t: &[u32], c: u32, len: u32, tag: u32) -> u32
-    requires { ⌜ sound-hub h (now cs) (now t) ≡ true ⌝ }
-    ensures { λ r. ⌜ r ≡ verdict (offer c len tag) (view h (now (cs .entry)) (now (t .entry))) ⌝ }
+fn offer_verdict(h: Hub, cs: &[u32], t: &[u32], q: &[u32], c: u32, len: u32, tag: u32) -> u32
+    requires { ⌜ sound-hub h (now cs) (now t) (now q) ≡ true ⌝ }
+    ensures { λ r. ⌜ r ≡ verdict (offer c len tag) (view h (now (cs .entry)) (now (t .entry)) (now (q .entry))) ⌝ }
 {
     let l = h.link;
     if l.levels == 0 {
@@ -163,9 +165,9 @@ fn offer_verdict(h: Hub, cs: &[u32], t: &[u32], c: u32, len: u32, tag: u32) -> u
 }
 
 // An offer that is accepted: behind the others, with its eligibility, which is remembered.
-fn accept(h: Hub, cs: &mut [u32], t: &mut [u32], c: u32, len: u32, tag: u32) -> Told
-    requires { ⌜ (sound-hub h (now cs) (now t) ≡ true) × (verdict (offer c len tag) (view h (now cs) (now t)) ≡ 0) ⌝ }
-    ensures { λ r. ⌜ Acts (offer c len tag) h (now (cs .entry)) (now (t .entry)) r (now (cs .exit)) (now (t .exit)) ⌝ }
+fn accept(h: Hub, cs: &mut [u32], t: &mut [u32], q: &[u32], c: u32, len: u32, tag: u32) -> Told
+    requires { ⌜ (sound-hub h (now cs) (now t) (now q) ≡ true) × (verdict (offer c len tag) (view h (now cs) (now t) (now q)) ≡ 0) ⌝ }
+    ensures { λ r. ⌜ Acts (offer c len tag) h (now (cs .entry)) (now (t .entry)) (now (q .entry)) r (now (cs .exit)) (now (t .exit)) (now (q .entry)) ⌝ }
 {
     let k = c as usize;
     let m = lines::member_at(cs, k);
@@ -187,13 +189,77 @@ fn accept(h: Hub, cs: &mut [u32], t: &mut [u32], c: u32, len: u32, tag: u32) -> 
 }
 
 // A packet is offered.
-pub fn offer_tested(h: Hub, cs: &mut [u32], t: &mut [u32], c: u32, len: u32, tag: u32) -> Told
-    requires { ⌜ sound-hub h (now cs) (now t) ≡ true ⌝ }
-    ensures { λ r. ⌜ Acts (offer c len tag) h (now (cs .entry)) (now (t .entry)) r (now (cs .exit)) (now (t .exit)) ⌝ }
+pub fn offer_tested(
+    h: Hub,
+    cs: &mut [u32],
+    t: &mut [u32],
+    q: &[u32],
+    c: u32,
+    len: u32,
+    tag: u32,
+) -> Told
+    requires { ⌜ sound-hub h (now cs) (now t) (now q) ≡ true ⌝ }
+    ensures { λ r. ⌜ Acts (offer c len tag) h (now (cs .entry)) (now (t .entry)) (now (q .entry)) r (now (cs .exit)) (now (t .exit)) (now (q .entry)) ⌝ }
 {
-    let v = offer_verdict(h, cs, t, c, len, tag);
+    let v = offer_verdict(h, cs, t, q, c, len, tag);
     if v != 0 {
         return say(h, v, 0);
     }
-    accept(h, cs, t, c, len, tag)
+    accept(h, cs, t, q, c, len, tag)
+}
+
+// The verdict of a notice.
+fn notice_verdict(
+    h: Hub,
+    cs: &[u32],
+    t: &[u32],
+    q: &[u32],
+    waiting: usize,
+    len: u32,
+    tag: u32,
+) -> u32
+    requires { ⌜ (sound-hub h (now cs) (now t) (now q) ≡ true) × (waiting ≡ length (rows (now q))) ⌝ }
+    ensures { λ r. ⌜ r ≡ verdict (notice len tag) (view h (now (cs .entry)) (now (t .entry)) (now (q .entry))) ⌝ }
+{
+    let l = h.link;
+    if l.levels == 0 {
+        return 2;
+    }
+    if len < 1 {
+        return 11;
+    }
+    if l.largest < len {
+        return 11;
+    }
+    if CLOCK_END <= h.clock {
+        return 13;
+    }
+    if MAX_NOTICES <= waiting {
+        return 15;
+    }
+    0
+}
+
+// A notice is offered.
+pub fn notice_tested(h: Hub, cs: &[u32], t: &[u32], q: &mut [u32], len: u32, tag: u32) -> Told
+    requires { ⌜ sound-hub h (now cs) (now t) (now q) ≡ true ⌝ }
+    ensures { λ r. ⌜ Acts (notice len tag) h (now (cs .entry)) (now (t .entry)) (now (q .entry)) r (now (cs .entry)) (now (t .entry)) (now (q .exit)) ⌝ }
+{
+    let waiting = tables::held(q);
+    let v = notice_verdict(h, cs, t, q, waiting, len, tag);
+    if v != 0 {
+        return say(h, v, 0);
+    }
+    tables::append(
+        q,
+        waiting,
+        Packet {
+            connection: NOTICE_NUMBER,
+            len: len,
+            tag: tag,
+            arrival: h.clock,
+            eligibility: h.clock,
+        },
+    );
+    say(h, 0, h.clock)
 }

@@ -124,7 +124,7 @@ not-eight s x p =
                   other 7 refl,
                   (
                     λ _. ap not p,
-                    (other 9 refl, (other 10 refl, (other 11 refl, (other 12 refl, (other 13 refl, tt))))),
+                    (other 9 refl, (other 10 refl, (other 11 refl, (other 12 refl, (other 13 refl, (other 15 refl, tt)))))),
                   ),
                 ),
               ),

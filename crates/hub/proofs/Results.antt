@@ -3,18 +3,20 @@ use Prim.Native.Nat.{ℕ, zero, suc, _+_, _≤_, _<_}
 use native.Mathlib.Omega.{arith}
 use mathlib.Core.Path.{_≡_, refl, sym, ap, _∙_, subst}
 use mathlib.Core.Bool.{Bool, true, false, cond}
-use mathlib.Core.List.{List, [], _∷_, _++_}
+use mathlib.Core.List.{List, [], _∷_, _++_, map}
 use mathlib.Core.Option.{Option, none, some}
+use lib.Dec.{eqb}
 use lib.ListN.{length, getElem?}
 use Rattle.rules.specs.declared.Packet.{Packet}
 use Rattle.rules.specs.Words.{push}
-use Rattle.rules.specs.Limits.{clock-end}
-use Rattle.rules.specs.Model.{State, Call, link, admit, offer, tick, Answer}
-use Rattle.rules.specs.Service.{of, first, after-unit, started}
+use Rattle.rules.specs.Limits.{clock-end, notice-number}
+use Rattle.rules.specs.declared.Notice.{Notice}
+use Rattle.rules.specs.Model.{State, Call, link, admit, offer, notice, tick, Answer}
+use Rattle.rules.specs.Service.{of, first, notice-departs, packet-departs, after-unit, started}
 use Rattle.rules.specs.SoundState.{Sound}
 use Rattle.rules.specs.SoundTest.{sound}
 use Rattle.rules.specs.Calls.{verdict, done, refused-number, answer}
-use Rattle.rules.specs.Runs.{History, taken, leaving, after, run-from, nothing-yet, run, departures, bound-of, allowed, Keeps-its-gap}
+use Rattle.rules.specs.Runs.{Departure, History, taken, leaving, after, run-from, nothing-yet, run, departures, in-hub, bound-of, allowed, Keeps-its-gap}
 use Rattle.rules.specs.Promises.{Kept-promise}
 use Rattle.rules.proofs.Sums.{cond-is}
 use Rattle.rules.proofs.Tests.{and-intro}
@@ -22,28 +24,31 @@ use Rattle.rules.proofs.Verdicts.{settled}
 use Rattle.rules.proofs.SoundExact.{exact}
 use Rattle.rules.proofs.SoundKept.{kept}
 use Rattle.rules.proofs.Every.{fresh-invariant}
-use Rattle.rules.proofs.Results.{demand-1-refusals, verdict-1-exactly, runs-are-sound, demand-3-first, demand-3-second}
+use Rattle.rules.proofs.Results.{demand-1-refusals, verdict-1-exactly, runs-are-sound, conservation, demand-3-first, demand-3-second}
 use Rattle.tables.specs.Table.{formed}
-use Rattle.tables.specs.Places.{places, places-length, packet-of}
+use Rattle.tables.specs.Places.{places, places-length, packet-of, table-of}
+use Rattle.tables.specs.Notices.{notices-formed}
+use Rattle.tables.proofs.NoticeLaws.{written-formed}
 use Rattle.lines.specs.Members.{members-formed, written-members}
 use Rattle.lines.proofs.WrittenLaws.{writable, read-written, members-formed-back, places-formed-back}
 use Rattle.sound.specs.SoundTables.{places-formed, sound-tables}
 use Rattle.service.specs.declared.Told.{Told}
 use Rattle.service.specs.Candidates.{is-some, packet-or-unused}
 use Rattle.service.specs.View.{view, hub-of, told-of, refusal}
-use Rattle.calls.specs.Acts.{sound-hub, members-of, places-of}
-use Rattle.calls.proofs.ActLaws.{is-sound, members-kept, places-kept}
-use Rattle.hub.specs.Does.{tells, leaves-members, leaves-places, Does}
-use Rattle.hub.specs.Sequence.{Notes, brought, went, call, calls-from, blank, calls, notes-of}
-use Rattle.hub.specs.Promises.{One-outcome, Written-reads-back, Sound-is-written, Demand-1-of-the-code, Verdict-1-of-the-code, Sound-is-kept-by-the-code, Follows-the-rules, Noted-by, Demand-3-first-of-the-code, Kept-by-the-code, Demand-3-second-of-the-code}
+use Rattle.calls.specs.Acts.{sound-hub, members-of, places-of, notices-of}
+use Rattle.calls.proofs.ActLaws.{is-sound, members-kept, places-kept, notices-kept}
+use Rattle.hub.specs.Does.{tells, leaves-members, leaves-places, leaves-notices, Does}
+use Rattle.hub.specs.Sequence.{Notes, brought, went, call, calls-from, blank, calls, state-of, notes-of}
+use Rattle.hub.specs.Promises.{One-outcome, Written-reads-back, Sound-is-written, Demand-1-of-the-code, Verdict-1-of-the-code, Sound-is-kept-by-the-code, Follows-the-rules, Conservation-of-the-code, Noted-by, Demand-3-first-of-the-code, Kept-by-the-code, Demand-3-second-of-the-code}
 
 -- ---- one outcome
 
 pub one-outcome : One-outcome
-one-outcome k h cs t r r′ ds ds′ u u′ D E = record {
+one-outcome k h cs t q r r′ ds ds′ u u′ v v′ D E = record {
   answer = D .answers ∙ sym (E .answers);
   connections = D .connections ∙ sym (E .connections);
   table = D .table ∙ sym (E .table);
+  queue = D .queue ∙ sym (E .queue);
 }
 
 -- ---- reading and writing
@@ -52,49 +57,52 @@ pub written-reads-back : Written-reads-back
 unfolding sound-hub sound-tables places-formed
 written-reads-back s S =
     let w = writable s S in
-    let e : view (hub-of s) (members-of s) (places-of s) ≡ s = read-written s w in (
+    let e : view (hub-of s) (members-of s) (places-of s) (notices-of s) ≡ s = read-written s w in (
       e,
       and-intro (formed packet-of places-length (places-of s)) _ (places-formed-back s w)
-          (and-intro (members-formed (members-of s)) (sound (view (hub-of s) (members-of s) (places-of s))) (members-formed-back (s .connections) (s .pasts) (w .each-past) (w .used) (w .few))
-          (ap sound e ∙ exact s .1 S)),
+          (and-intro (members-formed (members-of s)) _ (members-formed-back (s .connections) (s .pasts) (w .each-past) (w .used) (w .few))
+          (and-intro (notices-formed (notices-of s)) (sound (view (hub-of s) (members-of s) (places-of s) (notices-of s))) (written-formed (s .notices) (w .said) (w .few-said))
+          (ap sound e ∙ exact s .1 S))),
     )
 
 pub sound-is-written : Sound-is-written
-sound-is-written h cs t ok = (is-sound h cs t ok, members-kept h cs t ok, places-kept h cs t ok)
+sound-is-written h cs t q ok = (is-sound h cs t q ok, members-kept h cs t q ok, places-kept h cs t q ok, notices-kept h cs t q ok)
 
 -- ---- demand 1
 
 pub demand-1-of-the-code : Demand-1-of-the-code
-unfolding tells leaves-members leaves-places
-demand-1-of-the-code k h cs t r cs′ t′ D n = go (sound-hub h cs t) refl (D .answers) (D .connections) (D .table)
+unfolding tells leaves-members leaves-places leaves-notices
+demand-1-of-the-code k h cs t q r cs′ t′ q′ D n = go (sound-hub h cs t q) refl (D .answers) (D .connections) (D .table) (D .queue)
   where
-    go : (b : Bool) → sound-hub h cs t ≡ b
-        → r ≡ cond b (told-of (answer k (view h cs t))) (refusal h 1 (refused-number k))
-        → cs′ ≡ cond b (members-of (answer k (view h cs t) .next)) cs
-        → t′ ≡ cond b (places-of (answer k (view h cs t) .next)) t
-        → (r .hub ≡ h) × (cs′ ≡ cs) × (t′ ≡ t) × (r .number ≡ refused-number k) × (r .gone ≡ false)
-    go false e a b c = (ap (λ (x : Told). x .hub) a, b, c, ap (λ (x : Told). x .number) a, ap (λ (x : Told). x .gone) a)
-    go true e a b c =
-        let d = demand-1-refusals k (view h cs t) (λ z. n (ap (λ (x : Told). x .verdict) a ∙ z)) in (
-          ap (λ (x : Told). x .hub) a ∙ ap hub-of (d .0),
-          b ∙ ap members-of (d .0) ∙ sym (members-kept h cs t e),
-          c ∙ ap places-of (d .0) ∙ sym (places-kept h cs t e),
-          ap (λ (x : Told). x .number) a ∙ d .2,
-          ap (λ (x : Told). x .gone) a ∙ ap is-some (d .1),
+    go : (b : Bool) → sound-hub h cs t q ≡ b
+        → r ≡ cond b (told-of (answer k (view h cs t q))) (refusal h 1 (refused-number k))
+        → cs′ ≡ cond b (members-of (answer k (view h cs t q) .next)) cs
+        → t′ ≡ cond b (places-of (answer k (view h cs t q) .next)) t
+        → q′ ≡ cond b (notices-of (answer k (view h cs t q) .next)) q
+        → (r .hub ≡ h) × (cs′ ≡ cs) × (t′ ≡ t) × (q′ ≡ q) × (r .number ≡ refused-number k) × (r .gone ≡ false)
+    go false e a b c d = (ap (λ (x : Told). x .hub) a, b, c, d, ap (λ (x : Told). x .number) a, ap (λ (x : Told). x .gone) a)
+    go true e a b c d =
+        let f = demand-1-refusals k (view h cs t q) (λ z. n (ap (λ (x : Told). x .verdict) a ∙ z)) in (
+          ap (λ (x : Told). x .hub) a ∙ ap hub-of (f .0),
+          b ∙ ap members-of (f .0) ∙ sym (members-kept h cs t q e),
+          c ∙ ap places-of (f .0) ∙ sym (places-kept h cs t q e),
+          d ∙ ap notices-of (f .0) ∙ sym (notices-kept h cs t q e),
+          ap (λ (x : Told). x .number) a ∙ f .2,
+          ap (λ (x : Told). x .gone) a ∙ ap is-some (f .1),
         )
 
 pub verdict-1-of-the-code : Verdict-1-of-the-code
 unfolding tells
-verdict-1-of-the-code k h cs t r cs′ t′ D = (
+verdict-1-of-the-code k h cs t q r cs′ t′ q′ D = (
   λ e. rw (D .answers, e) refl,
-  λ e z. verdict-1-exactly k (view h cs t) .0 (rw (D .answers, e) at z) (is-sound h cs t e),
+  λ e z. verdict-1-exactly k (view h cs t q) .0 (rw (D .answers, e) at z) (is-sound h cs t q e),
 )
 
 pub sound-is-kept-by-the-code : Sound-is-kept-by-the-code
-unfolding tells leaves-members leaves-places
-sound-is-kept-by-the-code k h cs t r cs′ t′ D e =
-    rw (D .answers, D .connections, D .table, e)
-    (written-reads-back (answer k (view h cs t) .next) (kept k (view h cs t) (is-sound h cs t e)) .1)
+unfolding tells leaves-members leaves-places leaves-notices
+sound-is-kept-by-the-code k h cs t q r cs′ t′ q′ D e =
+    rw (D .answers, D .connections, D .table, D .queue, e)
+    (written-reads-back (answer k (view h cs t q) .next) (kept k (view h cs t q) (is-sound h cs t q e)) .1)
 
 -- ---- any calls follow the rules
 
@@ -103,9 +111,18 @@ option-left : (s : State) (o : Option Packet) → cond (is-some o) (some (record
 option-left s none = refl
 option-left s (some p) = refl
 
+notice-left : (s : State) (ns : List Notice) → went (told-of (notice-departs s ns)) ≡ leaving s (notice-departs s ns .departed)
+notice-left s [] = refl
+notice-left s (n ∷ ns) = refl
+
+last-left : (s : State) (b : Bool)
+    → went (told-of (cond b (notice-departs s (s .notices)) (packet-departs s))) ≡ leaving s (cond b (notice-departs s (s .notices)) (packet-departs s) .departed)
+last-left s true = notice-left s (s .notices)
+last-left s false = option-left s (first (s .serving) (s .held))
+
 unit-left : (s : State) (u : ℕ) → went (told-of (after-unit s u)) ≡ leaving s (after-unit s u .departed)
 unit-left s zero = refl
-unit-left s (suc zero) = option-left s (first (s .serving) (s .held))
+unit-left s (suc zero) = last-left s (eqb (s .serving) notice-number)
 unit-left s (suc (suc u)) = refl
 
 -- a departure is dated by the clock alone
@@ -117,6 +134,7 @@ done-left : (k : Call) (s : State) → went (told-of (done k s)) ≡ leaving s (
 done-left (link l) s = refl
 done-left (admit x) s = refl
 done-left (offer c len tag) s = refl
+done-left (notice len tag) s = refl
 done-left tick s = unit-left (started s) (started s .to-go) ∙ same-date s (done tick s .departed)
 
 answer-left : (k : Call) (s : State) → went (told-of (answer k s)) ≡ leaving s (answer k s .departed)
@@ -126,51 +144,64 @@ answer-brought : (k : Call) (s : State) (a : Answer) → brought k (hub-of s) (t
 answer-brought (link l) s a = refl
 answer-brought (admit x) s a = refl
 answer-brought (offer c len tag) s a = refl
+answer-brought (notice len tag) s a = refl
 answer-brought tick s a = refl
 
 module _ (s : State) (S : Sound s) where
-  ok : sound-hub (hub-of s) (members-of s) (places-of s) ≡ true
+  ok : sound-hub (hub-of s) (members-of s) (places-of s) (notices-of s) ≡ true
   ok = written-reads-back s S .1
 
-  back : view (hub-of s) (members-of s) (places-of s) ≡ s
+  back : view (hub-of s) (members-of s) (places-of s) (notices-of s) ≡ s
   back = written-reads-back s S .0
 
-  same-tells : (k : Call) → tells k (hub-of s) (members-of s) (places-of s) ≡ told-of (answer k s)
+  same-tells : (k : Call) → tells k (hub-of s) (members-of s) (places-of s) (notices-of s) ≡ told-of (answer k s)
   unfolding tells
   same-tells k = cond-is _ (refusal (hub-of s) 1 (refused-number k)) ok ∙ ap (λ (r : State). told-of (answer k r)) back
 
-  same-members : (k : Call) → leaves-members k (hub-of s) (members-of s) (places-of s) ≡ members-of (answer k s .next)
+  same-members : (k : Call) → leaves-members k (hub-of s) (members-of s) (places-of s) (notices-of s) ≡ members-of (answer k s .next)
   unfolding leaves-members
   same-members k = cond-is _ (members-of s) ok ∙ ap (λ (r : State). members-of (answer k r .next)) back
 
-  same-places : (k : Call) → leaves-places k (hub-of s) (members-of s) (places-of s) ≡ places-of (answer k s .next)
+  same-places : (k : Call) → leaves-places k (hub-of s) (members-of s) (places-of s) (notices-of s) ≡ places-of (answer k s .next)
   unfolding leaves-places
   same-places k = cond-is _ (places-of s) ok ∙ ap (λ (r : State). places-of (answer k r .next)) back
+
+  same-notices : (k : Call) → leaves-notices k (hub-of s) (members-of s) (places-of s) (notices-of s) ≡ notices-of (answer k s .next)
+  unfolding leaves-notices
+  same-notices k = cond-is _ (notices-of s) ok ∙ ap (λ (r : State). notices-of (answer k r .next)) back
 
 -- a call on what a state of the rules is written as
 follows-one : (h : History) (k : Call) → Sound (h .now) → call (notes-of h) k ≡ notes-of (after h k)
 follows-one h k S =
-    ap (λ (r : Told). record { accepted = push (h .accepted) (brought k (hub-of (h .now)) r); departed = push (h .departed) (went r); hub = r .hub; members = leaves-members k (hub-of (h .now)) (members-of (h .now)) (places-of (h .now)); places = leaves-places k (hub-of (h .now)) (members-of (h .now)) (places-of (h .now)) })
+    ap (λ (r : Told). record { accepted = push (h .accepted) (brought k (hub-of (h .now)) r); departed = push (h .departed) (went r); hub = r .hub; members = leaves-members k (hub-of (h .now)) (members-of (h .now)) (places-of (h .now)) (notices-of (h .now)); places = leaves-places k (hub-of (h .now)) (members-of (h .now)) (places-of (h .now)) (notices-of (h .now)); notices = leaves-notices k (hub-of (h .now)) (members-of (h .now)) (places-of (h .now)) (notices-of (h .now)) })
     (same-tells (h .now) S k)
-    ∙ rw (same-members (h .now) S k, same-places (h .now) S k, answer-left k (h .now), answer-brought k (h .now) (answer k (h .now)))
+    ∙ rw (same-members (h .now) S k, same-places (h .now) S k, same-notices (h .now) S k, answer-left k (h .now), answer-brought k (h .now) (answer k (h .now)))
 
 follows-from : (ks : List Call) (h : History) → Sound (h .now) → calls-from (notes-of h) ks ≡ notes-of (run-from h ks)
 follows-from [] h S = refl
 follows-from (k ∷ ks) h S = ap (λ (g : Notes). calls-from g ks) (follows-one h k S) ∙ follows-from ks (after h k) (kept k (h .now) S)
 
 blank-is : blank ≡ notes-of nothing-yet
-unfolding written-members places
+unfolding written-members places table-of
 blank-is = refl
 
 pub follows-the-rules : Follows-the-rules
 follows-the-rules ks = ap (λ (g : Notes). calls-from g ks) blank-is ∙ follows-from ks nothing-yet (fresh-invariant .sound)
 
+-- ---- conservation
+
+pub conservation-of-the-code : Conservation-of-the-code
+conservation-of-the-code ks c =
+    subst (λ (g : Notes). of c (g .accepted) ≡ map (λ (d : Departure). d .what) (departures c (g .departed)) ++ of c (in-hub (state-of g)))
+    (sym (follows-the-rules ks))
+    (conservation ks c ∙ ap (λ (s : State). map (λ (d : Departure). d .what) (departures c (run ks .departed)) ++ of c (in-hub s)) (sym (back (run ks .now) (runs-are-sound ks))))
+
 -- ---- demand 3
 
 pub demand-3-first-of-the-code : Demand-3-first-of-the-code
-demand-3-first-of-the-code ks c i p is over =
+demand-3-first-of-the-code ks c i p level is over =
     let e = follows-the-rules ks in
-    let k = demand-3-first ks c i p (subst (λ (g : Notes). getElem? (of c (g .accepted)) i ≡ some p) e is) (subst (λ (g : Notes). p .eligibility + bound-of (run ks .now) c ≤ g .hub .clock) e over) in
+    let k = demand-3-first ks c i p level (subst (λ (g : Notes). getElem? (of c (g .accepted)) i ≡ some p) e is) (subst (λ (g : Notes). p .eligibility + bound-of (run ks .now) c ≤ g .hub .clock) e over) in
     record { finish = k .finish; is-departure = subst (λ (g : Notes). getElem? (departures c (g .departed)) i ≡ some (record { what = p; finish = k .finish })) (sym e) (k .is-departure); in-time = k .in-time }
 
 module _ (earlier later : List Call) (c len tag : ℕ) (word : Keeps-its-gap c (earlier ++ offer c len tag ∷ [])) (good : allowed (run earlier .now) c len ≡ true) where
@@ -180,11 +211,11 @@ module _ (earlier later : List Call) (c len tag : ℕ) (word : Keeps-its-gap c (
   same-clock : calls earlier .hub .clock ≡ run earlier .now .clock
   same-clock = ap (λ (g : Notes). g .hub .clock) (follows-the-rules earlier)
 
-  told : (r : Told) (cs t : List ℕ) → Does (offer c len tag) (calls earlier .hub) (calls earlier .members) (calls earlier .places) r cs t
+  told : (r : Told) (cs t q : List ℕ) → Does (offer c len tag) (calls earlier .hub) (calls earlier .members) (calls earlier .places) (calls earlier .notices) r cs t q
       → r ≡ told-of (answer (offer c len tag) (run earlier .now))
-  told r cs t D =
+  told r cs t q D =
       D .answers
-      ∙ ap (λ (g : Notes). tells (offer c len tag) (g .hub) (g .members) (g .places)) (follows-the-rules earlier)
+      ∙ ap (λ (g : Notes). tells (offer c len tag) (g .hub) (g .members) (g .places) (g .notices)) (follows-the-rules earlier)
       ∙ same-tells (run earlier .now) (runs-are-sound earlier) (offer c len tag)
 
   -- the packet in the notes g of the calls before it and G of all
@@ -204,9 +235,9 @@ module _ (earlier later : List Call) (c len tag : ℕ) (word : Keeps-its-gap c (
 
   kept-by-the-code : Kept-by-the-code earlier later c len tag
   kept-by-the-code = record {
-    never-for-room = λ r cs t D z. promise .never-for-room (sym (ap (λ (x : Told). x .verdict) (told r cs t D)) ∙ z);
-    accepted = λ r cs t D l.
-        let a = told r cs t D in
+    never-for-room = λ r cs t q D z. promise .never-for-room (sym (ap (λ (x : Told). x .verdict) (told r cs t q D)) ∙ z);
+    accepted = λ r cs t q D l.
+        let a = told r cs t q D in
         let running : run earlier .now .clock < clock-end = omega (arith, same-clock) in
         (ap (λ (x : Told). x .verdict) a ∙ promise .accepted running, ap (λ (x : Told). x .number) a ∙ promise .on-arrival running ∙ sym same-clock);
     in-time = λ l over.

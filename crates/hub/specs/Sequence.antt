@@ -6,29 +6,34 @@ use mathlib.Core.Option.{Option, none, some}
 use lib.ListN.{replicate}
 use Rattle.rules.specs.declared.Packet.{Packet}
 use Rattle.rules.specs.Words.{push}
-use Rattle.rules.specs.Model.{Call, link, admit, offer, tick, fresh}
+use Rattle.rules.specs.Limits.{notice-number}
+use Rattle.rules.specs.Model.{State, Call, link, admit, offer, notice, tick, fresh}
 use Rattle.rules.specs.Runs.{Departure, History, if-done}
 use Rattle.tables.specs.Places.{places-length}
+use Rattle.tables.specs.Notices.{notices-length}
 use Rattle.lines.specs.Members.{members-length}
 use Rattle.service.specs.declared.Hub.{Hub}
 use Rattle.service.specs.declared.Told.{Told}
-use Rattle.service.specs.View.{hub-of}
-use Rattle.calls.specs.Acts.{members-of, places-of}
-use Rattle.hub.specs.Does.{tells, leaves-members, leaves-places}
+use Rattle.service.specs.View.{view, hub-of}
+use Rattle.calls.specs.Acts.{members-of, places-of, notices-of}
+use Rattle.hub.specs.Does.{tells, leaves-members, leaves-places, leaves-notices}
 
--- a caller's notes: the packets that were accepted and the departures, each read off the answers, and what the caller keeps between the calls
+-- a caller's notes: the packets that were accepted, notices among them, and the departures, each read off the answers, and what the caller keeps between the calls
 pub record Notes : Type 0 where
   pub accepted : List Packet
   pub departed : List Departure
   pub hub : Hub
   pub members : List ℕ
   pub places : List ℕ
+  pub notices : List ℕ
 
 -- the packet that an answer says was accepted, the departure that it tells
 abbrev pub brought : Call → Hub → Told → Option Packet
 brought (link l) h r = none
 brought (admit x) h r = none
 brought (offer c len tag) h r = if-done (r .verdict) (record { connection = c; len = len; tag = tag; arrival = h .clock; eligibility = r .number })
+brought (notice len tag) h r =
+    if-done (r .verdict) (record { connection = notice-number; len = len; tag = tag; arrival = h .clock; eligibility = r .number })
 brought tick h r = none
 
 abbrev pub went : Told → Option Departure
@@ -37,26 +42,45 @@ went r = cond (r .gone) (some (record { what = r .packet; finish = r .hub .clock
 -- a call on what the last one left: `Does` leaves this answer and these tables, and no others
 abbrev pub call : Notes → Call → Notes
 call g k =
-    let r = tells k (g .hub) (g .members) (g .places) in
+    let r = tells k (g .hub) (g .members) (g .places) (g .notices) in
     record {
       accepted = push (g .accepted) (brought k (g .hub) r);
       departed = push (g .departed) (went r);
       hub = r .hub;
-      members = leaves-members k (g .hub) (g .members) (g .places);
-      places = leaves-places k (g .hub) (g .members) (g .places);
+      members = leaves-members k (g .hub) (g .members) (g .places) (g .notices);
+      places = leaves-places k (g .hub) (g .members) (g .places) (g .notices);
+      notices = leaves-notices k (g .hub) (g .members) (g .places) (g .notices);
     }
 
 abbrev pub calls-from : Notes → List Call → Notes
 calls-from g [] = g
 calls-from g (k ∷ ks) = calls-from (call g k) ks
 
--- the fresh hub and two tables of zeros
+-- the fresh hub and three tables of zeros
 abbrev pub blank : Notes
-blank = record { accepted = []; departed = []; hub = hub-of fresh; members = replicate members-length 0; places = replicate places-length 0 }
+blank = record {
+  accepted = [];
+  departed = [];
+  hub = hub-of fresh;
+  members = replicate members-length 0;
+  places = replicate places-length 0;
+  notices = replicate notices-length 0;
+}
 
 abbrev pub calls : List Call → Notes
 calls ks = calls-from blank ks
 
+-- the state that what the caller keeps stands for
+abbrev pub state-of : Notes → State
+state-of g = view (g .hub) (g .members) (g .places) (g .notices)
+
 -- the same notes of a run of the rules
 abbrev pub notes-of : History → Notes
-notes-of h = record { accepted = h .accepted; departed = h .departed; hub = hub-of (h .now); members = members-of (h .now); places = places-of (h .now) }
+notes-of h = record {
+  accepted = h .accepted;
+  departed = h .departed;
+  hub = hub-of (h .now);
+  members = members-of (h .now);
+  places = places-of (h .now);
+  notices = notices-of (h .now);
+}

@@ -1,7 +1,8 @@
-// The hub of one output line: link, admit, offer, tick. Any hub value and any tables: an answer or a numbered refusal; a refused call changes nothing.
-// The caller keeps a `Hub`, a table of connections of 320 numbers and a places table of 2,560 numbers, all zero at first, and hands them to every call.
+// The hub of one output line: link, admit, offer, notice, tick. Any hub value and any tables: an answer or a numbered refusal; a refused call changes nothing.
+// The caller keeps a `Hub`, a table of connections of 320 numbers, a places table of 2,560 and a table of notices of 320, all zero at first, and hands them
+// to every call.
 ghost use mathlib.Core.Path.{_≡_};
-ghost use Rattle.rules.specs.Model.{fresh, link, admit, offer, tick};
+ghost use Rattle.rules.specs.Model.{fresh, link, admit, offer, notice, tick};
 ghost use Rattle.service.specs.View.{hub-of};
 ghost use Rattle.hub.specs.Does.{Does};
 use rules::Connection;
@@ -9,7 +10,7 @@ use rules::Link;
 use service::Hub;
 use service::Told;
 
-// The fresh hub; its two tables start as zeros.
+// The fresh hub; its three tables start as zeros.
 pub fn fresh_hub() -> Hub
     ensures { λ r. ⌜ r ≡ hub-of fresh ⌝ }
 {
@@ -26,45 +27,56 @@ pub fn fresh_hub() -> Hub
 }
 
 // Set the link: levels, the largest packet, a delay bound for each level. Verdicts 0, 1, 3, 4.
-pub fn link(h: Hub, cs: &[u32], t: &[u32], l: Link) -> Told
-    ensures { λ r. ⌜ Does (link l) h (now (cs .entry)) (now (t .entry)) r (now (cs .entry)) (now (t .entry)) ⌝ }
+pub fn link(h: Hub, cs: &[u32], t: &[u32], q: &[u32], l: Link) -> Told
+    ensures { λ r. ⌜ Does (link l) h (now (cs .entry)) (now (t .entry)) (now (q .entry)) r (now (cs .entry)) (now (t .entry)) (now (q .entry)) ⌝ }
 {
     let set = h.link;
-    if !sound::is_sound(set, cs, t, h.clock, h.serving, h.units) {
+    if !sound::is_sound(set, cs, t, q, h.clock, h.serving, h.units) {
         return calls::say(h, 1, 0);
     }
-    calls::link_tested(h, cs, t, l)
+    calls::link_tested(h, cs, t, q, l)
 }
 
 // Admit a connection: its number, or 255. Verdicts 0, 1, 2, 5 to 9.
-pub fn admit(h: Hub, cs: &mut [u32], t: &[u32], x: Connection) -> Told
-    ensures { λ r. ⌜ Does (admit x) h (now (cs .entry)) (now (t .entry)) r (now (cs .exit)) (now (t .entry)) ⌝ }
+pub fn admit(h: Hub, cs: &mut [u32], t: &[u32], q: &[u32], x: Connection) -> Told
+    ensures { λ r. ⌜ Does (admit x) h (now (cs .entry)) (now (t .entry)) (now (q .entry)) r (now (cs .exit)) (now (t .entry)) (now (q .entry)) ⌝ }
 {
     let set = h.link;
-    if !sound::is_sound(set, cs, t, h.clock, h.serving, h.units) {
+    if !sound::is_sound(set, cs, t, q, h.clock, h.serving, h.units) {
         return calls::say(h, 1, 255);
     }
-    calls::admit_tested(h, cs, t, x)
+    calls::admit_tested(h, cs, t, q, x)
 }
 
 // Offer a packet: its eligibility, or 0. Verdicts 0, 1, 2, 10 to 13.
-pub fn offer(h: Hub, cs: &mut [u32], t: &mut [u32], c: u32, len: u32, tag: u32) -> Told
-    ensures { λ r. ⌜ Does (offer c len tag) h (now (cs .entry)) (now (t .entry)) r (now (cs .exit)) (now (t .exit)) ⌝ }
+pub fn offer(h: Hub, cs: &mut [u32], t: &mut [u32], q: &[u32], c: u32, len: u32, tag: u32) -> Told
+    ensures { λ r. ⌜ Does (offer c len tag) h (now (cs .entry)) (now (t .entry)) (now (q .entry)) r (now (cs .exit)) (now (t .exit)) (now (q .entry)) ⌝ }
 {
     let set = h.link;
-    if !sound::is_sound(set, cs, t, h.clock, h.serving, h.units) {
+    if !sound::is_sound(set, cs, t, q, h.clock, h.serving, h.units) {
         return calls::say(h, 1, 0);
     }
-    calls::offer_tested(h, cs, t, c, len, tag)
+    calls::offer_tested(h, cs, t, q, c, len, tag)
+}
+
+// Offer a notice: its eligibility, which is its arrival, or 0. Verdicts 0, 1, 2, 11, 13, 15.
+pub fn notice(h: Hub, cs: &[u32], t: &[u32], q: &mut [u32], len: u32, tag: u32) -> Told
+    ensures { λ r. ⌜ Does (notice len tag) h (now (cs .entry)) (now (t .entry)) (now (q .entry)) r (now (cs .entry)) (now (t .entry)) (now (q .exit)) ⌝ }
+{
+    let set = h.link;
+    if !sound::is_sound(set, cs, t, q, h.clock, h.serving, h.units) {
+        return calls::say(h, 1, 0);
+    }
+    calls::notice_tested(h, cs, t, q, len, tag)
 }
 
 // One tick: the packet that departed, with finish at the hub's clock then, or none. Verdicts 0, 1, 2, 13.
-pub fn tick(h: Hub, cs: &[u32], t: &mut [u32]) -> Told
-    ensures { λ r. ⌜ Does tick h (now (cs .entry)) (now (t .entry)) r (now (cs .entry)) (now (t .exit)) ⌝ }
+pub fn tick(h: Hub, cs: &[u32], t: &mut [u32], q: &mut [u32]) -> Told
+    ensures { λ r. ⌜ Does tick h (now (cs .entry)) (now (t .entry)) (now (q .entry)) r (now (cs .entry)) (now (t .exit)) (now (q .exit)) ⌝ }
 {
     let set = h.link;
-    if !sound::is_sound(set, cs, t, h.clock, h.serving, h.units) {
+    if !sound::is_sound(set, cs, t, q, h.clock, h.serving, h.units) {
         return calls::say(h, 1, 0);
     }
-    calls::tick_tested(h, cs, t)
+    calls::tick_tested(h, cs, t, q)
 }

@@ -7,6 +7,8 @@ use crate::world::ASKED;
 use crate::world::CALL;
 use crate::world::CLOCK;
 use crate::world::LENT;
+use crate::world::LENT_NOTICES;
+use crate::world::NOTICES;
 use crate::world::NOWHERE;
 use crate::world::PLACES;
 use crate::world::READ;
@@ -16,6 +18,7 @@ use crate::world::bound;
 use crate::world::connection;
 use crate::world::copy;
 use crate::world::get;
+use crate::world::notice;
 use crate::world::place;
 use crate::world::put;
 use rules::Packet;
@@ -24,19 +27,20 @@ use std::num::wrapping_add_u32;
 use std::num::wrapping_add_usize;
 use std::num::wrapping_sub_u32;
 
-// Which form it is: 0 to 6 calls; 7 more; 8, 9 looks; 10 to 14 acts; 15 to 30 numbers changed by hand; then end, group, recipe, and nothing at all.
+// Which form it is: 0 to 8 calls; 9 more; 10 to 12 looks; 13 to 18 acts; 19 to 40 numbers changed by hand; then end, group, recipe, and nothing at all.
 pub fn number_of(f: Form) -> u32 {
     let forms =
-        b":link##########=#:admit###=##:offer###=##:refusedtick=#:tick=##:ticks#=##:gone######:more######:clockis#:rowsare#\
-        :fresh:undo:lengths##:connectionsall#:placesall#:clock#:serving#:units#:levels#:largest#:bound##:level##:size##:gap##\
-        :sent##:last##:connection##:length##:tag##:arrival##:eligibility##:end:group:recipe::";
+        b":link##########=#:admit###=##:offer###=##:refusedtick=#:tick=##:ticks#=##:gone######:notice##=##:gonenotice###:more######:clockis#:rowsare#\
+        :noticesare#:fresh:undo:lengths##:connectionsall#:placesall#:noticesall#:clock#:serving#:units#:levels#:largest#:bound##:level##:size##:gap##\
+        :sent##:last##:connection##:length##:tag##:arrival##:eligibility##:noticeconnection##:noticelength##:noticetag##:noticearrival##\
+        :noticeeligibility##:noticeslent#:end:group:recipe::";
     let text = f.text;
     wrapping_sub_u32(count(forms, find(forms, text, f.bytes), b':'), 2)
 }
 
 // The fresh hub, tables of zeros, lent in their lengths.
 pub fn fresh() -> World {
-    let zeros = World { n: [0; 3456] };
+    let zeros = World { n: [0; 3857] };
     let none = Packet {
         connection: 0,
         len: 0,
@@ -51,16 +55,19 @@ pub fn fresh() -> World {
         packet: none,
         hub: hub::fresh_hub(),
     };
-    put(put(world::told(zeros, told), LENT, 320), LENT + 1, 2560)
+    let tables = put(put(world::told(zeros, told), LENT, 320), LENT + 1, 2560);
+    put(tables, LENT_NOTICES, 320)
 }
 
 // Where the number stands that a form changes by hand, in the row n where there are rows.
 pub fn changed(k: u32, n: u32) -> usize {
     match k {
-        15..=19 => CLOCK + (k - 15) as usize,
-        20 => bound(n),
-        21..=25 => connection(n) + (k - 21) as usize,
-        26..=30 => place(n) + (k - 26) as usize,
+        19..=23 => CLOCK + (k - 19) as usize,
+        24 => bound(n),
+        25..=29 => connection(n) + (k - 25) as usize,
+        30..=34 => place(n) + (k - 30) as usize,
+        35..=39 => notice(n) + (k - 35) as usize,
+        40 => LENT_NOTICES,
         _ => NOWHERE,
     }
 }
@@ -69,9 +76,10 @@ pub fn changed(k: u32, n: u32) -> usize {
 pub fn acted(w: World, k: u32) -> World {
     let v = get(w, VALUE);
     match k {
-        12 => copy(w, LENT, READ, 2),
+        15 => copy(w, LENT, READ, 2),
         // a number that goes to the next place, and on from there, fills them all
-        13 => copy(put(w, 0, v), 1, 0, 319),
+        16 => copy(put(w, 0, v), 1, 0, 319),
+        18 => copy(put(w, NOTICES, v), NOTICES + 1, NOTICES, 319),
         _ => copy(put(w, PLACES, v), PLACES + 1, PLACES, 2559),
     }
 }
@@ -91,7 +99,7 @@ pub fn called(w: World) -> World {
     let mut i: u32 = 0;
     while i < times {
         let n = x.n;
-        x = world::call(x, n, n);
+        x = world::call(x, n, n, n);
         i += 1;
     }
     x

@@ -5,28 +5,42 @@ use crate::world::CLOCK;
 use crate::world::GONE;
 use crate::world::LEVELS;
 use crate::world::NONE;
+use crate::world::NOTICES;
 use crate::world::NUMBER;
 use crate::world::PACKET;
+use crate::world::PLACES;
 use crate::world::SERVING;
 use crate::world::VERDICT;
 use crate::world::World;
 use crate::world::connection;
 use crate::world::copy;
 use crate::world::get;
+use crate::world::notice;
 use crate::world::place;
 use crate::world::put;
 use std::num::wrapping_add_u32;
+use std::num::wrapping_add_usize;
 
-// The first row of the places that is not used: its length is 0.
-pub fn rows(w: World) -> u32 {
+// The first row that is not used, of so many whose lengths stand from a place on: its length is 0.
+fn used(w: World, lengths: usize, most: u32) -> u32 {
+    let mut at = lengths;
     let mut i: u32 = 0;
-    while i < 600 {
-        if get(w, place(i) + 1) == 0 {
+    while i < most {
+        if get(w, at) == 0 {
             return i;
         }
+        at = wrapping_add_usize(at, 5);
         i += 1;
     }
     i
+}
+
+pub fn rows(w: World) -> u32 {
+    used(w, PLACES + 1, 600)
+}
+
+pub fn notices(w: World) -> u32 {
+    used(w, NOTICES + 1, 80)
 }
 
 // A row of the connections: level, size, gap.
@@ -47,6 +61,14 @@ fn offered(w: World) -> World {
     copy(put(z, past, 1), past + 1, NUMBER, 1)
 }
 
+// A notice behind the others: its mark, and the eligibility that was answered.
+fn noted(w: World) -> World {
+    let at = notice(notices(w));
+    let x = copy(put(w, at, 254), at + 1, ASKED, 2);
+    let y = copy(x, at + 3, CLOCK, 1);
+    copy(y, at + 4, NUMBER, 1)
+}
+
 // Ticks with no departure: the line after them stands at a place.
 fn quiet(w: World, n: u32, line: usize) -> World {
     let x = put(w, CLOCK, wrapping_add_u32(get(w, CLOCK), n));
@@ -61,6 +83,14 @@ fn gone(w: World) -> World {
     copy(y, at, at + 5, 3000)
 }
 
+// The first notice has gone, eligible on arrival: the others move up, the line is idle.
+fn notice_gone(w: World) -> World {
+    let x = put(put(quiet(w, 1, NONE), GONE, 1), PACKET, 254);
+    let y = copy(x, PACKET + 1, ASKED, 3);
+    let z = copy(y, PACKET + 4, ASKED + 2, 1);
+    copy(z, NOTICES, NOTICES + 5, 395)
+}
+
 // The answer, a verdict and a number with no packet, and where the verdict is 0 what the call does; the rest stays as it is.
 pub fn expect(w: World) -> World {
     let call = get(w, CALL);
@@ -68,6 +98,7 @@ pub fn expect(w: World) -> World {
         0 => ASKED + 10,
         1 | 2 => ASKED + 3,
         3 => ASKED,
+        7 => ASKED + 2,
         _ => NONE,
     };
     let x = put(copy(w, VERDICT, at, 2), GONE, 0);
@@ -82,6 +113,8 @@ pub fn expect(w: World) -> World {
         3 => y,
         4 => quiet(y, 1, ASKED),
         5 => quiet(y, get(y, ASKED), ASKED + 1),
-        _ => gone(y),
+        6 => gone(y),
+        7 => noted(y),
+        _ => notice_gone(y),
     }
 }

@@ -171,35 +171,36 @@ fn obey(text: &[u8], f: Form, s: State, k: u32) -> State {
     let w = s.now;
     let mut x = s;
     match k {
-        0..=6 => case(s, put(copy(w, ASKED, READ, 15), CALL, k)),
-        7 => repeated(s),
-        8 => counted(s, w, get(w, CLOCK) == get(w, READ)),
-        9 => counted(s, w, expect::rows(w) == get(w, READ)),
-        10 => {
+        0..=8 => case(s, put(copy(w, ASKED, READ, 15), CALL, k)),
+        9 => repeated(s),
+        10 => counted(s, w, get(w, CLOCK) == get(w, READ)),
+        11 => counted(s, w, expect::rows(w) == get(w, READ)),
+        12 => counted(s, w, expect::notices(w) == get(w, READ)),
+        13 => {
             let y = act::fresh();
             x.now = y;
             x.kept = y;
             x
         }
-        11 => {
+        14 => {
             let y = s.kept;
             x.now = y;
             x
         }
-        12..=14 => {
+        15..=18 => {
             let y = act::acted(w, k);
             x.now = y;
             x
         }
-        15..=30 => changed(text, s, k),
-        31 => ended(text, s),
-        32 => opened(text, s),
+        19..=40 => changed(text, s, k),
+        41 => ended(text, s),
+        42 => opened(text, s),
         // the script ends where the recipes begin
-        33 => {
+        43 => {
             x.next = text.len();
             x
         }
-        34 => s,
+        44 => s,
         _ => called(text, f, s),
     }
 }

@@ -1,4 +1,4 @@
-// The hub with both its tables and its last answer as numbers at places, and the calls on it.
+// The hub with its three tables and its last answer as numbers at places, and the calls on it.
 ghost use Prim.Native.Nat.{_≤_};
 use rules::Connection;
 use rules::Link;
@@ -7,45 +7,50 @@ use service::Told;
 use std::num::wrapping_add_usize;
 
 pub struct World {
-    pub n: [u32; 3456],
+    pub n: [u32; 3857],
 }
 
-// Rows of connections stand from 0 on: 80, of which 64 are lent as a rule. Then the last answer: verdict, number, 1 if a packet has gone, the packet.
-pub const VERDICT: usize = 400;
+// Rows of connections stand from 0 on: 80, of which 64 are lent as a rule; then as many of notices.
+pub const NOTICES: usize = 400;
 
-pub const NUMBER: usize = 401;
+// The last answer: verdict, number, 1 if a packet has gone, the packet.
+pub const VERDICT: usize = 800;
 
-pub const GONE: usize = 402;
+pub const NUMBER: usize = 801;
 
-pub const PACKET: usize = 403;
+pub const GONE: usize = 802;
+
+pub const PACKET: usize = 803;
 
 // The hub: clock, serving, units, levels, largest packet, eight bounds.
-pub const CLOCK: usize = 408;
+pub const CLOCK: usize = 808;
 
-pub const SERVING: usize = 409;
+pub const SERVING: usize = 809;
 
-pub const LEVELS: usize = 411;
+pub const LEVELS: usize = 811;
 
-pub const BOUNDS: usize = 413;
+pub const BOUNDS: usize = 813;
 
-// How many numbers are lent as connections, and as places.
-pub const LENT: usize = 421;
+// How many numbers are lent as connections, as places, and as notices.
+pub const LENT: usize = 821;
+
+pub const LENT_NOTICES: usize = 823;
 
 // The last number that was read, then all numbers that were; those of the last call, which are at most 12, so that two zeros end them; which call it was.
-pub const VALUE: usize = 423;
+pub const VALUE: usize = 824;
 
-pub const READ: usize = 424;
+pub const READ: usize = 825;
 
-pub const ASKED: usize = 440;
+pub const ASKED: usize = 841;
 
-pub const NONE: usize = 453;
+pub const NONE: usize = 854;
 
-pub const CALL: usize = 455;
+pub const CALL: usize = 856;
 
-pub const PLACES: usize = 456;
+pub const PLACES: usize = 857;
 
 // No place: what is put there makes the world differ from every other.
-pub const NOWHERE: usize = 3456;
+pub const NOWHERE: usize = 3857;
 
 pub fn get(w: World, at: usize) -> u32 {
     if NOWHERE <= at {
@@ -107,7 +112,7 @@ pub fn same(a: World, b: World) -> bool {
 
 // Where a row of the connections begins.
 pub fn connection(k: u32) -> usize
-    ensures { λ r. ⌜ r ≤ 3456 ⌝ }
+    ensures { λ r. ⌜ r ≤ 3857 ⌝ }
 {
     if 80 <= k {
         return NOWHERE;
@@ -115,9 +120,19 @@ pub fn connection(k: u32) -> usize
     5 * (k as usize)
 }
 
+// Where a row of the notices begins.
+pub fn notice(k: u32) -> usize
+    ensures { λ r. ⌜ r ≤ 3857 ⌝ }
+{
+    if 80 <= k {
+        return NOWHERE;
+    }
+    NOTICES + 5 * (k as usize)
+}
+
 // Where a row of the places begins.
 pub fn place(k: u32) -> usize
-    ensures { λ r. ⌜ r ≤ 3456 ⌝ }
+    ensures { λ r. ⌜ r ≤ 3857 ⌝ }
 {
     if 600 <= k {
         return NOWHERE;
@@ -136,22 +151,22 @@ pub fn bound(k: u32) -> usize {
 fn hub_of(w: World) -> Hub {
     Hub {
         link: Link {
-            levels: get(w, 411),
-            largest: get(w, 412),
+            levels: get(w, 811),
+            largest: get(w, 812),
             bounds: [
-                get(w, 413),
-                get(w, 414),
-                get(w, 415),
-                get(w, 416),
-                get(w, 417),
-                get(w, 418),
-                get(w, 419),
-                get(w, 420),
+                get(w, 813),
+                get(w, 814),
+                get(w, 815),
+                get(w, 816),
+                get(w, 817),
+                get(w, 818),
+                get(w, 819),
+                get(w, 820),
             ],
         },
-        clock: get(w, 408),
-        serving: get(w, 409),
-        units: get(w, 410),
+        clock: get(w, 808),
+        serving: get(w, 809),
+        units: get(w, 810),
     }
 }
 
@@ -162,23 +177,23 @@ pub fn told(w: World, r: Told) -> World {
     let p = r.packet;
     let b = l.bounds;
     let x = put_all(w, BOUNDS, &b);
-    let x = put(x, 400, r.verdict);
-    let x = put(x, 401, r.number);
-    let x = put(x, 402, r.gone as u32);
-    let x = put(x, 403, p.connection);
-    let x = put(x, 404, p.len);
-    let x = put(x, 405, p.tag);
-    let x = put(x, 406, p.arrival);
-    let x = put(x, 407, p.eligibility);
-    let x = put(x, 408, h.clock);
-    let x = put(x, 409, h.serving);
-    let x = put(x, 410, h.units);
-    let x = put(x, 411, l.levels);
-    put(x, 412, l.largest)
+    let x = put(x, 800, r.verdict);
+    let x = put(x, 801, r.number);
+    let x = put(x, 802, r.gone as u32);
+    let x = put(x, 803, p.connection);
+    let x = put(x, 804, p.len);
+    let x = put(x, 805, p.tag);
+    let x = put(x, 806, p.arrival);
+    let x = put(x, 807, p.eligibility);
+    let x = put(x, 808, h.clock);
+    let x = put(x, 809, h.serving);
+    let x = put(x, 810, h.units);
+    let x = put(x, 811, l.levels);
+    put(x, 812, l.largest)
 }
 
 // The call with its numbers on the hub with these tables.
-fn ask(w: World, cs: &mut [u32], t: &mut [u32]) -> Told {
+fn ask(w: World, cs: &mut [u32], t: &mut [u32], q: &mut [u32]) -> Told {
     let h = hub_of(w);
     let a = get(w, ASKED);
     let b = get(w, ASKED + 1);
@@ -187,7 +202,7 @@ fn ask(w: World, cs: &mut [u32], t: &mut [u32]) -> Told {
         0 => {
             let g = hub_of(copy(w, LEVELS, ASKED, 10));
             let l = g.link;
-            hub::link(h, cs, t, l)
+            hub::link(h, cs, t, q, l)
         }
         1 => {
             let x = Connection {
@@ -195,10 +210,11 @@ fn ask(w: World, cs: &mut [u32], t: &mut [u32]) -> Told {
                 gap: b,
                 size: c,
             };
-            hub::admit(h, cs, t, x)
+            hub::admit(h, cs, t, q, x)
         }
-        2 => hub::offer(h, cs, t, a, b, c),
-        _ => hub::tick(h, cs, t),
+        2 => hub::offer(h, cs, t, q, a, b, c),
+        7 => hub::notice(h, cs, t, q, a, b),
+        _ => hub::tick(h, cs, t, q),
     }
 }
 
@@ -213,23 +229,25 @@ fn lent(w: World, at: usize, most: usize) -> usize
     most
 }
 
-// The numbers of two worlds: all before the places of one, and the places of the other.
-fn joined(lines: [u32; 3456], places: [u32; 3456]) -> World {
-    let mut w = World { n: lines };
-    let mut i: usize = PLACES;
+// The numbers of a world, and from a place on those of another.
+fn joined(w: World, behind: [u32; 3857], from: usize) -> World {
+    let mut x = w;
+    let mut i: usize = from;
     while i < NOWHERE {
-        w.n[i] = places[i];
+        x.n[i] = behind[i];
         i += 1;
     }
-    w
+    x
 }
 
-// The world after the call: of one copy of its numbers the connections are lent, of the other the places.
-pub fn call(w: World, lines: [u32; 3456], places: [u32; 3456]) -> World {
+// The world after the call: each table is lent of a copy of its numbers.
+pub fn call(w: World, lines: [u32; 3857], notices: [u32; 3857], places: [u32; 3857]) -> World {
     let mut x = lines;
-    let mut y = places;
+    let mut y = notices;
+    let mut z = places;
     let a = lent(w, LENT, 400);
     let b = PLACES + lent(w, LENT + 1, 3000);
-    let r = ask(w, &mut x[0..a], &mut y[PLACES..b]);
-    told(joined(x, y), r)
+    let c = NOTICES + lent(w, LENT_NOTICES, 400);
+    let r = ask(w, &mut x[0..a], &mut z[PLACES..b], &mut y[NOTICES..c]);
+    told(joined(joined(World { n: x }, y, NOTICES), z, PLACES), r)
 }

@@ -1,4 +1,4 @@
--- Of a sound state: reading what is written gives it back, and both tables are formed, with nothing but zeros behind their rows. Assumes nothing.
+-- Of a sound state: reading what is written gives it back, and its tables are formed, with nothing but zeros behind their rows. Assumes nothing.
 use Prim.Native.Nat.{ℕ, zero, suc, _*_, _-_, _≤_, _<_}
 use native.Mathlib.Omega.{arith}
 use mathlib.Core.Path.{_≡_, refl, sym, ap, _∙_, subst}
@@ -11,7 +11,7 @@ use borrow.Author.Tests.{leb-true}
 use Rattle.rules.specs.declared.Connection.{Connection}
 use Rattle.rules.specs.declared.Past.{Past}
 use Rattle.rules.specs.Words.{All, within, each}
-use Rattle.rules.specs.Limits.{max-connections, max-reserved, max-gap}
+use Rattle.rules.specs.Limits.{max-connections, max-reserved, max-gap, max-notices}
 use Rattle.rules.specs.Model.{State, fresh, nth, figures}
 use Rattle.rules.specs.Admission.{figures-within}
 use Rattle.rules.specs.SoundState.{Sound-with-link, Sound}
@@ -21,7 +21,9 @@ use Rattle.rules.proofs.Tests.{and-true, and-intro, within-true, each-true, eac
 use Rattle.rules.proofs.Bounds.{rows-fit-places}
 use Rattle.tables.specs.Table.{padded, formed}
 use Rattle.tables.specs.Places.{rows, places, places-length, packet-of, five-of}
+use Rattle.tables.specs.Notices.{written-notices}
 use Rattle.tables.proofs.TableLaws.{read-back, formed-back, written-back}
+use Rattle.tables.proofs.NoticeLaws.{notices-again}
 use Rattle.lines.specs.declared.Member.{Member}
 use Rattle.lines.specs.Members.{members-length, member-of, five-of-member, members, connection-of, past-of, connections, pasts, member, paired, written-members, members-formed}
 use Rattle.lines.specs.StateRead.{state-read}
@@ -109,6 +111,8 @@ pub record Writable (s : State) : Type 0 where
   pub few : length (s .connections) ≤ max-connections
   pub sent : All (λ p. 0 < p .len) (s .held)
   pub fit : length (s .held) ≤ max-reserved
+  pub said : All (λ n. 0 < n .len) (s .notices)
+  pub few-said : length (s .notices) ≤ max-notices
 
 linked-writable : (s : State) → Sound s → Sound-with-link s → Writable s
 unfolding figures-within
@@ -118,10 +122,12 @@ linked-writable s T S = record {
   few = S .few;
   sent = all-map (λ p f. f .some-len) (s .held) (S .fit);
   fit = rows-fit-places s T;
+  said = all-map (λ n f. f .some-len) (s .notices) (S .notices-fit);
+  few-said = S .few-notices;
 }
 
 fresh-writable : Writable fresh
-fresh-writable = record { each-past = refl; used = λ c l. absurd (omega arith); few = omega arith; sent = tt; fit = omega arith }
+fresh-writable = record { each-past = refl; used = λ c l. absurd (omega arith); few = omega arith; sent = tt; fit = omega arith; said = tt; few-said = omega arith }
 
 pub writable : (s : State) → Sound s → Writable s
 writable s S =
@@ -140,7 +146,7 @@ module _ (s : State) (W : Writable s) where
   places-formed-back = formed-back packet-of five-of (λ p. refl) (s .held) places-length (W .sent) (omega (arith, W .fit))
 
   -- READING WHAT IS WRITTEN gives the state back
-  pub read-written : state-read (s .link) (written-members (s .connections) (s .pasts)) (places (s .held)) (s .clock) (s .serving) (s .to-go) ≡ s
+  pub read-written : state-read (s .link) (written-members (s .connections) (s .pasts)) (places (s .held)) (written-notices (s .notices)) (s .clock) (s .serving) (s .to-go) ≡ s
   read-written =
       rw
-      (connections-back (s .connections) (s .pasts) (W .each-past) (W .used) (W .few), pasts-back (s .connections) (s .pasts) (W .each-past) (W .used) (W .few), rows-back)
+      (connections-back (s .connections) (s .pasts) (W .each-past) (W .used) (W .few), pasts-back (s .connections) (s .pasts) (W .each-past) (W .used) (W .few), rows-back, notices-again (s .notices) (W .said) (W .few-said))

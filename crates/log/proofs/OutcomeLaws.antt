@@ -8,13 +8,13 @@ use lib.Dec.{ltb, eqb}
 use lib.ListN.{length, drop}
 use lib.Seq.{drop-drop}
 use borrow.Author.Tests.{eqb-false, ltb-true}
-use Rattle.rules.specs.Model.{State, link, admit, offer, tick}
+use Rattle.rules.specs.Model.{State, link, admit, offer, notice, tick}
 use Rattle.rules.specs.SoundState.{Sound}
 use Rattle.rules.specs.Calls.{answer}
 use Rattle.rules.proofs.Tests.{never}
 use Rattle.rules.proofs.SoundKept.{kept}
 use Rattle.traces.specs.declared.Record.{Record}
-use Rattle.traces.specs.declared.Record.the-variants.{Link as LinkRecord, Admit, Offer, Ticks, Malformed}
+use Rattle.traces.specs.declared.Record.the-variants.{Link as LinkRecord, Admit, Offer, Notice, Ticks, Malformed}
 use Rattle.named.specs.Named.{link-named, connection-named}
 use Rattle.log.specs.declared.Phase.{Phase}
 use Rattle.log.specs.declared.Phase.the-variants.{Reading, Ticking, Finished}
@@ -47,6 +47,7 @@ module _ (s : State) (S : Sound s) where
   record-ends w (LinkRecord a b d1 d2 d3 d4 d5 d6 d7 d8) k at = goes-well w _ (kept (link (link-named a b d1 d2 d3 d4 d5 d6 d7 d8)) s S) refl
   record-ends w (Admit a b d) k at = goes-well w _ (kept (admit (connection-named a b d)) s S) refl
   record-ends w (Offer a b d) k at = goes-well w _ (kept (offer a b d) s S) refl
+  record-ends w (Notice a b) k at = goes-well w _ (kept (notice a b) s S) refl
   record-ends w (Ticks a) k at = goes-well w _ S refl
   record-ends w Malformed k at = done-well w _ S refl refl
 

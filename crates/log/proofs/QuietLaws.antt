@@ -11,8 +11,9 @@ use borrow.Author.Tests.{ne-eqb, lt-leb, eqb-false, not-true}
 use Rattle.rules.specs.Words.{All}
 use Rattle.rules.specs.Limits.{clock-end}
 use Rattle.rules.specs.declared.Packet.{Packet}
+use Rattle.rules.specs.declared.Notice.{Notice}
 use Rattle.rules.specs.Model.{State, tick, Answer}
-use Rattle.rules.specs.SoundState.{Sound, Idle, In-service}
+use Rattle.rules.specs.SoundState.{Sound, Idle, Serves}
 use Rattle.rules.specs.SoundTest.{sound}
 use Rattle.rules.specs.Service.{choice, level-of, ticked}
 use Rattle.rules.specs.Calls.{verdicts, verdict, settle, answer}
@@ -28,9 +29,9 @@ use Rattle.log.specs.Steps.{passed, earliest, quiet-for, quiet-ticks}
 abbrev None-before : ℕ → List Packet → Type 0
 None-before t ps = All (λ p. t ≤ p .eligibility) ps
 
--- for k ticks the line is idle and no packet is eligible, or a packet is in service and keeps a unit to go
+-- for k ticks the line is idle, no packet is eligible and no notice waits, or something is in service and keeps a unit to go
 abbrev Still : State → ℕ → Type 0
-Still s k = ((s .to-go ≡ 0) × None-before (s .clock + k) (s .held)) ⊎ (k < s .to-go)
+Still s k = ((s .to-go ≡ 0) × None-before (s .clock + k) (s .held) × (s .notices ≡ [])) ⊎ (k < s .to-go)
 
 -- a sound hub with a link of which that holds, up to the clock's end
 pub record Quiet (s : State) (k : ℕ) : Type 0 where
@@ -59,15 +60,16 @@ module _ (s : State) (k : ℕ) (Q : Quiet s (suc k)) where
   not-serving : s .to-go ≡ 0 → s .serving ≡ 0
   not-serving z = go (Q .sound-state .with-one (Q .set) .line)
     where
-      go : Idle s ⊎ In-service s 0 → s .serving ≡ 0
+      go : Idle s ⊎ Serves s 0 → s .serving ≡ 0
       go (inl i) = i .1
-      go (inr v) = absurd (omega (arith, v .some-to-go))
+      go (inr (inl v)) = absurd (omega (arith, v .some-to-go))
+      go (inr (inr v)) = absurd (omega (arith, v .some-to-go))
 
   line-quiet : Still s (suc k) → ticked s ≡ quiet-answer s
-  line-quiet (inl (z, h)) =
+  line-quiet (inl (z, h, n)) =
       let e : 0 - 1 ≡ 0 = omega arith in
       let f = none-chosen (level-of s) (s .clock) (s .held) (all-map (λ p b. omega arith) (s .held) h) in
-      rw (z, not-serving z, f, e)
+      rw (z, not-serving z, f, n, e)
   line-quiet (inr l) = go (s .to-go) refl
     where
       go : (u : ℕ) → s .to-go ≡ u → ticked s ≡ quiet-answer s
@@ -79,7 +81,7 @@ module _ (s : State) (k : ℕ) (Q : Quiet s (suc k)) where
   one-quiet-tick = ap (settle tick s) tick-good ∙ line-quiet (Q .still)
 
   still-then : Still s (suc k) → Still (passed s 1) k
-  still-then (inl (z, h)) = inl (omega arith, all-map (λ p b. omega arith) (s .held) h)
+  still-then (inl (z, h, n)) = inl (omega arith, all-map (λ p b. omega arith) (s .held) h, n)
   still-then (inr l) = inr (omega arith)
 
   pub quiet-then : Quiet (passed s 1) k
@@ -140,12 +142,13 @@ all-later : (t : ℕ) (ps : List Packet) → t ≤ earliest ps → None-before t
 all-later t [] h = tt
 all-later t (p ∷ ps) h = (omega arith, all-later t ps (omega arith))
 
-still-for : (s : State) (k : ℕ) → 0 < k → k ≤ quiet-for (s .to-go) (s .held) (s .clock) → Still s k
-still-for s k p h = go (s .to-go) refl h
+still-for : (s : State) (k : ℕ) → 0 < k → k ≤ quiet-for (s .to-go) (s .held) (s .notices) (s .clock) → Still s k
+still-for s k p h = go (s .to-go) refl (s .notices) refl h
   where
-    go : (u : ℕ) → s .to-go ≡ u → k ≤ quiet-for u (s .held) (s .clock) → Still s k
-    go zero e l = inl (e, all-later (s .clock + k) (s .held) (omega arith))
-    go (suc u) e l = inr (omega arith)
+    go : (u : ℕ) → s .to-go ≡ u → (ns : List Notice) → s .notices ≡ ns → k ≤ quiet-for u (s .held) ns (s .clock) → Still s k
+    go zero e [] i l = inl (e, all-later (s .clock + k) (s .held) (omega arith), i)
+    go zero e (n ∷ ns) i l = absurd (omega arith)
+    go (suc u) e ns i l = inr (omega arith)
 
 -- they are no more than are left, and nothing happens in them
 pub record Quiets (left : ℕ) (s : State) (k : ℕ) : Type 0 where
@@ -157,7 +160,7 @@ unfolding quiet-ticks
 quiets left s n = go (sound s && not (eqb (s .link .levels) 0)) refl n
   where
     k : ℕ
-    k = min (min (quiet-for (s .to-go) (s .held) (s .clock)) (clock-end - s .clock)) left
+    k = min (min (quiet-for (s .to-go) (s .held) (s .notices) (s .clock)) (clock-end - s .clock)) left
 
     go : (b : Bool) → (sound s && not (eqb (s .link .levels) 0)) ≡ b → (pick b k 0 ≡ 0 → ⊥) → Quiets left s (pick b k 0)
     go true e z =

@@ -13,7 +13,7 @@ use Rattle.fields.specs.Formats.{Row, starts, read-row, read-rows}
 use Rattle.traces.specs.declared.Record.{Record}
 use Rattle.traces.specs.declared.Record.the-variants.{Malformed}
 use Rattle.answers.specs.declared.Reply.{Reply}
-use Rattle.answers.specs.declared.Reply.the-variants.{Linked, Admitted, Offered, Departed, Ticked, Broken, Malformed as NoReply}
+use Rattle.answers.specs.declared.Reply.the-variants.{Linked, Admitted, Offered, Noticed, Departed, Ticked, Broken, Malformed as NoReply}
 use Rattle.traces.specs.declared.Found.{Found}
 use Rattle.traces.specs.Trace.{trace, found, read-trace}
 use Rattle.answers.specs.Answers.{answer-bytes, answer-table}
@@ -68,6 +68,7 @@ table-short : (r : Reply) → answer-table r ≤ longest-answer
 table-short (Linked v) = omega arith
 table-short (Admitted v c) = omega arith
 table-short (Offered v e) = omega arith
+table-short (Noticed v e) = omega arith
 table-short (Departed c t a e f) = omega arith
 table-short (Ticked v n) = omega arith
 table-short (Broken o) = omega arith

@@ -8,12 +8,12 @@ use lib.Dec.{ltb, eqb}
 use lib.ListN.{length, drop, length-append, length-drop}
 use lib.Seq.{drop-append-le, drop-drop}
 use borrow.Author.Tests.{eq-eqb, ne-eqb, ltb-false, eqb-true, eqb-false}
-use Rattle.rules.specs.Model.{State, link, admit, offer, tick}
+use Rattle.rules.specs.Model.{State, link, admit, offer, notice, tick}
 use Rattle.rules.specs.Calls.{answer}
 use Rattle.fields.specs.Numbers.{pick}
 use Rattle.traces.specs.declared.Record.{Record}
-use Rattle.traces.specs.declared.Record.the-variants.{Link as LinkRecord, Admit, Offer, Ticks, Malformed}
-use Rattle.answers.specs.declared.Reply.the-variants.{Linked, Admitted, Offered, Ticked, Broken}
+use Rattle.traces.specs.declared.Record.the-variants.{Link as LinkRecord, Admit, Offer, Notice, Ticks, Malformed}
+use Rattle.answers.specs.declared.Reply.the-variants.{Linked, Admitted, Offered, Noticed, Ticked, Broken}
 use Rattle.answers.specs.Answers.{answer-bytes}
 use Rattle.named.specs.Named.{link-named, connection-named}
 use Rattle.log.specs.declared.Phase.{Phase}
@@ -38,6 +38,9 @@ record-same m n (Admit a b d) (suc k) at s bs none f =
 record-same m n (Offer a b d) (suc k) at s bs none f =
     let q = answer (offer a b d) s in
     ap (λ l. answer-bytes (Offered (q .verdict) (q .number)) ++ l) (f (at + suc k) (q .next) (omega arith))
+record-same m n (Notice a b) (suc k) at s bs none f =
+    let q = answer (notice a b) s in
+    ap (λ l. answer-bytes (Noticed (q .verdict) (q .number)) ++ l) (f (at + suc k) (q .next) (omega arith))
 record-same m n (Ticks a) (suc k) at s bs none f = ap (λ l. ticks-log a a s ++ l) (f (at + suc k) (ticks-end a s) (omega arith))
 record-same m n Malformed (suc k) at s bs none f = refl
 
@@ -78,6 +81,7 @@ record-keeps : (r : Record) (k at : ℕ) (s : State) (w u : List ℕ) → k ≤ 
 record-keeps (LinkRecord a b d1 d2 d3 d4 d5 d6 d7 d8) k at s w u e = rw (drop-append-le k w u e)
 record-keeps (Admit a b d) k at s w u e = rw (drop-append-le k w u e)
 record-keeps (Offer a b d) k at s w u e = rw (drop-append-le k w u e)
+record-keeps (Notice a b) k at s w u e = rw (drop-append-le k w u e)
 record-keeps (Ticks a) k at s w u e = rw (drop-append-le k w u e)
 record-keeps Malformed k at s w u e = sym (append-nil (answer-bytes (Broken at)))
 

@@ -1,5 +1,5 @@
 -- THE ANSWER LOG of a trace, from bytes to bytes, by the rules alone: no hub value, no table, no window. Document 01, "Trace and answer records" and
--- "One tick". Assumes nothing.
+-- "One tick"; document 02, R-1. Assumes nothing.
 use Prim.Native.Nat.{ℕ, zero, suc, _+_, _-_}
 use mathlib.Core.Bool.{not}
 use mathlib.Core.List.{List, [], _∷_, _++_}
@@ -8,13 +8,13 @@ use lib.Dec.{ltb, eqb}
 use lib.ListN.{length, drop}
 use Rattle.rules.specs.declared.Packet.{Packet}
 use Rattle.rules.specs.Words.{first-number}
-use Rattle.rules.specs.Model.{State, link, admit, offer, tick, Answer, fresh}
+use Rattle.rules.specs.Model.{State, link, admit, offer, notice, tick, Answer, fresh}
 use Rattle.rules.specs.SoundTest.{sound}
 use Rattle.rules.specs.Calls.{answer}
 use Rattle.fields.specs.Numbers.{pick}
 use Rattle.traces.specs.declared.Record.{Record}
-use Rattle.traces.specs.declared.Record.the-variants.{Link as LinkRecord, Admit, Offer, Ticks, Malformed}
-use Rattle.answers.specs.declared.Reply.the-variants.{Linked, Admitted, Offered, Departed, Ticked, Broken}
+use Rattle.traces.specs.declared.Record.the-variants.{Link as LinkRecord, Admit, Offer, Notice, Ticks, Malformed}
+use Rattle.answers.specs.declared.Reply.the-variants.{Linked, Admitted, Offered, Noticed, Departed, Ticked, Broken}
 use Rattle.traces.specs.declared.Found.{Found}
 use Rattle.traces.specs.Trace.{found, read-trace}
 use Rattle.answers.specs.Answers.{answer-bytes}
@@ -74,6 +74,9 @@ record-log more (Admit level gap size) k at s bs =
 record-log more (Offer c len tag) k at s bs =
     let a = answer (offer c len tag) s in
     answer-bytes (Offered (a .verdict) (a .number)) ++ more (at + k) (a .next) (drop k bs)
+record-log more (Notice len tag) k at s bs =
+    let a = answer (notice len tag) s in
+    answer-bytes (Noticed (a .verdict) (a .number)) ++ more (at + k) (a .next) (drop k bs)
 record-log more (Ticks n) k at s bs = ticks-log n n s ++ more (at + k) (ticks-end n s) (drop k bs)
 record-log more Malformed k at s bs = answer-bytes (Broken at)
 

@@ -7,14 +7,15 @@ use lib.ListN.{length, drop}
 use Rattle.rules.specs.declared.Link.{Link}
 use Rattle.rules.specs.declared.Connection.{Connection}
 use Rattle.rules.specs.declared.Packet.{Packet}
-use Rattle.rules.specs.Model.{State, link, admit, offer, tick, fresh}
+use Rattle.rules.specs.declared.Notice.{Notice}
+use Rattle.rules.specs.Model.{State, link, admit, offer, notice, tick, fresh}
 use Rattle.rules.specs.Limits.{clock-end}
 use Rattle.rules.specs.SoundTest.{sound}
 use Rattle.rules.specs.Calls.{answer}
 use Rattle.fields.specs.Numbers.{pick}
 use Rattle.traces.specs.declared.Record.{Record}
-use Rattle.traces.specs.declared.Record.the-variants.{Link as LinkRecord, Admit, Offer, Ticks, Malformed}
-use Rattle.answers.specs.declared.Reply.the-variants.{Linked, Admitted, Offered, Ticked, Broken}
+use Rattle.traces.specs.declared.Record.the-variants.{Link as LinkRecord, Admit, Offer, Notice as NoticeRecord, Ticks, Malformed}
+use Rattle.answers.specs.declared.Reply.the-variants.{Linked, Admitted, Offered, Noticed, Ticked, Broken}
 use Rattle.traces.specs.declared.Found.{Found}
 use Rattle.answers.specs.Answers.{answer-bytes}
 use Rattle.named.specs.Named.{link-named, connection-named}
@@ -59,7 +60,7 @@ still p k = record { point = p; used = 0; bytes = []; status = k }
 abbrev pub goes : ℕ → Phase → State → ℕ → List ℕ → Next
 goes at p s used bytes = record { point = point at p s; used = used; bytes = bytes; status = GoOn }
 
--- a step with a record of k bytes that ends at offset `to`: `LK`, `CN` and `PK` are answered
+-- a step with a record of k bytes that ends at offset `to`: `LK`, `CN`, `PK` and `NQ` are answered
 abbrev pub link-next : Link → ℕ → ℕ → State → Next
 link-next l k to s = goes to Reading (answer (link l) s .next) k (answer-bytes (Linked (answer (link l) s .verdict)))
 
@@ -72,11 +73,17 @@ offer-next c len tag k to s =
     goes to Reading (answer (offer c len tag) s .next) k
     (answer-bytes (Offered (answer (offer c len tag) s .verdict) (answer (offer c len tag) s .number)))
 
+abbrev pub notice-next : ℕ → ℕ → ℕ → ℕ → State → Next
+notice-next len tag k to s =
+    goes to Reading (answer (notice len tag) s .next) k
+    (answer-bytes (Noticed (answer (notice len tag) s .verdict) (answer (notice len tag) s .number)))
+
 -- a step with a record of k bytes at offset `at`: a `TK` begins, a malformed record ends the log
 abbrev pub record-next : Record → ℕ → ℕ → State → Next
 record-next (LinkRecord n m d1 d2 d3 d4 d5 d6 d7 d8) k at s = link-next (link-named n m d1 d2 d3 d4 d5 d6 d7 d8) k (at + k) s
 record-next (Admit level gap size) k at s = admit-next (connection-named level gap size) k (at + k) s
 record-next (Offer c len tag) k at s = offer-next c len tag k (at + k) s
+record-next (NoticeRecord len tag) k at s = notice-next len tag k (at + k) s
 record-next (Ticks n) k at s = goes (at + k) (Ticking n n) s k []
 record-next Malformed k at s = record { point = point at Finished s; used = 0; bytes = answer-bytes (Broken at); status = Done }
 
@@ -99,7 +106,7 @@ one-tick at asked left s =
     (goes at (Ticking asked (left - 1)) (answer tick s .next) 0 (tick-log (answer tick s)))
     (goes at Reading (answer tick s .next) 0 (answer-bytes (Ticked (answer tick s .verdict) (asked - left))))
 
--- the state k ticks on, where nothing starts and nothing departs in them: the packet in service, if there is one, has k units fewer to go
+-- the state k ticks on, where nothing starts and nothing departs in them: what is in service, if anything is, has k units fewer to go
 abbrev pub passed : State → ℕ → State
 passed s k = record {
   link = s .link;
@@ -107,6 +114,7 @@ passed s k = record {
   pasts = s .pasts;
   clock = s .clock + k;
   held = s .held;
+  notices = s .notices;
   serving = s .serving;
   to-go = s .to-go - k;
 }
@@ -116,15 +124,16 @@ abbrev pub earliest : List Packet → ℕ
 earliest [] = clock-end
 earliest (p ∷ ps) = min (p .eligibility) (earliest ps)
 
--- the ticks in which nothing starts and nothing departs: until a packet is eligible, or all but the last unit of the one in service
-abbrev pub quiet-for : ℕ → List Packet → ℕ → ℕ
-quiet-for zero held clock = earliest held - clock
-quiet-for (suc to-go) held clock = to-go
+-- the ticks in which nothing starts and nothing departs: until a packet is eligible, if no notice waits, or all but the last unit of what is in service
+abbrev pub quiet-for : ℕ → List Packet → List Notice → ℕ → ℕ
+quiet-for zero held [] clock = earliest held - clock
+quiet-for zero held (n ∷ ns) clock = 0
+quiet-for (suc to-go) held ns clock = to-go
 
 -- of `left` ticks those that are passed over at once: none without a link, and none beyond the clock's end
 unfoldable pub quiet-ticks : ℕ → State → ℕ
 quiet-ticks left s =
-    pick (sound s && not (eqb (s .link .levels) 0)) (min (min (quiet-for (s .to-go) (s .held) (s .clock)) (clock-end - s .clock)) left) 0
+    pick (sound s && not (eqb (s .link .levels) 0)) (min (min (quiet-for (s .to-go) (s .held) (s .notices) (s .clock)) (clock-end - s .clock)) left) 0
 
 -- quiet ticks, or one tick, or the `TA`
 unfoldable pub tick-next : ℕ → ℕ → ℕ → State → Next

@@ -98,34 +98,34 @@ refilled b from to ys g h k =
     rw (e, take-slid b from (to - from) (omega arith))
     (ap (λ i. take (i + g) (window b from to ++ ys)) (sym d) ∙ take-append-add (window b from to) ys g)
 
-module _ (c : Cursor) (cs t w : List ℕ) (last : Bool) (o : List ℕ) (a : Stepped) (cs2 t2 o2 w2 : List ℕ) (P : Pumps c cs t w last o a cs2 t2 o2) (v : Turn)
+module _ (c : Cursor) (cs t q w : List ℕ) (last : Bool) (o : List ℕ) (a : Stepped) (cs2 t2 q2 o2 w2 : List ℕ) (P : Pumps c cs t q w last o a cs2 t2 q2 o2) (v : Turn)
     (k : v .cursor ≡ a .cursor) where
   -- a turn that stops; of one that goes on, all may then be said
-  pub turned-halt : {A : Type 0} → v .stop ≡ true → (v .broken ≡ false → a .status ≡ Done) → Turned c cs t w last o v cs2 t2 o2 w2 × (v .stop ≡ false → A)
+  pub turned-halt : {A : Type 0} → v .stop ≡ true → (v .broken ≡ false → a .status ≡ Done) → Turned c cs t q w last o v cs2 t2 q2 o2 w2 × (v .stop ≡ false → A)
   turned-halt s b = (record { answer = a; pumps = P; cursor = k; rest = λ f. never (sym f ∙ s); done = λ _ f. b f }, λ f. never (sym f ∙ s))
 
-  pub turned-go : v .stop ≡ false → take (length (drop (a .used) w)) w2 ≡ drop (a .used) w → Turned c cs t w last o v cs2 t2 o2 w2
+  pub turned-go : v .stop ≡ false → take (length (drop (a .used) w)) w2 ≡ drop (a .used) w → Turned c cs t q w last o v cs2 t2 q2 o2 w2
   turned-go s e =
       record { answer = a; pumps = P; cursor = k; rest = λ _. e; done = λ f _. never (sym s ∙ f) }
 
 -- ---- a turn goes on with the session: the bytes behind the old window are the next of the trace, and what is written out is what `pump` wrote
 
-module _ (trace wrote : List ℕ) (c : Cursor) (cs t w unread : List ℕ) (S : Session trace wrote c cs t w unread) (last : Bool) (g : last ≡ true → unread ≡ [])
-    (o : List ℕ) (v : Turn) (cs2 t2 o2 w2 : List ℕ) (T : Turned c cs t w last o v cs2 t2 o2 w2) where
+module _ (trace wrote : List ℕ) (c : Cursor) (cs t q w unread : List ℕ) (S : Session trace wrote c cs t q w unread) (last : Bool) (g : last ≡ true → unread ≡ [])
+    (o : List ℕ) (v : Turn) (cs2 t2 q2 o2 w2 : List ℕ) (T : Turned c cs t q w last o v cs2 t2 q2 o2 w2) where
   pub turn-keeps : (then : List ℕ) → v .stop ≡ false → unread ≡ drop (length (drop (T .answer .used) w)) w2 ++ then
-      → Session trace (wrote ++ take (T .answer .wrote) o2) (v .cursor) cs2 t2 w2 then
+      → Session trace (wrote ++ take (T .answer .wrote) o2) (v .cursor) cs2 t2 q2 w2 then
   turn-keeps then s e =
       let k = length (drop (T .answer .used) w) in
       let f : drop (T .answer .used) w ++ drop k w2 ≡ w2 = ap (λ l. l ++ drop k w2) (sym (T .rest s)) ∙ take-append-drop k w2 in
-      let P = pump last g o (T .answer) cs2 t2 o2 (T .pumps) S in
-      let Q = more (drop k w2) then (subst (λ l. Session trace (wrote ++ take (T .answer .wrote) o2) (T .answer .cursor) cs2 t2 (drop (T .answer .used) w) l) e P) in
-      rw (T .cursor) (subst (λ l. Session trace (wrote ++ take (T .answer .wrote) o2) (T .answer .cursor) cs2 t2 l then) f Q)
+      let P = pump last g o (T .answer) cs2 t2 q2 o2 (T .pumps) S in
+      let Q = more (drop k w2) then (subst (λ l. Session trace (wrote ++ take (T .answer .wrote) o2) (T .answer .cursor) cs2 t2 q2 (drop (T .answer .used) w) l) e P) in
+      rw (T .cursor) (subst (λ l. Session trace (wrote ++ take (T .answer .wrote) o2) (T .answer .cursor) cs2 t2 q2 l then) f Q)
 
   -- THE LAST TURN: what was written out is the log
   pub turn-ends : v .stop ≡ true → v .broken ≡ false → wrote ++ take (T .answer .wrote) o2 ≡ log trace
   turn-ends s b =
-      writes-the-log trace _ (T .answer .cursor) cs2 t2 (drop (T .answer .used) w) unread (pump last g o (T .answer) cs2 t2 o2 (T .pumps) S)
-      (done-is-finished trace wrote c cs t w unread S last g o (T .answer) cs2 t2 o2 (inr (T .pumps)) (T .done s b))
+      writes-the-log trace _ (T .answer .cursor) cs2 t2 q2 (drop (T .answer .used) w) unread (pump last g o (T .answer) cs2 t2 q2 o2 (T .pumps) S)
+      (done-is-finished trace wrote c cs t q w unread S last g o (T .answer) cs2 t2 q2 o2 (inr (T .pumps)) (T .done s b))
 
 module _ (b S ys : List ℕ) (from to n : ℕ) (h : from ≤ to) (k : to ≤ length b) (e : n ≡ to - from) (f : S ≡ slid b from n) where
   behind : (g : ℕ) → window (take n S ++ (ys ++ drop (length S - n) (drop n S))) 0 (n + g) ≡ window b from to ++ take g ys

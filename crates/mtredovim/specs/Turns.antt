@@ -42,9 +42,9 @@ pub record Refilled (c : Cursor) (r : Turn) (w w2 : List ℕ) : Type 0 where
   pub ended : r .last ≡ true → w2 ≡ w
 
 -- A TURN: a call of `pump` on the window w with the room o, which answered a; the first bytes of the room o2 were written out; w2 is the window then
-pub record Turned (c : Cursor) (cs t w : List ℕ) (last : Bool) (o : List ℕ) (r : Turn) (cs2 t2 o2 w2 : List ℕ) : Type 0 where
+pub record Turned (c : Cursor) (cs t q w : List ℕ) (last : Bool) (o : List ℕ) (r : Turn) (cs2 t2 q2 o2 w2 : List ℕ) : Type 0 where
   pub answer : Stepped
-  pub pumps : Pumps c cs t w last o answer cs2 t2 o2
+  pub pumps : Pumps c cs t q w last o answer cs2 t2 q2 o2
   pub cursor : r .cursor ≡ answer .cursor
   pub rest : r .stop ≡ false → take (length (drop (answer .used) w)) w2 ≡ drop (answer .used) w
   pub done : r .stop ≡ true → r .broken ≡ false → answer .status ≡ Done

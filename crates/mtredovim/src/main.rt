@@ -65,6 +65,7 @@ fn advance(
     c: Cursor,
     cs: &mut [u32],
     t: &mut [u32],
+    q: &mut [u32],
     buf: &mut [u8],
     from: usize,
     to: usize,
@@ -72,10 +73,10 @@ fn advance(
     out: &mut [u8],
 ) -> Turn
     requires { ⌜ Right (length (now buf)) c from to ⌝ }
-    ensures { λ r. ⌜ Turned c (now (cs .entry)) (now (t .entry)) (window (now (buf .entry)) from to) last (now (out .entry)) r (now (cs .exit)) (now (t .exit)) (now (out .exit)) (window (now (buf .exit)) (r .from) (r .to)) ⌝ }
+    ensures { λ r. ⌜ Turned c (now (cs .entry)) (now (t .entry)) (now (q .entry)) (window (now (buf .entry)) from to) last (now (out .entry)) r (now (cs .exit)) (now (t .exit)) (now (q .exit)) (now (out .exit)) (window (now (buf .exit)) (r .from) (r .to)) ⌝ }
     ensures { λ r. ⌜ (r .stop ≡ false → Better (length (now (buf .entry))) c from to last r) ⌝ }
 {
-    let r = replay::pump(c, cs, t, &buf[from..to], last, out);
+    let r = replay::pump(c, cs, t, q, &buf[from..to], last, out);
     let wrote = r.wrote;
     let then = r.cursor;
     if !io::write_all(STDOUT_FILENO, &out[..wrote]) {
@@ -102,6 +103,7 @@ fn advance(
 fn main() {
     let mut places = [0u32; 2560];
     let mut connections = [0u32; 320];
+    let mut notices = [0u32; 320];
     let mut buf = io::large_buffer();
     let mut out = io::large_buffer();
     let mut c = replay::start();
@@ -113,6 +115,7 @@ fn main() {
             c,
             &mut connections,
             &mut places,
+            &mut notices,
             &mut buf,
             from,
             to,

@@ -5,7 +5,7 @@ use Rattle.rules.specs.declared.Link.{Link}
 use Rattle.rules.specs.declared.Connection.{Connection}
 use Rattle.rules.specs.Model.{no-link, no-connection}
 use Rattle.traces.specs.declared.Record.{Record}
-use Rattle.traces.specs.declared.Record.the-variants.{Link as LinkRecord, Admit, Offer, Ticks, Malformed}
+use Rattle.traces.specs.declared.Record.the-variants.{Link as LinkRecord, Admit, Offer, Notice, Ticks, Malformed}
 
 -- the link of an `LK`, all eight bounds
 abbrev pub link-named : ℕ → ℕ → ℕ → ℕ → ℕ → ℕ → ℕ → ℕ → ℕ → ℕ → Link
@@ -20,6 +20,7 @@ abbrev pub link-of : Record → Link
 link-of (LinkRecord n s d1 d2 d3 d4 d5 d6 d7 d8) = link-named n s d1 d2 d3 d4 d5 d6 d7 d8
 link-of (Admit level gap size) = no-link
 link-of (Offer c len tag) = no-link
+link-of (Notice len tag) = no-link
 link-of (Ticks n) = no-link
 link-of Malformed = no-link
 
@@ -27,5 +28,6 @@ abbrev pub connection-of : Record → Connection
 connection-of (LinkRecord n s d1 d2 d3 d4 d5 d6 d7 d8) = no-connection
 connection-of (Admit level gap size) = connection-named level gap size
 connection-of (Offer c len tag) = no-connection
+connection-of (Notice len tag) = no-connection
 connection-of (Ticks n) = no-connection
 connection-of Malformed = no-connection

@@ -88,6 +88,7 @@ pub fn link_of(what: Record) -> Link
         } => link_named(levels, largest, d1, d2, d3, d4, d5, d6, d7, d8),
         Record::Admit { .. } => no_link(),
         Record::Offer { .. } => no_link(),
+        Record::Notice { .. } => no_link(),
         Record::Ticks { .. } => no_link(),
         Record::Malformed => no_link(),
     }
@@ -101,6 +102,7 @@ pub fn connection_of(what: Record) -> Connection
         Record::Admit { level, gap, size } => connection_named(level, gap, size),
         Record::Link { .. } => no_connection(),
         Record::Offer { .. } => no_connection(),
+        Record::Notice { .. } => no_connection(),
         Record::Ticks { .. } => no_connection(),
         Record::Malformed => no_connection(),
     }

@@ -10,6 +10,8 @@ const CN: u64 = 143;
 
 const PK: u64 = 270;
 
+const NQ: u64 = 256;
+
 const TK: u64 = 310;
 
 const LA: u64 = 220;
@@ -17,6 +19,8 @@ const LA: u64 = 220;
 const CA: u64 = 130;
 
 const PA: u64 = 260;
+
+const NA: u64 = 240;
 
 const DP: u64 = 155;
 
@@ -85,6 +89,7 @@ fn trace_numbers(taken: u64, r: Record) -> [u64; 12] {
             0,
             0,
         ],
+        Record::Notice { len, tag } => [taken, NQ, len as u64, tag as u64, 0, 0, 0, 0, 0, 0, 0, 0],
         Record::Ticks { ticks } => [taken, TK, ticks as u64, 0, 0, 0, 0, 0, 0, 0, 0, 0],
         Record::Malformed => [taken, NONE, 0, 0, 0, 0, 0, 0, 0, 0, 0, 0],
     }
@@ -116,6 +121,23 @@ fn answer_numbers(taken: u64, r: Reply) -> [u64; 12] {
         } => [
             taken,
             PA,
+            verdict as u64,
+            eligibility as u64,
+            0,
+            0,
+            0,
+            0,
+            0,
+            0,
+            0,
+            0,
+        ],
+        Reply::Noticed {
+            verdict,
+            eligibility,
+        } => [
+            taken,
+            NA,
             verdict as u64,
             eligibility as u64,
             0,

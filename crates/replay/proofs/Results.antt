@@ -12,7 +12,8 @@ use borrow.Author.Tests.{ltb-true}
 use Rattle.rules.specs.SoundState.{Sound}
 use Rattle.rules.proofs.Tests.{never}
 use Rattle.rules.proofs.Every.{fresh-invariant}
-use Rattle.tables.specs.Places.{places, places-length}
+use Rattle.tables.specs.Places.{places, places-length, table-of}
+use Rattle.tables.specs.Notices.{notices-length}
 use Rattle.lines.specs.Members.{written-members, members-length}
 use Rattle.calls.specs.Acts.{sound-hub}
 use Rattle.log.specs.declared.Phase.{Phase}
@@ -32,15 +33,15 @@ use Rattle.replay.specs.Promises.{Writes-the-log, Of-every-call, Done-is
 use Rattle.replay.proofs.Standing.{Stands, stands-sound, stands-there, stands-then}
 
 -- at any time of a session: what was written, and what is to come, is the log
-record Holds (trace wrote : List ℕ) (c : Cursor) (cs t w unread : List ℕ) : Type 0 where
+record Holds (trace wrote : List ℕ) (c : Cursor) (cs t q w unread : List ℕ) : Type 0 where
   here : Point
-  stands : Stands here c cs t
+  stands : Stands here c cs t q
   adds-up : wrote ++ to-come here (w ++ unread) ≡ log trace
 
-start-holds : (trace : List ℕ) → Holds trace [] (cursor-of beginning) (replicate members-length 0) (replicate places-length 0) [] trace
-unfolding log written-members places
+start-holds : (trace : List ℕ) → Holds trace [] (cursor-of beginning) (replicate members-length 0) (replicate places-length 0) (replicate notices-length 0) [] trace
+unfolding log written-members places table-of
 start-holds trace =
-    record { here = beginning; stands = record { sound = fresh-invariant .sound; cursor = refl; connections = refl; table = refl }; adds-up = refl }
+    record { here = beginning; stands = record { sound = fresh-invariant .sound; cursor = refl; connections = refl; table = refl; queue = refl }; adds-up = refl }
 
 -- what is told of a call with the window w and the room o
 record Tells (w o : List ℕ) (a : Stepped) : Type 0 where
@@ -49,15 +50,15 @@ record Tells (w o : List ℕ) (a : Stepped) : Type 0 where
   room-enough : longest-answer ≤ length o → a .status ≡ MoreRoom → ⊥
   never-unsound : a .status ≡ NotSound → ⊥
 
-module _ (trace wrote : List ℕ) (c : Cursor) (cs t w unread : List ℕ) (H : Holds trace wrote c cs t w unread) where
+module _ (trace wrote : List ℕ) (c : Cursor) (cs t q w unread : List ℕ) (H : Holds trace wrote c cs t q w unread) where
   -- a step of the rules from here, made by the code
-  then-holds : (n : Next) (a : Stepped) (cs′ t′ o o′ : List ℕ) → Keeps (H .here) w unread n → Sound (n .point .state) → Did n a cs′ t′ o o′
-      → Holds trace (wrote ++ take (a .wrote) o′) (a .cursor) cs′ t′ (drop (a .used) w) unread
-  then-holds n a cs′ t′ o o′ K S D =
+  then-holds : (n : Next) (a : Stepped) (cs′ t′ q′ o o′ : List ℕ) → Keeps (H .here) w unread n → Sound (n .point .state) → Did n a cs′ t′ q′ o o′
+      → Holds trace (wrote ++ take (a .wrote) o′) (a .cursor) cs′ t′ q′ (drop (a .used) w) unread
+  then-holds n a cs′ t′ q′ o o′ K S D =
       let e : take (a .wrote) o′ ≡ n .bytes = rw (D .answers, D .room) (take-append-seam (n .bytes) (drop (length (n .bytes)) o)) in
       record {
         here = n .point;
-        stands = stands-then n a cs′ t′ o o′ S D;
+        stands = stands-then n a cs′ t′ q′ o o′ S D;
         adds-up = rw (e, append-assoc, ap (λ (x : Stepped). x .used) (D .answers)) (ap (λ l. wrote ++ l) (sym K) ∙ H .adds-up);
       }
 
@@ -76,68 +77,68 @@ module _ (trace wrote : List ℕ) (c : Cursor) (cs t w unread : List ℕ) (H : H
       (λ _. (record { finished = E .finished; short = E .short; room-enough = λ _. E .room-enough; never-unsound = E .never-unsound }, K, E .sound))
 
   -- what a call may do, whatever its room
-  call-holds : (n : Point → Next) (last : Bool) (a : Stepped) (cs′ t′ o o′ : List ℕ)
+  call-holds : (n : Point → Next) (last : Bool) (a : Stepped) (cs′ t′ q′ o o′ : List ℕ)
       → Keeps (H .here) w unread (n (H .here)) → Ends-well w (n (H .here))
-      → Does (in-room (length o) (point-of c cs t) (n (point-of c cs t))) c cs t o a cs′ t′ o′
-      → Holds trace (wrote ++ take (a .wrote) o′) (a .cursor) cs′ t′ (drop (a .used) w) unread × Tells w o a
-  call-holds n last a cs′ t′ o o′ K E D =
-      let ok = stands-sound (H .here) c cs t (H .stands) in
-      let there = stands-there (H .here) c cs t (H .stands) in
-      let d = subst (λ (p : Point). Did (in-room (length o) p (n p)) a cs′ t′ o o′) there (D .where-sound ok) in
+      → Does (in-room (length o) (point-of c cs t q) (n (point-of c cs t q))) c cs t q o a cs′ t′ q′ o′
+      → Holds trace (wrote ++ take (a .wrote) o′) (a .cursor) cs′ t′ q′ (drop (a .used) w) unread × Tells w o a
+  call-holds n last a cs′ t′ q′ o o′ K E D =
+      let ok = stands-sound (H .here) c cs t q (H .stands) in
+      let there = stands-there (H .here) c cs t q (H .stands) in
+      let d = subst (λ (p : Point). Did (in-room (length o) p (n p)) a cs′ t′ q′ o o′) there (D .where-sound ok) in
       let r = outcome o (n (H .here)) K E in (
-        then-holds (in-room (length o) (H .here) (n (H .here))) a cs′ t′ o o′ (r .1) (r .2) d,
+        then-holds (in-room (length o) (H .here) (n (H .here))) a cs′ t′ q′ o o′ (r .1) (r .2) d,
         subst (Tells w o) (sym (d .answers)) (r .0),
       )
 
-  step-holds : (last : Bool) → (last ≡ true → unread ≡ []) → (o : List ℕ) (a : Stepped) (cs′ t′ o′ : List ℕ) → Steps c cs t w last o a cs′ t′ o′
-      → Holds trace (wrote ++ take (a .wrote) o′) (a .cursor) cs′ t′ (drop (a .used) w) unread × Tells w o a
-  step-holds last g o a cs′ t′ o′ D =
-      call-holds (λ (p : Point). next p w last) last a cs′ t′ o o′ (step-keeps (H .here) w unread last g) (step-ends-well (H .here) w last (H .stands .sound)) D
+  step-holds : (last : Bool) → (last ≡ true → unread ≡ []) → (o : List ℕ) (a : Stepped) (cs′ t′ q′ o′ : List ℕ) → Steps c cs t q w last o a cs′ t′ q′ o′
+      → Holds trace (wrote ++ take (a .wrote) o′) (a .cursor) cs′ t′ q′ (drop (a .used) w) unread × Tells w o a
+  step-holds last g o a cs′ t′ q′ o′ D =
+      call-holds (λ (p : Point). next p w last) last a cs′ t′ q′ o o′ (step-keeps (H .here) w unread last g) (step-ends-well (H .here) w last (H .stands .sound)) D
 
-  pump-holds : (last : Bool) → (last ≡ true → unread ≡ []) → (o : List ℕ) (a : Stepped) (cs′ t′ o′ : List ℕ) → Pumps c cs t w last o a cs′ t′ o′
-      → Holds trace (wrote ++ take (a .wrote) o′) (a .cursor) cs′ t′ (drop (a .used) w) unread × Tells w o a
-  pump-holds last g o a cs′ t′ o′ D =
-      call-holds (λ (p : Point). steps (length o / longest-answer) p w last) last a cs′ t′ o o′ (steps-keep (length o / longest-answer) (H .here) w unread last g)
+  pump-holds : (last : Bool) → (last ≡ true → unread ≡ []) → (o : List ℕ) (a : Stepped) (cs′ t′ q′ o′ : List ℕ) → Pumps c cs t q w last o a cs′ t′ q′ o′
+      → Holds trace (wrote ++ take (a .wrote) o′) (a .cursor) cs′ t′ q′ (drop (a .used) w) unread × Tells w o a
+  pump-holds last g o a cs′ t′ q′ o′ D =
+      call-holds (λ (p : Point). steps (length o / longest-answer) p w last) last a cs′ t′ q′ o o′ (steps-keep (length o / longest-answer) (H .here) w unread last g)
       (steps-end-well (length o / longest-answer) (H .here) w last (H .stands .sound)) D
 
-session-holds : {trace wrote : List ℕ} {c : Cursor} {cs t w unread : List ℕ} → Session trace wrote c cs t w unread → Holds trace wrote c cs t w unread
+session-holds : {trace wrote : List ℕ} {c : Cursor} {cs t q w unread : List ℕ} → Session trace wrote c cs t q w unread → Holds trace wrote c cs t q w unread
 session-holds start = start-holds _
 session-holds (more got unread S) =
     let H = session-holds S in
     record { here = H .here; stands = H .stands; adds-up = rw append-assoc (H .adds-up) }
-session-holds (step {wrote} {c} {cs} {t} {w} {unread} last g o a cs′ t′ o′ D S) = step-holds _ wrote c cs t w unread (session-holds S) last g o a cs′ t′ o′ D .0
-session-holds (pump {wrote} {c} {cs} {t} {w} {unread} last g o a cs′ t′ o′ D S) = pump-holds _ wrote c cs t w unread (session-holds S) last g o a cs′ t′ o′ D .0
+session-holds (step {wrote} {c} {cs} {t} {q} {w} {unread} last g o a cs′ t′ q′ o′ D S) = step-holds _ wrote c cs t q w unread (session-holds S) last g o a cs′ t′ q′ o′ D .0
+session-holds (pump {wrote} {c} {cs} {t} {q} {w} {unread} last g o a cs′ t′ q′ o′ D S) = pump-holds _ wrote c cs t q w unread (session-holds S) last g o a cs′ t′ q′ o′ D .0
 
 pub writes-the-log : Writes-the-log
-writes-the-log trace wrote c cs t w unread S e =
+writes-the-log trace wrote c cs t q w unread S e =
     let H = session-holds S in
     let f : H .here .phase ≡ Finished = sym (ap (λ (x : Cursor). x .phase) (H .stands .cursor)) ∙ e in
     sym (append-nil wrote)
     ∙ (ap (λ l. wrote ++ l) (sym (ap (λ (p : Phase). phase-log p (H .here .at) (H .here .state) (w ++ unread)) f)) ∙ H .adds-up)
 
 tells : Of-every-call Tells
-tells trace wrote c cs t w unread S last g o a cs′ t′ o′ (inl D) = step-holds trace wrote c cs t w unread (session-holds S) last g o a cs′ t′ o′ D .1
-tells trace wrote c cs t w unread S last g o a cs′ t′ o′ (inr D) = pump-holds trace wrote c cs t w unread (session-holds S) last g o a cs′ t′ o′ D .1
+tells trace wrote c cs t q w unread S last g o a cs′ t′ q′ o′ (inl D) = step-holds trace wrote c cs t q w unread (session-holds S) last g o a cs′ t′ q′ o′ D .1
+tells trace wrote c cs t q w unread S last g o a cs′ t′ q′ o′ (inr D) = pump-holds trace wrote c cs t q w unread (session-holds S) last g o a cs′ t′ q′ o′ D .1
 
 pub done-is-finished : Done-is-finished
-done-is-finished trace wrote c cs t w unread S last g o a cs′ t′ o′ D = tells trace wrote c cs t w unread S last g o a cs′ t′ o′ D .finished
+done-is-finished trace wrote c cs t q w unread S last g o a cs′ t′ q′ o′ D = tells trace wrote c cs t q w unread S last g o a cs′ t′ q′ o′ D .finished
 
 pub never-refused : Never-refused
-never-refused trace wrote c cs t w unread S last g o a cs′ t′ o′ D l =
-    let k = tells trace wrote c cs t w unread S last g o a cs′ t′ o′ D in (k .room-enough l, k .never-unsound)
+never-refused trace wrote c cs t q w unread S last g o a cs′ t′ q′ o′ D l =
+    let k = tells trace wrote c cs t q w unread S last g o a cs′ t′ q′ o′ D in (k .room-enough l, k .never-unsound)
 
 pub asks-when-short : Asks-when-short
-asks-when-short trace wrote c cs t w unread S last g o a cs′ t′ o′ D = tells trace wrote c cs t w unread S last g o a cs′ t′ o′ D .short
+asks-when-short trace wrote c cs t q w unread S last g o a cs′ t′ q′ o′ D = tells trace wrote c cs t q w unread S last g o a cs′ t′ q′ o′ D .short
 
 pub one-outcome : One-outcome
-one-outcome n c cs t o a a′ ds ds′ u u′ p p′ D E = go (sound-hub (c .hub) cs t) refl
+one-outcome n c cs t q o a a′ ds ds′ u u′ v v′ p p′ D E = go (sound-hub (c .hub) cs t q) refl
   where
-    go : (b : Bool) → sound-hub (c .hub) cs t ≡ b → Same-outcome a a′ ds ds′ u u′ p p′
+    go : (b : Bool) → sound-hub (c .hub) cs t q ≡ b → Same-outcome a a′ ds ds′ u u′ v v′ p p′
     go true ok =
         let d = D .where-sound ok in
         let e = E .where-sound ok in
-        record { answer = d .answers ∙ sym (e .answers); connections = d .connections ∙ sym (e .connections); table = d .table ∙ sym (e .table); room = d .room ∙ sym (e .room) }
+        record { answer = d .answers ∙ sym (e .answers); connections = d .connections ∙ sym (e .connections); table = d .table ∙ sym (e .table); queue = d .queue ∙ sym (e .queue); room = d .room ∙ sym (e .room) }
     go false not =
         let d = D .where-not not in
         let e = E .where-not not in
-        record { answer = d .0 ∙ sym (e .0); connections = d .1 ∙ sym (e .1); table = d .2 ∙ sym (e .2); room = d .3 ∙ sym (e .3) }
+        record { answer = d .0 ∙ sym (e .0); connections = d .1 ∙ sym (e .1); table = d .2 ∙ sym (e .2); queue = d .3 ∙ sym (e .3); room = d .4 ∙ sym (e .4) }

@@ -17,18 +17,18 @@ use Rattle.replay.specs.Sessions.{Steps, Pumps, Session}
 -- THE THEOREM: for any bytes, in any pieces, the steps until the cursor says that it is finished write exactly the log of the trace
 abbrev pub Writes-the-log : Type 0
 Writes-the-log =
-    (trace wrote : List ℕ) (c : Cursor) (cs t w unread : List ℕ)
-    → Session trace wrote c cs t w unread
+    (trace wrote : List ℕ) (c : Cursor) (cs t q w unread : List ℕ)
+    → Session trace wrote c cs t q w unread
     → c .phase ≡ Finished
     → wrote ≡ log trace
 
 -- of every call in every session: P of its window, its room and its answer
 abbrev pub Of-every-call : (List ℕ → List ℕ → Stepped → Type 0) → Type 0
 Of-every-call P =
-    (trace wrote : List ℕ) (c : Cursor) (cs t w unread : List ℕ)
-    → Session trace wrote c cs t w unread
-    → (last : Bool) → (last ≡ true → unread ≡ []) → (o : List ℕ) (a : Stepped) (cs′ t′ o′ : List ℕ)
-    → Steps c cs t w last o a cs′ t′ o′ ⊎ Pumps c cs t w last o a cs′ t′ o′
+    (trace wrote : List ℕ) (c : Cursor) (cs t q w unread : List ℕ)
+    → Session trace wrote c cs t q w unread
+    → (last : Bool) → (last ≡ true → unread ≡ []) → (o : List ℕ) (a : Stepped) (cs′ t′ q′ o′ : List ℕ)
+    → Steps c cs t q w last o a cs′ t′ q′ o′ ⊎ Pumps c cs t q w last o a cs′ t′ q′ o′
     → P w o a
 
 -- a call that answers Done leaves a finished cursor
@@ -44,15 +44,16 @@ abbrev pub Asks-when-short : Type 0
 Asks-when-short = Of-every-call (λ w o a. a .status ≡ MoreBytes → length (drop (a .used) w) < longest-record)
 
 -- any two answers, tables and rooms that the contract of `step` or of `pump` allows are equal
-pub record Same-outcome (a a′ : Stepped) (cs cs′ t t′ o o′ : List ℕ) : Type 0 where
+pub record Same-outcome (a a′ : Stepped) (cs cs′ t t′ q q′ o o′ : List ℕ) : Type 0 where
   pub answer : a ≡ a′
   pub connections : cs ≡ cs′
   pub table : t ≡ t′
+  pub queue : q ≡ q′
   pub room : o ≡ o′
 
 abbrev pub One-outcome : Type 0
 One-outcome =
-    (n : Next) (c : Cursor) (cs t o : List ℕ) (a a′ : Stepped) (ds ds′ u u′ p p′ : List ℕ)
-    → Does n c cs t o a ds u p
-    → Does n c cs t o a′ ds′ u′ p′
-    → Same-outcome a a′ ds ds′ u u′ p p′
+    (n : Next) (c : Cursor) (cs t q o : List ℕ) (a a′ : Stepped) (ds ds′ u u′ v v′ p p′ : List ℕ)
+    → Does n c cs t q o a ds u v p
+    → Does n c cs t q o a′ ds′ u′ v′ p′
+    → Same-outcome a a′ ds ds′ u u′ v v′ p p′

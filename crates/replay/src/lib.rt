@@ -15,7 +15,7 @@ use log::Status;
 use log::Stepped;
 use ticks::LONGEST_ANSWER;
 
-// Where every replay begins; both tables are zeros there.
+// Where every replay begins; its tables are zeros there.
 pub fn start() -> Cursor
     ensures { λ r. ⌜ r ≡ cursor-of beginning ⌝ }
 {
@@ -44,17 +44,18 @@ fn step_at(
     c: Cursor,
     cs: &mut [u32],
     t: &mut [u32],
+    q: &mut [u32],
     window: &[u8],
     used: usize,
     last: bool,
     out: &mut [u8],
     wrote: usize,
 ) -> Stepped
-    requires { ⌜ (sound-hub (c .hub) (now cs) (now t) ≡ true) × (used ≤ length (now window)) × (wrote + longest-answer ≤ length (now out)) ⌝ }
-    ensures { λ r. ⌜ Did-from wrote (next (point-of c (now (cs .entry)) (now (t .entry))) (drop used (now (window .entry))) last) r (now (cs .exit)) (now (t .exit)) (now (out .entry)) (now (out .exit)) ⌝ }
+    requires { ⌜ (sound-hub (c .hub) (now cs) (now t) (now q) ≡ true) × (used ≤ length (now window)) × (wrote + longest-answer ≤ length (now out)) ⌝ }
+    ensures { λ r. ⌜ Did-from wrote (next (point-of c (now (cs .entry)) (now (t .entry)) (now (q .entry))) (drop used (now (window .entry))) last) r (now (cs .exit)) (now (t .exit)) (now (q .exit)) (now (out .entry)) (now (out .exit)) ⌝ }
     ensures { λ r. ⌜ Facts c (length (now (window .entry)) - used) last (length (now (out .entry)) - wrote) r ⌝ }
 {
-    steps::step_tested(c, cs, t, &window[used..], last, &mut out[wrote..])
+    steps::step_tested(c, cs, t, q, &window[used..], last, &mut out[wrote..])
 }
 
 // As many steps as the room surely holds, or fewer where one stops.
@@ -62,12 +63,13 @@ fn run(
     c: Cursor,
     cs: &mut [u32],
     t: &mut [u32],
+    q: &mut [u32],
     window: &[u8],
     last: bool,
     out: &mut [u8],
 ) -> Stepped
-    requires { ⌜ (sound-hub (c .hub) (now cs) (now t) ≡ true) × (longest-answer ≤ length (now out)) ⌝ }
-    ensures { λ r. ⌜ Did (steps (length (now (out .entry)) / longest-answer) (point-of c (now (cs .entry)) (now (t .entry))) (now (window .entry)) last) r (now (cs .exit)) (now (t .exit)) (now (out .entry)) (now (out .exit)) ⌝ }
+    requires { ⌜ (sound-hub (c .hub) (now cs) (now t) (now q) ≡ true) × (longest-answer ≤ length (now out)) ⌝ }
+    ensures { λ r. ⌜ Did (steps (length (now (out .entry)) / longest-answer) (point-of c (now (cs .entry)) (now (t .entry)) (now (q .entry))) (now (window .entry)) last) r (now (cs .exit)) (now (t .exit)) (now (q .exit)) (now (out .entry)) (now (out .exit)) ⌝ }
     ensures { λ r. ⌜ Facts c (length (now (window .entry))) last (length (now (out .entry))) r ⌝ }
 {
     let n = out.len() / LONGEST_ANSWER;
@@ -76,7 +78,7 @@ fn run(
     let mut wrote: usize = 0;
     let mut i: usize = 0;
     while i < n {
-        let s = step_at(cur, cs, t, window, used, last, out, wrote);
+        let s = step_at(cur, cs, t, q, window, used, last, out, wrote);
         let then = s.cursor;
         let k = s.status;
         used += s.used;
@@ -101,12 +103,12 @@ fn run(
 }
 
 // Whether a step can be made at all: GoOn where the hub and its tables are sound and the room holds an answer.
-fn ready(c: Cursor, cs: &[u32], t: &[u32], room: usize) -> Status
-    ensures { λ r. ⌜ r ≡ readiness c (now (cs .entry)) (now (t .entry)) room ⌝ }
+fn ready(c: Cursor, cs: &[u32], t: &[u32], q: &[u32], room: usize) -> Status
+    ensures { λ r. ⌜ r ≡ readiness c (now (cs .entry)) (now (t .entry)) (now (q .entry)) room ⌝ }
 {
     let h = c.hub;
     let l = h.link;
-    if !sound::is_sound(l, cs, t, h.clock, h.serving, h.units) {
+    if !sound::is_sound(l, cs, t, q, h.clock, h.serving, h.units) {
         return Status::NotSound;
     }
     if room < LONGEST_ANSWER {
@@ -120,14 +122,15 @@ pub fn step(
     c: Cursor,
     cs: &mut [u32],
     t: &mut [u32],
+    q: &mut [u32],
     window: &[u8],
     last: bool,
     out: &mut [u8],
 ) -> Stepped
-    ensures { λ r. ⌜ Does (in-room (length (now (out .entry))) (point-of c (now (cs .entry)) (now (t .entry))) (next (point-of c (now (cs .entry)) (now (t .entry))) (now (window .entry)) last)) c (now (cs .entry)) (now (t .entry)) (now (out .entry)) r (now (cs .exit)) (now (t .exit)) (now (out .exit)) ⌝ }
+    ensures { λ r. ⌜ Does (in-room (length (now (out .entry))) (point-of c (now (cs .entry)) (now (t .entry)) (now (q .entry))) (next (point-of c (now (cs .entry)) (now (t .entry)) (now (q .entry))) (now (window .entry)) last)) c (now (cs .entry)) (now (t .entry)) (now (q .entry)) (now (out .entry)) r (now (cs .exit)) (now (t .exit)) (now (q .exit)) (now (out .exit)) ⌝ }
     ensures { λ r. ⌜ Facts c (length (now (window .entry))) last (length (now (out .entry))) r ⌝ }
 {
-    let k = ready(c, cs, t, out.len());
+    let k = ready(c, cs, t, q, out.len());
     if !goes_on(k) {
         return Stepped {
             cursor: c,
@@ -136,7 +139,7 @@ pub fn step(
             status: k,
         };
     }
-    steps::step_tested(c, cs, t, window, last, out)
+    steps::step_tested(c, cs, t, q, window, last, out)
 }
 
 // MANY STEPS: one for each 19 bytes of room, or fewer where one stops.
@@ -144,14 +147,15 @@ pub fn pump(
     c: Cursor,
     cs: &mut [u32],
     t: &mut [u32],
+    q: &mut [u32],
     window: &[u8],
     last: bool,
     out: &mut [u8],
 ) -> Stepped
-    ensures { λ r. ⌜ Does (in-room (length (now (out .entry))) (point-of c (now (cs .entry)) (now (t .entry))) (steps (length (now (out .entry)) / longest-answer) (point-of c (now (cs .entry)) (now (t .entry))) (now (window .entry)) last)) c (now (cs .entry)) (now (t .entry)) (now (out .entry)) r (now (cs .exit)) (now (t .exit)) (now (out .exit)) ⌝ }
+    ensures { λ r. ⌜ Does (in-room (length (now (out .entry))) (point-of c (now (cs .entry)) (now (t .entry)) (now (q .entry))) (steps (length (now (out .entry)) / longest-answer) (point-of c (now (cs .entry)) (now (t .entry)) (now (q .entry))) (now (window .entry)) last)) c (now (cs .entry)) (now (t .entry)) (now (q .entry)) (now (out .entry)) r (now (cs .exit)) (now (t .exit)) (now (q .exit)) (now (out .exit)) ⌝ }
     ensures { λ r. ⌜ Facts c (length (now (window .entry))) last (length (now (out .entry))) r ⌝ }
 {
-    let k = ready(c, cs, t, out.len());
+    let k = ready(c, cs, t, q, out.len());
     if !goes_on(k) {
         return Stepped {
             cursor: c,
@@ -160,7 +164,7 @@ pub fn pump(
             status: k,
         };
     }
-    run(c, cs, t, window, last, out)
+    run(c, cs, t, q, window, last, out)
 }
 
 // The bytes from `from` to `to` move to the front. Answers how many they are: none where that is no part of the buffer.

@@ -9,7 +9,7 @@ use mathlib.Core.List.{List, [], _∷_}
 use lib.Dec.{eqb}
 use lib.ListN.{length, List·getD-eq-default}
 use borrow.Author.Tests.{eqb-true, eqb-false}
-use Rattle.rules.specs.Limits.{max-gap, max-reserved, clock-end, beyond-32-bits}
+use Rattle.rules.specs.Limits.{max-gap, max-reserved, clock-end, beyond-32-bits, max-notices}
 use Rattle.rules.specs.Model.{Connection, Past, Packet, State, no-connection, no-past, past, figures}
 use Rattle.rules.specs.Admission.{reservation}
 use Rattle.rules.specs.Service.{of, eligibilities}
@@ -112,6 +112,13 @@ rows-fit-places s S =
     ⊎-elim
     (λ z. omega (arith, ap (λ (r : State). length (r .held)) (S .with-no-link z)))
     (λ n. held-le s (S .with-one n))
+    (same (s .link .levels) 0)
+
+pub notices-fit-places : (s : State) → Sound s → length (s .notices) ≤ max-notices
+notices-fit-places s S =
+    ⊎-elim
+    (λ z. omega (arith, ap (λ (r : State). length (r .notices)) (S .with-no-link z)))
+    (λ n. S .with-one n .few-notices)
     (same (s .link .levels) 0)
 
 pub eligibilities-fit-32 : (s : State) → Sound s

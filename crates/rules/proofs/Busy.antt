@@ -10,7 +10,7 @@ use Rattle.rules.specs.Words.{upto}
 use Rattle.rules.specs.Model.{Link, Connection, Past, no-past, Packet, State, nth}
 use Rattle.rules.specs.Admission.{bound, cost, load}
 use Rattle.rules.specs.Service.{Spaced, eligibilities, first, level-of, line-left}
-use Rattle.rules.specs.SoundState.{Fits, In-service}
+use Rattle.rules.specs.SoundState.{Fits, In-service, Notice-in-service}
 use Rattle.rules.proofs.Lists.{All, all-zip, all-sub, Sub, total, total-each}
 use Rattle.rules.proofs.Sums.{split, upto-yes, upto-no, upto-le}
 use Rattle.rules.proofs.Rows.{first-of, total-without}
@@ -39,9 +39,15 @@ served s m = upto 1 (s .to-go) (upto (level-of s (s .serving)) m (cost-of (s .li
 
 -- ---- what holds between calls
 
--- an idle line, or a packet in service that has sent at least k units
+-- a notice in service that has sent at least k units: no longer than the largest packet, and no held packet's
+pub record Notice-on-line (s : State) (k : ℕ) : Type 0 where
+  pub in-service : Notice-in-service s k
+  pub short : in-service .it .len ≤ s .link .largest
+  pub alone : first (s .serving) (s .held) ≡ none
+
+-- an idle line, or something in service that has sent at least k units
 abbrev pub Line : State → ℕ → Type 0
-Line s k = (s .to-go ≡ 0) ⊎ In-service s k
+Line s k = (s .to-go ≡ 0) ⊎ (In-service s k ⊎ Notice-on-line s k)
 
 -- of the link and the connections
 pub record Facts (l : Link) (cs : List Connection) : Type 0 where
@@ -105,10 +111,21 @@ module _ (s : State) (m : ℕ) where
       ∙ ap (λ (c : ℕ). upto (level-of s c) m (cost (s .link) (r .it .len))) (sym (first-of (s .serving) (s .held) (r .it) (r .is-first)))
       ∙ sym (due-yes (s .link) (s .connections) m (s .clock) (r .it) (r .eligible))
 
+  -- a notice does not
+  pub served-notice : first (s .serving) (s .held) ≡ none → served s m ≡ 0
+  served-notice e =
+      omega (
+        arith,
+        upto-le 1 (s .to-go) (upto (level-of s (s .serving)) m (cost-of (s .link) (first (s .serving) (s .held)))),
+        upto-le (level-of s (s .serving)) m (cost-of (s .link) (first (s .serving) (s .held))),
+        ap (cost-of (s .link)) e,
+      )
+
   -- while something is due, at least one tick of work is left besides what is served
   owed : (k : ℕ) → Line s k → 0 < demand s m (s .clock) → served s m + 1 ≤ demand s m (s .clock) + line-left s
   owed k (inl z) h = omega (arith, served-idle z)
-  owed k (inr r) h =
+  owed k (inr (inr n)) h = omega (arith, served-notice (n .alone))
+  owed k (inr (inl r)) h =
       omega (
         arith,
         served-is k r,

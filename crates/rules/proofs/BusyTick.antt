@@ -1,39 +1,46 @@
 -- The three steps of a tick keep a busy stretch; the horizon of eligibility moves after the clock. Assumes nothing.
 use Prim.Native.Nat.{ℕ, zero, suc, _+_, _≤_, _<_}
 use native.Mathlib.Omega.{arith}
-use mathlib.Core.Path.{_≡_, refl, ap}
+use mathlib.Core.Path.{_≡_, refl, sym, ap, subst}
 use mathlib.Core.Logic.{_⊎_, inl, inr, ⊎-elim}
-use mathlib.Core.List.{List}
+use mathlib.Core.List.{List, [], _∷_}
 use mathlib.Core.Option.{Option, none, some}
 use Rattle.rules.specs.Words.{upto}
-use Rattle.rules.specs.Model.{Link, Connection, Packet, State, nth}
+use Rattle.rules.specs.Limits.{notice-number}
+use Rattle.rules.specs.Model.{Link, Connection, Packet, Notice, State, Answer, nth}
 use Rattle.rules.specs.Admission.{bound, cost}
-use Rattle.rules.specs.Service.{first, without, level-of, takes, with-line, after-unit, line-left}
-use Rattle.rules.specs.SoundState.{Fits}
+use Rattle.rules.specs.Service.{first, without, level-of, takes, with-line, later, after-unit, line-left}
+use Rattle.rules.specs.SoundState.{Fits, Notice-fits, In-service}
 use Rattle.rules.proofs.Lists.{All, all-map, all-zip, all-sub, all-every, Sub, sub-refl, total-le, total-sub, total-add, total-zero, total-none}
 use Rattle.rules.proofs.Sums.{split, upto-yes, upto-no, upto-le, upto-mono, upto-add}
 use Rattle.rules.proofs.Rows.{first-all, total-without, sub-without}
-use Rattle.rules.proofs.Line.{left-idle, left-taken, left-unit, left-last}
+use Rattle.rules.proofs.Notices.{first-notice-is, first-none}
+use Rattle.rules.proofs.Line.{last-of-packet, last-of-notice, left-idle, left-taken, left-unit, left-last}
 use Rattle.rules.proofs.Choice.{Chosen}
-use Rattle.rules.proofs.SoundTick.{taken-serves}
+use Rattle.rules.proofs.SoundTick.{taken-serves, notice-serves}
 use Rattle.rules.proofs.Window.{between, weight}
-use Rattle.rules.proofs.Busy.{due, demand, cost-of, Line, Regular, fit-held, Busy, due-full, due-none, due-off, served-idle, served-is}
+use Rattle.rules.proofs.Busy.{due, demand, cost-of, Line, Regular, fit-held, Busy, due-full, due-none, due-off, served-idle, served-is, served-notice}
 
--- ---- step 1: an idle line takes the chosen packet
+-- ---- step 1: an idle line takes the chosen packet, or the first notice
 
 module _ (s : State) (acc : List Packet) (R : Regular s acc) where
-  pub taken-line : (o : Option Packet) → Chosen (level-of s) (s .clock) (s .held) o → Line (with-line s (takes o .0) (takes o .1)) 0
-  taken-line none k = inl refl
-  taken-line (some p) k = inr (taken-serves s (fit-held s acc R) p k)
+  pub taken-line : (o : Option Packet) → Chosen (level-of s) (s .clock) (s .held) o
+      → (ns : List Notice) → s .notices ≡ ns → All (Notice-fits (s .link) (s .clock)) ns → All (λ p. p .connection ≡ notice-number → ⊥) (s .held)
+      → Line (with-line s (takes o ns .0) (takes o ns .1)) 0
+  unfolding notice-serves
+  taken-line (some p) k ns i f a = inr (inl (taken-serves s (fit-held s acc R) p k))
+  taken-line none k [] i f a = inl refl
+  taken-line none k (n ∷ ns) i f a =
+      inr (inr (record { in-service = notice-serves s n ns i f; short = f .0 .len-le; alone = first-none notice-number (s .held) a }))
 
-  pub taken-busy : (m : ℕ) (o : Option Packet) → Chosen (level-of s) (s .clock) (s .held) o → s .to-go ≡ 0
+  pub taken-busy : (m : ℕ) (o : Option Packet) (ns : List Notice) → Chosen (level-of s) (s .clock) (s .held) o → s .to-go ≡ 0
       → Busy s acc m (s .clock) → 0 < demand s m (s .clock)
-      → Busy (with-line s (takes o .0) (takes o .1)) acc m (s .clock) × (0 < takes o .1)
+      → Busy (with-line s (takes o ns .0) (takes o ns .1)) acc m (s .clock) × (0 < takes o ns .1)
   unfolding taken-serves
-  taken-busy m none k z B h =
+  taken-busy m none ns k z B h =
       absurd
       (omega (arith, total-none (due (s .link) (s .connections) m (s .clock)) (s .held) (all-map (λ q lt. due-off (s .link) (s .connections) m (s .clock) q (λ le. absurd (omega arith))) (s .held) k)))
-  taken-busy m (some p) k z B h = go (split (level-of s (p .connection)) m)
+  taken-busy m (some p) ns k z B h = go (split (level-of s (p .connection)) m)
     where
       f : Fits (s .connections) p
       f = first-all (p .connection) (Fits (s .connections)) (s .held) p (k .2) (fit-held s acc R)
@@ -50,7 +57,7 @@ module _ (s : State) (acc : List Packet) (R : Regular s acc) where
                 B .work,
                 served-idle s m z,
                 left-idle s z,
-                left-taken s p,
+                left-taken s (p .connection) (p .len),
                 served-is (with-line s (p .connection) (p .len)) m 0 (taken-serves s (fit-held s acc R) p k),
                 due-full (s .link) (s .connections) m (s .clock) p lv (k .0),
               );
@@ -73,12 +80,12 @@ module _ (s : State) (acc : List Packet) (m : ℕ) where
   going : ℕ
   going = upto (level-of s (s .serving)) m (cost-of (s .link) (first (s .serving) (s .held)))
 
-  pub unit-busy : (u : ℕ) → s .to-go ≡ u → 0 < u → Line s 0 → (B : Busy s acc m (s .clock)) → s .clock + 2 ≤ B .from + bound (s .link) m
-      → Busy (after-unit s u .next) acc m (s .clock)
-  unfolding going
-  unit-busy u e pos (inl z) B h = absurd (omega arith)
-  unit-busy zero e pos (inr r) B h = absurd (omega arith)
-  unit-busy (suc zero) e pos (inr r) B h = record {
+  abbrev Left-busy : State → Type 0
+  Left-busy r = Busy r acc m (s .clock)
+
+  packet-leaves : s .to-go ≡ 1 → In-service s 0 → (B : Busy s acc m (s .clock)) → s .clock + 2 ≤ B .from + bound (s .link) m
+      → Left-busy (later s (without (s .serving) (s .held)) (s .notices) 0 0)
+  packet-leaves e r B h = record {
     from = B .from;
     started = omega (arith, B .started);
     since = all-sub (λ p. level-of s (p .connection) ≤ m → p .eligibility ≤ s .clock → B .from ≤ p .eligibility) (sub-without (s .serving) (sub-refl (s .held))) (B .since);
@@ -87,13 +94,16 @@ module _ (s : State) (acc : List Packet) (m : ℕ) where
           arith,
           B .work,
           served-is s m 0 r,
-          left-last s (without (s .serving) (s .held)) (s .serving),
+          left-last s (without (s .serving) (s .held)) (s .notices) (s .serving),
           ap (λ (v : ℕ). line-left (with-line s (s .serving) v)) e,
           total-without (s .serving) (due (s .link) (s .connections) m (s .clock)) (s .held) (r .it) (r .is-first),
         );
     in-time = omega arith;
   }
-  unit-busy (suc (suc u)) e pos (inr r) B h = record {
+
+  notice-leaves : (ns : List Notice) → s .to-go ≡ 1 → first (s .serving) (s .held) ≡ none → (B : Busy s acc m (s .clock)) → s .clock + 2 ≤ B .from + bound (s .link) m
+      → Left-busy (later s (s .held) ns 0 0)
+  notice-leaves ns e a B h = record {
     from = B .from;
     started = omega (arith, B .started);
     since = B .since;
@@ -101,7 +111,33 @@ module _ (s : State) (acc : List Packet) (m : ℕ) where
         omega (
           arith,
           B .work,
-          left-unit s (s .held) (s .serving) u,
+          served-notice s m a,
+          left-last s (s .held) ns (s .serving),
+          ap (λ (v : ℕ). line-left (with-line s (s .serving) v)) e,
+        );
+    in-time = omega arith;
+  }
+
+  -- `away`: a packet in service bears no notice's number
+  pub unit-busy : (u : ℕ) → s .to-go ≡ u → 0 < u → Line s 0 → (In-service s 0 → s .serving ≡ notice-number → ⊥)
+      → (B : Busy s acc m (s .clock)) → s .clock + 2 ≤ B .from + bound (s .link) m
+      → Left-busy (after-unit s u .next)
+  unfolding going
+  unit-busy u e pos (inl z) away B h = absurd (omega arith)
+  unit-busy zero e pos (inr r) away B h = absurd (omega arith)
+  unit-busy (suc zero) e pos (inr (inl r)) away B h = subst (λ (a : Answer). Left-busy (a .next)) (sym (last-of-packet s (away r))) (packet-leaves e r B h)
+  unit-busy (suc zero) e pos (inr (inr n)) away B h =
+      let k = first-notice-is (s .notices) (n .in-service .it) (n .in-service .is-first) in
+      subst (λ (a : Answer). Left-busy (a .next)) (sym (last-of-notice s (n .in-service .it) (k .0) (n .in-service .is-notice) (k .1))) (notice-leaves (k .0) e (n .alone) B h)
+  unit-busy (suc (suc u)) e pos (inr r) away B h = record {
+    from = B .from;
+    started = omega (arith, B .started);
+    since = B .since;
+    work =
+        omega (
+          arith,
+          B .work,
+          left-unit s (s .held) (s .notices) (s .serving) u,
           ap (λ (v : ℕ). line-left (with-line s (s .serving) v)) e,
           upto-yes 1 (suc u) going (omega arith),
           upto-yes 1 (s .to-go) going (omega arith),

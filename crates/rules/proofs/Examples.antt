@@ -3,10 +3,10 @@ use mathlib.Core.Path.{refl}
 use Rattle.rules.specs.Words.{upto}
 use Rattle.rules.specs.Admission.{link-within, level-within, figures-within, stands, count, reservation, cost, level-sum, level-test}
 use Rattle.rules.specs.Service.{next-eligibility, remember}
-use Rattle.rules.specs.SoundTest.{nothing-used, admissions-sound, rows-sound, line-sound, sound}
+use Rattle.rules.specs.SoundTest.{nothing-used, admissions-sound, rows-sound, notices-sound, line-sound, sound}
 use Rattle.rules.specs.Calls.{verdicts}
 use Rattle.rules.specs.Examples.{seen, Worked-examples}
 
 pub worked-examples : Worked-examples
-unfolding upto link-within level-within figures-within stands count reservation cost level-sum level-test next-eligibility remember nothing-used admissions-sound rows-sound line-sound sound verdicts seen
+unfolding upto link-within level-within figures-within stands count reservation cost level-sum level-test next-eligibility remember nothing-used admissions-sound rows-sound notices-sound line-sound sound verdicts seen
 worked-examples = refl

@@ -1,19 +1,22 @@
 -- Every number of an answer fits its field. Assumes nothing.
 use Prim.Native.Nat.{ℕ, zero, suc, _≤_, _<_}
 use native.Mathlib.Omega.{arith}
-use mathlib.Core.Path.{_≡_, refl}
+use mathlib.Core.Path.{_≡_, refl, ap, subst}
 use mathlib.Core.Bool.{Bool, true, false, cond}
 use mathlib.Core.List.{List, [], _∷_}
-use mathlib.Core.Option.{some}
+use mathlib.Core.Option.{none, some}
+use mathlib.Core.Logic.{_⊎_, inl, inr, ⊎-elim}
+use lib.Dec.{eqb}
 use Rattle.rules.specs.Words.{first-number}
-use Rattle.rules.specs.Limits.{clock-end, beyond-32-bits}
-use Rattle.rules.specs.Model.{Packet, State, Call, link, admit, offer, tick}
-use Rattle.rules.specs.Service.{first, started, after-unit}
-use Rattle.rules.specs.SoundState.{Fits, Dated, Sound-with-link, Sound}
+use Rattle.rules.specs.Limits.{clock-end, beyond-32-bits, notice-number}
+use Rattle.rules.specs.Model.{Packet, Notice, State, Call, link, admit, offer, notice, tick, Answer, notice-packet, first-notice}
+use Rattle.rules.specs.Service.{first, started, packet-departs, notice-departs, after-unit, ticked}
+use Rattle.rules.specs.SoundState.{Fits, Dated, Notice-fits, Sound-with-link, Sound}
 use Rattle.rules.specs.Calls.{verdicts, verdict, done, refused-number, refused, settle, answer}
 use Rattle.rules.specs.Promises.{Packet-fits, Answer-fits, number-limit}
 use Rattle.rules.proofs.Lists.{All, all-zip}
-use Rattle.rules.proofs.Rows.{none-some, first-all}
+use Rattle.rules.proofs.Rows.{none-some, some-inj, first-all}
+use Rattle.rules.proofs.Notices.{first-notice-is}
 use Rattle.rules.proofs.Standing.{stands-below}
 use Rattle.rules.proofs.Verdicts.{admit-done, tick-done}
 use Rattle.rules.proofs.Line.{tick-leaves}
@@ -29,14 +32,33 @@ number-le n (r ∷ rs) h = go (r .1) (number-le n rs (h .1))
     go true k = h .0
     go false k = k
 
-pub unit-done : (s : State) (u : ℕ) → after-unit s u .verdict ≡ 0
-unit-done s zero = refl
-unit-done s (suc zero) = refl
-unit-done s (suc (suc u)) = refl
+-- ---- what a unit says
 
-verdict-le : (k : Call) (s : State) → verdict k s ≤ 13
+-- no refusal, no number, and a packet only if it is held or the first notice
+record Unit-says (s : State) (a : Answer) : Type 0 where
+  no-refusal : a .verdict ≡ 0
+  no-number : a .number ≡ 0
+  sends-off : (p : Packet) → a .departed ≡ some p → (first (s .serving) (s .held) ≡ some p) ⊎ ((n : Notice) × (first-notice (s .notices) ≡ some n) × (notice-packet n ≡ p))
+
+says-nothing : (s : State) (r : State) → Unit-says s (record { verdict = 0; number = 0; departed = none; next = r })
+says-nothing s r = record { no-refusal = refl; no-number = refl; sends-off = λ p e. absurd (none-some e) }
+
+unit-says : (s : State) (u : ℕ) → Unit-says s (after-unit s u)
+unit-says s zero = says-nothing s _
+unit-says s (suc zero) = go (eqb (s .serving) notice-number) (s .notices) refl
+  where
+    go : (b : Bool) (ns : List Notice) → s .notices ≡ ns → Unit-says s (cond b (notice-departs s ns) (packet-departs s))
+    go true [] i = says-nothing s _
+    go true (n ∷ ns) i = record { no-refusal = refl; no-number = refl; sends-off = λ p e. inr (n, ap first-notice i, some-inj e) }
+    go false ns i = record { no-refusal = refl; no-number = refl; sends-off = λ p e. inl e }
+unit-says s (suc (suc u)) = says-nothing s _
+
+pub unit-done : (s : State) (u : ℕ) → after-unit s u .verdict ≡ 0
+unit-done s u = unit-says s u .no-refusal
+
+verdict-le : (k : Call) (s : State) → verdict k s ≤ 15
 unfolding verdicts
-verdict-le k s = number-le 13 (verdicts k s) (omega arith)
+verdict-le k s = number-le 15 (verdicts k s) (omega arith)
 
 -- a held packet's numbers
 held-fit : (s : State) (S : Sound s) (T : Sound-with-link s) → All Packet-fits (s .held)
@@ -49,30 +71,34 @@ held-fit s S T = all-zip (λ p f e. e f) (s .held) (T .fit) (all-zip one (s .hel
       eligibility = e;
     }
 
-unit-number : (s : State) (u : ℕ) → after-unit s u .number ≡ 0
-unit-number s zero = refl
-unit-number s (suc zero) = refl
-unit-number s (suc (suc u)) = refl
-
--- what a unit sends off is held
-sent-off : (s : State) (u : ℕ) (p : Packet) → after-unit s u .departed ≡ some p → first (s .serving) (s .held) ≡ some p
-sent-off s zero p e = absurd (none-some e)
-sent-off s (suc zero) p e = e
-sent-off s (suc (suc u)) p e = absurd (none-some e)
+notice-fits : (s : State) (T : Sound-with-link s) (n : Notice) → first-notice (s .notices) ≡ some n → Packet-fits (notice-packet n)
+notice-fits s T n e =
+    let k = first-notice-is (s .notices) n e in
+    let f = subst (All (Notice-fits (s .link) (s .clock))) (k .1) (T .notices-fit) .0 in
+    record { connection = omega arith; arrival = omega (arith, f .arrived, T .clock-le); eligibility = omega (arith, f .arrived, T .clock-le) }
 
 ticked-fits : (s : State) → Sound s → Sound-with-link s → s .clock < clock-end → Answer-fits tick (done tick s)
 ticked-fits s S T r = record {
-  verdict = omega (arith, unit-done (started s) (started s .to-go));
-  number = omega (arith, unit-number (started s) (started s .to-go));
-  departed = λ p e. first-all (started s .serving) Packet-fits (s .held) p (sent-off (started s) (started s .to-go) p e) (held-fit s S T);
+  verdict = omega (arith, says .no-refusal);
+  number = omega (arith, says .no-number);
+  departed = λ p e.
+      ⊎-elim
+      (λ f. first-all (started s .serving) Packet-fits (s .held) p f (held-fit s S T))
+      (λ n. subst Packet-fits (n .2) (notice-fits s T (n .0) (n .1)))
+      (says .sends-off p e);
   finish = omega (arith, tick-leaves s .clock);
 }
+  where
+    says : Unit-says (started s) (ticked s)
+    says = unit-says (started s) (started s .to-go)
 
 done-fits : (k : Call) (s : State) → Sound s → verdict k s ≡ 0 → Answer-fits k (done k s)
 done-fits (link l) s S e = record { verdict = omega arith; number = omega arith; departed = λ p i. absurd (none-some i); finish = omega (arith, clock-le-end s S) }
 done-fits (admit x) s S e = record { verdict = omega arith; number = omega (arith, admit-done s x e .few); departed = λ p i. absurd (none-some i); finish = omega (arith, clock-le-end s S) }
 done-fits (offer c len tag) s S e =
     record { verdict = omega arith; number = eligibilities-fit-32 s S .1 c .1; departed = λ p i. absurd (none-some i); finish = omega (arith, clock-le-end s S) }
+done-fits (notice len tag) s S e =
+    record { verdict = omega arith; number = omega (arith, clock-le-end s S); departed = λ p i. absurd (none-some i); finish = omega (arith, clock-le-end s S) }
 done-fits tick s S e = let d = tick-done s e in ticked-fits s S (S .with-one (d .set)) (d .running)
 
 refused-fits : (k : Call) (s : State) (v : ℕ) → Sound s → v < 256 → Answer-fits k (refused k s v)
@@ -82,6 +108,7 @@ refused-fits k s v S l = record { verdict = l; number = small k; departed = λ p
     small (link l) = omega arith
     small (admit x) = omega arith
     small (offer c len tag) = omega arith
+    small (notice len tag) = omega arith
     small tick = omega arith
 
 pub answer-fits : (k : Call) (s : State) → Sound s → Answer-fits k (answer k s)

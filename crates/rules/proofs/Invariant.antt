@@ -5,19 +5,20 @@ use mathlib.Core.Path.{_≡_, sym, ap, subst}
 use mathlib.Core.Logic.{inl, inr, ⊎-elim}
 use mathlib.Core.List.{List, _++_, map}
 use lib.ListN.{length}
-use Rattle.rules.specs.Limits.{clock-end}
+use Rattle.rules.specs.Limits.{max-connections, clock-end, notice-number}
 use Rattle.rules.specs.Model.{Packet, State, fresh}
 use Rattle.rules.specs.Admission.{bound, cost}
 use Rattle.rules.specs.Service.{of, line-left}
 use Rattle.rules.specs.SoundState.{Fits, Sound-with-link, Sound}
-use Rattle.rules.specs.Runs.{Departure, History, bound-of}
+use Rattle.rules.specs.Runs.{Departure, History, in-hub, bound-of}
 use Rattle.rules.proofs.Lists.{All}
 use Rattle.rules.proofs.Sums.{same}
 use Rattle.rules.proofs.Rows.{first-all}
+use Rattle.rules.proofs.Notices.{level-packets}
 use Rattle.rules.proofs.Standing.{stands-below}
 use Rattle.rules.proofs.Figures.{link-facts, cost-pos, cost-mono, sum-is}
 use Rattle.rules.proofs.SoundTick.{facts}
-use Rattle.rules.proofs.Line.{left-idle, left-below}
+use Rattle.rules.proofs.Line.{left-idle, left-below, left-below-notice}
 use Rattle.rules.proofs.Busy.{Line, Facts, Regular, fit-held, Busy}
 
 -- a departure is of a connection that was admitted, and in time
@@ -25,22 +26,25 @@ pub record On-time (s : State) (d : Departure) : Type 0 where
   pub admitted : d .what .connection < length (s .connections)
   pub in-time : d .finish ≤ d .what .eligibility + bound-of s (d .what .connection)
 
+abbrev pub Level-on-time : State → Departure → Type 0
+Level-on-time s d = (d .what .connection ≡ notice-number → ⊥) → On-time s d
+
 abbrev pub whats : List Departure → List Packet
 whats ds = map (λ d. d .what) ds
 
 pub record Invariant (h : History) : Type 0 where
   -- the state is sound
   pub sound : Sound (h .now)
-  -- the accepted packets are spaced, what is remembered follows from them, and the held ones are a part of them
-  pub regular : Regular (h .now) (h .accepted)
-  -- a packet in service has sent at least one unit
+  -- the accepted packets of levels are spaced, what is remembered follows from them, and the held ones are a part of them
+  pub regular : Regular (h .now) (level-packets (h .accepted))
+  -- what is in service has sent at least one unit
   pub line : Line (h .now) 1
   -- no level is further behind than its level test allows
-  pub busy : (m : ℕ) → 1 ≤ m → m ≤ h .now .link .levels → Busy (h .now) (h .accepted) m (h .now .clock)
-  -- for each connection accepted = departed followed by held
-  pub conserved : (c : ℕ) → of c (h .accepted) ≡ of c (whats (h .departed)) ++ of c (h .now .held)
-  -- every departure was in time
-  pub on-time : All (On-time (h .now)) (h .departed)
+  pub busy : (m : ℕ) → 1 ≤ m → m ≤ h .now .link .levels → Busy (h .now) (level-packets (h .accepted)) m (h .now .clock)
+  -- for each number accepted = departed followed by what waits
+  pub conserved : (c : ℕ) → of c (h .accepted) ≡ of c (whats (h .departed)) ++ of c (in-hub (h .now))
+  -- every departure of a packet of a level was in time
+  pub on-time : All (Level-on-time (h .now)) (h .departed)
 
 -- ---- what a sound state says of link and connections
 
@@ -69,6 +73,10 @@ pub clock-le-end : (s : State) → Sound s → s .clock ≤ clock-end
 clock-le-end s S =
     ⊎-elim (λ z. omega (arith, ap (λ (r : State). r .clock) (S .with-no-link z))) (λ n. S .with-one n .clock-le) (same (s .link .levels) 0)
 
+pub connections-few : (s : State) → Sound s → length (s .connections) ≤ max-connections
+connections-few s S =
+    ⊎-elim (λ z. omega (arith, ap (λ (r : State). length (r .connections)) (S .with-no-link z))) (λ n. S .with-one n .few) (same (s .link .levels) 0)
+
 -- every bound leaves room for the largest packet
 pub some-bound : (s : State) → Sound s → (m : ℕ) → 1 ≤ m → m ≤ s .link .levels → 0 < bound (s .link) m
 some-bound s S m low high =
@@ -78,7 +86,8 @@ some-bound s S m low high =
 -- what is on the line between calls has used at least one tick: less is left than the largest packet takes
 pub left-below-largest : (s : State) (acc : List Packet) → Facts (s .link) (s .connections) → Regular s acc → Line s 1 → 1 ≤ s .link .levels → line-left s < cost (s .link) (s .link .largest)
 left-below-largest s acc F R (inl z) n = omega (arith, left-idle s z, F .some-largest n)
-left-below-largest s acc F R (inr r) n =
+left-below-largest s acc F R (inr (inr r)) n = omega (arith, left-below-notice s 1 (r .in-service), cost-mono (s .link) (r .short))
+left-below-largest s acc F R (inr (inl r)) n =
     let f : Fits (s .connections) (r .it) = first-all (s .serving) (Fits (s .connections)) (s .held) (r .it) (r .is-first) (fit-held s acc R) in
     omega (
       arith,

@@ -4,23 +4,24 @@ use native.Mathlib.Omega.{arith}
 use mathlib.Core.Path.{_≡_, refl, sym, ap, _∙_, subst}
 use mathlib.Core.Bool.{Bool, true, false, cond, _&&_}
 use mathlib.Core.Logic.{_⊎_, inl, inr, ⊎-elim}
-use mathlib.Core.List.{List, [], _∷_, _++_, append-assoc, append-nil}
+use mathlib.Core.List.{List, [], _∷_, _++_, map, append-assoc, append-nil}
 use mathlib.Core.Option.{Option, none, some}
 use lib.Dec.{eqb}
 use lib.ListN.{length}
 use borrow.Author.Tests.{eqb-true, eq-eqb}
 use Rattle.rules.specs.Words.{within, push}
-use Rattle.rules.specs.Limits.{clock-end}
-use Rattle.rules.specs.Model.{Link, Connection, Past, Packet, State, Call, link, admit, offer, tick, nth, figures}
+use Rattle.rules.specs.Limits.{clock-end, notice-number}
+use Rattle.rules.specs.Model.{Link, Connection, Past, Packet, State, Call, link, admit, offer, notice, tick, nth, figures, notice-packet}
 use Rattle.rules.specs.Admission.{stands, reservation}
 use Rattle.rules.specs.Service.{next-eligibility, Spaced, of, eligibilities, ticked}
-use Rattle.rules.specs.Calls.{verdict, eligibility-now, packet, done, refused, settle, answer}
+use Rattle.rules.specs.Calls.{verdict, eligibility-now, packet, noted, done, refused, settle, answer}
 use Rattle.rules.specs.Runs.{Departure, History, leaving, logged, after, run-from, allowed, offer-tick, offer-ticks-from}
 use Rattle.rules.proofs.Lists.{All, all-init}
 use Rattle.rules.proofs.Sums.{split, same, cond-is}
 use Rattle.rules.proofs.Tests.{never, and-true, and-intro, within-intro}
 use Rattle.rules.proofs.Rows.{none-some, eligibilities-snoc-same, eligibilities-snoc-other}
-use Rattle.rules.proofs.Spacing.{next-is-now, spaced-front, spaced-before}
+use Rattle.rules.proofs.Notices.{of-levels}
+use Rattle.rules.proofs.Spacing.{memory, next-is-now, spaced-front, spaced-before}
 use Rattle.rules.proofs.Standing.{stands-below, nth-old, length-snoc}
 use Rattle.rules.proofs.Line.{tick-leaves}
 use Rattle.rules.proofs.Verdicts.{settled, link-done, offer-done, tick-done}
@@ -43,6 +44,7 @@ module _ (c : ℕ) where
   done-stays (link l) s b set e = absurd (set (link-done s l e .unset))
   done-stays (admit x) s b set e = record { still = omega (arith, length-snoc (s .connections) x); alike = nth-old (s .connections) x c b; same-link = refl }
   done-stays (offer d len tag) s b set e = record { still = b; alike = refl; same-link = refl }
+  done-stays (notice len tag) s b set e = record { still = b; alike = refl; same-link = refl }
   done-stays tick s b set e =
       let l = tick-leaves s in
       record { still = omega (arith, ap length (l .connections)); alike = ap (λ (cs : List Connection). nth cs c) (l .connections); same-link = l .link }
@@ -64,7 +66,7 @@ module _ (c : ℕ) where
 
 -- ---- the ticks of the offers so far are the eligibilities accepted; or the last of them came at the clock's end, where nothing is accepted any more
 
-module _ (c : ℕ) where
+module _ (c : ℕ) (level : c ≡ notice-number → ⊥) where
   pub record At-end (s : State) (ts : List ℕ) : Type 0 where
     pub ended : s .clock ≡ clock-end
     pub earlier : List ℕ
@@ -85,6 +87,7 @@ module _ (c : ℕ) where
     refused-taken (link l) v = A
     refused-taken (admit x) v = A
     refused-taken (offer d len tag) v = A
+    refused-taken (notice len tag) v = A
     refused-taken tick v = A
 
     -- an offer to another line, or of a length that is not allowed
@@ -125,7 +128,9 @@ module _ (c : ℕ) where
 
       pub on-arrival : eligibility-now s c ≡ s .clock
       on-arrival =
-          ap (λ (p : Past). next-eligibility (figures s c) p (s .clock)) (I .regular .remembered c (stands-below (s .connections) c standing))
+          ap (λ (p : Past). next-eligibility (figures s c) p (s .clock))
+          (I .regular .remembered c (stands-below (s .connections) c standing)
+          ∙ ap (λ (ps : List Packet). memory (map (λ p. p .eligibility) ps)) (of-levels c acc level))
           ∙ next-is-now (figures s c) (eligibilities c acc) (s .clock) word-accepted
 
       pub has-room : length (of c (s .held)) < reservation (s .link) (figures s c)
@@ -168,6 +173,14 @@ module _ (c : ℕ) where
         settled (λ a. All-taken (logged h (admit x) a) ts) (admit x) s (verdict (admit x) s) (λ _. untouched (done (admit x) s .next) acc (h .departed) refl (λ z. z)) (refused-taken (admit x))
     any-call (offer d len tag) word =
         any-offer d len tag (λ e. word (s .clock) (cond-is (some (s .clock)) none e))
+    any-call (notice len tag) word =
+        settled (λ a. All-taken (logged h (notice len tag) a) ts) (notice len tag) s (verdict (notice len tag) s) (λ _. untouched (noted s len tag) (acc ++ it ∷ []) (h .departed) same-own (λ z. z)) (refused-taken (notice len tag))
+      where
+        it : Packet
+        it = notice-packet (record { len = len; tag = tag; arrival = s .clock })
+
+        same-own : eligibilities c (acc ++ notice-packet (record { len = len; tag = tag; arrival = s .clock }) ∷ []) ≡ eligibilities c acc
+        same-own = eligibilities-snoc-other c acc (notice-packet (record { len = len; tag = tag; arrival = s .clock })) (λ e. level (sym e))
     any-call tick word =
         settled (λ a. All-taken (logged h tick a) ts) tick s (verdict tick s)
         (λ e. untouched (ticked s .next) acc (push (h .departed) (leaving s (ticked s .departed))) refl (λ z. absurd (omega (arith, tick-done s e .running))))
@@ -211,4 +224,5 @@ module _ (c : ℕ) where
               go true q e =
                   stands-below (h .now .connections) c
                   (and-true (stands (h .now .connections) c) (within 1 (figures (h .now) c .size) len) (and-true (eqb d c) (allowed (h .now) c len) q .1) .0)
+          offer-stands (notice len tag) t e = absurd (none-some e)
           offer-stands tick t e = absurd (none-some e)

@@ -16,10 +16,11 @@ use Rattle.rules.specs.Runs.{History}
 use Rattle.rules.proofs.Lists.{all-map, all-zip, total, total-eq}
 use Rattle.rules.proofs.Rows.{first-all, none-of}
 use Rattle.rules.proofs.Spacing.{memory, spaced-nil}
+use Rattle.rules.proofs.Notices.{level-packets}
 use Rattle.rules.proofs.Standing.{stands-below, nth-old, length-snoc, nth-snoc, fits-old}
 use Rattle.rules.proofs.Line.{left-same}
 use Rattle.rules.proofs.Window.{weight, between}
-use Rattle.rules.proofs.Busy.{due, served, Line, Regular, fit-held, Busy, served-idle, served-is}
+use Rattle.rules.proofs.Busy.{due, served, Line, Regular, fit-held, Busy, served-idle, served-is, served-notice}
 use Rattle.rules.proofs.BusyTick.{restart}
 use Rattle.rules.proofs.Invariant.{Invariant, facts-of, some-bound, left-below-largest}
 
@@ -53,7 +54,8 @@ module _ (s : State) (acc : List Packet) (x : Connection) (one-past-each : lengt
 
   joined-served : (m : ℕ) → Line s 1 → served (joined s x) m ≡ served s m
   joined-served m (inl z) = served-idle (joined s x) m z ∙ sym (served-idle s m z)
-  joined-served m (inr r) =
+  joined-served m (inr (inr n)) = served-notice (joined s x) m (n .alone) ∙ sym (served-notice s m (n .alone))
+  joined-served m (inr (inl r)) =
       served-is (joined s x) m 1 r
       ∙ same-due m (s .clock) (r .it) (first-all (s .serving) (Fits (s .connections)) (s .held) (r .it) (r .is-first) (fit-held s acc R))
       ∙ sym (served-is s m 1 r)
@@ -80,30 +82,38 @@ module _ (s : State) (acc : List Packet) (x : Connection) (one-past-each : lengt
   }
 
 module _ (h : History) (I : Invariant h) where
-  open History h using (now as s, accepted as acc, departed as gone)
+  open History h using (now as s, accepted as all, departed as gone)
+
+  abbrev acc : List Packet
+  acc = level-packets all
 
   pub joined-keeps : (x : Connection) → length (s .pasts) ≡ length (s .connections) → Sound (joined s x)
-      → Invariant (record { accepted = acc; departed = gone; now = joined s x })
+      → Invariant (record { accepted = all; departed = gone; now = joined s x })
   joined-keeps x e T = record {
     sound = T;
     regular = joined-regular s acc x e (I .regular);
-    line = I .line;
+    line = joined-line (I .line);
     busy = λ m low high. joined-busy s acc x e (I .regular) m (I .line) (I .busy m low high);
     conserved = I .conserved;
     on-time =
         all-map
-        (λ d k.
+        (λ d k n.
         record {
-          admitted = omega (arith, length-snoc (s .connections) x, k .admitted);
-          in-time = subst (λ (c : Connection). d .finish ≤ d .what .eligibility + bound (s .link) (c .level)) (sym (nth-old (s .connections) x (d .what .connection) (k .admitted))) (k .in-time);
+          admitted = omega (arith, length-snoc (s .connections) x, k n .admitted);
+          in-time = subst (λ (c : Connection). d .finish ≤ d .what .eligibility + bound (s .link) (c .level)) (sym (nth-old (s .connections) x (d .what .connection) (k n .admitted))) (k n .in-time);
         })
         gone
         (I .on-time);
   }
+    where
+      joined-line : Line s 1 → Line (joined s x) 1
+      joined-line (inl z) = inl z
+      joined-line (inr (inl r)) = inr (inl r)
+      joined-line (inr (inr n)) = inr (inr (record { in-service = n .in-service; short = n .short; alone = n .alone }))
 
   -- ---- a link: nothing is held and nothing was accepted
 
-  pub linked-keeps : (l : Link) → s ≡ fresh → Sound (linked s l) → Invariant (record { accepted = acc; departed = gone; now = linked s l })
+  pub linked-keeps : (l : Link) → s ≡ fresh → Sound (linked s l) → Invariant (record { accepted = all; departed = gone; now = linked s l })
   linked-keeps l e T = record {
     sound = T;
     regular = R;
@@ -114,7 +124,7 @@ module _ (h : History) (I : Invariant h) where
         (left-below-largest new acc (facts-of new T) R (inl (ap (λ (r : State). r .to-go) e)) (omega arith))
         (some-bound new T m low high);
     conserved = I .conserved;
-    on-time = all-map (λ d k. absurd (nobody (d .what .connection) (k .admitted))) gone (I .on-time);
+    on-time = all-map (λ d k n. absurd (nobody (d .what .connection) (k n .admitted))) gone (I .on-time);
   }
     where
       new : State

@@ -3,30 +3,34 @@ use Prim.Native.Nat.{ℕ, _≤_, _<_}
 use native.Mathlib.Omega.{arith}
 use mathlib.Core.Path.{_≡_, refl, sym, ap, _∙_, subst}
 use mathlib.Core.Logic.{_⊎_, inl, inr}
-use mathlib.Core.List.{List, [], _∷_, _++_, append-assoc}
+use mathlib.Core.List.{List, [], _∷_, _++_, map, append-assoc}
+use mathlib.Core.Option.{none, some}
 use lib.ListN.{length, getD, set}
 use lib.Seq.{getD-set-same, getD-set-other}
+use borrow.Author.Tests.{ne-eqb}
 use Rattle.rules.specs.Words.{upto}
-use Rattle.rules.specs.Model.{Past, no-past, Packet, State, past, figures}
+use Rattle.rules.specs.Limits.{max-connections, notice-number}
+use Rattle.rules.specs.Model.{Past, no-past, Packet, State, past, figures, notice-packet}
 use Rattle.rules.specs.Admission.{cost}
-use Rattle.rules.specs.Service.{next-eligibility, remember, Spaced, of, eligibilities, level-of}
+use Rattle.rules.specs.Service.{next-eligibility, remember, Spaced, of, eligibilities, first, level-of}
 use Rattle.rules.specs.SoundState.{Fits, In-service, Sound}
 use Rattle.rules.specs.Calls.{eligibility-now, packet, placed}
-use Rattle.rules.specs.Runs.{History}
+use Rattle.rules.specs.Runs.{History, in-hub}
 use Rattle.rules.proofs.Lists.{all-map, all-snoc, sub-snoc, total-snoc}
-use Rattle.rules.proofs.Sums.{same, upto-yes}
+use Rattle.rules.proofs.Sums.{same, cond-is, upto-yes}
 use Rattle.rules.proofs.Rows.{first-append, of-append, eligibilities-snoc-same, eligibilities-snoc-other}
+use Rattle.rules.proofs.Notices.{level-packets, levels-and-packet, first-behind, either-order}
 use Rattle.rules.proofs.Spacing.{memory, memory-snoc, not-before, next-spaced}
 use Rattle.rules.proofs.Standing.{stands-below}
 use Rattle.rules.proofs.Line.{left-same}
 use Rattle.rules.proofs.Verdicts.{Offer-done}
 use Rattle.rules.proofs.Window.{weight}
-use Rattle.rules.proofs.Busy.{due, served, Line, Regular, Busy, served-idle, served-is}
+use Rattle.rules.proofs.Busy.{due, served, Line, Regular, Busy, served-idle, served-is, served-notice}
 use Rattle.rules.proofs.Invariant.{whats, Invariant}
 
 -- ---- the line and the levels: a packet that is not eligible before now is added behind
 
-module _ (s : State) (acc : List Packet) (p : Packet) (hs : List Past) where
+module _ (s : State) (acc : List Packet) (p : Packet) (hs : List Past) (level : p .connection ≡ notice-number → ⊥) where
   abbrev behind : State
   behind = record {
     link = s .link;
@@ -34,6 +38,7 @@ module _ (s : State) (acc : List Packet) (p : Packet) (hs : List Past) where
     pasts = hs;
     clock = s .clock;
     held = s .held ++ p ∷ [];
+    notices = s .notices;
     serving = s .serving;
     to-go = s .to-go;
   }
@@ -47,14 +52,22 @@ module _ (s : State) (acc : List Packet) (p : Packet) (hs : List Past) where
     to-go-le = r .to-go-le;
   }
 
+  -- the notice in service is still no held packet's
+  still-alone : s .serving ≡ notice-number → first (s .serving) (s .held) ≡ none → first (s .serving) (s .held ++ p ∷ []) ≡ none
+  still-alone e a =
+      first-behind (s .serving) (s .held) (p ∷ []) a
+      ∙ cond-is (some p) none (ne-eqb (p .connection) (s .serving) (λ i. level (i ∙ e)))
+
   behind-line : (k : ℕ) → Line s k → Line behind k
   behind-line k (inl z) = inl z
-  behind-line k (inr r) = inr (behind-service k r)
+  behind-line k (inr (inl r)) = inr (inl (behind-service k r))
+  behind-line k (inr (inr n)) = inr (inr (record { in-service = n .in-service; short = n .short; alone = still-alone (n .in-service .is-notice) (n .alone) }))
 
   behind-served : (m : ℕ) → Line s 1 → served behind m ≡ served s m
   unfolding behind-service
   behind-served m (inl z) = served-idle behind m z ∙ sym (served-idle s m z)
-  behind-served m (inr r) = served-is behind m 1 (behind-service 1 r) ∙ sym (served-is s m 1 r)
+  behind-served m (inr (inr n)) = served-notice behind m (still-alone (n .in-service .is-notice) (n .alone)) ∙ sym (served-notice s m (n .alone))
+  behind-served m (inr (inl r)) = served-is behind m 1 (behind-service 1 r) ∙ sym (served-is s m 1 r)
 
   behind-busy : (m : ℕ) → s .clock ≤ p .eligibility → Line s 1 → Busy s acc m (s .clock) → Busy behind (acc ++ p ∷ []) m (s .clock)
   behind-busy m late l B = record {
@@ -121,21 +134,23 @@ module _ (s : State) (acc : List Packet) (c len tag : ℕ) (one-past-each : leng
   }
 
 module _ (h : History) (I : Invariant h) where
-  open History h using (now as s, accepted as acc, departed as gone)
+  open History h using (now as s, accepted as all, departed as gone)
 
-  pub placed-keeps : (c len tag : ℕ) → length (s .pasts) ≡ length (s .connections) → Offer-done s c len → Sound (placed s c len tag)
-      → Invariant (record { accepted = acc ++ packet s c len tag ∷ []; departed = gone; now = placed s c len tag })
-  placed-keeps c len tag e D T = record {
+  pub placed-keeps : (c len tag : ℕ) → length (s .pasts) ≡ length (s .connections) → length (s .connections) ≤ max-connections → Offer-done s c len → Sound (placed s c len tag)
+      → Invariant (record { accepted = all ++ packet s c len tag ∷ []; departed = gone; now = placed s c len tag })
+  placed-keeps c len tag e few D T = record {
     sound = T;
-    regular = placed-regular s acc c len tag e (I .regular) D;
-    line = behind-line s acc p hs 1 (I .line);
-    busy = λ m low high. behind-busy s acc p hs m (not-before (figures s c) (past s c) (s .clock)) (I .line) (I .busy m low high);
+    regular = subst (Regular (placed s c len tag)) (sym own) (placed-regular s (level-packets all) c len tag e (I .regular) D);
+    line = behind-line s (level-packets all) p hs level 1 (I .line);
+    busy = λ m low high.
+        subst (λ (acc : List Packet). Busy (placed s c len tag) acc m (s .clock)) (sym own)
+        (behind-busy s (level-packets all) p hs level m (not-before (figures s c) (past s c) (s .clock)) (I .line) (I .busy m low high));
     conserved = λ d.
-        of-append d acc (p ∷ [])
+        of-append d all (p ∷ [])
         ∙ ap (λ (l : List Packet). l ++ of d (p ∷ [])) (I .conserved d)
-        ∙ append-assoc (of d (whats gone)) (of d (s .held)) (of d (p ∷ []))
-        ∙ ap (λ (l : List Packet). of d (whats gone) ++ l) (sym (of-append d (s .held) (p ∷ [])));
-    on-time = all-map (λ d k. record { admitted = k .admitted; in-time = k .in-time }) gone (I .on-time);
+        ∙ append-assoc (of d (whats gone)) (of d (in-hub s)) (of d (p ∷ []))
+        ∙ ap (λ (l : List Packet). of d (whats gone) ++ l) (waits d);
+    on-time = all-map (λ d k n. record { admitted = k n .admitted; in-time = k n .in-time }) gone (I .on-time);
   }
     where
       p : Packet
@@ -143,3 +158,21 @@ module _ (h : History) (I : Invariant h) where
 
       hs : List Past
       hs = set (s .pasts) c (remember (past s c) (eligibility-now s c))
+
+      level : c ≡ notice-number → ⊥
+      level i = omega (arith, stands-below (s .connections) c (D .standing))
+
+      own : level-packets (all ++ packet s c len tag ∷ []) ≡ level-packets all ++ packet s c len tag ∷ []
+      own = levels-and-packet all (packet s c len tag) level
+
+      -- the new packet stands before the notices, which bear another number
+      waits : (d : ℕ) → of d (in-hub s) ++ of d (packet s c len tag ∷ []) ≡ of d (in-hub (placed s c len tag))
+      waits d =
+          let new = packet s c len tag ∷ [] in
+          let ns = map notice-packet (s .notices) in
+          ap (λ (l : List Packet). l ++ of d new) (of-append d (s .held) ns)
+          ∙ append-assoc (of d (s .held)) (of d ns) (of d new)
+          ∙ ap (λ (l : List Packet). of d (s .held) ++ l) (either-order d (packet s c len tag) (s .notices) level)
+          ∙ sym (append-assoc (of d (s .held)) (of d new) (of d ns))
+          ∙ ap (λ (l : List Packet). l ++ of d ns) (sym (of-append d (s .held) new))
+          ∙ sym (of-append d (s .held ++ new) ns)

@@ -4,22 +4,25 @@ use native.Mathlib.Omega.{arith}
 use native.Mathlib.Nat.{eq-zero-or-pos, le-refl}
 use mathlib.Core.Path.{_≡_, refl, sym, ap, _∙_, subst}
 use mathlib.Core.Logic.{_⊎_, inl, inr, ⊎-elim}
-use mathlib.Core.List.{List, [], _∷_, _++_}
-use mathlib.Core.Option.{Option}
+use mathlib.Core.List.{List, [], _∷_, _++_, map}
+use mathlib.Core.Option.{Option, none, some}
 use lib.ListN.{length}
 use Rattle.rules.specs.Words.{push}
-use Rattle.rules.specs.Model.{Packet, State}
+use Rattle.rules.specs.Limits.{notice-number}
+use Rattle.rules.specs.Model.{Packet, Notice, State, Answer, notice-packet}
 use Rattle.rules.specs.Admission.{bound}
-use Rattle.rules.specs.Service.{of, first, without, level-of, chosen, with-line, later, line-after-start, after-unit, ticked}
+use Rattle.rules.specs.Service.{of, first, without, level-of, chosen, with-line, later, line-after-start, packet-departs, after-unit, ticked}
 use Rattle.rules.specs.SoundState.{Fits, In-service, Sound-with-link, Sound}
-use Rattle.rules.specs.Runs.{Departure, History, leaving}
-use Rattle.rules.proofs.Lists.{All, all-snoc, Sub, sub-refl, total-sub, total-zero}
-use Rattle.rules.proofs.Rows.{first-all, sub-without, moved, map-append}
+use Rattle.rules.specs.Runs.{Departure, History, leaving, in-hub}
+use Rattle.rules.proofs.Lists.{All, all-map, all-snoc, Sub, sub-refl, total-sub, total-zero}
+use Rattle.rules.proofs.Rows.{first-all, first-append, sub-without, moved, map-append}
+use Rattle.rules.proofs.Notices.{first-notice-is, level-packets, without-append, first-behind, without-behind}
 use Rattle.rules.proofs.Standing.{stands-below}
-use Rattle.rules.proofs.SoundTick.{choice-holds}
-use Rattle.rules.proofs.Busy.{due, demand, Line, Facts, Regular, fit-held, Busy, due-none, spare, held-spare}
+use Rattle.rules.proofs.Line.{last-of-packet, last-of-notice}
+use Rattle.rules.proofs.SoundTick.{no-notice, choice-holds}
+use Rattle.rules.proofs.Busy.{due, demand, Notice-on-line, Line, Facts, Regular, fit-held, Busy, due-none, spare, held-spare}
 use Rattle.rules.proofs.BusyTick.{taken-line, taken-busy, unit-busy, restart, advance}
-use Rattle.rules.proofs.Invariant.{On-time, whats, Invariant, facts-of, some-bound, left-below-largest}
+use Rattle.rules.proofs.Invariant.{On-time, Level-on-time, whats, Invariant, facts-of, some-bound, left-below-largest}
 
 -- after step 1: a level with something due is busy, and the line is
 record Midway (s : State) (acc : List Packet) : Type 0 where
@@ -27,10 +30,17 @@ record Midway (s : State) (acc : List Packet) : Type 0 where
   mid-busy : (m : ℕ) → 1 ≤ m → m ≤ s .link .levels → (demand s m (s .clock) ≡ 0) ⊎ (Busy s acc m (s .clock) × (0 < s .to-go) × (0 < demand s m (s .clock)))
 
 module _ (h : History) (I : Invariant h) (S : Sound-with-link (h .now)) where
-  open History h using (now as s, accepted as acc, departed as gone)
+  open History h using (now as s, accepted as all, departed as gone)
+
+  abbrev acc : List Packet
+  acc = level-packets all
 
   F : Facts (s .link) (s .connections)
   F = facts-of s (I .sound)
+
+  -- no held packet bears the notices' number
+  no-notices : All (λ p. p .connection ≡ notice-number → ⊥) (s .held)
+  no-notices = all-map (λ p f e. omega (arith, S .few, stands-below (s .connections) (p .connection) (f .standing))) (s .held) (S .fit)
 
   -- ---- step 1
 
@@ -38,18 +48,30 @@ module _ (h : History) (I : Invariant h) (S : Sound-with-link (h .now)) where
   midway zero e =
       let k = choice-holds s S in
       record {
-        mid-line = taken-line s acc (I .regular) (chosen s) k;
+        mid-line = taken-line s acc (I .regular) (chosen s) k (s .notices) refl (S .notices-fit) no-notices;
         mid-busy = λ m low high.
             ⊎-elim (λ z. inl z)
             (λ pos.
-            let b = taken-busy s acc (I .regular) m (chosen s) k e (I .busy m low high) pos in
+            let b = taken-busy s acc (I .regular) m (chosen s) (s .notices) k e (I .busy m low high) pos in
             inr (b .0, b .1, pos))
             (eq-zero-or-pos (demand s m (s .clock)));
       }
   midway (suc u) e = record {
     mid-line =
         ⊎-elim (λ z. absurd (omega arith))
-        (λ r. inr (record { it = r .it; is-first = r .is-first; eligible = r .eligible; some-to-go = omega arith; to-go-le = omega (arith, r .to-go-le) }))
+        (λ l.
+        inr
+        (⊎-elim
+        (λ r. inl (record { it = r .it; is-first = r .is-first; eligible = r .eligible; some-to-go = omega arith; to-go-le = omega (arith, r .to-go-le) }))
+        (λ n.
+        let r = n .in-service in
+        inr
+        (record {
+          in-service = record { it = r .it; is-first = r .is-first; is-notice = r .is-notice; some-to-go = omega arith; to-go-le = omega (arith, r .to-go-le) };
+          short = n .short;
+          alone = n .alone;
+        }))
+        l))
         (I .line);
     mid-busy = λ m low high.
         ⊎-elim (λ z. inl z)
@@ -59,40 +81,36 @@ module _ (h : History) (I : Invariant h) (S : Sound-with-link (h .now)) where
 
   -- ---- steps 2 and 3
 
-  -- the packets `held`, a part of those before, and the line as given, a tick later
-  next : (held : List Packet) (serving to-go : ℕ) (ds : List Departure)
-      → Sound (later s held serving to-go)
+  -- the packets `held`, a part of those before, the notices and the line as given, a tick later
+  next : (held : List Packet) (ns : List Notice) (serving to-go : ℕ) (ds : List Departure)
+      → Sound (later s held ns serving to-go)
       → Sub held (s .held)
       → Sub held acc
-      → Line (later s held serving to-go) 1
-      → ((m : ℕ) → 1 ≤ m → m ≤ s .link .levels → (demand s m (s .clock) ≡ 0) ⊎ Busy (later s held serving to-go) acc m (s .clock))
-      → ((c : ℕ) → of c acc ≡ of c (whats ds) ++ of c held)
-      → All (On-time s) ds
-      → Invariant (record { accepted = acc; departed = ds; now = later s held serving to-go })
-  next held serving to-go ds sound sub part line busy cons time =
-      let R : Regular (later s held serving to-go) acc
+      → Line (later s held ns serving to-go) 1
+      → ((m : ℕ) → 1 ≤ m → m ≤ s .link .levels → (demand s m (s .clock) ≡ 0) ⊎ Busy (later s held ns serving to-go) acc m (s .clock))
+      → ((c : ℕ) → of c all ≡ of c (whats ds) ++ of c (held ++ map notice-packet ns))
+      → All (Level-on-time s) ds
+      → Invariant (record { accepted = all; departed = ds; now = later s held ns serving to-go })
+  next held ns serving to-go ds sound sub part line busy cons time =
+      let R : Regular (later s held ns serving to-go) acc
       = record { fit = I .regular .fit; spaced = I .regular .spaced; remembered = I .regular .remembered; part = part } in
       record {
         sound = sound;
         regular = R;
         line = line;
         busy = λ m low high.
-            advance (later s held serving to-go) acc m (s .clock) refl part
+            advance (later s held ns serving to-go) acc m (s .clock) refl part
             (⊎-elim
             (λ z.
-            restart (later s held serving to-go) acc m (s .clock) (fit-held (later s held serving to-go) acc R)
+            restart (later s held ns serving to-go) acc m (s .clock) (fit-held (later s held ns serving to-go) acc R)
             (omega (arith, total-sub (due (s .link) (s .connections) m (s .clock)) sub))
-            (left-below-largest (later s held serving to-go) acc F R line (omega arith))
+            (left-below-largest (later s held ns serving to-go) acc F R line (omega arith))
             (some-bound s (I .sound) m low high))
             (λ B. B)
             (busy m low high));
         conserved = cons;
-        on-time = on-time-later ds time;
+        on-time = all-map (λ d k n. record { admitted = k n .admitted; in-time = k n .in-time }) ds time;
       }
-    where
-      on-time-later : (ds : List Departure) → All (On-time s) ds → All (On-time (later s held serving to-go)) ds
-      on-time-later [] k = tt
-      on-time-later (d ∷ ds) k = (record { admitted = k .0 .admitted; in-time = k .0 .in-time }, on-time-later ds (k .1))
 
   module _ (w u : ℕ) (M : Midway (with-line s w u) acc) where
     unit-level : (m : ℕ) → 1 ≤ m → m ≤ s .link .levels
@@ -102,7 +120,7 @@ module _ (h : History) (I : Invariant h) (S : Sound-with-link (h .now)) where
         (λ z. inl z)
         (λ B.
         inr
-        (unit-busy (with-line s w u) acc m u refl (B .1) (M .mid-line) (B .0)
+        (unit-busy (with-line s w u) acc m u refl (B .1) (M .mid-line) (no-notice s S w u 0) (B .0)
         (spare (with-line s w u) acc m low high F (I .regular) 0 (M .mid-line) (B .0) (B .2))))
         (M .mid-busy m low high)
 
@@ -143,45 +161,85 @@ module _ (h : History) (I : Invariant h) (S : Sound-with-link (h .now)) where
         high : m ≤ s .link .levels
         high = F .each (r .it .connection) below .high-level
 
-  unit-keeps : (w u : ℕ) → Midway (with-line s w u) acc → Sound (after-unit (with-line s w u) u .next)
-      → Invariant
-      (record {
-        accepted = acc;
-        departed = push gone (leaving s (after-unit (with-line s w u) u .departed));
-        now = after-unit (with-line s w u) u .next;
-      })
-  unit-keeps w zero M T =
-      next (s .held) 0 0 gone T (sub-refl (s .held)) (I .regular .part) (inl refl) (unit-level w zero M) (I .conserved) (I .on-time)
-  unit-keeps w (suc zero) M T = ⊎-elim (λ z. absurd (omega arith)) go (M .mid-line)
-    where
-      left : Packet → Departure
-      left p = record { what = p; finish = s .clock + 1 }
+  -- the history a tick later, by the answer to the tick
+  abbrev Kept-with : Answer → Type 0
+  Kept-with a = Invariant (record { accepted = all; departed = push gone (leaving s (a .departed)); now = a .next })
 
-      go : In-service (with-line s w 1) 0
-          → Invariant
-          (record {
-            accepted = acc;
-            departed = push gone (leaving s (first w (s .held)));
-            now = later s (without w (s .held)) 0 0;
-          })
-      go r =
-          subst
-          (λ (o : Option Packet). Invariant (record { accepted = acc; departed = push gone (leaving s o); now = later s (without w (s .held)) 0 0 }))
-          (sym (r .is-first))
-          (next (without w (s .held)) 0 0 (gone ++ left (r .it) ∷ []) T (sub-without w (sub-refl (s .held))) (sub-without w (I .regular .part)) (inl refl) (unit-level w 1 M)
-          (λ c.
-          I .conserved c
-          ∙ moved c w (whats gone) (s .held) (r .it) (r .is-first)
-          ∙ ap (λ (l : List Packet). of c l ++ of c (without w (s .held))) (sym (map-append (λ (d : Departure). d .what) gone (left (r .it) ∷ []))))
-          (all-snoc (On-time s) gone (left (r .it)) (I .on-time) (leaves w 1 M r)))
+  abbrev left : Packet → Departure
+  left p = record { what = p; finish = s .clock + 1 }
+
+  -- what departs moves from what waits to what has gone
+  goes : (c w : ℕ) (p : Packet) → first w (in-hub s) ≡ some p → of c all ≡ of c (whats (gone ++ left p ∷ [])) ++ of c (without w (in-hub s))
+  goes c w p e =
+      I .conserved c
+      ∙ moved c w (whats gone) (in-hub s) p e
+      ∙ ap (λ (l : List Packet). of c l ++ of c (without w (in-hub s))) (sym (map-append (λ (d : Departure). d .what) gone (left p ∷ [])))
+
+  packet-keeps : (w : ℕ) → Midway (with-line s w 1) acc → (r : In-service (with-line s w 1) 0) → Sound (after-unit (with-line s w 1) 1 .next)
+      → Kept-with (after-unit (with-line s w 1) 1)
+  packet-keeps w M r T =
+      subst Kept-with (sym is) (
+      subst (λ (o : Option Packet). Invariant (record { accepted = all; departed = push gone (leaving s o); now = later s (without w (s .held)) (s .notices) 0 0 })) (sym (r .is-first))
+      (next (without w (s .held)) (s .notices) 0 0 (gone ++ left (r .it) ∷ []) (subst (λ (a : Answer). Sound (a .next)) is T)
+      (sub-without w (sub-refl (s .held))) (sub-without w (I .regular .part)) (inl refl)
+      (λ m low high. subst (λ (a : Answer). (demand s m (s .clock) ≡ 0) ⊎ Busy (a .next) acc m (s .clock)) is (unit-level w 1 M m low high))
+      (λ c.
+      goes c w (r .it) (first-append w (s .held) (map notice-packet (s .notices)) (r .it) (r .is-first))
+      ∙ ap (λ (l : List Packet). of c (whats (gone ++ left (r .it) ∷ [])) ++ of c l) (without-append w (s .held) (map notice-packet (s .notices)) (r .it) (r .is-first)))
+      (all-snoc (Level-on-time s) gone (left (r .it)) (I .on-time) (λ _. leaves w 1 M r)))
+      )
+    where
+      is : after-unit (with-line s w 1) 1 ≡ packet-departs (with-line s w 1)
+      is = last-of-packet (with-line s w 1) (no-notice s S w 1 0 r)
+
+  notice-keeps : (w : ℕ) → Midway (with-line s w 1) acc → Notice-on-line (with-line s w 1) 0 → Sound (after-unit (with-line s w 1) 1 .next)
+      → Kept-with (after-unit (with-line s w 1) 1)
+  notice-keeps w M n T =
+      let r = n .in-service in
+      let k = first-notice-is (s .notices) (r .it) (r .is-first) in
+      let is = last-of-notice (with-line s w 1) (r .it) (k .0) (r .is-notice) (k .1) in
+      subst Kept-with (sym is)
+      (next (s .held) (k .0) 0 0 (gone ++ left (notice-packet (r .it)) ∷ []) (subst (λ (a : Answer). Sound (a .next)) is T)
+      (sub-refl (s .held)) (I .regular .part) (inl refl)
+      (λ m low high. subst (λ (a : Answer). (demand s m (s .clock) ≡ 0) ⊎ Busy (a .next) acc m (s .clock)) is (unit-level w 1 M m low high))
+      (λ c. first-goes c (r .it) (k .0) (k .1) (subst (λ (v : ℕ). first v (s .held) ≡ none) (r .is-notice) (n .alone)))
+      (all-snoc (Level-on-time s) gone (left (notice-packet (r .it))) (I .on-time) (λ away. absurd (away refl))))
+    where
+      first-goes : (c : ℕ) (n : Notice) (ns : List Notice) → s .notices ≡ n ∷ ns → first notice-number (s .held) ≡ none
+          → of c all ≡ of c (whats (gone ++ left (notice-packet n) ∷ [])) ++ of c (s .held ++ map notice-packet ns)
+      first-goes c n ns e a =
+          goes c notice-number (notice-packet n) (here (first-behind notice-number (s .held) (map notice-packet (s .notices)) a))
+          ∙ ap (λ (l : List Packet). of c (whats (gone ++ left (notice-packet n) ∷ [])) ++ of c l)
+          (without-behind notice-number (s .held) (map notice-packet (s .notices)) a
+          ∙ ap (λ (l : List Notice). s .held ++ without notice-number (map notice-packet l)) e)
+        where
+          here : first notice-number (in-hub s) ≡ first notice-number (map notice-packet (s .notices)) → first notice-number (in-hub s) ≡ some (notice-packet n)
+          here i = i ∙ ap (λ (l : List Notice). first notice-number (map notice-packet l)) e
+
+  unit-keeps : (w u : ℕ) → Midway (with-line s w u) acc → Sound (after-unit (with-line s w u) u .next) → Kept-with (after-unit (with-line s w u) u)
+  unit-keeps w zero M T =
+      next (s .held) (s .notices) 0 0 gone T (sub-refl (s .held)) (I .regular .part) (inl refl) (unit-level w zero M) (I .conserved) (I .on-time)
+  unit-keeps w (suc zero) M T =
+      ⊎-elim (λ z. absurd (omega arith)) (λ l. ⊎-elim (λ r. packet-keeps w M r T) (λ n. notice-keeps w M n T) l) (M .mid-line)
   unit-keeps w (suc (suc u)) M T =
-      next (s .held) w (suc u) gone T (sub-refl (s .held)) (I .regular .part)
+      next (s .held) (s .notices) w (suc u) gone T (sub-refl (s .held)) (I .regular .part)
       (⊎-elim
       (λ z. absurd (omega arith))
-      (λ r. inr (record { it = r .it; is-first = r .is-first; eligible = omega (arith, r .eligible); some-to-go = omega arith; to-go-le = omega (arith, r .to-go-le) }))
+      (λ l.
+      inr
+      (⊎-elim
+      (λ r. inl (record { it = r .it; is-first = r .is-first; eligible = omega (arith, r .eligible); some-to-go = omega arith; to-go-le = omega (arith, r .to-go-le) }))
+      (λ n.
+      let r = n .in-service in
+      inr
+      (record {
+        in-service = record { it = r .it; is-first = r .is-first; is-notice = r .is-notice; some-to-go = omega arith; to-go-le = omega (arith, r .to-go-le) };
+        short = n .short;
+        alone = n .alone;
+      }))
+      l))
       (M .mid-line))
       (unit-level w (suc (suc u)) M) (I .conserved) (I .on-time)
 
-  pub ticked-keeps : Sound (ticked s .next)
-      → Invariant (record { accepted = acc; departed = push gone (leaving s (ticked s .departed)); now = ticked s .next })
+  pub ticked-keeps : Sound (ticked s .next) → Kept-with (ticked s)
   ticked-keeps T = unit-keeps (line-after-start s (s .to-go) .0) (line-after-start s (s .to-go) .1) (midway (s .to-go) refl) T

@@ -2,6 +2,7 @@ pub mod Lists
 pub mod Sums
 pub mod Tests
 pub mod Rows
+pub mod Notices
 pub mod Spacing
 pub mod Queue
 pub mod Standing
@@ -21,11 +22,13 @@ pub mod Invariant
 pub mod KeptByTick
 pub mod KeptByAdmit
 pub mod KeptByOffer
+pub mod KeptByNotice
 pub mod Every
 pub mod InTime
 pub mod Bounds
 pub mod Room
 pub mod Keeper
+pub mod NoticesLast
 pub mod Fields
 pub mod Results
 pub mod SoundExact

@@ -1,31 +1,40 @@
 -- The line: what a tick leaves alone, and the laws of what is still on the line. Nothing else opens `line-left`. Assumes nothing.
 use Prim.Native.Nat.{ℕ, zero, suc, _+_, _≤_}
 use native.Mathlib.Omega.{arith}
-use mathlib.Core.Path.{_≡_, refl, sym, subst}
-use mathlib.Core.List.{List}
-use mathlib.Core.Option.{none}
-use Rattle.rules.specs.Model.{Packet, State, Answer}
+use mathlib.Core.Path.{_≡_, refl, sym, ap, _∙_, subst}
+use mathlib.Core.Bool.{Bool, true, false, cond}
+use mathlib.Core.List.{List, [], _∷_}
+use mathlib.Core.Option.{none, some}
+use lib.Dec.{eqb}
+use borrow.Author.Tests.{eq-eqb, ne-eqb}
+use Rattle.rules.specs.Limits.{notice-number}
+use Rattle.rules.specs.Model.{Packet, Notice, State, Answer, notice-packet}
 use Rattle.rules.specs.Admission.{cost}
-use Rattle.rules.specs.Service.{first, without, chosen, takes, with-line, later, line-after-start, started, after-unit, ticked, line-left}
-use Rattle.rules.specs.SoundState.{In-service}
+use Rattle.rules.specs.Service.{chosen, takes, with-line, later, line-after-start, started, packet-departs, notice-departs, after-unit, ticked, line-left}
+use Rattle.rules.specs.SoundState.{In-service, Notice-in-service}
+use Rattle.rules.proofs.Sums.{cond-is}
 
 -- ---- what the three steps do
 
--- an idle line takes the chosen packet; a packet in service is not interrupted
-pub start-idle : (s : State) → line-after-start s 0 ≡ takes (chosen s)
+-- an idle line takes the chosen packet or the first notice; what is in service is not interrupted
+pub start-idle : (s : State) → line-after-start s 0 ≡ takes (chosen s) (s .notices)
 start-idle s = refl
 
 pub start-busy : (s : State) (u : ℕ) → line-after-start s (suc u) ≡ (s .serving, suc u)
 start-busy s u = refl
 
--- on an idle line nothing goes; else a unit goes, and with the last one the packet departs and its row is removed
-pub nothing-goes : (s : State) → after-unit s 0 ≡ record { verdict = 0; number = 0; departed = none; next = later s (s .held) 0 0 }
+-- on an idle line nothing goes; else a unit goes, and with the last one the packet or the notice departs and its row is removed
+pub nothing-goes : (s : State) → after-unit s 0 ≡ record { verdict = 0; number = 0; departed = none; next = later s (s .held) (s .notices) 0 0 }
 nothing-goes s = refl
 
-pub last-goes : (s : State) → after-unit s 1 ≡ record { verdict = 0; number = 0; departed = first (s .serving) (s .held); next = later s (without (s .serving) (s .held)) 0 0 }
-last-goes s = refl
+pub last-of-packet : (s : State) → (s .serving ≡ notice-number → ⊥) → after-unit s 1 ≡ packet-departs s
+last-of-packet s n = cond-is (notice-departs s (s .notices)) (packet-departs s) (ne-eqb (s .serving) notice-number n)
 
-pub unit-goes : (s : State) (u : ℕ) → after-unit s (suc (suc u)) ≡ record { verdict = 0; number = 0; departed = none; next = later s (s .held) (s .serving) (suc u) }
+pub last-of-notice : (s : State) (n : Notice) (ns : List Notice) → s .serving ≡ notice-number → s .notices ≡ n ∷ ns
+    → after-unit s 1 ≡ record { verdict = 0; number = 0; departed = some (notice-packet n); next = later s (s .held) ns 0 0 }
+last-of-notice s n ns e f = cond-is (notice-departs s (s .notices)) (packet-departs s) (eq-eqb (s .serving) notice-number e) ∙ ap (notice-departs s) f
+
+pub unit-goes : (s : State) (u : ℕ) → after-unit s (suc (suc u)) ≡ record { verdict = 0; number = 0; departed = none; next = later s (s .held) (s .notices) (s .serving) (suc u) }
 unit-goes s u = refl
 
 -- ---- what a tick leaves alone
@@ -38,7 +47,12 @@ pub record Leaves (s r : State) : Type 0 where
 
 unit-leaves : (s : State) (u : ℕ) → Leaves s (after-unit s u .next)
 unit-leaves s zero = subst (λ (a : Answer). Leaves s (a .next)) (sym (nothing-goes s)) (record { link = refl; connections = refl; pasts = refl; clock = refl })
-unit-leaves s (suc zero) = subst (λ (a : Answer). Leaves s (a .next)) (sym (last-goes s)) (record { link = refl; connections = refl; pasts = refl; clock = refl })
+unit-leaves s (suc zero) = go (eqb (s .serving) notice-number) (s .notices)
+  where
+    go : (b : Bool) (ns : List Notice) → Leaves s (cond b (notice-departs s ns) (packet-departs s) .next)
+    go true [] = record { link = refl; connections = refl; pasts = refl; clock = refl }
+    go true (n ∷ ns) = record { link = refl; connections = refl; pasts = refl; clock = refl }
+    go false ns = record { link = refl; connections = refl; pasts = refl; clock = refl }
 unit-leaves s (suc (suc u)) = subst (λ (a : Answer). Leaves s (a .next)) (sym (unit-goes s u)) (record { link = refl; connections = refl; pasts = refl; clock = refl })
 
 pub tick-leaves : (s : State) → Leaves s (ticked s .next)
@@ -53,29 +67,33 @@ pub left-idle : (s : State) → s .to-go ≡ 0 → line-left s ≡ 0
 unfolding line-left
 left-idle s e = e
 
--- something, while a packet is in service
+-- something, while a packet or a notice is in service
 pub left-some : (s : State) → 1 ≤ s .to-go → 1 ≤ line-left s
 unfolding line-left
 left-some s h = h
 
 -- the cost of a packet that the line has just taken whole
-pub left-taken : (s : State) (p : Packet) → line-left (with-line s (p .connection) (p .len)) ≡ cost (s .link) (p .len)
+pub left-taken : (s : State) (w len : ℕ) → line-left (with-line s w len) ≡ cost (s .link) len
 unfolding line-left cost
-left-taken s p = refl
+left-taken s w len = refl
 
 -- at most the cost of the packet in service, and less once a unit has gone
 pub left-below : (s : State) (k : ℕ) (r : In-service s k) → line-left s + k ≤ cost (s .link) (r .it .len)
 unfolding line-left cost
 left-below s k r = r .to-go-le
 
--- a tick takes one: with a unit that is not the last, and with the last
-pub left-unit : (s : State) (held : List Packet) (w u : ℕ) → line-left (later s held w (suc u)) + 1 ≡ line-left (with-line s w (suc (suc u)))
-unfolding line-left
-left-unit s held w u = omega arith
+pub left-below-notice : (s : State) (k : ℕ) (r : Notice-in-service s k) → line-left s + k ≤ cost (s .link) (r .it .len)
+unfolding line-left cost
+left-below-notice s k r = r .to-go-le
 
-pub left-last : (s : State) (held : List Packet) (w : ℕ) → line-left (later s held 0 0) + 1 ≡ line-left (with-line s w 1)
+-- a tick takes one: with a unit that is not the last, and with the last
+pub left-unit : (s : State) (held : List Packet) (ns : List Notice) (w u : ℕ) → line-left (later s held ns w (suc u)) + 1 ≡ line-left (with-line s w (suc (suc u)))
 unfolding line-left
-left-last s held w = refl
+left-unit s held ns w u = omega arith
+
+pub left-last : (s : State) (held : List Packet) (ns : List Notice) (w : ℕ) → line-left (later s held ns 0 0) + 1 ≡ line-left (with-line s w 1)
+unfolding line-left
+left-last s held ns w = refl
 
 -- it hangs on the line alone: other packets, connections or a later clock change nothing
 pub left-same : (s r : State) → r .to-go ≡ s .to-go → line-left r ≡ line-left s

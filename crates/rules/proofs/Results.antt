@@ -2,23 +2,23 @@
 use Prim.Native.Nat.{ℕ, zero, suc, _+_, _≤_, _<_}
 use native.Mathlib.Omega.{arith}
 use mathlib.Core.Path.{_≡_, refl, sym, ap, _∙_, subst}
-use mathlib.Core.Bool.{Bool, true, cond, not}
+use mathlib.Core.Bool.{Bool, true, false, cond, not}
 use mathlib.Core.Logic.{inl}
 use mathlib.Core.List.{List, [], _∷_, _++_, append-assoc, append-nil}
 use mathlib.Core.Option.{Option, none, some}
-use lib.Dec.{eqb}
+use lib.Dec.{leb, eqb}
 use lib.ListN.{length, getElem?}
-use borrow.Author.Tests.{eq-eqb}
+use borrow.Author.Tests.{eq-eqb, leb-false}
 use Rattle.rules.specs.Words.{push, within}
-use Rattle.rules.specs.Limits.{clock-end}
-use Rattle.rules.specs.Model.{Link, Connection, Packet, State, Call, link, admit, offer, tick, figures}
+use Rattle.rules.specs.Limits.{clock-end, max-notices, notice-number}
+use Rattle.rules.specs.Model.{Link, Connection, Packet, State, Call, link, admit, offer, notice, tick, figures}
 use Rattle.rules.specs.Admission.{stands, bound, reservation}
 use Rattle.rules.specs.Service.{Spaced, of, started}
 use Rattle.rules.specs.SoundState.{Sound}
 use Rattle.rules.specs.SoundTest.{sound}
 use Rattle.rules.specs.Calls.{verdicts, verdict, eligibility-now, done, refused-number, settle, answer}
 use Rattle.rules.specs.Runs.{History, taken, logged, after, run-from, nothing-yet, run, bound-of, allowed, offer-tick, offer-ticks-from, offer-ticks, Keeps-its-gap}
-use Rattle.rules.specs.Promises.{Demand-1-refusals, Test-is-exact, Verdict-1-exactly, No-link-means-zero, Sound-is-kept, Runs-are-sound, Rows-fit, Eligibilities-fit, Answers-fit, Conservation, Left-by, Demand-3-first, Demand-3-second}
+use Rattle.rules.specs.Promises.{Demand-1-refusals, Test-is-exact, Verdict-1-exactly, No-link-means-zero, Sound-is-kept, Runs-are-sound, Rows-fit, Notices-fit, Notices-come-last, Fifteen-after-thirteen, Eligibilities-fit, Answers-fit, Conservation, Left-by, Demand-3-first, Demand-3-second}
 use Rattle.rules.proofs.Sums.{cond-is}
 use Rattle.rules.proofs.Tests.{and-true, and-intro, not-true-false, never-number}
 use Rattle.rules.proofs.Rows.{of-append}
@@ -27,9 +27,11 @@ use Rattle.rules.proofs.Standing.{stands-below}
 use Rattle.rules.proofs.Verdicts.{settled, refused-leaves}
 use Rattle.rules.proofs.SoundExact.{exact}
 use Rattle.rules.proofs.SoundKept.{kept}
+use Rattle.rules.proofs.Invariant.{connections-few}
 use Rattle.rules.proofs.Every.{fresh-invariant, invariant}
 use Rattle.rules.proofs.InTime.{conserved-lists, left-in-time}
-use Rattle.rules.proofs.Bounds.{rows-fit-places, eligibilities-fit-32}
+use Rattle.rules.proofs.Bounds.{rows-fit-places, notices-fit-places, eligibilities-fit-32}
+use Rattle.rules.proofs.NoticesLast.{none-eligible}
 use Rattle.rules.proofs.Fields.{unit-done, answer-fits}
 use Rattle.rules.proofs.Room.{not-for-room, welcome}
 use Rattle.rules.proofs.Keeper.{stays, All-taken, all-taken, on-arrival, has-room}
@@ -40,6 +42,7 @@ done-verdict : (k : Call) (s : State) → done k s .verdict ≡ 0
 done-verdict (link l) s = refl
 done-verdict (admit x) s = refl
 done-verdict (offer c len tag) s = refl
+done-verdict (notice len tag) s = refl
 done-verdict tick s = unit-done (started s) (started s .to-go)
 
 pub answer-verdict : (k : Call) (s : State) → answer k s .verdict ≡ verdict k s
@@ -70,7 +73,7 @@ verdict-1-exactly k s = (to, from)
     to : answer k s .verdict ≡ 1 → Sound s → ⊥
     to e S =
         never-number 1 (verdicts k s)
-        (λ _. ap not (exact s .1 S), (other, (other, (other, (other, (other, (other, (other, (other, (other, (other, (other, (other, tt)))))))))))))
+        (λ _. ap not (exact s .1 S), (other, (other, (other, (other, (other, (other, (other, (other, (other, (other, (other, (other, (other, tt))))))))))))))
         (omega arith) (sym (answer-verdict k s) ∙ e)
 
     from : (Sound s → ⊥) → answer k s .verdict ≡ 1
@@ -88,6 +91,25 @@ runs-are-sound ks = invariant ks .sound
 pub rows-fit : Rows-fit
 rows-fit s S = rows-fit-places s S
 
+pub notices-fit : Notices-fit
+notices-fit s S = notices-fit-places s S
+
+pub notices-come-last : Notices-come-last
+notices-come-last s S idle e = none-eligible s S idle e
+
+pub fifteen-after-thirteen : Fifteen-after-thirteen
+unfolding verdicts
+fifteen-after-thirteen len tag s e =
+    go (not (sound s)) (eqb (s .link .levels) 0) (not (within 1 (s .link .largest) len)) (leb clock-end (s .clock)) refl (leb max-notices (length (s .notices)))
+    (sym (answer-verdict (notice len tag) s) ∙ e)
+  where
+    go : (a b c d : Bool) → leb clock-end (s .clock) ≡ d → (f : Bool) → _≡_ {A = ℕ} (cond a 1 (cond b 2 (cond c 11 (cond d 13 (cond f 15 0))))) 15 → s .clock < clock-end
+    go true b c d i f h = absurd (omega arith)
+    go false true c d i f h = absurd (omega arith)
+    go false false true d i f h = absurd (omega arith)
+    go false false false true i f h = absurd (omega arith)
+    go false false false false i f h = leb-false _ _ i
+
 pub eligibilities-fit : Eligibilities-fit
 eligibilities-fit s S = eligibilities-fit-32 s S
 
@@ -100,7 +122,7 @@ pub conservation : Conservation
 conservation ks c = conserved-lists (run ks) (invariant ks) c
 
 pub demand-3-first : Demand-3-first
-demand-3-first ks c i p is over = left-in-time (run ks) (invariant ks) c i p is over
+demand-3-first ks c i p level is over = left-in-time (run ks) (invariant ks) c i p level is over
 
 -- ---- the second sentence
 
@@ -137,6 +159,9 @@ module _ (earlier : List Call) (c len tag : ℕ) (word : Keeps-its-gap c (earlie
   below : c < length (s .connections)
   below = stands-below (s .connections) c (and-true (stands (s .connections) c) (within 1 (figures s c .size) len) ok .0)
 
+  level : c ≡ notice-number → ⊥
+  level e = omega (arith, below, connections-few s (invariant earlier .sound))
+
   ts : List ℕ
   ts = offer-ticks c earlier
 
@@ -149,15 +174,15 @@ module _ (earlier : List Call) (c len tag : ℕ) (word : Keeps-its-gap c (earlie
       (subst (λ (h : History). Spaced (figures (h .now) c) (push ts (offer-tick c s it))) (run-append earlier (it ∷ []) nothing-yet)
       (subst (Spaced (figures (run (earlier ++ it ∷ []) .now) c)) (ticks-append c earlier (it ∷ []) nothing-yet []) word)))
 
-  taken-so-far : All-taken c (run earlier) ts
+  taken-so-far : All-taken c level (run earlier) ts
   unfolding ts
-  taken-so-far = all-taken c earlier nothing-yet [] fresh-invariant (inl refl) (spaced-front (figures s c) ts (s .clock ∷ []) spaced)
+  taken-so-far = all-taken c level earlier nothing-yet [] fresh-invariant (inl refl) (spaced-front (figures s c) ts (s .clock ∷ []) spaced)
 
   arrival : eligibility-now s c ≡ s .clock
-  arrival = on-arrival c (run earlier) (invariant earlier) ts taken-so-far len tag ok spaced
+  arrival = on-arrival c level (run earlier) (invariant earlier) ts taken-so-far len tag ok spaced
 
   free-place : length (of c (s .held)) < reservation (s .link) (figures s c)
-  free-place = has-room c (run earlier) (invariant earlier) ts taken-so-far len tag ok spaced
+  free-place = has-room c level (run earlier) (invariant earlier) ts taken-so-far len tag ok spaced
 
   module _ (running : s .clock < clock-end) where
     welcomed : verdict it s ≡ 0
@@ -200,7 +225,7 @@ module _ (earlier : List Call) (c len tag : ℕ) (word : Keeps-its-gap c (earlie
       unfolding packet-now
       leaves over =
           subst (λ (d : ℕ). Left-by (run (earlier ++ it ∷ later)) c (length (of c acc)) packet-now (s .clock + d)) same-bound
-          (demand-3-first (earlier ++ it ∷ later) c (length (of c acc)) packet-now found (omega (arith, same-bound)))
+          (demand-3-first (earlier ++ it ∷ later) c (length (of c acc)) packet-now level found (omega (arith, same-bound)))
 
 pub demand-3-second : Demand-3-second
 unfolding packet-now

@@ -7,7 +7,7 @@ use mathlib.Core.List.{List, [], _∷_, _++_, map, append-assoc}
 use lib.ListN.{length}
 use borrow.Author.Tests.{ne-eqb, lt-leb}
 use Rattle.rules.specs.Words.{within, upto}
-use Rattle.rules.specs.Limits.{clock-end}
+use Rattle.rules.specs.Limits.{clock-end, notice-number}
 use Rattle.rules.specs.Model.{Packet, offer, figures}
 use Rattle.rules.specs.Admission.{stands, reservation}
 use Rattle.rules.specs.Service.{Spaced, of, eligibilities, level-of}
@@ -20,8 +20,8 @@ use Rattle.rules.proofs.Rows.{to-of, map-append, length-map, all-map-of
 use Rattle.rules.proofs.Spacing.{among, inside, spaced-back, spaced-before, window-law}
 use Rattle.rules.proofs.Standing.{stands-below}
 use Rattle.rules.proofs.Figures.{Connection-facts, reservation-is}
-use Rattle.rules.proofs.Invariant.{whats, Invariant, facts-of, some-bound}
-use Rattle.rules.proofs.InTime.{held-in-time}
+use Rattle.rules.proofs.Invariant.{whats, Invariant, facts-of, connections-few, some-bound}
+use Rattle.rules.proofs.InTime.{held-waits, held-in-time}
 use Rattle.rules.proofs.SoundExact.{exact}
 
 -- all of these lie within b .. t
@@ -36,6 +36,9 @@ module _ (h : History) (I : Invariant h) (c : ℕ) (standing : stands (h .now .c
   below : c < length (s .connections)
   below = stands-below (s .connections) c standing
 
+  level : c ≡ notice-number → ⊥
+  level e = omega (arith, below, connections-few s (I .sound))
+
   es : List ℕ
   es = eligibilities c (s .held)
 
@@ -46,7 +49,7 @@ module _ (h : History) (I : Invariant h) (c : ℕ) (standing : stands (h .now .c
       spaced-back (figures s c) (eligibilities c (whats gone)) (eligibilities c (s .held) ++ s .clock ∷ [])
       (subst (Spaced (figures s c))
       (ap (λ (l : List ℕ). l ++ s .clock ∷ [])
-      (ap (λ (ps : List Packet). map (λ p. p .eligibility) ps) (I .conserved c) ∙ map-append (λ (p : Packet). p .eligibility) (of c (whats gone)) (of c (s .held)))
+      (ap (λ (ps : List Packet). map (λ p. p .eligibility) ps) (I .conserved c ∙ ap (λ (l : List Packet). of c (whats gone) ++ l) (held-waits h c level)) ∙ map-append (λ (p : Packet). p .eligibility) (of c (whats gone)) (of c (s .held)))
       ∙ append-assoc (eligibilities c (whats gone)) (eligibilities c (s .held)) (s .clock ∷ []))
       keeps)
 
@@ -89,7 +92,7 @@ module _ (h : History) (I : Invariant h) (c len tag : ℕ) (ok : allowed (h .now
   unfolding verdicts
   not-for-room e =
       never-number 12 (verdicts (offer c len tag) s)
-      (λ i. absurd (omega arith), (λ i. absurd (omega arith), (λ i. absurd (omega arith), (λ i. absurd (omega arith), (λ i. absurd (omega arith), (λ i. absurd (omega arith), (λ i. absurd (omega arith), (λ i. absurd (omega arith), (λ i. absurd (omega arith), (λ i. absurd (omega arith), (λ i. absurd (omega arith), (λ i. lt-leb _ _ room, (λ i. absurd (omega arith), tt)))))))))))))
+      (λ i. absurd (omega arith), (λ i. absurd (omega arith), (λ i. absurd (omega arith), (λ i. absurd (omega arith), (λ i. absurd (omega arith), (λ i. absurd (omega arith), (λ i. absurd (omega arith), (λ i. absurd (omega arith), (λ i. absurd (omega arith), (λ i. absurd (omega arith), (λ i. absurd (omega arith), (λ i. lt-leb _ _ room, (λ i. absurd (omega arith), (λ i. absurd (omega arith), tt))))))))))))))
       (omega arith) e
 
   pub welcome : s .clock < clock-end → verdict (offer c len tag) s ≡ 0
@@ -115,7 +118,7 @@ module _ (h : History) (I : Invariant h) (c len tag : ℕ) (ok : allowed (h .now
                         refl,
                         (
                           ap not (ok-parts .0),
-                          (ap not (ok-parts .1), (lt-leb _ _ room, (lt-leb clock-end (s .clock) running, tt))),
+                          (ap not (ok-parts .1), (lt-leb _ _ room, (lt-leb clock-end (s .clock) running, (refl, tt)))),
                         ),
                       ),
                     ),

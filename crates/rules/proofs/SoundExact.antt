@@ -1,5 +1,5 @@
 -- The test of a sound state is true exactly of a sound state. Assumes nothing.
-use Prim.Native.Nat.{ℕ, zero, suc, _<_}
+use Prim.Native.Nat.{ℕ, zero, suc, _≤_, _<_}
 use native.Mathlib.Omega.{arith}
 use mathlib.Core.Path.{_≡_, refl, sym, ap, _∙_}
 use mathlib.Core.Bool.{Bool, true, false, cond, _&&_, _||_}
@@ -10,17 +10,18 @@ use lib.Dec.{leb, eqb}
 use lib.ListN.{length, replicate}
 use borrow.Author.Tests.{leb-true, le-leb, eqb-true, eqb-false, eq-eqb, ne-eqb}
 use Rattle.rules.specs.Words.{within, every, each}
-use Rattle.rules.specs.Limits.{max-levels, max-connections, clock-end}
-use Rattle.rules.specs.Model.{Link, Connection, Past, Packet, State, no-link, fresh, nth, past, figures}
+use Rattle.rules.specs.Limits.{max-levels, max-connections, clock-end, max-notices, notice-number}
+use Rattle.rules.specs.Model.{Link, Connection, Past, Packet, Notice, State, no-link, fresh, nth, past, figures, first-notice}
 use Rattle.rules.specs.Admission.{link-within, level-within, figures-within, stands, reservation, passes}
 use Rattle.rules.specs.Service.{of, eligibilities, first}
-use Rattle.rules.specs.SoundState.{Fits, Dated, Idle, In-service, Sound-with-link, Sound}
-use Rattle.rules.specs.SoundTest.{all-zero, nothing-used, connection-sound, admissions-sound, row-sound, latest, paced, remembered, queue-sound, rows-sound, serves, line-sound, sound}
+use Rattle.rules.specs.SoundState.{Fits, Dated, Notice-fits, Idle, In-service, Notice-in-service, Serves, Sound-with-link, Sound}
+use Rattle.rules.specs.SoundTest.{all-zero, nothing-used, connection-sound, admissions-sound, row-sound, latest, paced, remembered, queue-sound, rows-sound, notice-sound, notices-sound, serves, serves-notice, busy-sound, line-sound, sound}
 use Rattle.rules.proofs.Lists.{All, all-map}
 use Rattle.rules.proofs.Sums.{cond-is}
 use Rattle.rules.proofs.Tests.{never, and-true, and-intro, or-true, or-intro, within-true, within-intro, every-true, every-intro, each-true, each-intro}
 use Rattle.rules.proofs.LevelTest.{test-holds, holds-test}
 use Rattle.rules.proofs.Queue.{Kept-past, Chained, queue-chained, chained-queue}
+use Rattle.rules.proofs.SoundTick.{no-notice}
 use Rattle.rules.proofs.Scan.{paced-chain, chain-paced}
 use Rattle.rules.proofs.Standing.{stands-below}
 
@@ -42,10 +43,10 @@ zeros-of (suc n) (d ∷ ds) e z =
 blank-link : (n most : ℕ) (ds : List ℕ) → n ≡ 0 → most ≡ 0 → ds ≡ replicate max-levels 0 → _≡_ {A = Link} (record { levels = n; largest = most; bounds = ds }) no-link
 blank-link n most ds e f g = rw (e, f, g)
 
-blank-state : (l : Link) (cs : List Connection) (hs : List Past) (t : ℕ) (ps : List Packet) (w u : ℕ)
-    → l ≡ no-link → cs ≡ [] → hs ≡ [] → t ≡ 0 → ps ≡ [] → w ≡ 0 → u ≡ 0
-    → _≡_ {A = State} (record { link = l; connections = cs; pasts = hs; clock = t; held = ps; serving = w; to-go = u }) fresh
-blank-state l cs hs t ps w u a b c d e f g = rw (a, b, c, d, e, f, g)
+blank-state : (l : Link) (cs : List Connection) (hs : List Past) (t : ℕ) (ps : List Packet) (ns : List Notice) (w u : ℕ)
+    → l ≡ no-link → cs ≡ [] → hs ≡ [] → t ≡ 0 → ps ≡ [] → ns ≡ [] → w ≡ 0 → u ≡ 0
+    → _≡_ {A = State} (record { link = l; connections = cs; pasts = hs; clock = t; held = ps; notices = ns; serving = w; to-go = u }) fresh
+blank-state l cs hs t ps ns w u a b c d e f g h = rw (a, b, c, d, e, f, g, h)
 
 module _ (s : State) where
   fresh-of : s .link .levels ≡ 0 → nothing-used s ≡ true → s ≡ fresh
@@ -58,16 +59,18 @@ module _ (s : State) where
       let d = and-true (eqb (length (s .pasts)) 0) _ (c .1) in
       let e = and-true (eqb (s .clock) 0) _ (d .1) in
       let f = and-true (eqb (length (s .held)) 0) _ (e .1) in
-      let g = and-true (eqb (s .serving) 0) (eqb (s .to-go) 0) (f .1) in
+      let n = and-true (eqb (length (s .notices)) 0) _ (f .1) in
+      let g = and-true (eqb (s .serving) 0) (eqb (s .to-go) 0) (n .1) in
       let e1 : s .link .largest ≡ 0 = eqb-true _ 0 (l .0) in
       let e2 : s .link .bounds ≡ replicate max-levels 0 = zeros-of max-levels (s .link .bounds) (eqb-true _ max-levels (b .0)) (b .1) in
       let e3 : s .connections ≡ [] = nil-of (s .connections) (eqb-true _ 0 (c .0)) in
       let e4 : s .pasts ≡ [] = nil-of (s .pasts) (eqb-true _ 0 (d .0)) in
       let e5 : s .clock ≡ 0 = eqb-true _ 0 (e .0) in
       let e6 : s .held ≡ [] = nil-of (s .held) (eqb-true _ 0 (f .0)) in
+      let e9 : s .notices ≡ [] = nil-of (s .notices) (eqb-true _ 0 (n .0)) in
       let e7 : s .serving ≡ 0 = eqb-true _ 0 (g .0) in
       let e8 : s .to-go ≡ 0 = eqb-true _ 0 (g .1) in
-      blank-state (s .link) (s .connections) (s .pasts) (s .clock) (s .held) (s .serving) (s .to-go) (blank-link (s .link .levels) (s .link .largest) (s .link .bounds) z e1 e2) e3 e4 e5 e6 e7 e8
+      blank-state (s .link) (s .connections) (s .pasts) (s .clock) (s .held) (s .notices) (s .serving) (s .to-go) (blank-link (s .link .levels) (s .link .largest) (s .link .bounds) z e1 e2) e3 e4 e5 e6 e9 e7 e8
 
 nothing-of-fresh : nothing-used fresh ≡ true
 unfolding nothing-used
@@ -99,10 +102,22 @@ kept-intro : (t : ℕ) (h : Past) (o : Option ℕ) → Kept-past t h o → remem
 kept-intro t h none k = and-intro (leb (h .last) t) (h .sent || eqb (h .last) 0) (le-leb _ _ (k .0)) (or-intro (h .sent) (eqb (h .last) 0) (λ i. eq-eqb _ 0 (k .1 i)))
 kept-intro t h (some x) k = and-intro (h .sent) (eqb x (h .last)) (k .0) (eq-eqb x (h .last) (k .1))
 
+-- ---- the notices
+
+notice-true : (l : Link) (t : ℕ) (n : Notice) → notice-sound l t n ≡ true → Notice-fits l t n
+notice-true l t n h =
+    let a = and-true (within 1 (l .largest) (n .len)) (leb (n .arrival) t) h in
+    let w = within-true 1 (l .largest) (n .len) (a .0) in
+    record { some-len = w .0; len-le = w .1; arrived = leb-true _ _ (a .1) }
+
+notice-intro : (l : Link) (t : ℕ) (n : Notice) → Notice-fits l t n → notice-sound l t n ≡ true
+notice-intro l t n f =
+    and-intro (within 1 (l .largest) (n .len)) (leb (n .arrival) t) (within-intro 1 (l .largest) (n .len) (f .some-len) (f .len-le)) (le-leb _ _ (f .arrived))
+
 -- ---- the line
 
 module _ (s : State) where
-  line-true : line-sound s ≡ true → Idle s ⊎ In-service s 0
+  line-true : line-sound s ≡ true → Idle s ⊎ Serves s 0
   unfolding line-sound
   line-true h = go (eqb (s .to-go) 0) refl h
     where
@@ -113,26 +128,50 @@ module _ (s : State) where
           let w = within-true 1 (p .len) (s .to-go) (k .0) in
           record { it = p; is-first = i; eligible = leb-true _ _ (k .1); some-to-go = w .0; to-go-le = omega arith }
 
-      go : (t : Bool) → eqb (s .to-go) 0 ≡ t → cond t (eqb (s .serving) 0) (serves (first (s .serving) (s .held)) (s .to-go) (s .clock)) ≡ true → Idle s ⊎ In-service s 0
-      go true i e = inl (eqb-true _ 0 i, eqb-true _ 0 e)
-      go false i e = inr (serving (first (s .serving) (s .held)) refl e)
+      noticed : (o : Option Notice) → first-notice (s .notices) ≡ o → s .serving ≡ notice-number → serves-notice o (s .to-go) ≡ true → Notice-in-service s 0
+      noticed none i w e = never e
+      noticed (some n) i w e =
+          let k = within-true 1 (n .len) (s .to-go) e in
+          record { it = n; is-first = i; is-notice = w; some-to-go = k .0; to-go-le = omega arith }
 
-  line-intro : Idle s ⊎ In-service s 0 → line-sound s ≡ true
+      busy : (t : Bool) → eqb (s .serving) notice-number ≡ t
+          → cond t (serves-notice (first-notice (s .notices)) (s .to-go)) (serves (first (s .serving) (s .held)) (s .to-go) (s .clock)) ≡ true → Serves s 0
+      busy true i e = inr (noticed (first-notice (s .notices)) refl (eqb-true _ _ i) e)
+      busy false i e = inl (serving (first (s .serving) (s .held)) refl e)
+
+      go : (t : Bool) → eqb (s .to-go) 0 ≡ t → cond t (eqb (s .serving) 0) (busy-sound s) ≡ true → Idle s ⊎ Serves s 0
+      go true i e = inl (eqb-true _ 0 i, eqb-true _ 0 e)
+      go false i e = inr (busy (eqb (s .serving) notice-number) refl e)
+
+  -- the test of a line that is not idle is the one of what is in service
+  busy-line : 1 ≤ s .to-go → line-sound s ≡ busy-sound s
   unfolding line-sound
-  line-intro (inl z) = cond-is (eqb (s .serving) 0) (serves (first (s .serving) (s .held)) (s .to-go) (s .clock)) (eq-eqb (s .to-go) 0 (z .0)) ∙ eq-eqb (s .serving) 0 (z .1)
-  line-intro (inr r) =
-      cond-is (eqb (s .serving) 0) (serves (first (s .serving) (s .held)) (s .to-go) (s .clock)) (ne-eqb (s .to-go) 0 (λ i. omega (arith, r .some-to-go)))
+  busy-line l = cond-is (eqb (s .serving) 0) (busy-sound s) (ne-eqb (s .to-go) 0 (λ i. omega arith))
+
+  line-intro : (In-service s 0 → s .serving ≡ notice-number → ⊥) → Idle s ⊎ Serves s 0 → line-sound s ≡ true
+  unfolding line-sound
+  line-intro away (inl z) = cond-is (eqb (s .serving) 0) (busy-sound s) (eq-eqb (s .to-go) 0 (z .0)) ∙ eq-eqb (s .serving) 0 (z .1)
+  line-intro away (inr (inr r)) =
+      busy-line (r .some-to-go)
+      ∙ cond-is (serves-notice (first-notice (s .notices)) (s .to-go)) _ (eq-eqb (s .serving) notice-number (r .is-notice))
+      ∙ ap (λ (o : Option Notice). serves-notice o (s .to-go)) (r .is-first)
+      ∙ within-intro 1 (r .it .len) (s .to-go) (r .some-to-go) (omega (arith, r .to-go-le))
+  line-intro away (inr (inl r)) =
+      busy-line (r .some-to-go)
+      ∙ cond-is (serves-notice (first-notice (s .notices)) (s .to-go)) _ (ne-eqb (s .serving) notice-number (away r))
       ∙ ap (λ (o : Option Packet). serves o (s .to-go) (s .clock)) (r .is-first)
       ∙ and-intro (within 1 (r .it .len) (s .to-go)) (leb (r .it .eligibility) (s .clock)) (within-intro 1 (r .it .len) (s .to-go) (r .some-to-go) (omega (arith, r .to-go-le))) (le-leb _ _ (r .eligible))
 
 -- ---- with a link set
 
 module _ (s : State) where
-  linked-true : (admissions-sound s && (rows-sound s && line-sound s)) ≡ true → Sound-with-link s
-  unfolding admissions-sound rows-sound
+  linked-true : (admissions-sound s && (rows-sound s && (notices-sound s && line-sound s))) ≡ true → Sound-with-link s
+  unfolding admissions-sound rows-sound notices-sound
   linked-true h =
-      let x = and-true (admissions-sound s) (rows-sound s && line-sound s) h in
-      let y = and-true (rows-sound s) (line-sound s) (x .1) in
+      let x = and-true (admissions-sound s) (rows-sound s && (notices-sound s && line-sound s)) h in
+      let y = and-true (rows-sound s) (notices-sound s && line-sound s) (x .1) in
+      let q = and-true (notices-sound s) (line-sound s) (y .1) in
+      let r = and-true (leb (length (s .notices)) max-notices) _ (q .0) in
       let a = and-true (link-within (s .link)) _ (x .0) in
       let b = and-true (leb (length (s .connections)) max-connections) _ (a .1) in
       let c = and-true (eqb (length (s .pasts)) (length (s .connections))) _ (b .1) in
@@ -161,13 +200,15 @@ module _ (s : State) where
         queue = λ j l.
             chained-queue (figures s j) (s .clock) (past s j) (eligibilities j (s .held))
             (record { chain = paced-chain (s .connections) (s .clock) [] (s .held) (i .0) j; kept = kept-true (s .clock) (past s j) (latest (eligibilities j (s .held))) (line j l .1) });
-        line = line-true s (y .1);
+        few-notices = leb-true _ _ (r .0);
+        notices-fit = all-map (λ n k. notice-true (s .link) (s .clock) n k) (s .notices) (each-true (notice-sound (s .link) (s .clock)) (s .notices) (r .1));
+        line = line-true s (q .1);
       }
 
-  linked-intro : Sound-with-link s → (admissions-sound s && (rows-sound s && line-sound s)) ≡ true
-  unfolding admissions-sound rows-sound
+  linked-intro : Sound-with-link s → (admissions-sound s && (rows-sound s && (notices-sound s && line-sound s))) ≡ true
+  unfolding admissions-sound rows-sound notices-sound
   linked-intro S =
-      and-intro (admissions-sound s) (rows-sound s && line-sound s)
+      and-intro (admissions-sound s) (rows-sound s && (notices-sound s && line-sound s))
       (and-intro (link-within (s .link)) _ (S .link-in)
       (and-intro (leb (length (s .connections)) max-connections) _ (le-leb _ _ (S .few))
       (and-intro (eqb (length (s .pasts)) (length (s .connections))) _ (eq-eqb _ _ (S .one-past-each))
@@ -175,14 +216,17 @@ module _ (s : State) where
       (every-intro (length (s .connections)) (λ i. connection-sound (s .link) (figures s i))
       (λ j l. and-intro (level-within (s .link) (figures s j)) (figures-within (s .link) (figures s j)) (S .levels-in j l) (S .figures-in j l)))
       (and-intro (passes (s .link) (s .connections)) _ (holds-test (s .link) (s .connections) (S .tested)) (le-leb _ _ (S .reserved-le)))))))
-      (and-intro (rows-sound s) (line-sound s)
+      (and-intro (rows-sound s) (notices-sound s && line-sound s)
       (and-intro (leb (s .clock) clock-end) _ (le-leb _ _ (S .clock-le))
       (and-intro (each (row-sound (s .connections) (s .clock)) (s .held)) _
       (each-intro (row-sound (s .connections) (s .clock)) (s .held) (all-rows (s .held) (S .fit) (S .dated)))
       (and-intro (paced (s .connections) (s .clock) [] (s .held)) _
       (chain-paced (s .connections) (s .clock) [] (s .held) (all-map (λ p f. stands-below (s .connections) (p .connection) (f .standing)) (s .held) (S .fit)) (λ j l. chained j l .chain))
       (every-intro (length (s .connections)) (queue-sound s) (λ j l. and-intro _ _ (le-leb _ _ (S .room j l)) (kept-intro (s .clock) (past s j) (latest (eligibilities j (s .held))) (chained j l .kept)))))))
-      (line-intro s (S .line)))
+      (and-intro (notices-sound s) (line-sound s)
+      (and-intro (leb (length (s .notices)) max-notices) _ (le-leb _ _ (S .few-notices))
+      (each-intro (notice-sound (s .link) (s .clock)) (s .notices) (all-map (λ n f. notice-intro (s .link) (s .clock) n f) (s .notices) (S .notices-fit))))
+      (line-intro s (no-notice s S (s .serving) (s .to-go) 0) (S .line))))
     where
       chained : (j : ℕ) → j < length (s .connections) → Chained (figures s j .gap) (s .clock) (past s j) (eligibilities j (s .held))
       chained j l = queue-chained (figures s j) (s .clock) (past s j) (eligibilities j (s .held)) (S .queue j l)
@@ -204,6 +248,6 @@ module _ (s : State) where
       from : Sound s → sound s ≡ true
       from S = go (eqb (s .link .levels) 0) refl
         where
-          go : (t : Bool) → eqb (s .link .levels) 0 ≡ t → cond t (nothing-used s) (admissions-sound s && (rows-sound s && line-sound s)) ≡ true
+          go : (t : Bool) → eqb (s .link .levels) 0 ≡ t → cond t (nothing-used s) (admissions-sound s && (rows-sound s && (notices-sound s && line-sound s))) ≡ true
           go true i = ap nothing-used (S .with-no-link (eqb-true _ 0 i)) ∙ nothing-of-fresh
           go false i = linked-intro (S .with-one (eqb-false _ 0 i))

@@ -9,7 +9,7 @@ use lib.Seq.{getD-set-same, getD-set-other}
 use Rattle.rules.specs.Model.{Past, no-past, Packet, State, past, figures}
 use Rattle.rules.specs.Admission.{reservation}
 use Rattle.rules.specs.Service.{of, eligibilities, remember}
-use Rattle.rules.specs.SoundState.{Fits, Dated, Queue, Sound-with-link}
+use Rattle.rules.specs.SoundState.{Fits, Dated, Queue, In-service, Sound-with-link}
 use Rattle.rules.specs.Calls.{eligibility-now, packet, placed}
 use Rattle.rules.proofs.Lists.{all-snoc}
 use Rattle.rules.proofs.Sums.{same}
@@ -47,6 +47,15 @@ module _ (s : State) (S : Sound-with-link s) (c len tag : ℕ) (D : Offer-done s
       (omega (arith, D .room, ap length (of-snoc-same c (s .held) p refl), length-append (of c (s .held)) (p ∷ [])))
   room-placed d l (inr e) = omega (arith, S .room d l, ap length (of-snoc-other d (s .held) p e))
 
+  behind : In-service s 0 → In-service (placed s c len tag) 0
+  behind r = record {
+    it = r .it;
+    is-first = first-append (s .serving) (s .held) (packet s c len tag ∷ []) (r .it) (r .is-first);
+    eligible = r .eligible;
+    some-to-go = r .some-to-go;
+    to-go-le = r .to-go-le;
+  }
+
   pub sound-placed : Sound-with-link (placed s c len tag)
   unfolding new p
   sound-placed = record {
@@ -62,16 +71,7 @@ module _ (s : State) (S : Sound-with-link s) (c len tag : ℕ) (D : Offer-done s
     dated = all-snoc (Dated (s .clock)) (s .held) p (S .dated) (record { arrived = omega arith; not-before = not-before (figures s c) (past s c) (s .clock) });
     room = λ d l. room-placed d l (same c d);
     queue = λ d l. queue-placed d l (same c d);
-    line =
-        ⊎-elim (λ z. inl z)
-        (λ r.
-        inr
-        (record {
-          it = r .it;
-          is-first = first-append (s .serving) (s .held) (p ∷ []) (r .it) (r .is-first);
-          eligible = r .eligible;
-          some-to-go = r .some-to-go;
-          to-go-le = r .to-go-le;
-        }))
-        (S .line);
+    few-notices = S .few-notices;
+    notices-fit = S .notices-fit;
+    line = ⊎-elim (λ z. inl z) (λ k. inr (⊎-elim (λ r. inl (behind r)) (λ r. inr r) k)) (S .line);
   }

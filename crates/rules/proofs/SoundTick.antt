@@ -3,20 +3,21 @@ use Prim.Native.Nat.{ℕ, zero, suc, _+_, _≤_, _<_}
 use native.Mathlib.Omega.{arith}
 use mathlib.Core.Path.{_≡_, refl, sym, ap, _∙_, subst}
 use mathlib.Core.Logic.{_⊎_, inl, inr, ⊎-elim}
-use mathlib.Core.List.{List, _∷_, map}
+use mathlib.Core.List.{List, [], _∷_, map}
 use mathlib.Core.Option.{Option, none, some}
 use lib.ListN.{length}
-use Rattle.rules.specs.Limits.{clock-end}
-use Rattle.rules.specs.Model.{Packet, State, past, figures}
+use Rattle.rules.specs.Limits.{clock-end, max-notices, notice-number}
+use Rattle.rules.specs.Model.{Packet, Notice, State, Answer, past, figures, first-notice}
 use Rattle.rules.specs.Service.{of, eligibilities, first, without, level-of, chosen, with-line, later, takes, line-after-start, after-unit, ticked}
-use Rattle.rules.specs.SoundState.{Fits, Dated, Queue, Idle, In-service, Sound-with-link}
+use Rattle.rules.specs.SoundState.{Fits, Dated, Queue, Notice-fits, Idle, In-service, Notice-in-service, Serves, Sound-with-link}
 use Rattle.rules.proofs.Lists.{All, all-map, all-sub, Pairs, Sub, sub-refl}
 use Rattle.rules.proofs.Sums.{same}
-use Rattle.rules.proofs.Rows.{first-all, sub-without, of-first, of-other, pairs-by-connection}
+use Rattle.rules.proofs.Rows.{first-all, first-of, sub-without, of-first, of-other, pairs-by-connection}
+use Rattle.rules.proofs.Notices.{first-notice-is}
 use Rattle.rules.proofs.Spacing.{spaced-rises}
 use Rattle.rules.proofs.Standing.{stands-below}
 use Rattle.rules.proofs.Figures.{Connection-facts, connection-facts}
-use Rattle.rules.proofs.Line.{start-idle, start-busy}
+use Rattle.rules.proofs.Line.{start-idle, start-busy, last-of-packet, last-of-notice}
 use Rattle.rules.proofs.Queue.{queue-chained, chained-queue, chained-later, chained-tail}
 use Rattle.rules.proofs.Choice.{Rising, Chosen, chosen-law}
 
@@ -27,7 +28,22 @@ taken-serves s F p k =
     let f : Fits (s .connections) p = first-all (p .connection) (Fits (s .connections)) (s .held) p (k .2) F in
     record { it = p; is-first = k .2; eligible = k .0; some-to-go = f .some-len; to-go-le = omega arith }
 
+-- .. or the first notice does
+unfoldable pub notice-serves : (s : State) (n : Notice) (ns : List Notice) → s .notices ≡ n ∷ ns → All (Notice-fits (s .link) (s .clock)) (n ∷ ns)
+    → Notice-in-service (with-line s notice-number (n .len)) 0
+notice-serves s n ns e f = record { it = n; is-first = ap first-notice e; is-notice = refl; some-to-go = f .0 .some-len; to-go-le = omega arith }
+
 module _ (s : State) (S : Sound-with-link s) where
+  -- a packet in service bears no notice's number
+  pub no-notice : (w u k : ℕ) → In-service (with-line s w u) k → w ≡ notice-number → ⊥
+  no-notice w u k r e =
+      omega (
+        arith,
+        S .few,
+        first-of w (s .held) (r .it) (r .is-first),
+        stands-below (s .connections) (r .it .connection) (first-all w (Fits (s .connections)) (s .held) (r .it) (r .is-first) (S .fit) .standing),
+      )
+
   pub facts : (c : ℕ) → c < length (s .connections) → Connection-facts (s .link) (figures s c)
   facts c l = connection-facts (s .link) (figures s c) (S .levels-in c l) (S .figures-in c l)
 
@@ -41,14 +57,16 @@ module _ (s : State) (S : Sound-with-link s) where
   choice-holds = chosen-law (level-of s) (s .clock) (s .held) rows-rise
 
   module _ (running : s .clock < clock-end) where
-    -- some of the rows, a tick later
-    sound-later : (held : List Packet) (serving to-go : ℕ)
+    -- some of the rows and of the notices, a tick later
+    sound-later : (held : List Packet) (ns : List Notice) (serving to-go : ℕ)
         → Sub held (s .held)
         → ((c : ℕ) → length (of c held) ≤ length (of c (s .held)))
         → ((c : ℕ) → c < length (s .connections) → Queue (figures s c) (s .clock) (past s c) (eligibilities c held))
-        → Idle (later s held serving to-go) ⊎ In-service (later s held serving to-go) 0
-        → Sound-with-link (later s held serving to-go)
-    sound-later held serving to-go sub fewer queue line = record {
+        → length ns ≤ max-notices
+        → All (Notice-fits (s .link) (s .clock)) ns
+        → Idle (later s held ns serving to-go) ⊎ Serves (later s held ns serving to-go) 0
+        → Sound-with-link (later s held ns serving to-go)
+    sound-later held ns serving to-go sub fewer queue few fit line = record {
       link-in = S .link-in;
       levels-in = S .levels-in;
       figures-in = S .figures-in;
@@ -63,13 +81,16 @@ module _ (s : State) (S : Sound-with-link s) where
       queue = λ c l.
           chained-queue (figures s c) (s .clock + 1) (past s c) (eligibilities c held)
           (chained-later (figures s c .gap) (s .clock) (past s c) (eligibilities c held) (queue-chained (figures s c) (s .clock) (past s c) (eligibilities c held) (queue c l)));
+      few-notices = few;
+      notices-fit = all-map (λ n f. record { some-len = f .some-len; len-le = f .len-le; arrived = omega (arith, f .arrived) }) ns fit;
       line = line;
     }
 
     -- the packet in service has sent its last unit
-    sound-departed : (w : ℕ) → In-service (with-line s w 1) 0 → Sound-with-link (later s (without w (s .held)) 0 0)
+    sound-departed : (w : ℕ) → In-service (with-line s w 1) 0 → Sound-with-link (later s (without w (s .held)) (s .notices) 0 0)
     sound-departed w r =
-        sound-later (without w (s .held)) 0 0 (sub-without w (sub-refl (s .held))) (λ c. fewer c (same w c)) (λ c l. shorter c l (same w c)) (inl (refl, refl))
+        sound-later (without w (s .held)) (s .notices) 0 0 (sub-without w (sub-refl (s .held))) (λ c. fewer c (same w c)) (λ c l. shorter c l (same w c))
+        (S .few-notices) (S .notices-fit) (inl (refl, refl))
       where
         shorter : (c : ℕ) → c < length (s .connections) → (w ≡ c) ⊎ (w ≡ c → ⊥) → Queue (figures s c) (s .clock) (past s c) (eligibilities c (without w (s .held)))
         shorter c l (inl e) =
@@ -87,26 +108,55 @@ module _ (s : State) (S : Sound-with-link s) where
             (omega (arith, ap length (of-first w (s .held) (r .it) (r .is-first))))
         fewer c (inr e) = omega (arith, ap length (of-other w c (s .held) e))
 
-    sound-unit : (w u : ℕ) → Idle (with-line s w u) ⊎ In-service (with-line s w u) 0 → Sound-with-link (after-unit (with-line s w u) u .next)
-    sound-unit w zero k = sound-later (s .held) 0 0 (sub-refl (s .held)) (λ c. omega arith) (S .queue) (inl (refl, refl))
+    -- the first notice has
+    sound-notice-gone : (n : Notice) (ns : List Notice) → s .notices ≡ n ∷ ns → Sound-with-link (later s (s .held) ns 0 0)
+    sound-notice-gone n ns e =
+        sound-later (s .held) ns 0 0 (sub-refl (s .held)) (λ c. omega arith) (S .queue)
+        (omega (arith, S .few-notices, ap length e))
+        (subst (All (Notice-fits (s .link) (s .clock))) e (S .notices-fit) .1)
+        (inl (refl, refl))
+
+    -- something else than a last unit goes, or nothing
+    sound-on : (w u : ℕ) → Idle (later s (s .held) (s .notices) w u) ⊎ Serves (later s (s .held) (s .notices) w u) 0
+        → Sound-with-link (later s (s .held) (s .notices) w u)
+    sound-on w u line = sound-later (s .held) (s .notices) w u (sub-refl (s .held)) (λ c. omega arith) (S .queue) (S .few-notices) (S .notices-fit) line
+
+    sound-unit : (w u : ℕ) → Idle (with-line s w u) ⊎ Serves (with-line s w u) 0 → Sound-with-link (after-unit (with-line s w u) u .next)
+    sound-unit w zero k = sound-on 0 0 (inl (refl, refl))
     sound-unit w (suc zero) (inl z) = absurd (omega (arith, z .0))
-    sound-unit w (suc zero) (inr r) = sound-departed w r
+    sound-unit w (suc zero) (inr (inl r)) =
+        subst (λ (a : Answer). Sound-with-link (a .next)) (sym (last-of-packet (with-line s w 1) (no-notice w 1 0 r))) (sound-departed w r)
+    sound-unit w (suc zero) (inr (inr r)) =
+        let k = first-notice-is (s .notices) (r .it) (r .is-first) in
+        subst (λ (a : Answer). Sound-with-link (a .next)) (sym (last-of-notice (with-line s w 1) (r .it) (k .0) (r .is-notice) (k .1)))
+        (sound-notice-gone (r .it) (k .0) (k .1))
     sound-unit w (suc (suc u)) (inl z) = absurd (omega (arith, z .0))
-    sound-unit w (suc (suc u)) (inr r) =
-        sound-later (s .held) w (suc u) (sub-refl (s .held)) (λ c. omega arith) (S .queue)
-        (inr (record { it = r .it; is-first = r .is-first; eligible = omega (arith, r .eligible); some-to-go = omega arith; to-go-le = omega (arith, r .to-go-le) }))
+    sound-unit w (suc (suc u)) (inr (inl r)) =
+        sound-on w (suc u)
+        (inr (inl (record { it = r .it; is-first = r .is-first; eligible = omega (arith, r .eligible); some-to-go = omega arith; to-go-le = omega (arith, r .to-go-le) })))
+    sound-unit w (suc (suc u)) (inr (inr r)) =
+        sound-on w (suc u)
+        (inr (inr (record { it = r .it; is-first = r .is-first; is-notice = r .is-notice; some-to-go = omega arith; to-go-le = omega (arith, r .to-go-le) })))
 
     sound-start : (u : ℕ) → s .to-go ≡ u
-        → Idle (with-line s (line-after-start s u .0) (line-after-start s u .1)) ⊎ In-service (with-line s (line-after-start s u .0) (line-after-start s u .1)) 0
-    sound-start zero e = subst (λ (l : ℕ × ℕ). Idle (with-line s (l .0) (l .1)) ⊎ In-service (with-line s (l .0) (l .1)) 0) (sym (start-idle s)) (go (chosen s) choice-holds)
+        → Idle (with-line s (line-after-start s u .0) (line-after-start s u .1)) ⊎ Serves (with-line s (line-after-start s u .0) (line-after-start s u .1)) 0
+    sound-start zero e =
+        subst (λ (l : ℕ × ℕ). Idle (with-line s (l .0) (l .1)) ⊎ Serves (with-line s (l .0) (l .1)) 0) (sym (start-idle s)) (go (chosen s) choice-holds (s .notices) refl)
       where
-        go : (o : Option Packet) → Chosen (level-of s) (s .clock) (s .held) o → Idle (with-line s (takes o .0) (takes o .1)) ⊎ In-service (with-line s (takes o .0) (takes o .1)) 0
-        go none k = inl (refl, refl)
-        go (some p) k = inr (taken-serves s (S .fit) p k)
+        go : (o : Option Packet) → Chosen (level-of s) (s .clock) (s .held) o → (ns : List Notice) → s .notices ≡ ns
+            → Idle (with-line s (takes o ns .0) (takes o ns .1)) ⊎ Serves (with-line s (takes o ns .0) (takes o ns .1)) 0
+        go (some p) k ns i = inr (inl (taken-serves s (S .fit) p k))
+        go none k [] i = inl (refl, refl)
+        go none k (n ∷ ns) i = inr (inr (notice-serves s n ns i (subst (All (Notice-fits (s .link) (s .clock))) i (S .notices-fit))))
     sound-start (suc u) e =
-        subst (λ (l : ℕ × ℕ). Idle (with-line s (l .0) (l .1)) ⊎ In-service (with-line s (l .0) (l .1)) 0) (sym (start-busy s u))
+        subst (λ (l : ℕ × ℕ). Idle (with-line s (l .0) (l .1)) ⊎ Serves (with-line s (l .0) (l .1)) 0) (sym (start-busy s u))
         (⊎-elim (λ z. absurd (omega (arith, z .0)))
-        (λ r. inr (record { it = r .it; is-first = r .is-first; eligible = r .eligible; some-to-go = omega arith; to-go-le = omega (arith, r .to-go-le) }))
+        (λ k.
+        inr
+        (⊎-elim
+        (λ r. inl (record { it = r .it; is-first = r .is-first; eligible = r .eligible; some-to-go = omega arith; to-go-le = omega (arith, r .to-go-le) }))
+        (λ r. inr (record { it = r .it; is-first = r .is-first; is-notice = r .is-notice; some-to-go = omega arith; to-go-le = omega (arith, r .to-go-le) }))
+        k))
         (S .line))
 
     pub sound-ticked : Sound-with-link (ticked s .next)

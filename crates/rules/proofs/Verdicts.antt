@@ -7,8 +7,8 @@ use mathlib.Core.List.{List, [], _∷_, _++_}
 use lib.Dec.{eqb}
 use lib.ListN.{length}
 use borrow.Author.Tests.{eqb-true, eqb-false, leb-false, ltb-false, not-false}
-use Rattle.rules.specs.Limits.{max-connections, max-reserved, clock-end}
-use Rattle.rules.specs.Model.{Link, Connection, State, Call, link, admit, offer, tick, Answer, figures}
+use Rattle.rules.specs.Limits.{max-connections, max-reserved, clock-end, max-notices}
+use Rattle.rules.specs.Model.{Link, Connection, State, Call, link, admit, offer, notice, tick, Answer, figures}
 use Rattle.rules.specs.Admission.{link-within, level-within, figures-within, stands, reservation, reserved, passes}
 use Rattle.rules.specs.Service.{of}
 use Rattle.rules.specs.Calls.{verdicts, verdict, done, refused, settle}
@@ -94,6 +94,25 @@ offer-done s c len tag e =
       len-le = w .1;
       room = omega (arith, leb-false);
       running = leb-false _ _ (not-given (offer c len tag) s e 13);
+    }
+
+pub record Notice-done (s : State) (len : ℕ) : Type 0 where
+  pub set : s .link .levels ≡ 0 → ⊥
+  pub some-len : 1 ≤ len
+  pub len-le : len ≤ s .link .largest
+  pub running : s .clock < clock-end
+  pub room : length (s .notices) < max-notices
+
+pub notice-done : (s : State) (len tag : ℕ) → verdict (notice len tag) s ≡ 0 → Notice-done s len
+unfolding verdicts
+notice-done s len tag e =
+    let w = within-true 1 (s .link .largest) len (not-false _ (not-given (notice len tag) s e 11)) in
+    record {
+      set = eqb-false _ _ (not-given (notice len tag) s e 2);
+      some-len = w .0;
+      len-le = w .1;
+      running = leb-false _ _ (not-given (notice len tag) s e 13);
+      room = leb-false _ _ (not-given (notice len tag) s e 15);
     }
 
 pub record Tick-done (s : State) : Type 0 where

@@ -1,4 +1,5 @@
--- The four calls: their verdicts as one table, and what each does where the verdict is 0. Document 01, "Verdict numbers". Assumes nothing.
+-- The five calls: their verdicts as one table, and what each does where the verdict is 0. Document 01, "Verdict numbers"; document 02, R-1.
+-- Assumes nothing.
 use Prim.Native.Nat.{ℕ, zero, suc}
 use mathlib.Core.Bool.{Bool, false, not}
 use mathlib.Core.List.{List, [], _∷_, _++_}
@@ -6,8 +7,8 @@ use mathlib.Core.Option.{none}
 use lib.Dec.{leb, ltb, eqb}
 use lib.ListN.{length, set}
 use Rattle.rules.specs.Words.{within, first-number}
-use Rattle.rules.specs.Limits.{max-connections, max-reserved, clock-end, no-connection-number}
-use Rattle.rules.specs.Model.{Link, Connection, Packet, State, Call, link, admit, offer, tick, Answer, no-past, past, figures}
+use Rattle.rules.specs.Limits.{max-connections, max-reserved, clock-end, max-notices, no-connection-number}
+use Rattle.rules.specs.Model.{Link, Connection, Packet, State, Call, link, admit, offer, notice, tick, Answer, no-past, past, figures}
 use Rattle.rules.specs.Admission.{link-within, level-within, figures-within, next-number, stands, reservation, reserved, passes}
 use Rattle.rules.specs.Service.{next-eligibility, remember, of, ticked}
 use Rattle.rules.specs.SoundTest.{sound}
@@ -18,30 +19,49 @@ abbrev pub at-link : (Link → Bool) → Call → Bool
 at-link f (link l) = f l
 at-link f (admit x) = false
 at-link f (offer c len tag) = false
+at-link f (notice len tag) = false
 at-link f tick = false
 
 abbrev pub at-admit : (Connection → Bool) → Call → Bool
 at-admit f (link l) = false
 at-admit f (admit x) = f x
 at-admit f (offer c len tag) = false
+at-admit f (notice len tag) = false
 at-admit f tick = false
 
 abbrev pub at-offer : (ℕ → ℕ → Bool) → Call → Bool
 at-offer f (link l) = false
 at-offer f (admit x) = false
 at-offer f (offer c len tag) = f c len
+at-offer f (notice len tag) = false
 at-offer f tick = false
 
-abbrev pub at-offer-or-tick : Bool → Call → Bool
-at-offer-or-tick b (link l) = false
-at-offer-or-tick b (admit x) = false
-at-offer-or-tick b (offer c len tag) = b
-at-offer-or-tick b tick = b
+abbrev pub at-notice : (ℕ → Bool) → Call → Bool
+at-notice f (link l) = false
+at-notice f (admit x) = false
+at-notice f (offer c len tag) = false
+at-notice f (notice len tag) = f len
+at-notice f tick = false
+
+abbrev pub at-offer-and-notice : (ℕ → ℕ → Bool) → (ℕ → Bool) → Call → Bool
+at-offer-and-notice f g (link l) = false
+at-offer-and-notice f g (admit x) = false
+at-offer-and-notice f g (offer c len tag) = f c len
+at-offer-and-notice f g (notice len tag) = g len
+at-offer-and-notice f g tick = false
+
+abbrev pub at-all-but-link-and-admit : Bool → Call → Bool
+at-all-but-link-and-admit b (link l) = false
+at-all-but-link-and-admit b (admit x) = false
+at-all-but-link-and-admit b (offer c len tag) = b
+at-all-but-link-and-admit b (notice len tag) = b
+at-all-but-link-and-admit b tick = b
 
 abbrev pub at-all-but-link : Bool → Call → Bool
 at-all-but-link b (link l) = false
 at-all-but-link b (admit x) = b
 at-all-but-link b (offer c len tag) = b
+at-all-but-link b (notice len tag) = b
 at-all-but-link b tick = b
 
 -- ---- the table, in the document's order: number, call, given exactly when
@@ -68,12 +88,14 @@ verdicts k s =
     ∷ (9, at-admit (λ x. ltb max-reserved (reserved (s .link) (s .connections ++ x ∷ []))) k)
     -- no such connection
     ∷ (10, at-offer (λ c len. not (stands (s .connections) c)) k)
-    -- length 0 or above the connection's size
-    ∷ (11, at-offer (λ c len. not (within 1 (figures s c .size) len)) k)
+    -- length 0 or above the connection's size; of a notice, above S
+    ∷ (11, at-offer-and-notice (λ c len. not (within 1 (figures s c .size) len)) (λ len. not (within 1 (s .link .largest) len)) k)
     -- it holds as many packets as its reservation
     ∷ (12, at-offer (λ c len. leb (reservation (s .link) (figures s c)) (length (of c (s .held)))) k)
     -- the clock has ended
-    ∷ (13, at-offer-or-tick (leb clock-end (s .clock)) k)
+    ∷ (13, at-all-but-link-and-admit (leb clock-end (s .clock)) k)
+    -- the places of the notices are full
+    ∷ (15, at-notice (λ len. leb max-notices (length (s .notices))) k)
     ∷ []
 
 -- number 1 first, otherwise the lowest that applies; 0: done
@@ -83,7 +105,7 @@ verdict k s = first-number (verdicts k s)
 -- ---- what a call does
 
 abbrev pub linked : State → Link → State
-linked s l = record { link = l; connections = s .connections; pasts = s .pasts; clock = s .clock; held = s .held; serving = s .serving; to-go = s .to-go }
+linked s l = record { link = l; connections = s .connections; pasts = s .pasts; clock = s .clock; held = s .held; notices = s .notices; serving = s .serving; to-go = s .to-go }
 
 abbrev pub joined : State → Connection → State
 joined s x = record {
@@ -92,6 +114,7 @@ joined s x = record {
   pasts = s .pasts ++ no-past ∷ [];
   clock = s .clock;
   held = s .held;
+  notices = s .notices;
   serving = s .serving;
   to-go = s .to-go;
 }
@@ -110,6 +133,20 @@ placed s c len tag = record {
   pasts = set (s .pasts) c (remember (past s c) (eligibility-now s c));
   clock = s .clock;
   held = s .held ++ packet s c len tag ∷ [];
+  notices = s .notices;
+  serving = s .serving;
+  to-go = s .to-go;
+}
+
+-- a notice behind the others
+abbrev pub noted : State → ℕ → ℕ → State
+noted s len tag = record {
+  link = s .link;
+  connections = s .connections;
+  pasts = s .pasts;
+  clock = s .clock;
+  held = s .held;
+  notices = s .notices ++ record { len = len; tag = tag; arrival = s .clock } ∷ [];
   serving = s .serving;
   to-go = s .to-go;
 }
@@ -118,13 +155,15 @@ abbrev pub done : Call → State → Answer
 done (link l) s = record { verdict = 0; number = 0; departed = none; next = linked s l }
 done (admit x) s = record { verdict = 0; number = next-number (s .connections); departed = none; next = joined s x }
 done (offer c len tag) s = record { verdict = 0; number = eligibility-now s c; departed = none; next = placed s c len tag }
+done (notice len tag) s = record { verdict = 0; number = s .clock; departed = none; next = noted s len tag }
 done tick s = ticked s
 
--- a refused admission gives connection 255, a refused offer eligibility 0
+-- a refused admission gives connection 255, a refused offer or notice eligibility 0
 abbrev pub refused-number : Call → ℕ
 refused-number (link l) = 0
 refused-number (admit x) = no-connection-number
 refused-number (offer c len tag) = 0
+refused-number (notice len tag) = 0
 refused-number tick = 0
 
 -- a verdict other than 0 changes nothing, and no packet leaves

@@ -3,7 +3,7 @@ use Prim.Native.Nat.{ℕ}
 use mathlib.Core.Path.{_≡_}
 use mathlib.Core.List.{List, [], _∷_, _++_, map}
 use lib.ListN.{replicate}
-use Rattle.rules.specs.Model.{State, Call, link, admit, offer, tick}
+use Rattle.rules.specs.Model.{State, Call, link, admit, offer, notice, tick}
 use Rattle.rules.specs.Admission.{reservation, level-sum}
 use Rattle.rules.specs.Calls.{answer}
 use Rattle.rules.specs.Runs.{Departure, run}
@@ -28,12 +28,14 @@ abbrev pub sums-at : State → Call → List ℕ
 sums-at s (link l) = []
 sums-at s (admit x) = level-sum (s .link) (s .connections ++ x ∷ []) 1 ∷ level-sum (s .link) (s .connections ++ x ∷ []) 2 ∷ []
 sums-at s (offer c len tag) = []
+sums-at s (notice len tag) = []
 sums-at s tick = []
 
 abbrev pub reservations-at : State → Call → List ℕ
 reservations-at s (link l) = []
 reservations-at s (admit x) = reservation (s .link) x ∷ []
 reservations-at s (offer c len tag) = []
+reservations-at s (notice len tag) = []
 reservations-at s tick = []
 
 unfoldable pub seen : Case → Seen

@@ -29,6 +29,13 @@ clock-end = 4_000_000_000
 abbrev pub beyond-32-bits : ℕ
 beyond-32-bits = 4_294_967_296
 
+-- document 02, R-1: places of the housekeeping queue, and the number that its packets bear where a connection's would stand
+abbrev pub max-notices : ℕ
+max-notices = 64
+
+abbrev pub notice-number : ℕ
+notice-number = 254
+
 -- "Verdict numbers": the connection that a refused admission gives
 abbrev pub no-connection-number : ℕ
 no-connection-number = 255

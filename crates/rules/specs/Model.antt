@@ -1,34 +1,39 @@
--- What the rules speak of: the state of a hub, the calls on it and their answers. Document 01, "Link, connections, places". Assumes nothing.
+-- What the rules speak of: the state of a hub, the calls on it and their answers. Document 01, "Link, connections, places"; document 02, R-1.
+-- Assumes nothing.
 use Prim.Native.Nat.{ℕ}
 use mathlib.Core.Bool.{false}
-use mathlib.Core.List.{List, []}
-use mathlib.Core.Option.{Option}
+use mathlib.Core.List.{List, [], _∷_}
+use mathlib.Core.Option.{Option, none, some}
 use lib.ListN.{getD, replicate}
-use Rattle.rules.specs.Limits.{max-levels}
+use Rattle.rules.specs.Limits.{max-levels, notice-number}
 pub use Rattle.rules.specs.declared.Link.{Link}
 pub use Rattle.rules.specs.declared.Connection.{Connection}
 pub use Rattle.rules.specs.declared.Past.{Past}
 pub use Rattle.rules.specs.declared.Packet.{Packet}
+pub use Rattle.rules.specs.declared.Notice.{Notice}
 
 -- `link` has 0 levels while none is set. `connections` by number, `pasts` beside them. `held` in the order offered. The packet in service is the first
--- held one of connection `serving`, with `to-go` units to go; `to-go` is 0 while the line is idle
+-- held one of connection `serving`, with `to-go` units to go; `to-go` is 0 while the line is idle. `notices` are the housekeeping packets that wait, in the
+-- order offered; the first of them is in service where `serving` is their number
 pub record State : Type 0 where
   pub link : Link
   pub connections : List Connection
   pub pasts : List Past
   pub clock : ℕ
   pub held : List Packet
+  pub notices : List Notice
   pub serving : ℕ
   pub to-go : ℕ
 
--- the four calls; an offer names its connection, its length and its tag
+-- the five calls; an offer names its connection, its length and its tag, a notice its length and its tag
 pub data Call : Type 0 where
   link : Link → Call
   admit : Connection → Call
   offer : ℕ → ℕ → ℕ → Call
+  notice : ℕ → ℕ → Call
   tick : Call
 
--- `number`: the connection that an admission gives, the eligibility that an offer gives, else 0. `departed`: the packet that a tick sends off, if it does
+-- `number`: the connection that an admission gives, the eligibility that an offer or a notice gives, else 0. `departed`: the packet that a tick sends off, if it does
 pub record Answer : Type 0 where
   pub verdict : ℕ
   pub number : ℕ
@@ -46,7 +51,7 @@ no-past = record { sent = false; last = 0 }
 
 -- the fresh hub: everything is zero
 abbrev pub fresh : State
-fresh = record { link = no-link; connections = []; pasts = []; clock = 0; held = []; serving = 0; to-go = 0 }
+fresh = record { link = no-link; connections = []; pasts = []; clock = 0; held = []; notices = []; serving = 0; to-go = 0 }
 
 -- connection c, and what is remembered of it
 abbrev pub nth : List Connection → ℕ → Connection
@@ -57,3 +62,12 @@ past s c = getD (s .pasts) c no-past
 
 abbrev pub figures : State → ℕ → Connection
 figures s c = nth (s .connections) c
+
+-- a notice as a packet: it bears the queue's number, and "eligibility equals arrival"
+abbrev pub notice-packet : Notice → Packet
+notice-packet n = record { connection = notice-number; len = n .len; tag = n .tag; arrival = n .arrival; eligibility = n .arrival }
+
+-- the one that was offered first
+abbrev pub first-notice : List Notice → Option Notice
+first-notice [] = none
+first-notice (n ∷ ns) = some n

@@ -7,13 +7,13 @@ use mathlib.Core.List.{List, [], _∷_, _++_, map}
 use mathlib.Core.Option.{none, some}
 use lib.ListN.{length, getElem?}
 use Rattle.rules.specs.Words.{All}
-use Rattle.rules.specs.Limits.{max-reserved, clock-end, beyond-32-bits}
-use Rattle.rules.specs.Model.{Packet, State, Call, link, admit, offer, tick, Answer, fresh, past}
-use Rattle.rules.specs.Service.{of}
+use Rattle.rules.specs.Limits.{max-reserved, clock-end, beyond-32-bits, max-notices, notice-number}
+use Rattle.rules.specs.Model.{Packet, State, Call, link, admit, offer, notice, tick, Answer, fresh, past}
+use Rattle.rules.specs.Service.{of, started}
 use Rattle.rules.specs.SoundState.{Sound}
 use Rattle.rules.specs.SoundTest.{sound}
 use Rattle.rules.specs.Calls.{answer, refused-number, eligibility-now}
-use Rattle.rules.specs.Runs.{History, run, departures, bound-of, allowed, Keeps-its-gap}
+use Rattle.rules.specs.Runs.{History, run, departures, in-hub, bound-of, allowed, Keeps-its-gap}
 
 -- ---- demand 1: any call on any state ends with an answer or a numbered refusal (`answer` is a function); a refused call changes nothing
 
@@ -49,6 +49,18 @@ Runs-are-sound = (ks : List Call) → Sound (run ks .now)
 abbrev pub Rows-fit : Type 0
 Rows-fit = (s : State) → Sound s → length (s .held) ≤ max-reserved
 
+-- .. and no more notices than the queue has places
+abbrev pub Notices-fit : Type 0
+Notices-fit = (s : State) → Sound s → length (s .notices) ≤ max-notices
+
+-- a notice comes into service only where no held packet is eligible (document 02, R-1)
+abbrev pub Notices-come-last : Type 0
+Notices-come-last = (s : State) → Sound s → s .to-go ≡ 0 → started s .serving ≡ notice-number → All (λ p. s .clock < p .eligibility) (s .held)
+
+-- verdict 15 comes after 13: it is given only while the clock runs
+abbrev pub Fifteen-after-thirteen : Type 0
+Fifteen-after-thirteen = (len tag : ℕ) (s : State) → answer (notice len tag) s .verdict ≡ 15 → s .clock < clock-end
+
 -- each eligibility that can arise fits 32 bits: those held, those remembered, and the next of each connection
 abbrev pub Eligibilities-fit : Type 0
 Eligibilities-fit =
@@ -62,6 +74,7 @@ abbrev pub number-limit : Call → ℕ
 number-limit (link l) = beyond-32-bits
 number-limit (admit x) = 256
 number-limit (offer c len tag) = beyond-32-bits
+number-limit (notice len tag) = beyond-32-bits
 number-limit tick = beyond-32-bits
 
 pub record Packet-fits (p : Packet) : Type 0 where
@@ -78,15 +91,16 @@ pub record Answer-fits (k : Call) (a : Answer) : Type 0 where
 abbrev pub Answers-fit : Type 0
 Answers-fit = (k : Call) (s : State) → Sound s → Answer-fits k (answer k s)
 
--- ---- conservation: for each connection, accepted = departed followed by held, as lists
+-- ---- conservation: for each connection, and for the notices under their number, accepted = departed followed by what waits, as lists
 
 abbrev pub Conservation : Type 0
 Conservation =
     (ks : List Call) (c : ℕ)
-    → of c (run ks .accepted) ≡ map (λ d. d .what) (departures c (run ks .departed)) ++ of c (run ks .now .held)
+    → of c (run ks .accepted) ≡ map (λ d. d .what) (departures c (run ks .departed)) ++ of c (in-hub (run ks .now))
 
 -- ---- demand 3, first sentence: from a fresh hub, through any calls, each accepted packet has left by its eligibility plus its level's bound,
--- whatever the other lines do. The i-th accepted packet of c is the i-th departure of c once the clock is there, with a finish no later
+-- whatever the other lines and the notices do. The i-th accepted packet of c is the i-th departure of c once the clock is there, with a finish no later.
+-- It speaks of level packets only (document 02, R-1)
 
 pub record Left-by (h : History) (c i : ℕ) (p : Packet) (deadline : ℕ) : Type 0 where
   pub finish : ℕ
@@ -96,6 +110,7 @@ pub record Left-by (h : History) (c i : ℕ) (p : Packet) (deadline : ℕ) : Typ
 abbrev pub Demand-3-first : Type 0
 Demand-3-first =
     (ks : List Call) (c i : ℕ) (p : Packet)
+    → (c ≡ notice-number → ⊥)
     → getElem? (of c (run ks .accepted)) i ≡ some p
     → p .eligibility + bound-of (run ks .now) c ≤ run ks .now .clock
     → Left-by (run ks) c i p (p .eligibility + bound-of (run ks .now) c)

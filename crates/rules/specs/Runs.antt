@@ -1,11 +1,12 @@
 -- A run: any list of calls from the fresh hub, with its history. Assumes nothing.
 use Prim.Native.Nat.{ℕ, zero, suc, _+_}
 use mathlib.Core.Bool.{Bool, cond, _&&_}
-use mathlib.Core.List.{List, [], _∷_}
+use mathlib.Core.List.{List, [], _∷_, _++_, map}
 use mathlib.Core.Option.{Option, none, some}
 use lib.Dec.{eqb}
 use Rattle.rules.specs.Words.{within, push}
-use Rattle.rules.specs.Model.{Packet, State, Call, link, admit, offer, tick, Answer, fresh, figures}
+use Rattle.rules.specs.Limits.{notice-number}
+use Rattle.rules.specs.Model.{Packet, State, Call, link, admit, offer, notice, tick, Answer, fresh, figures, notice-packet}
 use Rattle.rules.specs.Admission.{stands, bound}
 use Rattle.rules.specs.Service.{Spaced}
 use Rattle.rules.specs.Calls.{answer}
@@ -14,13 +15,13 @@ pub record Departure : Type 0 where
   pub what : Packet
   pub finish : ℕ
 
--- the accepted packets and the departures, each in order, and the state
+-- the accepted packets, notices among them, and the departures, each in order, and the state
 pub record History : Type 0 where
   pub accepted : List Packet
   pub departed : List Departure
   pub now : State
 
--- the packet that an answer says was accepted: an offer's, at verdict 0, with the eligibility that the answer gives
+-- the packet that an answer says was accepted: an offer's or a notice's, at verdict 0, with the eligibility that the answer gives
 abbrev pub if-done : {A : Type 0} → ℕ → A → Option A
 if-done zero x = some x
 if-done (suc v) x = none
@@ -29,6 +30,8 @@ abbrev pub taken : Call → State → Answer → Option Packet
 taken (link l) s a = none
 taken (admit x) s a = none
 taken (offer c len tag) s a = if-done (a .verdict) (record { connection = c; len = len; tag = tag; arrival = s .clock; eligibility = a .number })
+taken (notice len tag) s a =
+    if-done (a .verdict) (record { connection = notice-number; len = len; tag = tag; arrival = s .clock; eligibility = a .number })
 taken tick s a = none
 
 -- "One tick": a packet departs with finish t + 1
@@ -62,6 +65,10 @@ abbrev pub departures : ℕ → List Departure → List Departure
 departures c [] = []
 departures c (d ∷ ds) = cond (eqb (d .what .connection) c) (d ∷ departures c ds) (departures c ds)
 
+-- the packets that wait in the hub, notices among them
+abbrev pub in-hub : State → List Packet
+in-hub s = s .held ++ map notice-packet (s .notices)
+
 -- the delay bound of connection c's level
 abbrev pub bound-of : State → ℕ → ℕ
 bound-of s c = bound (s .link) (figures s c .level)
@@ -77,6 +84,7 @@ abbrev pub offer-tick : ℕ → State → Call → Option ℕ
 offer-tick c s (link l) = none
 offer-tick c s (admit x) = none
 offer-tick c s (offer d len tag) = cond (eqb d c && allowed s c len) (some (s .clock)) none
+offer-tick c s (notice len tag) = none
 offer-tick c s tick = none
 
 abbrev pub offer-ticks-from : ℕ → History → List ℕ → List Call → List ℕ

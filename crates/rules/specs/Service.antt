@@ -1,11 +1,12 @@
--- When a packet may go, which goes next, and one tick of the line. Document 01, "Eligibility" and "One tick". Assumes nothing.
+-- When a packet may go, which goes next, and one tick of the line. Document 01, "Eligibility" and "One tick"; document 02, R-1. Assumes nothing.
 use Prim.Native.Nat.{ℕ, zero, suc, _+_, _≤_, max}
 use mathlib.Core.Bool.{Bool, true, cond, _&&_, _||_}
 use mathlib.Core.List.{List, [], _∷_, map}
 use mathlib.Core.Option.{Option, none, some}
 use lib.Dec.{leb, ltb, eqb}
 use Rattle.rules.specs.Words.{Pairs}
-use Rattle.rules.specs.Model.{Connection, Past, Packet, State, Answer, figures}
+use Rattle.rules.specs.Limits.{notice-number}
+use Rattle.rules.specs.Model.{Connection, Past, Packet, Notice, State, Answer, figures, notice-packet}
 
 -- ---- "Eligibility"
 
@@ -70,30 +71,39 @@ chosen s = choice (level-of s) (s .clock) (s .held)
 
 -- the state with the line given anew: the connection in service, and its units to go
 abbrev pub with-line : State → ℕ → ℕ → State
-with-line s serving to-go = record { link = s .link; connections = s .connections; pasts = s .pasts; clock = s .clock; held = s .held; serving = serving; to-go = to-go }
+with-line s serving to-go = record { link = s .link; connections = s .connections; pasts = s .pasts; clock = s .clock; held = s .held; notices = s .notices; serving = serving; to-go = to-go }
 
--- .. and with the packets held given anew, one tick later
-abbrev pub later : State → List Packet → ℕ → ℕ → State
-later s held serving to-go = record { link = s .link; connections = s .connections; pasts = s .pasts; clock = s .clock + 1; held = held; serving = serving; to-go = to-go }
+-- .. and with the packets held and the notices given anew, one tick later
+abbrev pub later : State → List Packet → List Notice → ℕ → ℕ → State
+later s held notices serving to-go = record { link = s .link; connections = s .connections; pasts = s .pasts; clock = s .clock + 1; held = held; notices = notices; serving = serving; to-go = to-go }
 
--- the line takes a packet whole, or stays idle
-abbrev pub takes : Option Packet → ℕ × ℕ
-takes none = (0, 0)
-takes (some p) = (p .connection, p .len)
+-- the line takes a packet whole; where no held one is eligible the first notice, "in the order offered"; where there is none it stays idle
+abbrev pub takes : Option Packet → List Notice → ℕ × ℕ
+takes (some p) ns = (p .connection, p .len)
+takes none [] = (0, 0)
+takes none (n ∷ ns) = (notice-number, n .len)
 
 -- 1. an idle line takes the chosen packet; nothing interrupts one that is in service. Given the units to go: the line then
 abbrev pub line-after-start : State → ℕ → ℕ × ℕ
-line-after-start s zero = takes (chosen s)
+line-after-start s zero = takes (chosen s) (s .notices)
 line-after-start s (suc u) = (s .serving, suc u)
 
 abbrev pub started : State → State
 started s = let l = line-after-start s (s .to-go) in with-line s (l .0) (l .1)
 
--- 2. a unit of the packet in service goes; with its last unit it departs, its row is removed and the line is idle. 3. the clock moves on
+-- 2. a unit of what is in service goes; with its last unit it departs, its row is removed and the line is idle. 3. the clock moves on
+abbrev pub packet-departs : State → Answer
+packet-departs s =
+    record { verdict = 0; number = 0; departed = first (s .serving) (s .held); next = later s (without (s .serving) (s .held)) (s .notices) 0 0 }
+
+abbrev pub notice-departs : State → List Notice → Answer
+notice-departs s [] = record { verdict = 0; number = 0; departed = none; next = later s (s .held) [] 0 0 }
+notice-departs s (n ∷ ns) = record { verdict = 0; number = 0; departed = some (notice-packet n); next = later s (s .held) ns 0 0 }
+
 abbrev pub after-unit : State → ℕ → Answer
-after-unit s zero = record { verdict = 0; number = 0; departed = none; next = later s (s .held) 0 0 }
-after-unit s (suc zero) = record { verdict = 0; number = 0; departed = first (s .serving) (s .held); next = later s (without (s .serving) (s .held)) 0 0 }
-after-unit s (suc (suc u)) = record { verdict = 0; number = 0; departed = none; next = later s (s .held) (s .serving) (suc u) }
+after-unit s zero = record { verdict = 0; number = 0; departed = none; next = later s (s .held) (s .notices) 0 0 }
+after-unit s (suc zero) = cond (eqb (s .serving) notice-number) (notice-departs s (s .notices)) (packet-departs s)
+after-unit s (suc (suc u)) = record { verdict = 0; number = 0; departed = none; next = later s (s .held) (s .notices) (s .serving) (suc u) }
 
 abbrev pub ticked : State → Answer
 ticked s = after-unit (started s) (started s .to-go)

@@ -1,5 +1,5 @@
 -- A sound state, clause by clause. Document 01, "A sound state"; its first clause, the length of the places table, is the table's own and stands with
--- the code. Assumes nothing.
+-- the code. The clauses on notices: docs/RULES-AFTER-BASE.md, R-1. Assumes nothing.
 use Prim.Native.Nat.{ℕ, _+_, _≤_, _<_}
 use mathlib.Core.Path.{_≡_}
 use mathlib.Core.Bool.{true, false}
@@ -8,8 +8,8 @@ use mathlib.Core.List.{List, [], _∷_}
 use mathlib.Core.Option.{some}
 use lib.ListN.{length}
 use Rattle.rules.specs.Words.{All}
-use Rattle.rules.specs.Limits.{max-connections, max-reserved, clock-end}
-use Rattle.rules.specs.Model.{Connection, Past, Packet, State, fresh, nth, past, figures}
+use Rattle.rules.specs.Limits.{max-connections, max-reserved, clock-end, max-notices, notice-number}
+use Rattle.rules.specs.Model.{Link, Connection, Past, Packet, Notice, State, fresh, nth, past, figures, first-notice}
 use Rattle.rules.specs.Admission.{link-within, level-within, figures-within, stands, bound, reservation, reserved, level-sum}
 use Rattle.rules.specs.Service.{Spaced, of, eligibilities, first}
 
@@ -57,6 +57,13 @@ pub record Queue (c : Connection) (t : ℕ) (h : Past) (es : List ℕ) : Type 0 
   pub none-beyond : All (λ e. e ≤ t) es → h .last ≤ t
   pub none-accepted : h .sent ≡ false → (es ≡ []) × (h .last ≡ 0)
 
+-- ---- the notices, each by itself: a length from 1 to S, arrival at most the clock
+
+pub record Notice-fits (l : Link) (t : ℕ) (n : Notice) : Type 0 where
+  pub some-len : 1 ≤ n .len
+  pub len-le : n .len ≤ l .largest
+  pub arrived : n .arrival ≤ t
+
 -- ---- the line
 
 -- a packet in service: the first row of its connection, eligible, with 1 to its length units to go (at least k fewer, where k is not 0)
@@ -69,6 +76,21 @@ pub record In-service-of (held : List Packet) (serving to-go t k : ℕ) : Type 0
 
 abbrev pub In-service : State → ℕ → Type 0
 In-service s k = In-service-of (s .held) (s .serving) (s .to-go) (s .clock) k
+
+-- a notice in service: the first one, marked by the queue's number, with 1 to its length units to go (at least k fewer, where k is not 0)
+pub record Notice-in-service-of (notices : List Notice) (serving to-go k : ℕ) : Type 0 where
+  pub it : Notice
+  pub is-first : first-notice notices ≡ some it
+  pub is-notice : serving ≡ notice-number
+  pub some-to-go : 1 ≤ to-go
+  pub to-go-le : to-go + k ≤ it .len
+
+abbrev pub Notice-in-service : State → ℕ → Type 0
+Notice-in-service s k = Notice-in-service-of (s .notices) (s .serving) (s .to-go) k
+
+-- something is in service
+abbrev pub Serves : State → ℕ → Type 0
+Serves s k = In-service s k ⊎ Notice-in-service s k
 
 -- an idle line: everything unused is zero
 abbrev pub Idle : State → Type 0
@@ -93,8 +115,11 @@ pub record Sound-with-link (s : State) : Type 0 where
   -- no connection holds more than its reservation, and its rows are in order
   pub room : (c : ℕ) → c < length (s .connections) → length (of c (s .held)) ≤ reservation (s .link) (figures s c)
   pub queue : (c : ℕ) → c < length (s .connections) → Queue (figures s c) (s .clock) (past s c) (eligibilities c (s .held))
+  -- the notices fill no more than their places
+  pub few-notices : length (s .notices) ≤ max-notices
+  pub notices-fit : All (Notice-fits (s .link) (s .clock)) (s .notices)
   -- the line
-  pub line : Idle s ⊎ In-service s 0
+  pub line : Idle s ⊎ Serves s 0
 
 pub record Sound (s : State) : Type 0 where
   pub with-no-link : s .link .levels ≡ 0 → s ≡ fresh

@@ -7,8 +7,8 @@ use mathlib.Core.Option.{Option, none, some}
 use lib.Dec.{leb, eqb}
 use lib.ListN.{length}
 use Rattle.rules.specs.Words.{within, every, each}
-use Rattle.rules.specs.Limits.{max-levels, max-connections, max-reserved, clock-end}
-use Rattle.rules.specs.Model.{Link, Connection, Past, Packet, State, nth, past, figures}
+use Rattle.rules.specs.Limits.{max-levels, max-connections, max-reserved, clock-end, max-notices, notice-number}
+use Rattle.rules.specs.Model.{Link, Connection, Past, Packet, Notice, State, nth, past, figures, first-notice}
 use Rattle.rules.specs.Admission.{link-within, level-within, figures-within, stands, reservation, reserved, passes}
 use Rattle.rules.specs.Service.{of, eligibilities, first}
 
@@ -22,7 +22,8 @@ nothing-used s =
     all-zero (s .link)
     && (eqb (length (s .connections)) 0
     && (eqb (length (s .pasts)) 0
-    && (eqb (s .clock) 0 && (eqb (length (s .held)) 0 && (eqb (s .serving) 0 && eqb (s .to-go) 0)))))
+    && (eqb (s .clock) 0
+    && (eqb (length (s .held)) 0 && (eqb (length (s .notices)) 0 && (eqb (s .serving) 0 && eqb (s .to-go) 0))))))
 
 -- ---- with one: the link and the connections
 
@@ -76,16 +77,34 @@ rows-sound s =
     && (each (row-sound (s .connections) (s .clock)) (s .held)
     && (paced (s .connections) (s .clock) [] (s .held) && every (length (s .connections)) (queue-sound s)))
 
+-- ---- the notices
+
+abbrev pub notice-sound : Link → ℕ → Notice → Bool
+notice-sound l t n = within 1 (l .largest) (n .len) && leb (n .arrival) t
+
+unfoldable pub notices-sound : State → Bool
+notices-sound s = leb (length (s .notices)) max-notices && each (notice-sound (s .link) (s .clock)) (s .notices)
+
 -- ---- the line
 
 abbrev pub serves : Option Packet → ℕ → ℕ → Bool
 serves none to-go t = false
 serves (some p) to-go t = within 1 (p .len) to-go && leb (p .eligibility) t
 
+abbrev pub serves-notice : Option Notice → ℕ → Bool
+serves-notice none to-go = false
+serves-notice (some n) to-go = within 1 (n .len) to-go
+
+abbrev pub busy-sound : State → Bool
+busy-sound s =
+    cond (eqb (s .serving) notice-number)
+    (serves-notice (first-notice (s .notices)) (s .to-go))
+    (serves (first (s .serving) (s .held)) (s .to-go) (s .clock))
+
 unfoldable pub line-sound : State → Bool
-line-sound s = cond (eqb (s .to-go) 0) (eqb (s .serving) 0) (serves (first (s .serving) (s .held)) (s .to-go) (s .clock))
+line-sound s = cond (eqb (s .to-go) 0) (eqb (s .serving) 0) (busy-sound s)
 
 -- ---- the state
 
 unfoldable pub sound : State → Bool
-sound s = cond (eqb (s .link .levels) 0) (nothing-used s) (admissions-sound s && (rows-sound s && line-sound s))
+sound s = cond (eqb (s .link .levels) 0) (nothing-used s) (admissions-sound s && (rows-sound s && (notices-sound s && line-sound s)))

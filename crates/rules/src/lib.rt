@@ -1,4 +1,4 @@
-// The four records that the rules and the code share, declared once so that a contract needs no conversion. The rules themselves stand in specs/.
+// The five records that the rules and the code share, declared once so that a contract needs no conversion. The rules themselves stand in specs/.
 
 // Document 01, "Link, connections, places": n levels, the largest packet S, a delay bound for each level, level 1 first.
 pub struct Link {
@@ -27,4 +27,11 @@ pub struct Packet {
     pub tag: u32,
     pub arrival: u32,
     pub eligibility: u32,
+}
+
+// Document 02, R-1: a housekeeping packet that waits below all levels, a notice for short. It is eligible on arrival.
+pub struct Notice {
+    pub len: u32,
+    pub tag: u32,
+    pub arrival: u32,
 }

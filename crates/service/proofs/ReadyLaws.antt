@@ -1,18 +1,24 @@
 -- A tick's needs can be met: tables that are formed and a line that passes the rules' test, before the clock's end, are ready for it. Assumes nothing.
 use Prim.Native.Nat.{ℕ, _<_}
-use mathlib.Core.Path.{_≡_, refl}
+use native.Mathlib.Omega.{arith}
+use mathlib.Core.Path.{_≡_, refl, sym, _∙_}
 use mathlib.Core.Bool.{true}
-use mathlib.Core.List.{List}
+use mathlib.Core.List.{List, [], _∷_, map}
 use mathlib.Core.Option.{Option, none, some}
+use lib.Dec.{eqb}
 use lib.ListN.{length}
-use borrow.Author.Tests.{ne-eqb}
+use borrow.Author.Tests.{eq-eqb, ne-eqb}
 use Rattle.rules.specs.declared.Packet.{Packet}
-use Rattle.rules.specs.Limits.{clock-end}
+use Rattle.rules.specs.Limits.{clock-end, notice-number}
+use Rattle.rules.specs.Words.{All}
+use Rattle.rules.specs.Model.{first-notice}
 use Rattle.rules.specs.Service.{first}
-use Rattle.rules.specs.SoundTest.{serves, line-sound}
+use Rattle.rules.specs.SoundTest.{serves, serves-notice, busy-sound, line-sound}
+use Rattle.rules.proofs.Sums.{cond-is}
 use Rattle.rules.proofs.Tests.{never}
 use Rattle.tables.specs.Table.{formed}
 use Rattle.tables.specs.Places.{rows, place, packet-of, places-length}
+use Rattle.tables.specs.Notices.{notice-of, notices, notices-formed}
 use Rattle.tables.proofs.TableLaws.{formed-length}
 use Rattle.tables.proofs.PlacesLaws.{first-held, table-back}
 use Rattle.lines.specs.Members.{members-length, member-of}
@@ -20,18 +26,41 @@ use Rattle.service.specs.declared.Hub.{Hub}
 use Rattle.service.specs.View.{view}
 use Rattle.service.specs.Ready.{Ready}
 
-module _ (h : Hub) (cs t : List ℕ) where
-  -- the connection in service has a row
-  served-held : line-sound (view h cs t) ≡ true → (h .units ≡ 0 → ⊥) → place (h .serving) (rows t) < length (rows t)
+module _ (h : Hub) (cs t q : List ℕ) where
+  -- the number in service has a row: of its connection in the places table, or of the first notice
+  served : line-sound (view h cs t q) ≡ true → (h .units ≡ 0 → ⊥) → busy-sound (view h cs t q) ≡ true
   unfolding line-sound
-  served-held l n = go (first (h .serving) (rows t)) refl (rw (ne-eqb (h .units) 0 n) at l)
+  served l n = sym (cond-is (eqb (h .serving) 0) (busy-sound (view h cs t q)) (ne-eqb (h .units) 0 n)) ∙ l
+
+  served-held : line-sound (view h cs t q) ≡ true → (h .units ≡ 0 → ⊥) → (h .serving ≡ notice-number → ⊥) → place (h .serving) (rows t) < length (rows t)
+  served-held l n away =
+      go (first (h .serving) (rows t)) refl
+      (sym (cond-is (serves-notice (first-notice (notices q)) (h .units)) (serves (first (h .serving) (rows t)) (h .units) (h .clock)) (ne-eqb (h .serving) notice-number away)) ∙ served l n)
     where
       go : (o : Option Packet) → first (h .serving) (rows t) ≡ o → serves o (h .units) (h .clock) ≡ true → place (h .serving) (rows t) < length (rows t)
       go none e s = never s
       go (some p) e s = first-held (h .serving) (rows t) p e
 
-  pub ready : formed packet-of places-length t ≡ true → formed member-of members-length cs ≡ true → line-sound (view h cs t) ≡ true → h .clock < clock-end → Ready h cs t
-  ready p m l c = record {
+  served-first : line-sound (view h cs t q) ≡ true → (h .units ≡ 0 → ⊥) → h .serving ≡ notice-number → 0 < length (rows q)
+  served-first l n e =
+      go (rows q)
+      (sym (cond-is (serves-notice (first-notice (notices q)) (h .units)) (serves (first (h .serving) (rows t)) (h .units) (h .clock)) (eq-eqb (h .serving) notice-number e)) ∙ served l n)
+    where
+      go : (ps : List Packet) → serves-notice (first-notice (map notice-of ps)) (h .units) ≡ true → 0 < length ps
+      go [] s = never s
+      go (p ∷ ps) s = omega arith
+
+  pub ready : formed packet-of places-length t ≡ true → formed member-of members-length cs ≡ true → notices-formed q ≡ true
+      → All (λ p. p .connection ≡ notice-number → ⊥) (rows t) → line-sound (view h cs t q) ≡ true → h .clock < clock-end → Ready h cs t q
+  ready p m n o l c = record {
     members = m;
-    in-place = record { table = table-back t p; size = formed-length packet-of places-length t p; time = c; line = served-held l };
+    others = o;
+    in-place = record {
+      table = table-back t p;
+      size = formed-length packet-of places-length t p;
+      notices = n;
+      time = c;
+      line = served-held l;
+      notice-line = served-first l;
+    };
   }

@@ -2,17 +2,25 @@
 use Prim.Native.Nat.{ℕ, zero, suc, _-_, _<_}
 use native.Mathlib.Omega.{arith}
 use mathlib.Core.Path.{_≡_, refl, sym, ap, _∙_, subst}
-use mathlib.Core.Bool.{Bool, true, false}
-use mathlib.Core.List.{List, [], _∷_}
+use mathlib.Core.Bool.{Bool, true, false, cond}
+use mathlib.Core.List.{List, [], _∷_, map}
 use mathlib.Core.Option.{Option, none, some}
 use lib.Dec.{leb, eqb}
-use lib.ListN.{length}
-use borrow.Author.Tests.{eq-eqb}
+use lib.ListN.{length, drop}
+use borrow.Author.Tests.{eq-eqb, eqb-true}
 use Rattle.rules.specs.declared.Packet.{Packet}
-use Rattle.rules.specs.Service.{goes-first, better, choice, with-line, takes, line-after-start, started, after-unit, ticked}
+use Rattle.rules.specs.declared.Notice.{Notice}
+use Rattle.rules.specs.Words.{All, each}
+use Rattle.rules.specs.Limits.{notice-number}
+use Rattle.rules.specs.Model.{Answer}
+use Rattle.rules.specs.Service.{goes-first, better, choice, with-line, takes, line-after-start, started, packet-departs, notice-departs, after-unit, ticked}
 use Rattle.rules.proofs.Sums.{cond-ind}
-use Rattle.tables.specs.Places.{rows, places, place, row-at, cut, no-packet}
-use Rattle.tables.proofs.PlacesLaws.{without-cut, first-place, row-is}
+use Rattle.rules.proofs.Tests.{never, and-true}
+use Rattle.rules.proofs.Line.{last-of-packet, last-of-notice}
+use Rattle.tables.specs.Places.{rows, places, table-of, place, row-at, cut, no-packet}
+use Rattle.tables.specs.Notices.{notices-length, notice-of, notices, written-notices, marked, notices-formed}
+use Rattle.tables.proofs.PlacesLaws.{without-cut, first-place, row-is, rows-from}
+use Rattle.tables.proofs.NoticeLaws.{marked-row, marked-rows, first-row, notices-length-is, rows-marked, notices-table, notices-back}
 use Rattle.service.specs.declared.Hub.{Hub}
 use Rattle.service.specs.declared.Told.{Told}
 use Rattle.service.specs.declared.Best.{Best}
@@ -21,105 +29,172 @@ use Rattle.service.specs.View.{view, hub-of, passed-on, Gives}
 use Rattle.service.specs.Ready.{In-place}
 
 -- the hub with the line given anew
-abbrev lined : Hub → ℕ × ℕ → Hub
-lined h l = hub-of (with-line (view h [] []) (l .0) (l .1))
+abbrev pub lined : Hub → ℕ × ℕ → Hub
+lined h l = hub-of (with-line (view h [] [] []) (l .0) (l .1))
 
 -- ---- step 1
 
-module _ (h : Hub) (cs t : List ℕ) where
-  pub busy : (h .units ≡ 0 → ⊥) → h ≡ hub-of (started (view h cs t))
+-- the first row of the table of notices, used or not, is what an idle line takes of it
+first-taken : (q : List ℕ) → notices-formed q ≡ true → _≡_ {A = ℕ × ℕ} (takes none (notices q)) (row-at q 0 .connection, row-at q 0 .len)
+unfolding table-of
+first-taken q f = go (rows q) refl
+  where
+    go : (ps : List Packet) → rows q ≡ ps → _≡_ {A = ℕ × ℕ} (takes none (notices q)) (row-at q 0 .connection, row-at q 0 .len)
+    go [] e = ap (λ (ps : List Packet). takes none (map notice-of ps)) e ∙ sym (unused (notices-table q f ∙ ap (table-of notices-length) e))
+      where
+        unused : q ≡ table-of notices-length [] → _≡_ {A = ℕ × ℕ} (row-at q 0 .connection, row-at q 0 .len) (0, 0)
+        unused i = ap (λ (l : List ℕ). (row-at l 0 .connection, row-at l 0 .len)) i
+    go (p ∷ ps) e =
+        let l : 0 < length (rows q) = omega (arith, ap length e) in
+        let r = rows-from q 0 l in
+        let m = and-true (marked (row-at q 0)) _ (ap (each marked) (sym r) ∙ rows-marked q f) in
+        ap (λ (ns : List Notice). takes none ns) (first-row q l)
+        ∙ ap (λ (n : ℕ). (n, row-at q 0 .len)) (sym (eqb-true _ _ (and-true (eqb (row-at q 0 .connection) notice-number) _ (m .0) .0)))
+
+module _ (h : Hub) (cs t q : List ℕ) where
+  pub busy : (h .units ≡ 0 → ⊥) → h ≡ hub-of (started (view h cs t q))
   busy n = go (h .units) refl
     where
-      go : (u : ℕ) → h .units ≡ u → h ≡ lined h (line-after-start (view h cs t) u)
+      go : (u : ℕ) → h .units ≡ u → h ≡ lined h (line-after-start (view h cs t q) u)
       go zero e = absurd (n e)
       go (suc u) e = rw (← e)
 
-  -- an idle line takes what was chosen; an unused row is nothing
-  pub idle : (b : Best) → h .units ≡ 0 → b ≡ best-of (choice (level-in cs) (h .clock) (rows t)) → lined h (b .packet .connection, b .packet .len) ≡ hub-of (started (view h cs t))
-  idle b z e = ap (λ (d : Best). lined h (d .packet .connection, d .packet .len)) e ∙ rw z (go (choice (level-in cs) (h .clock) (rows t)))
-    where
-      go : (o : Option Packet) → lined h (best-of o .packet .connection, best-of o .packet .len) ≡ lined h (takes o)
-      go none = refl
-      go (some p) = refl
+  module _ (b : Best) (z : h .units ≡ 0) (e : b ≡ best-of (choice (level-in cs) (h .clock) (rows t))) where
+    -- an idle line takes what was chosen
+    pub takes-packet : b .found ≡ true → lined h (b .packet .connection, b .packet .len) ≡ hub-of (started (view h cs t q))
+    takes-packet f =
+        ap (λ (d : Best). lined h (d .packet .connection, d .packet .len)) e
+        ∙ rw z (go (choice (level-in cs) (h .clock) (rows t)) (sym (ap (λ (d : Best). d .found) e) ∙ f))
+      where
+        go : (o : Option Packet) → best-of o .found ≡ true → lined h (best-of o .packet .connection, best-of o .packet .len) ≡ lined h (takes o (notices q))
+        go none i = never i
+        go (some p) i = refl
+
+    -- where nothing was chosen, the first notice; an unused row is nothing
+    pub takes-notice : b .found ≡ false → notices-formed q ≡ true → lined h (row-at q 0 .connection, row-at q 0 .len) ≡ hub-of (started (view h cs t q))
+    takes-notice f n =
+        ap (lined h) (sym (first-taken q n))
+        ∙ rw z (go (choice (level-in cs) (h .clock) (rows t)) (sym (ap (λ (d : Best). d .found) e) ∙ f))
+      where
+        go : (o : Option Packet) → best-of o .found ≡ false → lined h (takes none (notices q)) ≡ lined h (takes o (notices q))
+        go none i = refl
+        go (some p) i = never (sym i)
 
 -- ---- what the next steps need is there after step 1
 
 -- the connection of a candidate has a row
 abbrev Held : List Packet → Option Packet → Type 0
 Held ps none = Unit {0}
-Held ps (some p) = place (p .connection) ps < length ps
+Held ps (some p) = (place (p .connection) ps < length ps) × (p .connection ≡ notice-number → ⊥)
 
 module _ (level : ℕ → ℕ) (t : ℕ) where
-  choice-held : (ps : List Packet) → Held ps (choice level t ps)
-  choice-held [] = tt
-  choice-held (q ∷ ps) =
+  choice-held : (ps : List Packet) → All (λ p. p .connection ≡ notice-number → ⊥) ps → Held ps (choice level t ps)
+  choice-held [] a = tt
+  choice-held (q ∷ ps) a =
       cond-ind (Held (q ∷ ps)) (leb (q .eligibility) t) {x = better level q (choice level t ps)} {y = choice level t ps}
-      (λ _. taken (choice level t ps) (choice-held ps))
-      (λ _. behind (choice level t ps) (choice-held ps))
+      (λ _. taken (choice level t ps) (choice-held ps (a .1)))
+      (λ _. behind (choice level t ps) (choice-held ps (a .1)))
     where
       here : Held (q ∷ ps) (some q)
-      here = rw (eq-eqb (q .connection) (q .connection) refl) (omega arith)
+      here = (rw (eq-eqb (q .connection) (q .connection) refl) (omega arith), a .0)
 
       behind : (o : Option Packet) → Held ps o → Held (q ∷ ps) o
       behind none k = tt
-      behind (some p) k = cond-ind (λ (n : ℕ). n < length (q ∷ ps)) (eqb (q .connection) (p .connection)) (λ _. omega arith) (λ _. omega arith)
+      behind (some p) k = (cond-ind (λ (n : ℕ). n < length (q ∷ ps)) (eqb (q .connection) (p .connection)) (λ _. omega arith) (λ _. omega (arith, k .0)), k .1)
 
       taken : (o : Option Packet) → Held ps o → Held (q ∷ ps) (better level q o)
       taken none k = here
       taken (some p) k = cond-ind (Held (q ∷ ps)) (goes-first level q p) {x = some q} {y = some p} (λ _. here) (λ _. behind (some p) k)
 
-module _ (h : Hub) (cs t : List ℕ) (f : In-place h t) where
-  line-held : (u : ℕ) → h .units ≡ u → (line-after-start (view h cs t) u .1 ≡ 0 → ⊥) → place (line-after-start (view h cs t) u .0) (rows t) < length (rows t)
-  line-held (suc u) e n = f .line (λ z. omega arith)
-  line-held zero e n = go (choice (level-in cs) (h .clock) (rows t)) (choice-held (level-in cs) (h .clock) (rows t)) n
-    where
-      go : (o : Option Packet) → Held (rows t) o → (takes o .1 ≡ 0 → ⊥) → place (takes o .0) (rows t) < length (rows t)
-      go none k n = absurd (n refl)
-      go (some p) k n = k
+module _ (h : Hub) (cs t q : List ℕ) (others : All (λ p. p .connection ≡ notice-number → ⊥) (rows t)) (f : In-place h t q) where
+  abbrev after : ℕ → ℕ × ℕ
+  after u = line-after-start (view h cs t q) u
 
-  pub in-place-then : (g : Hub) → g ≡ hub-of (started (view h cs t)) → In-place g t
+  -- what is in service is the first row of its connection, or the first notice
+  record Served (l : ℕ × ℕ) : Type 0 where
+    packet : (l .1 ≡ 0 → ⊥) → (l .0 ≡ notice-number → ⊥) → place (l .0) (rows t) < length (rows t)
+    notice : (l .1 ≡ 0 → ⊥) → l .0 ≡ notice-number → 0 < length (rows q)
+
+  served : (u : ℕ) → h .units ≡ u → Served (after u)
+  served (suc u) e = record { packet = λ n a. f .line (λ z. omega arith) a; notice = λ n i. f .notice-line (λ z. omega arith) i }
+  served zero e = go (choice (level-in cs) (h .clock) (rows t)) (choice-held (level-in cs) (h .clock) (rows t) others) (rows q) refl
+    where
+      go : (o : Option Packet) → Held (rows t) o → (ps : List Packet) → rows q ≡ ps → Served (takes o (map notice-of ps))
+      go (some p) k ps i = record { packet = λ n a. k .0; notice = λ n e. absurd (k .1 e) }
+      go none k [] i = record { packet = λ n a. absurd (n refl); notice = λ n e. absurd (n refl) }
+      go none k (p ∷ ps) i = record { packet = λ n a. absurd (a refl); notice = λ n e. omega (arith, ap length i) }
+
+  pub in-place-then : (g : Hub) → g ≡ hub-of (started (view h cs t q)) → In-place g t q
   in-place-then g e =
-      subst (λ (k : Hub). In-place k t) (sym e) (record { table = f .table; size = f .size; time = f .time; line = line-held (h .units) refl })
+      let s = served (h .units) refl in
+      subst (λ (k : Hub). In-place k t q) (sym e)
+      (record { table = f .table; size = f .size; notices = f .notices; time = f .time; line = s .packet; notice-line = s .notice })
 
 -- ---- steps 2 and 3
 
 pub passes : {h g : Hub} {p q : Packet} (gone : Bool) → h ≡ g → p ≡ q → passed-on h gone p ≡ passed-on g gone q
 passes {h} {g} {p} {q} gone e f = ap (λ (k : Hub). passed-on k gone p) e ∙ ap (passed-on g gone) f
 
-module _ (g : Hub) (t : List ℕ) where
-  abbrev Sent : ℕ → Told → List ℕ → Type 0
-  Sent u r s = Gives (after-unit (view g [] t) u) r s
+module _ (g : Hub) (t q : List ℕ) (e : t ≡ places (rows t)) (f : notices-formed q ≡ true) where
+  abbrev Sent : ℕ → Told → List ℕ → List ℕ → Type 0
+  Sent u r s n = Gives (after-unit (view g [] t q) u) r s n
 
   -- an idle line
-  pub still : t ≡ places (rows t) → g .units ≡ 0 → Sent (g .units) (passed-on (lined g (0, 0)) false no-packet) t
-  still e z = rw z (refl, e)
+  pub still : g .units ≡ 0 → Sent (g .units) (passed-on (lined g (0, 0)) false no-packet) t q
+  still z = rw z (refl, e, notices-back q f)
 
   -- a unit that is not the last
-  pub goes-on : t ≡ places (rows t) → (g .units ≡ 0 → ⊥) → (g .units ≡ 1 → ⊥)
-      → Sent (g .units) (passed-on (lined g (g .serving, g .units - 1)) false no-packet) t
-  goes-on e n m = go (g .units) refl
+  pub goes-on : (g .units ≡ 0 → ⊥) → (g .units ≡ 1 → ⊥) → Sent (g .units) (passed-on (lined g (g .serving, g .units - 1)) false no-packet) t q
+  goes-on n m = go (g .units) refl
     where
-      go : (u : ℕ) → g .units ≡ u → Sent (g .units) (passed-on (lined g (g .serving, g .units - 1)) false no-packet) t
-      go zero q = absurd (n q)
-      go (suc zero) q = absurd (m q)
-      go (suc (suc u)) q = let k : g .units - 1 ≡ suc u = omega arith in rw (k, q) (refl, e)
+      go : (u : ℕ) → g .units ≡ u → Sent (g .units) (passed-on (lined g (g .serving, g .units - 1)) false no-packet) t q
+      go zero i = absurd (n i)
+      go (suc zero) i = absurd (m i)
+      go (suc (suc u)) i = let k : g .units - 1 ≡ suc u = omega arith in rw (k, i) (refl, e, notices-back q f)
 
-  -- the last unit: row i, the first of the connection in service, goes
-  pub goes-off : (i : ℕ) → i ≡ place (g .serving) (rows t) → i < length (rows t)
-      → Sent 1 (passed-on (lined g (0, 0)) true (row-at t i)) (places (cut i (rows t)))
-  goes-off i e l =
+  -- the last unit of a packet: row i, the first of the connection in service, goes
+  pub goes-off : (i : ℕ) → (g .serving ≡ notice-number → ⊥) → i ≡ place (g .serving) (rows t) → i < length (rows t)
+      → Sent 1 (passed-on (lined g (0, 0)) true (row-at t i)) (places (cut i (rows t))) q
+  goes-off i away at l =
       let k : place (g .serving) (rows t) < length (rows t) = omega arith in
-      rw (first-place (g .serving) (rows t) k, row-is t (place (g .serving) (rows t)) k, without-cut (g .serving) (rows t), e) (refl, refl)
+      subst (λ (a : Answer). Gives a (passed-on (lined g (0, 0)) true (row-at t i)) (places (cut i (rows t))) q) (sym (last-of-packet (view g [] t q) away))
+      (rw (first-place (g .serving) (rows t) k, row-is t (place (g .serving) (rows t)) k, without-cut (g .serving) (rows t), at) (refl, refl, notices-back q f))
+
+  -- the last unit of a notice: the first row goes
+  pub notice-goes-off : g .serving ≡ notice-number → 0 < length (rows q)
+      → Sent 1 (passed-on (lined g (0, 0)) true (row-at q 0)) t (table-of (length q) (cut 0 (rows q)))
+  notice-goes-off i l =
+      let r = rows-from q 0 l in
+      let m = and-true (marked (row-at q 0)) (each marked (drop 1 (rows q))) (ap (each marked) (sym r) ∙ rows-marked q f) in
+      let n = notice-of (row-at q 0) in
+      let ns = map notice-of (drop 1 (rows q)) in
+      let back : written-notices ns ≡ table-of (length q) (drop 1 (rows q))
+      = ap (table-of notices-length) (marked-rows (drop 1 (rows q)) (m .1)) ∙ ap (λ (k : ℕ). table-of k (drop 1 (rows q))) (sym (notices-length-is q f)) in
+      subst (λ (a : Answer). Gives a (passed-on (lined g (0, 0)) true (row-at q 0)) t (table-of (length q) (cut 0 (rows q))))
+      (sym (last-of-notice (view g [] t q) n ns i (first-row q l)))
+      (rw (marked-row (row-at q 0) (m .0)) (refl, e, sym back))
+
+-- a last unit, by the number of units
+pub last-unit : (g : Hub) (t q : List ℕ) (r : Told) (s n : List ℕ) → g .units ≡ 1
+    → Gives (after-unit (view g [] t q) 1) r s n → Gives (after-unit (view g [] t q) (g .units)) r s n
+last-unit g t q r s n e k = subst (λ (u : ℕ). Gives (after-unit (view g [] t q) u) r s n) (sym e) k
 
 -- ---- a whole tick
 
 -- what goes on the line does not hang on the table of connections
-sent-by : (g : Hub) (cs t : List ℕ) (u : ℕ) (r : Told) (s : List ℕ) → Gives (after-unit (view g [] t) u) r s → Gives (after-unit (view g cs t) u) r s
-sent-by g cs t zero r s k = k
-sent-by g cs t (suc zero) r s k = k
-sent-by g cs t (suc (suc u)) r s k = k
+sent-by : (g : Hub) (cs t q : List ℕ) (u : ℕ) (r : Told) (s n : List ℕ) → Gives (after-unit (view g [] t q) u) r s n → Gives (after-unit (view g cs t q) u) r s n
+sent-by g cs t q zero r s n k = k
+sent-by g cs t q (suc zero) r s n k = go (eqb (g .serving) notice-number) (notices q) k
+  where
+    go : (b : Bool) (ns : List Notice) → Gives (cond b (notice-departs (view g [] t q) ns) (packet-departs (view g [] t q))) r s n
+        → Gives (cond b (notice-departs (view g cs t q) ns) (packet-departs (view g cs t q))) r s n
+    go true [] k = k
+    go true (m ∷ ns) k = k
+    go false ns k = k
+sent-by g cs t q (suc (suc u)) r s n k = k
 
-pub ticks : (h : Hub) (cs t : List ℕ) (g : Hub) (r : Told) (s : List ℕ) → g ≡ hub-of (started (view h cs t)) → Gives (after-unit (view g [] t) (g .units)) r s → Gives (ticked (view h cs t)) r s
-ticks h cs t g r s e k =
-    let l = hub-of (started (view h cs t)) in
-    sent-by l cs t (l .units) r s (subst (λ (i : Hub). Gives (after-unit (view i [] t) (i .units)) r s) e k)
+pub ticks : (h : Hub) (cs t q : List ℕ) (g : Hub) (r : Told) (s n : List ℕ) → g ≡ hub-of (started (view h cs t q))
+    → Gives (after-unit (view g [] t q) (g .units)) r s n → Gives (ticked (view h cs t q)) r s n
+ticks h cs t q g r s n e k =
+    let l = hub-of (started (view h cs t q)) in
+    sent-by l cs t q (l .units) r s n (subst (λ (i : Hub). Gives (after-unit (view i [] t q) (i .units)) r s n) e k)

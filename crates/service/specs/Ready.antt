@@ -5,24 +5,32 @@ use mathlib.Core.Path.{_≡_}
 use mathlib.Core.Bool.{true}
 use mathlib.Core.List.{List}
 use lib.ListN.{length}
-use Rattle.rules.specs.Limits.{clock-end}
+use Rattle.rules.specs.Words.{All}
+use Rattle.rules.specs.Limits.{clock-end, notice-number}
 use Rattle.tables.specs.Table.{formed}
 use Rattle.tables.specs.Places.{rows, places, places-length, place}
+use Rattle.tables.specs.Notices.{notices-formed}
 use Rattle.lines.specs.Members.{members-length, member-of}
 use Rattle.service.specs.declared.Hub.{Hub}
 
--- what the hub and the places table need
-pub record In-place (h : Hub) (t : List ℕ) : Type 0 where
+-- what the hub, the places table and the table of notices need
+pub record In-place (h : Hub) (t q : List ℕ) : Type 0 where
   -- "held packets fill the first rows; the rows behind them are zero"
   pub table : t ≡ places (rows t)
   -- "the places table has 2,560 numbers"
   pub size : length t ≡ places-length
+  -- the table of notices is formed
+  pub notices : notices-formed q ≡ true
   -- the clock has not ended
   pub time : h .clock < clock-end
   -- "a packet in service is the first row of its connection": there is one
-  pub line : (h .units ≡ 0 → ⊥) → place (h .serving) (rows t) < length (rows t)
+  pub line : (h .units ≡ 0 → ⊥) → (h .serving ≡ notice-number → ⊥) → place (h .serving) (rows t) < length (rows t)
+  -- and so is a notice in service the first one
+  pub notice-line : (h .units ≡ 0 → ⊥) → h .serving ≡ notice-number → 0 < length (rows q)
 
 -- .. and the table of connections
-pub record Ready (h : Hub) (cs t : List ℕ) : Type 0 where
+pub record Ready (h : Hub) (cs t q : List ℕ) : Type 0 where
   pub members : formed member-of members-length cs ≡ true
-  pub in-place : In-place h t
+  -- each row names a connection, which has another number than the notices
+  pub others : All (λ p. p .connection ≡ notice-number → ⊥) (rows t)
+  pub in-place : In-place h t q

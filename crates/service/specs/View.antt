@@ -1,4 +1,4 @@
--- THE TIE: the state of the rules that a hub and two lent tables stand for, and an answer of the rules as the code gives it.
+-- THE TIE: the state of the rules that a hub and three lent tables stand for, and an answer of the rules as the code gives it.
 -- Document 01, "Link, connections, places" and "One tick". Assumes nothing.
 use Prim.Native.Nat.{ℕ}
 use mathlib.Core.Path.{_≡_}
@@ -8,14 +8,15 @@ use Rattle.rules.specs.declared.Packet.{Packet}
 use Rattle.rules.specs.Model.{State, Answer}
 use Rattle.rules.specs.Service.{later}
 use Rattle.tables.specs.Places.{places, no-packet}
+use Rattle.tables.specs.Notices.{written-notices}
 use Rattle.lines.specs.StateRead.{state-read}
 use Rattle.service.specs.declared.Hub.{Hub}
 use Rattle.service.specs.declared.Told.{Told}
 use Rattle.service.specs.Candidates.{is-some, packet-or-unused}
 
--- the state that the hub, the table of connections and the places table stand for
-abbrev pub view : Hub → List ℕ → List ℕ → State
-view h cs t = state-read (h .link) cs t (h .clock) (h .serving) (h .units)
+-- the state that the hub, the table of connections, the places table and the table of notices stand for
+abbrev pub view : Hub → List ℕ → List ℕ → List ℕ → State
+view h cs t q = state-read (h .link) cs t q (h .clock) (h .serving) (h .units)
 
 -- the part of a state that no table holds
 abbrev pub hub-of : State → Hub
@@ -32,8 +33,8 @@ refusal h verdict number = record { verdict = verdict; number = number; gone = f
 -- step 3: "the clock becomes t + 1. The answer is the departed packet or nothing"
 abbrev pub passed-on : Hub → Bool → Packet → Told
 passed-on h gone packet =
-    record { verdict = 0; number = 0; gone = gone; packet = packet; hub = hub-of (later (view h [] []) [] (h .serving) (h .units)) }
+    record { verdict = 0; number = 0; gone = gone; packet = packet; hub = hub-of (later (view h [] [] []) [] [] (h .serving) (h .units)) }
 
--- what is told, and the places table then, are those of an answer of the rules
-abbrev pub Gives : Answer → Told → List ℕ → Type 0
-Gives a r t = (r ≡ told-of a) × (t ≡ places (a .next .held))
+-- what is told, and the places table and the table of notices then, are those of an answer of the rules
+abbrev pub Gives : Answer → Told → List ℕ → List ℕ → Type 0
+Gives a r t q = (r ≡ told-of a) × (t ≡ places (a .next .held)) × (q ≡ written-notices (a .next .notices))

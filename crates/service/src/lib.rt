@@ -1,9 +1,9 @@
-// One tick of the line: the choice of the next packet in one pass over the rows, and the three steps. Document 01, "One tick".
+// One tick of the line: the choice of the next packet in one pass over the rows, and the three steps. Document 01, "One tick"; document 02, R-1.
 ghost use mathlib.Core.Path.{_≡_};
 ghost use mathlib.Core.Bool.{true};
 ghost use mathlib.Core.List.{[]};
 ghost use Prim.Native.Nat.{_<_};
-ghost use Rattle.rules.specs.Limits.{clock-end};
+ghost use Rattle.rules.specs.Limits.{clock-end, notice-number};
 ghost use Rattle.rules.specs.Service.{choice, with-line, started, after-unit, ticked};
 ghost use Rattle.tables.specs.Table.{formed};
 ghost use lib.ListN.{length};
@@ -12,8 +12,10 @@ ghost use Rattle.lines.specs.Members.{members-length, member-of};
 ghost use Rattle.service.specs.Candidates.{option, best-of, candidate, ahead, level-in};
 ghost use Rattle.service.specs.View.{view, hub-of, passed-on, Gives};
 ghost use Rattle.service.specs.Ready.{In-place, Ready};
+ghost use Rattle.tables.specs.Notices.{notices-formed};
 use rules::Link;
 use rules::Packet;
+use tables::NOTICE_NUMBER;
 
 // The part of the state that no table holds. While `units` is 0 the line is idle, and `serving` is 0 too.
 pub struct Hub {
@@ -88,7 +90,7 @@ pub fn choose(cs: &[u32], t: &[u32], clock: u32) -> Best
 
 // The hub with the line given anew.
 fn with_line(h: Hub, serving: u32, units: u32) -> Hub
-    ensures { λ r. ⌜ r ≡ hub-of (with-line (view h [] []) serving units) ⌝ }
+    ensures { λ r. ⌜ r ≡ hub-of (with-line (view h [] [] []) serving units) ⌝ }
 {
     let mut g = h;
     g.serving = serving;
@@ -96,17 +98,21 @@ fn with_line(h: Hub, serving: u32, units: u32) -> Hub
     g
 }
 
-// Step 1: an idle line takes the chosen packet. While one is in service nothing interrupts it, so no row is looked at.
-fn start(h: Hub, cs: &[u32], t: &[u32]) -> Hub
-    requires { ⌜ (formed member-of members-length (now cs) ≡ true) × (now t ≡ places (rows (now t))) × (length (now t) ≡ places-length) ⌝ }
-    ensures { λ r. ⌜ r ≡ hub-of (started (view h (now (cs .entry)) (now (t .entry)))) ⌝ }
+// Step 1: an idle line takes the chosen packet, else the first notice. While one is in service nothing interrupts it, so no row is looked at.
+fn start(h: Hub, cs: &[u32], t: &[u32], q: &[u32]) -> Hub
+    requires { ⌜ (formed member-of members-length (now cs) ≡ true) × (now t ≡ places (rows (now t))) × (length (now t) ≡ places-length) × (notices-formed (now q) ≡ true) ⌝ }
+    ensures { λ r. ⌜ r ≡ hub-of (started (view h (now (cs .entry)) (now (t .entry)) (now (q .entry)))) ⌝ }
 {
     if h.units != 0 {
         return h;
     }
     let best = choose(cs, t, h.clock);
-    // where none is found the packet is an unused row, and its zeros leave the line idle
-    with_line(h, best.packet.connection, best.packet.len)
+    if best.found {
+        return with_line(h, best.packet.connection, best.packet.len);
+    }
+    // where there is no notice its row is unused, and the zeros leave the line idle
+    let first = tables::row(q, 0);
+    with_line(h, first.connection, first.len)
 }
 
 // Step 3: the clock moves on. The answer is the departed packet or nothing.
@@ -125,10 +131,22 @@ fn pass(g: Hub, gone: bool, packet: Packet) -> Told
     }
 }
 
-// Step 2 at a last unit: the packet in service departs, its row is removed and the line is idle.
-fn depart(g: Hub, t: &mut [u32]) -> Told
-    requires { ⌜ In-place g (now t) × (g .units ≡ 1) ⌝ }
-    ensures { λ r. ⌜ Gives (after-unit (view g [] (now (t .entry))) 1) r (now (t .exit)) ⌝ }
+// Step 2 at a last unit of a notice: it departs, its row is removed and the line is idle.
+fn depart_notice(g: Hub, t: &[u32], q: &mut [u32]) -> Told
+    requires { ⌜ In-place g (now t) (now q) × (g .units ≡ 1) × (g .serving ≡ notice-number) ⌝ }
+    ensures { λ r. ⌜ Gives (after-unit (view g [] (now (t .entry)) (now (q .entry))) 1) r (now (t .entry)) (now (q .exit)) ⌝ }
+{
+    let waiting = tables::held(q);
+    let p = tables::row(q, 0);
+    tables::remove(q, waiting, 0);
+    let idle = with_line(g, 0, 0);
+    pass(idle, true, p)
+}
+
+// Step 2 at a last unit of a packet: the same.
+fn depart(g: Hub, t: &mut [u32], q: &[u32]) -> Told
+    requires { ⌜ In-place g (now t) (now q) × (g .units ≡ 1) × (g .serving ≡ notice-number → ⊥) ⌝ }
+    ensures { λ r. ⌜ Gives (after-unit (view g [] (now (t .entry)) (now (q .entry))) 1) r (now (t .exit)) (now (q .entry)) ⌝ }
 {
     let held = tables::count(t);
     let i = tables::find(t, held, g.serving);
@@ -138,27 +156,30 @@ fn depart(g: Hub, t: &mut [u32]) -> Told
     pass(freed, true, p)
 }
 
-// Steps 2 and 3: a unit of the packet in service goes, and the clock moves on.
-fn send(g: Hub, t: &mut [u32]) -> Told
-    requires { ⌜ In-place g (now t) ⌝ }
-    ensures { λ r. ⌜ Gives (after-unit (view g [] (now (t .entry))) (g .units)) r (now (t .exit)) ⌝ }
+// Steps 2 and 3: a unit of what is in service goes, and the clock moves on.
+fn send(g: Hub, t: &mut [u32], q: &mut [u32]) -> Told
+    requires { ⌜ In-place g (now t) (now q) ⌝ }
+    ensures { λ r. ⌜ Gives (after-unit (view g [] (now (t .entry)) (now (q .entry))) (g .units)) r (now (t .exit)) (now (q .exit)) ⌝ }
 {
     if g.units == 0 {
         let idle = with_line(g, 0, 0);
         return pass(idle, false, tables::no_packet());
     }
     if g.units == 1 {
-        return depart(g, t);
+        if g.serving == NOTICE_NUMBER {
+            return depart_notice(g, t, q);
+        }
+        return depart(g, t, q);
     }
     let sent = with_line(g, g.serving, g.units - 1);
     pass(sent, false, tables::no_packet())
 }
 
 // One tick of a hub that is ready for it.
-pub fn run_tick(h: Hub, cs: &[u32], t: &mut [u32]) -> Told
-    requires { ⌜ Ready h (now cs) (now t) ⌝ }
-    ensures { λ r. ⌜ Gives (ticked (view h (now (cs .entry)) (now (t .entry)))) r (now (t .exit)) ⌝ }
+pub fn run_tick(h: Hub, cs: &[u32], t: &mut [u32], q: &mut [u32]) -> Told
+    requires { ⌜ Ready h (now cs) (now t) (now q) ⌝ }
+    ensures { λ r. ⌜ Gives (ticked (view h (now (cs .entry)) (now (t .entry)) (now (q .entry)))) r (now (t .exit)) (now (q .exit)) ⌝ }
 {
-    let g = start(h, cs, t);
-    send(g, t)
+    let g = start(h, cs, t, q);
+    send(g, t, q)
 }

@@ -1,10 +1,11 @@
 -- The clauses on rows, line and tables, test by test in the order of the code. Assumes nothing.
-use Prim.Native.Nat.{ℕ, zero, suc, _≤_, _<_}
+use Prim.Native.Nat.{ℕ, zero, suc, _+_, _≤_, _<_}
 use native.Mathlib.Omega.{arith}
 use mathlib.Core.Path.{_≡_, refl, sym, ap, _∙_, subst}
 use mathlib.Core.Bool.{Bool, true, false, _&&_}
-use mathlib.Core.List.{List, [], _∷_}
+use mathlib.Core.List.{List, [], _∷_, map}
 use mathlib.Core.Option.{Option, some}
+use native.Mathlib.Numerals.{add-one}
 use lib.Dec.{leb, eqb}
 use lib.ListN.{length, getD, drop, length-map}
 use lib.Seq.{drop-length}
@@ -12,23 +13,27 @@ use borrow.Author.Tests.{le-leb, lt-leb, lt-ltb, le-ltb, ltb-true, eq-eqb, ne-eq
 use Rattle.rules.specs.declared.Link.{Link}
 use Rattle.rules.specs.declared.Connection.{Connection}
 use Rattle.rules.specs.declared.Packet.{Packet}
+use Rattle.rules.specs.declared.Notice.{Notice}
 use Rattle.rules.specs.Words.{within, every, each}
-use Rattle.rules.specs.Limits.{max-levels, max-connections, max-reserved, clock-end}
-use Rattle.rules.specs.Model.{State, no-link, nth}
+use Rattle.rules.specs.Limits.{max-levels, max-connections, max-reserved, max-notices, clock-end, notice-number}
+use Rattle.rules.specs.Model.{State, no-link, nth, first-notice}
 use Rattle.rules.specs.Admission.{link-within, level-within, figures-within, stands, reserved, passes}
 use Rattle.rules.specs.Service.{first}
-use Rattle.rules.specs.SoundTest.{nothing-used, connection-sound, admissions-sound, row-sound, paced, queue-sound, rows-sound, serves, line-sound, sound}
+use Rattle.rules.specs.SoundTest.{nothing-used, connection-sound, admissions-sound, row-sound, paced, queue-sound, rows-sound}
+use Rattle.rules.specs.SoundTest.{notice-sound, notices-sound, serves, serves-notice, busy-sound, line-sound, sound}
 use Rattle.rules.proofs.Sums.{cond-is}
 use Rattle.rules.proofs.Tests.{and-true, every-true, within-intro}
 use Rattle.tables.specs.Table.{zeros, formed}
 use Rattle.tables.specs.Places.{places-length, packet-of, rows, row-at, place, no-packet}
+use Rattle.tables.specs.Notices.{notice-of, notices, notices-formed}
 use Rattle.tables.proofs.TableLaws.{formed-length}
-use Rattle.tables.proofs.PlacesLaws.{row-is, rows-end, first-place, first-none}
+use Rattle.tables.proofs.PlacesLaws.{row-is, rows-end, rows-from, first-place, first-none}
+use Rattle.tables.proofs.NoticeLaws.{notices-few, first-row, no-rows}
 use Rattle.lines.specs.Members.{members-length, member-of, members, connections, pasts, connection-of, past-of, members-formed}
 use Rattle.lines.proofs.MemberLaws.{members-rows}
 use Rattle.lines.specs.Within.{Within}
 use Rattle.lines.specs.StateRead.{state-read}
-use Rattle.sound.specs.SoundTables.{places-formed, unused, Counted, linked-sound}
+use Rattle.sound.specs.SoundTables.{places-formed, unused, Counted, Waiting, linked-sound}
 use Rattle.sound.proofs.ChainLaws.{fails, goes-on, too-low, too-high}
 
 -- ---- a test of each element, one by one
@@ -42,6 +47,21 @@ module _ {A : Type 0} (f : A → Bool) (l : List A) (x : A) (xs : List A) (e : l
 
 pub each-end : {A : Type 0} (f : A → Bool) (l : List A) → true ≡ each f (drop (length l) l)
 each-end f l = rw (drop-length l)
+
+-- .. of the rows of a table, where the rows before row i passed
+module _ (f : Packet → Bool) (t : List ℕ) (i : ℕ) (l : i < length (rows t)) (p : Packet) (is : p ≡ row-at t i)
+    (all : each f (drop i (rows t)) ≡ each f (rows t)) where
+  pub row-stops : f p ≡ false → false ≡ each f (rows t)
+  row-stops h = each-stop f (drop i (rows t)) (row-at t i) (drop (suc i) (rows t)) (rows-from t i l) (ap f (sym is) ∙ h) ∙ all
+
+  pub row-passes : f p ≡ true → each f (drop (i + 1) (rows t)) ≡ each f (rows t)
+  row-passes h =
+      ap (λ (j : ℕ). each f (drop j (rows t))) (add-one i)
+      ∙ each-pass f (drop i (rows t)) (row-at t i) (drop (suc i) (rows t)) (rows-from t i l) (ap f (sym is) ∙ h)
+      ∙ all
+
+pub rows-done : (f : Packet → Bool) (t : List ℕ) (i : ℕ) → i ≡ length (rows t) → each f (drop i (rows t)) ≡ each f (rows t) → true ≡ each f (rows t)
+rows-done f t i e all = each-end f (rows t) ∙ ap (λ (j : ℕ). each f (drop j (rows t))) (sym e) ∙ all
 
 -- ---- a row
 
@@ -78,37 +98,88 @@ module _ (cs : List Connection) (t : ℕ) (p : Packet) where
             goes-on (stands cs (p .connection)) _ _ known
             (goes-on (within 1 (nth cs (p .connection) .size) (p .len)) _ _ fits (goes-on (leb (p .arrival) t) _ _ (le-leb (p .arrival) t h) refl))
 
+-- ---- a notice
+
+-- the test of a row of the table of notices
+abbrev pub row-notice : Link → ℕ → Packet → Bool
+row-notice l t p = notice-sound l t (notice-of p)
+
+module _ (l : Link) (t : ℕ) (p : Packet) where
+  pub notice-empty : p .len < 1 → false ≡ row-notice l t p
+  notice-empty h = fails (within 1 (l .largest) (p .len)) (leb (p .arrival) t) (too-low 1 (l .largest) (p .len) h)
+
+  module _ (one : 1 ≤ p .len) where
+    pub notice-long : l .largest < p .len → false ≡ row-notice l t p
+    notice-long h = fails (within 1 (l .largest) (p .len)) (leb (p .arrival) t) (too-high 1 (l .largest) (p .len) one h)
+
+    pub notice-rest : p .len ≤ l .largest → leb (p .arrival) t ≡ row-notice l t p
+    notice-rest h = goes-on (within 1 (l .largest) (p .len)) (leb (p .arrival) t) _ (within-intro 1 (l .largest) (p .len) one h) refl
+
+-- with few enough of them, the test of all is the test of each row
+pub notices-read : (l : Link) (q : List ℕ) (clock n : ℕ) → Waiting q n → each (row-notice l clock) (rows q) ≡ notices-sound (state-read l [] [] q clock 0 0)
+unfolding notices-sound
+notices-read l q clock n k =
+    goes-on (leb (length (notices q)) max-notices) _ _
+    (le-leb (length (notices q)) max-notices (omega (arith, length-map (rows q) notice-of, k .rows, k .few-rows)))
+    (each-map (rows q))
+  where
+    each-map : (ps : List Packet) → each (row-notice l clock) ps ≡ each (notice-sound l clock) (map notice-of ps)
+    each-map [] = refl
+    each-map (p ∷ ps) = ap (λ (b : Bool). row-notice l clock p && b) (each-map ps)
+
 -- ---- the line
 
-module _ (t : List ℕ) (clock w u : ℕ) where
-  pub line-idle : u ≡ 0 → eqb w 0 ≡ line-sound (state-read no-link [] t clock w u)
+module _ (t q : List ℕ) (clock w u : ℕ) where
+  abbrev line : State
+  line = state-read no-link [] t q clock w u
+
+  pub line-idle : u ≡ 0 → eqb w 0 ≡ line-sound line
   unfolding line-sound
-  line-idle e = sym (cond-is (eqb w 0) (serves (first w (rows t)) u clock) (eq-eqb u 0 e))
+  line-idle e = sym (cond-is (eqb w 0) (busy-sound line) (eq-eqb u 0 e))
 
   module _ (busy : u ≡ 0 → ⊥) where
-    serving : line-sound (state-read no-link [] t clock w u) ≡ serves (first w (rows t)) u clock
+    taken : line-sound line ≡ busy-sound line
     unfolding line-sound
-    serving = cond-is (eqb w 0) (serves (first w (rows t)) u clock) (ne-eqb u 0 busy)
+    taken = cond-is (eqb w 0) (busy-sound line) (ne-eqb u 0 busy)
 
-    pub line-none : length (rows t) ≤ place w (rows t) → false ≡ line-sound (state-read no-link [] t clock w u)
-    line-none h = sym (serving ∙ ap (λ (o : Option Packet). serves o u clock) (first-none w (rows t) h))
+    -- by a notice
+    module _ (e : w ≡ notice-number) where
+      noticed : line-sound line ≡ serves-notice (first-notice (notices q)) u
+      noticed = taken ∙ cond-is (serves-notice (first-notice (notices q)) u) (serves (first w (rows t)) u clock) (eq-eqb w notice-number e)
 
-    module _ (i : ℕ) (at : i ≡ place w (rows t)) (h : i < length (rows t)) (p : Packet) (is : p ≡ row-at t i) where
-      found : first w (rows t) ≡ some p
-      found =
-          first-place w (rows t) (omega arith)
-          ∙ ap (λ (j : ℕ). some (getD (rows t) j no-packet)) (sym at)
-          ∙ ap some (row-is t i h ∙ sym is)
+      pub line-no-notice : length (rows q) ≡ 0 → false ≡ line-sound line
+      line-no-notice z = sym (noticed ∙ ap (λ (ns : List Notice). serves-notice (first-notice ns) u) (no-rows q z))
 
-      pub line-short : p .len < u → false ≡ line-sound (state-read no-link [] t clock w u)
-      line-short l =
-          fails (within 1 (p .len) u) _ (too-high 1 (p .len) u (omega (arith, busy)) l)
-          ∙ sym (serving ∙ ap (λ (o : Option Packet). serves o u clock) found)
+      pub line-notice : 0 < length (rows q) → (n : Packet) → n ≡ row-at q 0 → leb u (n .len) ≡ line-sound line
+      line-notice h n is =
+          goes-on (leb 1 u) (leb u (n .len)) _ (le-leb 1 u (omega (arith, busy))) refl
+          ∙ ap (λ (p : Packet). within 1 (p .len) u) is
+          ∙ sym (noticed ∙ ap (λ (ns : List Notice). serves-notice (first-notice ns) u) (first-row q h))
 
-      pub line-rest : u ≤ p .len → leb (p .eligibility) clock ≡ line-sound (state-read no-link [] t clock w u)
-      line-rest l =
-          goes-on (within 1 (p .len) u) _ _ (within-intro 1 (p .len) u (omega (arith, busy)) l) refl
-          ∙ sym (serving ∙ ap (λ (o : Option Packet). serves o u clock) found)
+    -- by a packet of a level
+    module _ (ne : w ≡ notice-number → ⊥) where
+      serving : line-sound line ≡ serves (first w (rows t)) u clock
+      serving = taken ∙ cond-is (serves-notice (first-notice (notices q)) u) (serves (first w (rows t)) u clock) (ne-eqb w notice-number ne)
+
+      pub line-none : length (rows t) ≤ place w (rows t) → false ≡ line-sound line
+      line-none h = sym (serving ∙ ap (λ (o : Option Packet). serves o u clock) (first-none w (rows t) h))
+
+      module _ (i : ℕ) (at : i ≡ place w (rows t)) (h : i < length (rows t)) (p : Packet) (is : p ≡ row-at t i) where
+        found : first w (rows t) ≡ some p
+        found =
+            first-place w (rows t) (omega arith)
+            ∙ ap (λ (j : ℕ). some (getD (rows t) j no-packet)) (sym at)
+            ∙ ap some (row-is t i h ∙ sym is)
+
+        pub line-short : p .len < u → false ≡ line-sound line
+        line-short l =
+            fails (within 1 (p .len) u) _ (too-high 1 (p .len) u (omega (arith, busy)) l)
+            ∙ sym (serving ∙ ap (λ (o : Option Packet). serves o u clock) found)
+
+        pub line-rest : u ≤ p .len → leb (p .eligibility) clock ≡ line-sound line
+        line-rest l =
+            goes-on (within 1 (p .len) u) _ _ (within-intro 1 (p .len) u (omega (arith, busy)) l) refl
+            ∙ sym (serving ∙ ap (λ (o : Option Packet). serves o u clock) found)
 
 -- ---- with no link set
 
@@ -122,7 +193,7 @@ module _ (l : Link) (cs : List ℕ) where
   abbrev all-figures : Bool
   all-figures = every (length (connections cs)) (λ c. connection-sound l (nth (connections cs) c))
 
-  pub admissions-read : admissions-sound (state-read l cs [] 0 0 0)
+  pub admissions-read : admissions-sound (state-read l cs [] [] 0 0 0)
       ≡ (link-within l && (leb (length (connections cs)) max-connections && (all-figures && (passes l (connections cs) && leb (reserved l (connections cs)) max-reserved))))
   unfolding admissions-sound
   admissions-read =
@@ -137,26 +208,31 @@ module _ (l : Link) (cs : List ℕ) where
 
 -- ---- the parts of a state that each clause looks at
 
-module _ (l : Link) (cs t : List ℕ) (clock w u : ℕ) where
-  pub admissions-alone : admissions-sound (state-read l cs [] 0 0 0) ≡ admissions-sound (state-read l cs t clock w u)
+module _ (l : Link) (cs t q : List ℕ) (clock w u : ℕ) where
+  pub admissions-alone : admissions-sound (state-read l cs [] [] 0 0 0) ≡ admissions-sound (state-read l cs t q clock w u)
   unfolding admissions-sound
   admissions-alone = refl
 
-  pub rows-alone : rows-sound (state-read l cs t clock 0 0) ≡ rows-sound (state-read l cs t clock w u)
+  pub rows-alone : rows-sound (state-read l cs t [] clock 0 0) ≡ rows-sound (state-read l cs t q clock w u)
   unfolding rows-sound
   rows-alone = refl
 
-  pub line-alone : line-sound (state-read no-link [] t clock w u) ≡ line-sound (state-read l cs t clock w u)
+  pub notices-alone : notices-sound (state-read l [] [] q clock 0 0) ≡ notices-sound (state-read l cs t q clock w u)
+  unfolding notices-sound
+  notices-alone = refl
+
+  pub line-alone : line-sound (state-read no-link [] t q clock w u) ≡ line-sound (state-read l cs t q clock w u)
   unfolding line-sound
   line-alone = refl
 
   -- with no link set
-  pub unused-read : (n held : ℕ) → n ≡ length (members cs) → held ≡ length (rows t) → length (l .bounds) ≡ max-levels
-      → unused l n held clock w u ≡ nothing-used (state-read l cs t clock w u)
+  pub unused-read : (n held waiting : ℕ) → n ≡ length (members cs) → held ≡ length (rows t) → waiting ≡ length (rows q) → length (l .bounds) ≡ max-levels
+      → unused l n held waiting clock w u ≡ nothing-used (state-read l cs t q clock w u)
   unfolding nothing-used
-  unused-read n held e f g =
-      rw (e, f, zeros-each (l .bounds), eq-eqb (length (l .bounds)) max-levels g, length-map (members cs) connection-of, length-map (members cs) past-of)
-      (regroup (eqb (l .largest) 0) (each (λ d. eqb d 0) (l .bounds)) (eqb (length (members cs)) 0) (eqb clock 0 && (eqb (length (rows t)) 0 && (eqb w 0 && eqb u 0))))
+  unused-read n held waiting e f h g =
+      rw (e, f, h, zeros-each (l .bounds), eq-eqb (length (l .bounds)) max-levels g)
+      (rw (length-map (members cs) connection-of, length-map (members cs) past-of, length-map (rows q) notice-of)
+      (regroup (eqb (l .largest) 0) (each (λ d. eqb d 0) (l .bounds)) (eqb (length (members cs)) 0) _))
     where
       regroup : (a b c d : Bool) → (a && (b && (c && d))) ≡ ((a && (true && b)) && (c && (c && d)))
       regroup true true true d = refl
@@ -171,9 +247,9 @@ module _ (l : Link) (cs t : List ℕ) (clock : ℕ) where
   by-row = each (row-sound (connections cs) clock) (rows t)
 
   abbrev by-connection : Bool
-  by-connection = paced (connections cs) clock [] (rows t) && every (length (connections cs)) (queue-sound (state-read l cs t clock 0 0))
+  by-connection = paced (connections cs) clock [] (rows t) && every (length (connections cs)) (queue-sound (state-read l cs t [] clock 0 0))
 
-  pub rows-read : rows-sound (state-read l cs t clock 0 0) ≡ (leb clock clock-end && (by-row && by-connection))
+  pub rows-read : rows-sound (state-read l cs t [] clock 0 0) ≡ (leb clock clock-end && (by-row && by-connection))
   unfolding rows-sound
   rows-read = refl
 
@@ -194,7 +270,7 @@ module _ (l : Link) (cs t : List ℕ) (clock : ℕ) where
 
 -- ---- the whole
 
-pub admissions-safe : (l : Link) (cs : List ℕ) → admissions-sound (state-read l cs [] 0 0 0) ≡ true → Within l (connections cs)
+pub admissions-safe : (l : Link) (cs : List ℕ) → admissions-sound (state-read l cs [] [] 0 0 0) ≡ true → Within l (connections cs)
 admissions-safe l cs h =
     let k = and-true (link-within l) _ (sym (admissions-read l cs) ∙ h) in
     let f = and-true (leb (length (connections cs)) max-connections) _ (k .1) in
@@ -221,3 +297,6 @@ counted cs t n held f g e k =
       rows = k;
       few-rows = omega (arith, rows-end t);
     }
+
+pub waits : (q : List ℕ) (n : ℕ) → notices-formed q ≡ true → n ≡ length (rows q) → Waiting q n
+waits q n f e = record { rows = e; few-rows = omega (arith, notices-few q f, length-map (rows q) notice-of) }

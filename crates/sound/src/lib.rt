@@ -1,4 +1,4 @@
-// Whether a link, two lent tables and the line's numbers are a sound state: exactly, for any numbers and tables of any length.
+// Whether a link, three lent tables and the line's numbers are a sound state: exactly, for any numbers and tables of any length.
 ghost use mathlib.Core.Path.{_≡_};
 ghost use mathlib.Core.Bool.{true, _&&_};
 ghost use mathlib.Core.List.{[], _∷_};
@@ -9,17 +9,19 @@ ghost use Rattle.rules.specs.Words.{every, each};
 ghost use Rattle.rules.specs.Limits.{max-levels, max-connections};
 ghost use Rattle.rules.specs.Model.{nth, no-link};
 ghost use Rattle.rules.specs.Admission.{rising, link-within, level-within, figures-within, passes};
-ghost use Rattle.rules.specs.SoundTest.{nothing-used, connection-sound, admissions-sound, row-sound, rows-sound, line-sound};
+ghost use Rattle.rules.specs.SoundTest.{connection-sound, admissions-sound, row-sound, rows-sound, notice-sound, notices-sound, line-sound};
 ghost use Rattle.tables.specs.Places.{rows};
+ghost use Rattle.tables.specs.Notices.{notice-of, marked, notices-formed};
 ghost use Rattle.lines.specs.Members.{members, connections, members-formed};
 ghost use Rattle.lines.specs.Within.{Within};
 ghost use Rattle.lines.specs.StateRead.{state-read};
-ghost use Rattle.sound.specs.SoundTables.{places-formed, unused, Counted, linked-sound, sound-tables};
+ghost use Rattle.sound.specs.SoundTables.{places-formed, unused, Counted, Waiting, linked-sound, sound-tables};
 use lines::MAX_CONNECTIONS;
 use lines::MAX_LEVELS;
 use rules::Connection;
 use rules::Link;
 use rules::Packet;
+use tables::NOTICE_NUMBER;
 
 const MAX_LARGEST: u32 = 2048;
 
@@ -136,7 +138,7 @@ fn tests_ok(l: Link, cs: &[u32], n: usize) -> bool
 // Link, connections, tests and reservations within the rules.
 fn admissions_ok(l: Link, cs: &[u32], n: usize) -> bool
     requires { ⌜ n ≡ length (members (now cs)) ⌝ }
-    ensures { λ r. ⌜ r ≡ admissions-sound (state-read l (now (cs .entry)) [] 0 0 0) ⌝ }
+    ensures { λ r. ⌜ r ≡ admissions-sound (state-read l (now (cs .entry)) [] [] 0 0 0) ⌝ }
 {
     if !link_ok(l) {
         return false;
@@ -190,13 +192,56 @@ fn rows_ok(cs: &[u32], n: usize, t: &[u32], held: usize, clock: u32) -> bool
     true
 }
 
-// An idle line serves nobody; else the first row of the connection in service is eligible and has so many units.
-fn line_ok(t: &[u32], held: usize, clock: u32, serving: u32, units: u32) -> bool
-    requires { ⌜ held ≡ length (rows (now t)) ⌝ }
-    ensures { λ r. ⌜ r ≡ line-sound (state-read no-link [] (now (t .entry)) clock serving units) ⌝ }
+// A notice by itself: a length from 1 to S, and its arrival.
+fn notice_ok(l: Link, clock: u32, p: Packet) -> bool
+    ensures { λ r. ⌜ r ≡ notice-sound l clock (notice-of p) ⌝ }
+{
+    if p.len < 1 {
+        return false;
+    }
+    if l.largest < p.len {
+        return false;
+    }
+    p.arrival <= clock
+}
+
+fn notices_ok(l: Link, q: &[u32], waiting: usize, clock: u32) -> bool
+    requires { ⌜ Waiting (now q) waiting ⌝ }
+    ensures { λ r. ⌜ r ≡ notices-sound (state-read l [] [] (now (q .entry)) clock 0 0) ⌝ }
+{
+    let mut i: usize = 0;
+    while i < waiting {
+        let p = tables::row(q, i);
+        if !notice_ok(l, clock, p) {
+            return false;
+        }
+        i += 1;
+    }
+    true
+}
+
+// An idle line serves nobody; else the first row of the connection in service is eligible and has so many units; or the first notice has.
+fn line_ok(
+    t: &[u32],
+    held: usize,
+    q: &[u32],
+    waiting: usize,
+    clock: u32,
+    serving: u32,
+    units: u32,
+) -> bool
+    requires { ⌜ (held ≡ length (rows (now t))) × (waiting ≡ length (rows (now q))) ⌝ }
+    ensures { λ r. ⌜ r ≡ line-sound (state-read no-link [] (now (t .entry)) (now (q .entry)) clock serving units) ⌝ }
 {
     if units == 0 {
         return serving == 0;
+    }
+    if serving == NOTICE_NUMBER {
+        if waiting == 0 {
+            return false;
+        }
+        let n = tables::row(q, 0);
+        return units <= n.len;
     }
     let i = tables::find(t, held, serving);
     if held <= i {
@@ -210,8 +255,16 @@ fn line_ok(t: &[u32], held: usize, clock: u32, serving: u32, units: u32) -> bool
 }
 
 // With no link set, everything is zero.
-fn unused_ok(l: Link, n: usize, held: usize, clock: u32, serving: u32, units: u32) -> bool
-    ensures { λ r. ⌜ r ≡ unused l n held clock serving units ⌝ }
+fn unused_ok(
+    l: Link,
+    n: usize,
+    held: usize,
+    waiting: usize,
+    clock: u32,
+    serving: u32,
+    units: u32,
+) -> bool
+    ensures { λ r. ⌜ r ≡ unused l n held waiting clock serving units ⌝ }
 {
     if l.largest != 0 {
         return false;
@@ -229,6 +282,9 @@ fn unused_ok(l: Link, n: usize, held: usize, clock: u32, serving: u32, units: u3
     if held != 0 {
         return false;
     }
+    if waiting != 0 {
+        return false;
+    }
     if serving != 0 {
         return false;
     }
@@ -244,6 +300,45 @@ fn places_ok(t: &[u32]) -> bool
     }
     let held = tables::held(t);
     tables::zero_from(t, 5 * held)
+}
+
+// A row of the table of notices bears their number, and an eligibility that is its arrival.
+fn marked_ok(p: Packet) -> bool
+    ensures { λ r. ⌜ r ≡ marked p ⌝ }
+{
+    if p.connection != NOTICE_NUMBER {
+        return false;
+    }
+    p.eligibility == p.arrival
+}
+
+fn marks_of_notices_ok(q: &[u32], waiting: usize) -> bool
+    requires { ⌜ waiting ≡ length (rows (now q)) ⌝ }
+    ensures { λ r. ⌜ r ≡ each marked (rows (now (q .entry))) ⌝ }
+{
+    let mut i: usize = 0;
+    while i < waiting {
+        let p = tables::row(q, i);
+        if !marked_ok(p) {
+            return false;
+        }
+        i += 1;
+    }
+    true
+}
+
+// The table of notices has its length, zeros behind its rows, and marks as they must be.
+fn queue_ok(q: &[u32]) -> bool
+    ensures { λ r. ⌜ r ≡ notices-formed (now (q .entry)) ⌝ }
+{
+    if q.len() != tables::NOTICES {
+        return false;
+    }
+    let waiting = tables::held(q);
+    if !tables::zero_from(q, 5 * waiting) {
+        return false;
+    }
+    marks_of_notices_ok(q, waiting)
 }
 
 // The marks of the first n connections are 0 or 1.
@@ -279,7 +374,7 @@ fn members_ok(cs: &[u32]) -> bool
 // The clock, the rows by themselves, and the rows of each connection among themselves.
 fn held_ok(l: Link, cs: &[u32], n: usize, t: &[u32], held: usize, clock: u32) -> bool
     requires { ⌜ Counted (now cs) (now t) n held × Within l (connections (now cs)) ⌝ }
-    ensures { λ r. ⌜ r ≡ rows-sound (state-read l (now (cs .entry)) (now (t .entry)) clock 0 0) ⌝ }
+    ensures { λ r. ⌜ r ≡ rows-sound (state-read l (now (cs .entry)) (now (t .entry)) [] clock 0 0) ⌝ }
 {
     if CLOCK_END < clock {
         return false;
@@ -297,12 +392,14 @@ fn linked_ok(
     n: usize,
     t: &[u32],
     held: usize,
+    q: &[u32],
+    waiting: usize,
     clock: u32,
     serving: u32,
     units: u32,
 ) -> bool
-    requires { ⌜ Counted (now cs) (now t) n held ⌝ }
-    ensures { λ r. ⌜ r ≡ linked-sound (state-read l (now (cs .entry)) (now (t .entry)) clock serving units) ⌝ }
+    requires { ⌜ Counted (now cs) (now t) n held × Waiting (now q) waiting ⌝ }
+    ensures { λ r. ⌜ r ≡ linked-sound (state-read l (now (cs .entry)) (now (t .entry)) (now (q .entry)) clock serving units) ⌝ }
 {
     if !admissions_ok(l, cs, n) {
         return false;
@@ -310,12 +407,23 @@ fn linked_ok(
     if !held_ok(l, cs, n, t, held, clock) {
         return false;
     }
-    line_ok(t, held, clock, serving, units)
+    if !notices_ok(l, q, waiting, clock) {
+        return false;
+    }
+    line_ok(t, held, q, waiting, clock, serving, units)
 }
 
-// Whether the link, the table of connections, the places table, the clock and the line are a sound state.
-pub fn is_sound(l: Link, cs: &[u32], t: &[u32], clock: u32, serving: u32, units: u32) -> bool
-    ensures { λ r. ⌜ r ≡ sound-tables l (now (cs .entry)) (now (t .entry)) clock serving units ⌝ }
+// Whether the link, the table of connections, the places table, the table of notices, the clock and the line are a sound state.
+pub fn is_sound(
+    l: Link,
+    cs: &[u32],
+    t: &[u32],
+    q: &[u32],
+    clock: u32,
+    serving: u32,
+    units: u32,
+) -> bool
+    ensures { λ r. ⌜ r ≡ sound-tables l (now (cs .entry)) (now (t .entry)) (now (q .entry)) clock serving units ⌝ }
 {
     if !places_ok(t) {
         return false;
@@ -323,10 +431,14 @@ pub fn is_sound(l: Link, cs: &[u32], t: &[u32], clock: u32, serving: u32, units:
     if !members_ok(cs) {
         return false;
     }
+    if !queue_ok(q) {
+        return false;
+    }
     let n = tables::held(cs);
     let held = tables::held(t);
+    let waiting = tables::held(q);
     if l.levels == 0 {
-        return unused_ok(l, n, held, clock, serving, units);
+        return unused_ok(l, n, held, waiting, clock, serving, units);
     }
-    linked_ok(l, cs, n, t, held, clock, serving, units)
+    linked_ok(l, cs, n, t, held, q, waiting, clock, serving, units)
 }

@@ -13,8 +13,8 @@ use Rattle.rules.specs.Model.{State, tick}
 use Rattle.rules.specs.Calls.{answer}
 use Rattle.rules.proofs.Tests.{never}
 use Rattle.traces.specs.declared.Record.{Record}
-use Rattle.traces.specs.declared.Record.the-variants.{Link as LinkRecord, Admit, Offer, Ticks, Malformed}
-use Rattle.answers.specs.declared.Reply.the-variants.{Linked, Admitted, Offered, Departed, Ticked, Broken}
+use Rattle.traces.specs.declared.Record.the-variants.{Link as LinkRecord, Admit, Offer, Notice, Ticks, Malformed}
+use Rattle.answers.specs.declared.Reply.the-variants.{Linked, Admitted, Offered, Noticed, Departed, Ticked, Broken}
 use Rattle.answers.specs.Answers.{answer-bytes}
 use Rattle.service.specs.declared.Hub.{Hub}
 use Rattle.log.specs.declared.Phase.{Phase}
@@ -49,6 +49,7 @@ record-short : (r : Record) (k at : ℕ) (s : State) → length (record-next r k
 record-short (LinkRecord n m d1 d2 d3 d4 d5 d6 d7 d8) k at s = answer-short (Linked _)
 record-short (Admit a b d) k at s = answer-short (Admitted _ _)
 record-short (Offer a b d) k at s = answer-short (Offered _ _)
+record-short (Notice a b) k at s = answer-short (Noticed _ _)
 record-short (Ticks n) k at s = omega arith
 record-short Malformed k at s = answer-short (Broken at)
 
@@ -80,11 +81,13 @@ record-facts w k at s h len last r a e z l f m b = go w k e z l f
     go (LinkRecord n q d1 d2 d3 d4 d5 d6 d7 d8) zero d z i g = never (cc (z refl))
     go (Admit x y c) zero d z i g = never (cc (z refl))
     go (Offer x y c) zero d z i g = never (cc (z refl))
+    go (Notice x y) zero d z i g = never (cc (z refl))
     go (Ticks n) zero d z i g = never (cc (z refl))
     go (LinkRecord n q d1 d2 d3 d4 d5 d6 d7 d8) (suc j) d z i g =
         taken-facts at (suc j) h len last r a (omega arith) i g (short (LinkRecord n q d1 d2 d3 d4 d5 d6 d7 d8) (suc j) d) (rw d) (rw d) b (rw d (λ e. cc))
     go (Admit x y c) (suc j) d z i g = taken-facts at (suc j) h len last r a (omega arith) i g (short (Admit x y c) (suc j) d) (rw d) (rw d) b (rw d (λ e. cc))
     go (Offer x y c) (suc j) d z i g = taken-facts at (suc j) h len last r a (omega arith) i g (short (Offer x y c) (suc j) d) (rw d) (rw d) b (rw d (λ e. cc))
+    go (Notice x y) (suc j) d z i g = taken-facts at (suc j) h len last r a (omega arith) i g (short (Notice x y) (suc j) d) (rw d) (rw d) b (rw d (λ e. cc))
     go (Ticks n) (suc j) d z i g = taken-facts at (suc j) h len last r a (omega arith) i g (short (Ticks n) (suc j) d) (rw d) (rw d) b (rw d (λ e. cc))
     go Malformed j d z i g =
         rw d
@@ -153,10 +156,10 @@ module _ (at : ℕ) (s : State) (w : List ℕ) (last : Bool) where
   unfolding read-next
   next-mid l e = rw (l, le-ltb (length w) longest-record e)
 
-pub next-phase : (c : Cursor) (cs t w : List ℕ) (last : Bool) {q : Phase} → c .phase ≡ q
-    → next (point-of c cs t) w last ≡ phase-next q (c .at) (point-of c cs t .state) w last
+pub next-phase : (c : Cursor) (cs t q w : List ℕ) (last : Bool) {f : Phase} → c .phase ≡ f
+    → next (point-of c cs t q) w last ≡ phase-next f (c .at) (point-of c cs t q .state) w last
 unfolding next
-next-phase c cs t w last e = ap (λ p. phase-next p (c .at) (point-of c cs t .state) w last) e
+next-phase c cs t q w last e = ap (λ p. phase-next p (c .at) (point-of c cs t q .state) w last) e
 
 pub facts-phase : (c : Cursor) {q : Phase} → c .phase ≡ q → (len : ℕ) (last : Bool) (r : ℕ) (a : Stepped) → Facts (cursor-at (c .at) q (c .hub)) len last r a
     → Facts c len last r a

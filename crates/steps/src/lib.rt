@@ -7,10 +7,10 @@ ghost use Rattle.answers.specs.Answers.{answer-bytes};
 ghost use Rattle.answers.specs.declared.Reply.the-variants.{Broken};
 ghost use Rattle.service.specs.View.{view};
 ghost use Rattle.calls.specs.Acts.{sound-hub};
-ghost use Rattle.log.specs.declared.Phase.the-variants.{Reading, Finished};
-ghost use Rattle.log.specs.declared.Status.the-variants.{Done};
+ghost use Rattle.log.specs.declared.Phase.the-variants.{Reading, Ticking, Finished};
+ghost use Rattle.log.specs.declared.Status.the-variants.{GoOn, Done};
 ghost use Rattle.log.specs.Log.{trace-limit, read-at};
-ghost use Rattle.log.specs.Steps.{longest-answer, link-next, admit-next, offer-next, found-next, read-next, next, weight};
+ghost use Rattle.log.specs.Steps.{longest-answer, link-next, admit-next, offer-next, notice-next, found-next, read-next, next, weight};
 ghost use Rattle.ticks.specs.Tie.{cursor-at, point-of, over, nothing-done, Did, Facts};
 use answers::Reply;
 use log::Cursor;
@@ -56,15 +56,16 @@ fn link_step(
     h: Hub,
     cs: &[u32],
     t: &[u32],
+    q: &[u32],
     l: Link,
     at: u32,
     used: usize,
     out: &mut [u8],
 ) -> Stepped
-    requires { ⌜ (sound-hub h (now cs) (now t) ≡ true) × (longest-answer ≤ length (now out)) ⌝ }
-    ensures { λ r. ⌜ Did (link-next l used at (view h (now (cs .entry)) (now (t .entry)))) r (now (cs .entry)) (now (t .entry)) (now (out .entry)) (now (out .exit)) ⌝ }
+    requires { ⌜ (sound-hub h (now cs) (now t) (now q) ≡ true) × (longest-answer ≤ length (now out)) ⌝ }
+    ensures { λ r. ⌜ Did (link-next l used at (view h (now (cs .entry)) (now (t .entry)) (now (q .entry)))) r (now (cs .entry)) (now (t .entry)) (now (q .entry)) (now (out .entry)) (now (out .exit)) ⌝ }
 {
-    let told = calls::link_tested(h, cs, t, l);
+    let told = calls::link_tested(h, cs, t, q, l);
     let reply = Reply::Linked {
         verdict: ticks::low(told.verdict),
     };
@@ -76,15 +77,16 @@ fn admit_step(
     h: Hub,
     cs: &mut [u32],
     t: &[u32],
+    q: &[u32],
     x: Connection,
     at: u32,
     used: usize,
     out: &mut [u8],
 ) -> Stepped
-    requires { ⌜ (sound-hub h (now cs) (now t) ≡ true) × (longest-answer ≤ length (now out)) ⌝ }
-    ensures { λ r. ⌜ Did (admit-next x used at (view h (now (cs .entry)) (now (t .entry)))) r (now (cs .exit)) (now (t .entry)) (now (out .entry)) (now (out .exit)) ⌝ }
+    requires { ⌜ (sound-hub h (now cs) (now t) (now q) ≡ true) × (longest-answer ≤ length (now out)) ⌝ }
+    ensures { λ r. ⌜ Did (admit-next x used at (view h (now (cs .entry)) (now (t .entry)) (now (q .entry)))) r (now (cs .exit)) (now (t .entry)) (now (q .entry)) (now (out .entry)) (now (out .exit)) ⌝ }
 {
-    let told = calls::admit_tested(h, cs, t, x);
+    let told = calls::admit_tested(h, cs, t, q, x);
     let reply = Reply::Admitted {
         verdict: ticks::low(told.verdict),
         connection: ticks::low(told.number),
@@ -97,6 +99,7 @@ fn offer_step(
     h: Hub,
     cs: &mut [u32],
     t: &mut [u32],
+    q: &[u32],
     c: u32,
     len: u32,
     tag: u32,
@@ -104,11 +107,34 @@ fn offer_step(
     used: usize,
     out: &mut [u8],
 ) -> Stepped
-    requires { ⌜ (sound-hub h (now cs) (now t) ≡ true) × (longest-answer ≤ length (now out)) ⌝ }
-    ensures { λ r. ⌜ Did (offer-next c len tag used at (view h (now (cs .entry)) (now (t .entry)))) r (now (cs .exit)) (now (t .exit)) (now (out .entry)) (now (out .exit)) ⌝ }
+    requires { ⌜ (sound-hub h (now cs) (now t) (now q) ≡ true) × (longest-answer ≤ length (now out)) ⌝ }
+    ensures { λ r. ⌜ Did (offer-next c len tag used at (view h (now (cs .entry)) (now (t .entry)) (now (q .entry)))) r (now (cs .exit)) (now (t .exit)) (now (q .entry)) (now (out .entry)) (now (out .exit)) ⌝ }
 {
-    let told = calls::offer_tested(h, cs, t, c, len, tag);
+    let told = calls::offer_tested(h, cs, t, q, c, len, tag);
     let reply = Reply::Offered {
+        verdict: ticks::low(told.verdict),
+        eligibility: told.number,
+    };
+    ticks::answered(at, told.hub, used, reply, out)
+}
+
+// `NQ`, the same.
+fn notice_step(
+    h: Hub,
+    cs: &[u32],
+    t: &[u32],
+    q: &mut [u32],
+    len: u32,
+    tag: u32,
+    at: u32,
+    used: usize,
+    out: &mut [u8],
+) -> Stepped
+    requires { ⌜ (sound-hub h (now cs) (now t) (now q) ≡ true) × (longest-answer ≤ length (now out)) ⌝ }
+    ensures { λ r. ⌜ Did (notice-next len tag used at (view h (now (cs .entry)) (now (t .entry)) (now (q .entry)))) r (now (cs .entry)) (now (t .entry)) (now (q .exit)) (now (out .entry)) (now (out .exit)) ⌝ }
+{
+    let told = calls::notice_tested(h, cs, t, q, len, tag);
+    let reply = Reply::Noticed {
         verdict: ticks::low(told.verdict),
         eligibility: told.number,
     };
@@ -149,10 +175,37 @@ fn broken_step(at: u32, h: Hub, out: &mut [u8]) -> Stepped
     }
 }
 
+// `TK`: its ticks begin.
+fn begin_ticks(h: Hub, ticks: u16, at: u32, used: usize) -> Stepped
+    ensures { λ r. ⌜ r ≡ record { cursor = cursor-at at (Ticking ticks ticks) h; used = used; wrote = 0; status = GoOn } ⌝ }
+{
+    Stepped {
+        cursor: Cursor {
+            at: at,
+            phase: Phase::Ticking {
+                asked: ticks,
+                left: ticks,
+            },
+            hub: h,
+        },
+        used: used,
+        wrote: 0,
+        status: Status::GoOn,
+    }
+}
+
 // A record read at offset `at`.
-fn record_step(f: Found, at: u32, h: Hub, cs: &mut [u32], t: &mut [u32], out: &mut [u8]) -> Stepped
-    requires { ⌜ (sound-hub h (now cs) (now t) ≡ true) × (longest-answer ≤ length (now out)) × (f .taken ≤ trace-limit - at) ⌝ }
-    ensures { λ r. ⌜ Did (found-next f at (view h (now (cs .entry)) (now (t .entry)))) r (now (cs .exit)) (now (t .exit)) (now (out .entry)) (now (out .exit)) ⌝ }
+fn record_step(
+    f: Found,
+    at: u32,
+    h: Hub,
+    cs: &mut [u32],
+    t: &mut [u32],
+    q: &mut [u32],
+    out: &mut [u8],
+) -> Stepped
+    requires { ⌜ (sound-hub h (now cs) (now t) (now q) ≡ true) × (longest-answer ≤ length (now out)) × (f .taken ≤ trace-limit - at) ⌝ }
+    ensures { λ r. ⌜ Did (found-next f at (view h (now (cs .entry)) (now (t .entry)) (now (q .entry)))) r (now (cs .exit)) (now (t .exit)) (now (q .exit)) (now (out .entry)) (now (out .exit)) ⌝ }
     ensures { λ r. ⌜ weight (r .cursor .phase) ≤ 65536 ⌝ }
 {
     let used = f.taken;
@@ -172,30 +225,30 @@ fn record_step(f: Found, at: u32, h: Hub, cs: &mut [u32], t: &mut [u32], out: &m
             d8,
         } => {
             let l = named::link_named(levels, largest, d1, d2, d3, d4, d5, d6, d7, d8);
-            link_step(h, cs, t, l, to, used, out)
+            link_step(h, cs, t, q, l, to, used, out)
         }
         Record::Admit { level, gap, size } => {
             let x = named::connection_named(level, gap, size);
-            admit_step(h, cs, t, x, to, used, out)
+            admit_step(h, cs, t, q, x, to, used, out)
         }
         Record::Offer {
             connection,
             len,
             tag,
-        } => offer_step(h, cs, t, connection as u32, len as u32, tag, to, used, out),
-        Record::Ticks { ticks } => Stepped {
-            cursor: Cursor {
-                at: to,
-                phase: Phase::Ticking {
-                    asked: ticks,
-                    left: ticks,
-                },
-                hub: h,
-            },
-            used: used,
-            wrote: 0,
-            status: Status::GoOn,
-        },
+        } => offer_step(
+            h,
+            cs,
+            t,
+            q,
+            connection as u32,
+            len as u32,
+            tag,
+            to,
+            used,
+            out,
+        ),
+        Record::Notice { len, tag } => notice_step(h, cs, t, q, len as u32, tag, to, used, out),
+        Record::Ticks { ticks } => begin_ticks(h, ticks, to, used),
         Record::Malformed => broken_step(at, h, out),
     }
 }
@@ -206,24 +259,25 @@ fn read_step(
     h: Hub,
     cs: &mut [u32],
     t: &mut [u32],
+    q: &mut [u32],
     window: &[u8],
     last: bool,
     out: &mut [u8],
 ) -> Stepped
-    requires { ⌜ (sound-hub h (now cs) (now t) ≡ true) × (longest-answer ≤ length (now out)) ⌝ }
-    ensures { λ r. ⌜ Did (read-next at (view h (now (cs .entry)) (now (t .entry))) (now (window .entry)) last) r (now (cs .exit)) (now (t .exit)) (now (out .entry)) (now (out .exit)) ⌝ }
+    requires { ⌜ (sound-hub h (now cs) (now t) (now q) ≡ true) × (longest-answer ≤ length (now out)) ⌝ }
+    ensures { λ r. ⌜ Did (read-next at (view h (now (cs .entry)) (now (t .entry)) (now (q .entry))) (now (window .entry)) last) r (now (cs .exit)) (now (t .exit)) (now (q .exit)) (now (out .entry)) (now (out .exit)) ⌝ }
     ensures { λ r. ⌜ Facts (cursor-at at Reading h) (length (now (window .entry))) last (length (now (out .entry))) r ⌝ }
 {
     if last {
         if window.len() == 0 {
             return waits(at, Phase::Finished, h, Status::Done);
         }
-        return record_step(read_at(window, at), at, h, cs, t, out);
+        return record_step(read_at(window, at), at, h, cs, t, q, out);
     }
     if window.len() < LONGEST_RECORD {
         return waits(at, Phase::Reading, h, Status::MoreBytes);
     }
-    record_step(read_at(window, at), at, h, cs, t, out)
+    record_step(read_at(window, at), at, h, cs, t, q, out)
 }
 
 // One step on a hub and tables that are sound, with room for an answer.
@@ -231,20 +285,21 @@ pub fn step_tested(
     c: Cursor,
     cs: &mut [u32],
     t: &mut [u32],
+    q: &mut [u32],
     window: &[u8],
     last: bool,
     out: &mut [u8],
 ) -> Stepped
-    requires { ⌜ (sound-hub (c .hub) (now cs) (now t) ≡ true) × (longest-answer ≤ length (now out)) ⌝ }
-    ensures { λ r. ⌜ Did (next (point-of c (now (cs .entry)) (now (t .entry))) (now (window .entry)) last) r (now (cs .exit)) (now (t .exit)) (now (out .entry)) (now (out .exit)) ⌝ }
+    requires { ⌜ (sound-hub (c .hub) (now cs) (now t) (now q) ≡ true) × (longest-answer ≤ length (now out)) ⌝ }
+    ensures { λ r. ⌜ Did (next (point-of c (now (cs .entry)) (now (t .entry)) (now (q .entry))) (now (window .entry)) last) r (now (cs .exit)) (now (t .exit)) (now (q .exit)) (now (out .entry)) (now (out .exit)) ⌝ }
     ensures { λ r. ⌜ Facts c (length (now (window .entry))) last (length (now (out .entry))) r ⌝ }
 {
     let at = c.at;
     let h = c.hub;
     let p = c.phase;
     match p {
-        Phase::Reading => read_step(at, h, cs, t, window, last, out),
-        Phase::Ticking { asked, left } => ticks::tick_step(at, h, asked, left, cs, t, out),
+        Phase::Reading => read_step(at, h, cs, t, q, window, last, out),
+        Phase::Ticking { asked, left } => ticks::tick_step(at, h, asked, left, cs, t, q, out),
         Phase::Finished => waits(at, Phase::Finished, h, Status::Done),
     }
 }

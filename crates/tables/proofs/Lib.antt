@@ -1,2 +1,3 @@
 pub mod TableLaws
 pub mod PlacesLaws
+pub mod NoticeLaws

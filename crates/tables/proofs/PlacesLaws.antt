@@ -14,14 +14,14 @@ use lib.Seq.{drop-cons, drop-length, getD-drop, paste-zero, paste-suc, take-past
 use Rattle.rules.specs.declared.Packet.{Packet}
 use Rattle.rules.specs.Service.{first, without}
 use Rattle.rules.proofs.Tests.{and-true}
-use Rattle.tables.specs.Table.{write, zeros, formed}
-use Rattle.tables.specs.Places.{put, shifted, cut, place, rows, places, places-length, five-of, packet-of, no-packet, row-at}
+use Rattle.tables.specs.Table.{write, padded, zeros, formed}
+use Rattle.tables.specs.Places.{put, shifted, cut, place, rows, places, table-of, places-length, five-of, packet-of, no-packet, row-at}
 use Rattle.tables.proofs.TableLaws.{zeros-rep, drop-write, written-back, read-at, held-end, held-stop, held-more, length-write, write-append, take-rows, drop-rows, put-eq, five-more, length-padded, put-last}
 
 -- a packet put behind the rows
-put-behind : (ps : List Packet) (p : Packet) → 5 * length ps + 5 ≤ places-length → put (places ps) (length ps) p ≡ places (ps ++ p ∷ [])
-unfolding places
-put-behind ps p h = put-last packet-of five-of places-length ps p h
+put-behind : (n : ℕ) (ps : List Packet) (p : Packet) → 5 * length ps + 5 ≤ n → put (table-of n ps) (length ps) p ≡ table-of n (ps ++ p ∷ [])
+unfolding table-of
+put-behind n ps p h = put-last packet-of five-of n ps p h
 
 length-cut : {A : Type 0} (xs : List A) (i : ℕ) → i < length xs → length (cut i xs) + 1 ≡ length xs
 length-cut [] i h = absurd (omega arith)
@@ -29,17 +29,17 @@ length-cut (x ∷ xs) zero h = omega arith
 length-cut (x ∷ xs) (suc i) h = omega (arith, length-cut xs i (le-of-suc-le-suc h))
 
 -- row i taken out, the later ones moved up, the last one made zero
-pub cut-places : (ps : List Packet) (i : ℕ) → i < length ps → 5 * length ps ≤ places-length
-    → put (shifted (places ps) (5 * i) (5 * (length ps - i - 1))) (length ps - 1) no-packet ≡ places (cut i ps)
-unfolding places
-cut-places ps i l h =
-    let n : ℕ = places-length - 5 * length ps in
+cut-rows : (size : ℕ) (ps : List Packet) (i : ℕ) → i < length ps → 5 * length ps ≤ size
+    → put (shifted (table-of size ps) (5 * i) (5 * (length ps - i - 1))) (length ps - 1) no-packet ≡ table-of size (cut i ps)
+unfolding table-of
+cut-rows size ps i l h =
+    let n : ℕ = size - 5 * length ps in
     let m : ℕ = 5 * (length ps - i - 1) in
     let z : List ℕ = replicate n 0 in
     let t : List ℕ = write five-of ps ++ z in
     let ys : List Packet = drop (suc i) ps in
     let s : List ℕ = shifted t (5 * i) m in
-    let lt : length t ≡ places-length = length-padded packet-of five-of places-length ps h in
+    let lt : length t ≡ size = length-padded packet-of five-of size ps h in
     let ly : length (write five-of ys) ≡ m = omega (arith, length-write packet-of five-of ys, length-drop (suc i) ps) in
     let a : 5 * (length ps - 1) ≡ 5 * i + m = omega arith in
     let b : 5 * (length ps - 1) + 5 ≡ 5 * length ps = omega arith in
@@ -47,7 +47,7 @@ cut-places ps i l h =
     let k3 : 5 * i + 5 ≡ 5 * suc i = omega arith in
     let k4 : 5 * (length ps - 1) + 5 ≡ 5 * i + m + 5 = omega arith in
     let k5 : 5 * i + m + 5 ≡ 5 * length ps = omega arith in
-    let k6 : 5 + n ≡ places-length - 5 * length (cut i ps) = omega (arith, length-cut ps i l) in
+    let k6 : 5 + n ≡ size - 5 * length (cut i ps) = omega (arith, length-cut ps i l) in
     let k2 : m ≤ length (drop (5 * i + 5) t) = omega (arith, length-drop (5 * i + 5) t) in
     let ls : length s ≡ length t = length-paste t (5 * i) (drop (5 * i + 5) t) m (omega arith) k2 in
     let front : take (5 * (length ps - 1)) s ≡ write five-of (cut i ps) =
@@ -66,14 +66,19 @@ cut-places ps i l h =
     ∙ ap (λ (l : List ℕ). l ++ (0 ∷ 0 ∷ 0 ∷ 0 ∷ 0 ∷ []) ++ drop (5 * (length ps - 1) + 5) s) front
     ∙ ap (λ (l : List ℕ). write five-of (cut i ps) ++ (0 ∷ 0 ∷ 0 ∷ 0 ∷ 0 ∷ []) ++ l) back
     ∙ append-assoc (write five-of (cut i ps)) (0 ∷ 0 ∷ 0 ∷ 0 ∷ 0 ∷ []) z
-    ∙ ap (λ (l : List ℕ). write five-of (cut i ps) ++ l) (five-more n (places-length - 5 * length (cut i ps)) k6)
+    ∙ ap (λ (l : List ℕ). write five-of (cut i ps) ++ l) (five-more n (size - 5 * length (cut i ps)) k6)
 
-pub cut-table : (t : List ℕ) (held i : ℕ) → t ≡ places (rows t) → held ≡ length (rows t) → i < held → 5 * held ≤ places-length
-    → put (shifted t (5 * i) (5 * (held - i - 1))) (held - 1) no-packet ≡ places (cut i (rows t))
-cut-table t held i e n l h =
+pub cut-table : (size : ℕ) (t : List ℕ) (held i : ℕ) → t ≡ table-of size (rows t) → held ≡ length (rows t) → i < held → 5 * held ≤ size
+    → put (shifted t (5 * i) (5 * (held - i - 1))) (held - 1) no-packet ≡ table-of size (cut i (rows t))
+cut-table size t held i e n l h =
     ap (λ (u : List ℕ). put (shifted u (5 * i) (5 * (held - i - 1))) (held - 1) no-packet) e
-    ∙ ap (λ (m : ℕ). put (shifted (places (rows t)) (5 * i) (5 * (m - i - 1))) (m - 1) no-packet) n
-    ∙ cut-places (rows t) i (omega arith) (omega arith)
+    ∙ ap (λ (m : ℕ). put (shifted (table-of size (rows t)) (5 * i) (5 * (m - i - 1))) (m - 1) no-packet) n
+    ∙ cut-rows size (rows t) i (omega arith) (omega arith)
+
+-- the places table among the tables, by its length
+pub is-places : (t : List ℕ) (ps : List Packet) → length t ≡ places-length → table-of (length t) ps ≡ places ps
+unfolding table-of places
+is-places t ps e = ap (λ (n : ℕ). padded five-of n ps) e
 
 -- ---- the first row of a connection
 
@@ -195,9 +200,10 @@ first-none c (p ∷ ps) l = go (eqb (p .connection) c) l (first-none c ps)
     go true l h = absurd (omega arith)
     go false l h = h (le-of-suc-le-suc l)
 
-pub append-table : (t : List ℕ) (held : ℕ) (p : Packet) → t ≡ places (rows t) → held ≡ length (rows t) → 5 * held + 5 ≤ places-length → put t held p ≡ places (rows t ++ p ∷ [])
-append-table t held p e n h =
-    ap (λ (u : List ℕ). put u held p) e ∙ ap (λ (m : ℕ). put (places (rows t)) m p) n ∙ put-behind (rows t) p (omega arith)
+pub append-table : (size : ℕ) (t : List ℕ) (held : ℕ) (p : Packet) → t ≡ table-of size (rows t) → held ≡ length (rows t) → 5 * held + 5 ≤ size
+    → put t held p ≡ table-of size (rows t ++ p ∷ [])
+append-table size t held p e n h =
+    ap (λ (u : List ℕ). put u held p) e ∙ ap (λ (m : ℕ). put (table-of size (rows t)) m p) n ∙ put-behind size (rows t) p (omega arith)
 
 -- ---- rows by halving: used ones before, unused ones behind
 

@@ -27,6 +27,10 @@ no-packet = packet-of 0 0 0 0 0
 unfoldable pub rows : List ℕ → List Packet
 rows t = read packet-of t
 
+-- packets as a table of n numbers, and as the places table
+unfoldable pub table-of : ℕ → List Packet → List ℕ
+table-of n ps = padded five-of n ps
+
 unfoldable pub places : List Packet → List ℕ
 places ps = padded five-of places-length ps
 

@@ -1,14 +1,22 @@
-// Lent tables of numbers, five to a row, and the places table of held packets among them.
+// Lent tables of numbers, five to a row: the places table of held packets and the table of notices among them.
 ghost use mathlib.Core.Path.{_≡_};
 ghost use mathlib.Core.List.{[], _∷_, _++_};
 ghost use Prim.Native.Nat.{ℕ, _+_, _*_, _-_, _<_, _≤_};
 ghost use lib.ListN.{length, drop};
 ghost use Rattle.tables.specs.Table.{zeros, numbers-at, put-numbers};
-ghost use Rattle.tables.specs.Places.{row-at, put, shifted, rows, places, cut, place, no-packet, places-length};
+ghost use Rattle.tables.specs.Places.{row-at, put, shifted, rows, places, table-of, cut, place, no-packet, places-length};
 use rules::Packet;
 
 // The numbers of the places table: 512 rows of five.
 pub const PLACES: usize = 2560;
+
+// The most notices that wait, and the numbers of their table: five to a row.
+pub const MAX_NOTICES: usize = 64;
+
+pub const NOTICES: usize = 5 * MAX_NOTICES;
+
+// What notices bear where a connection's number would stand.
+pub const NOTICE_NUMBER: u32 = 254;
 
 // An unused row.
 pub fn no_packet() -> Packet
@@ -155,8 +163,8 @@ pub fn zero_from(t: &[u32], from: usize) -> bool
 
 // Row i of the held rows goes, the later ones move up, the last becomes zero.
 pub fn remove(t: &mut [u32], held: usize, i: usize)
-    requires { ⌜ (now t ≡ places (rows (now t))) × (held ≡ length (rows (now t))) × (i < held) × (5 * held ≤ places-length) × (length (now t) ≡ places-length) ⌝ }
-    ensures { λ r. ⌜ now (t .exit) ≡ places (cut i (rows (now (t .entry)))) ⌝ }
+    requires { ⌜ (now t ≡ table-of (length (now t)) (rows (now t))) × (held ≡ length (rows (now t))) × (i < held) × (5 * held ≤ length (now t)) ⌝ }
+    ensures { λ r. ⌜ now (t .exit) ≡ table-of (length (now (t .entry))) (cut i (rows (now (t .entry)))) ⌝ }
 {
     shift(t, 5 * i, 5 * (held - i - 1));
     put_row(t, held - 1, no_packet());
@@ -180,8 +188,8 @@ pub fn find(t: &[u32], held: usize, c: u32) -> usize
 
 // p behind the held rows.
 pub fn append(t: &mut [u32], held: usize, p: Packet)
-    requires { ⌜ (now t ≡ places (rows (now t))) × (held ≡ length (rows (now t))) × (5 * held + 5 ≤ places-length) × (length (now t) ≡ places-length) ⌝ }
-    ensures { λ r. ⌜ now (t .exit) ≡ places (rows (now (t .entry)) ++ p ∷ []) ⌝ }
+    requires { ⌜ (now t ≡ table-of (length (now t)) (rows (now t))) × (held ≡ length (rows (now t))) × (5 * held + 5 ≤ length (now t)) ⌝ }
+    ensures { λ r. ⌜ now (t .exit) ≡ table-of (length (now (t .entry))) (rows (now (t .entry)) ++ p ∷ []) ⌝ }
 {
     put_row(t, held, p);
 }

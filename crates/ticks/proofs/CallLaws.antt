@@ -18,7 +18,7 @@ use Rattle.service.specs.declared.Told.{Told}
 use Rattle.service.specs.Candidates.{is-some, packet-or-unused}
 use Rattle.service.specs.View.{view, told-of}
 use Rattle.calls.specs.Acts.{sound-hub, Acts}
-use Rattle.calls.proofs.ActLaws.{tested, members-kept, places-kept}
+use Rattle.calls.proofs.ActLaws.{tested, members-kept, places-kept, notices-kept}
 use Rattle.log.specs.declared.Phase.{Phase}
 use Rattle.log.specs.declared.Status.{Status}
 use Rattle.log.specs.declared.Phase.the-variants.{Reading, Ticking}
@@ -31,21 +31,21 @@ use Rattle.ticks.proofs.WriteLaws.{ticked-low, departed-low}
 
 -- ---- a call whose answer is written
 
-pub did-call : (k : Call) (h : Hub) (cs t cs′ t′ o o′ : List ℕ) (told : Told) → Acts k h cs t told cs′ t′
+pub did-call : (k : Call) (h : Hub) (cs t q cs′ t′ q′ o o′ : List ℕ) (told : Told) → Acts k h cs t q told cs′ t′ q′
     → (at used : ℕ) (bs : List ℕ) (reply : Reply) (a : Stepped) → answer-bytes reply ≡ bs
     → a ≡ record { cursor = cursor-at at Reading (told .hub); used = used; wrote = length (answer-bytes reply); status = GoOn }
     → o′ ≡ over (answer-bytes reply) o
-    → Did (goes at Reading (answer k (view h cs t) .next) used bs) a cs′ t′ o o′
-did-call k h cs t cs′ t′ o o′ told A at used bs reply a b e r =
-    record { answers = e ∙ rw (A .answers, b); connections = A .connections; table = A .table; room = r ∙ rw b }
+    → Did (goes at Reading (answer k (view h cs t q) .next) used bs) a cs′ t′ q′ o o′
+did-call k h cs t q cs′ t′ q′ o o′ told A at used bs reply a b e r =
+    record { answers = e ∙ rw (A .answers, b); connections = A .connections; table = A .table; queue = A .queue; room = r ∙ rw b }
 
 -- ---- a step that leaves the state as it is
 
-pub did-kept : (h : Hub) (cs t : List ℕ) → sound-hub h cs t ≡ true → (at : ℕ) (q : Phase) (used : ℕ) (bs : List ℕ) (k : Status) (a : Stepped) (o o′ : List ℕ)
-    → a ≡ record { cursor = cursor-at at q h; used = used; wrote = length bs; status = k } → o′ ≡ over bs o
-    → Did (record { point = point at q (view h cs t); used = used; bytes = bs; status = k }) a cs t o o′
-did-kept h cs t ok at q used bs k a o o′ e r =
-    record { answers = e; connections = members-kept h cs t ok; table = places-kept h cs t ok; room = r }
+pub did-kept : (h : Hub) (cs t q : List ℕ) → sound-hub h cs t q ≡ true → (at : ℕ) (f : Phase) (used : ℕ) (bs : List ℕ) (k : Status) (a : Stepped) (o o′ : List ℕ)
+    → a ≡ record { cursor = cursor-at at f h; used = used; wrote = length bs; status = k } → o′ ≡ over bs o
+    → Did (record { point = point at f (view h cs t q); used = used; bytes = bs; status = k }) a cs t q o o′
+did-kept h cs t q ok at f used bs k a o o′ e r =
+    record { answers = e; connections = members-kept h cs t q ok; table = places-kept h cs t q ok; queue = notices-kept h cs t q ok; room = r }
 
 -- ---- a tick
 
@@ -67,67 +67,67 @@ pub some-told : (told : Told) (v : ℕ) → told .gone ≡ true → v ≡ told .
 some-told told v g e =
     rw g (departed-low v (told .packet .connection) (told .packet .tag) (told .packet .arrival) (told .packet .eligibility) (told .hub .clock) e)
 
-module _ (at asked left : ℕ) (h : Hub) (cs t : List ℕ) where
+module _ (at asked left : ℕ) (h : Hub) (cs t q : List ℕ) where
   -- all ticks are done
-  pub did-all : sound-hub h cs t ≡ true → left ≡ 0 → (v : ℕ) (a : Stepped) (o o′ : List ℕ) → v ≡ all-done-verdict asked (view h cs t)
+  pub did-all : sound-hub h cs t q ≡ true → left ≡ 0 → (v : ℕ) (a : Stepped) (o o′ : List ℕ) → v ≡ all-done-verdict asked (view h cs t q)
       → a ≡ record { cursor = cursor-at at Reading h; used = 0; wrote = length (answer-bytes (Ticked v asked)); status = GoOn }
       → o′ ≡ over (answer-bytes (Ticked v asked)) o
-      → Did (tick-next at asked left (view h cs t)) a cs t o o′
+      → Did (tick-next at asked left (view h cs t q)) a cs t q o o′
   unfolding tick-next
   did-all ok l v a o o′ e f g =
       rw (eq-eqb left 0 l, ← e)
-      (did-kept h cs t ok at Reading 0 (answer-bytes (Ticked v asked)) GoOn a o o′ f g)
+      (did-kept h cs t q ok at Reading 0 (answer-bytes (Ticked v asked)) GoOn a o o′ f g)
 
-  module _ (told : Told) (t′ : List ℕ) (A : Acts tick h cs t told cs t′) (a : Stepped) (o o′ : List ℕ) where
+  module _ (told : Told) (t′ q′ : List ℕ) (A : Acts tick h cs t q told cs t′ q′) (a : Stepped) (o o′ : List ℕ) where
     -- a tick is refused
     pub did-refused : (told .verdict ≡ 0 → ⊥) → (v n : ℕ) → v ≡ told .verdict % 256 → n ≡ asked - left
         → a ≡ record { cursor = cursor-at at Reading (told .hub); used = 0; wrote = length (answer-bytes (Ticked v n)); status = GoOn }
         → o′ ≡ over (answer-bytes (Ticked v n)) o
-        → Did (one-tick at asked left (view h cs t)) a cs t′ o o′
+        → Did (one-tick at asked left (view h cs t q)) a cs t′ q′ o o′
     unfolding one-tick
     did-refused r v n e m f g =
-        let s = view h cs t in
+        let s = view h cs t q in
         let w : told .verdict ≡ answer tick s .verdict = ap (λ (x : Told). x .verdict) (A .answers) in
         rw (ne-eqb (answer tick s .verdict) 0 (λ z. r (w ∙ z)))
-        (did-call tick h cs t cs t′ o o′ told A at 0 (answer-bytes (Ticked (answer tick s .verdict) (asked - left))) (Ticked v n) a
+        (did-call tick h cs t q cs t′ q′ o o′ told A at 0 (answer-bytes (Ticked (answer tick s .verdict) (asked - left))) (Ticked v n) a
         (rw m (ticked-low v (asked - left) (answer tick s .verdict) (e ∙ ap (λ (x : ℕ). x % 256) w))) f g)
 
     -- a tick is done
     pub did-tick : told .verdict ≡ 0
         → a ≡ record { cursor = cursor-at at (Ticking asked (left - 1)) (told .hub); used = 0; wrote = length (told-log told); status = GoOn }
         → o′ ≡ over (told-log told) o
-        → Did (one-tick at asked left (view h cs t)) a cs t′ o o′
+        → Did (one-tick at asked left (view h cs t q)) a cs t′ q′ o o′
     unfolding one-tick
     did-tick r f g =
-        let s = view h cs t in
+        let s = view h cs t q in
         let w : told .verdict ≡ answer tick s .verdict = ap (λ (x : Told). x .verdict) (A .answers) in
         let b : told-log told ≡ tick-log (answer tick s) = ap told-log (A .answers) ∙ told-is-logged (answer tick s) in
         rw (eq-eqb (answer tick s .verdict) 0 (sym w ∙ r))
-        (record { answers = f ∙ rw (b, A .answers); connections = A .connections; table = A .table; room = g ∙ rw b })
+        (record { answers = f ∙ rw (b, A .answers); connections = A .connections; table = A .table; queue = A .queue; room = g ∙ rw b })
 
   -- quiet ticks are passed over
-  pub did-quiet : sound-hub h cs t ≡ true → (left ≡ 0 → ⊥) → (k : ℕ) → k ≡ quiet-ticks left (view h cs t) → (k ≡ 0 → ⊥) → (a : Stepped) (o : List ℕ)
+  pub did-quiet : sound-hub h cs t q ≡ true → (left ≡ 0 → ⊥) → (k : ℕ) → k ≡ quiet-ticks left (view h cs t q) → (k ≡ 0 → ⊥) → (a : Stepped) (o : List ℕ)
       → a ≡ record { cursor = cursor-at at (Ticking asked (left - k)) (passed-hub h k); used = 0; wrote = 0; status = GoOn }
-      → Did (tick-next at asked left (view h cs t)) a cs t o o
+      → Did (tick-next at asked left (view h cs t q)) a cs t q o o
   unfolding tick-next
   did-quiet ok l k e n a o f =
       rw (ne-eqb left 0 l, ← e, ne-eqb k 0 n)
-      (record { answers = f; connections = members-kept h cs t ok; table = places-kept h cs t ok; room = refl })
+      (record { answers = f; connections = members-kept h cs t q ok; table = places-kept h cs t q ok; queue = notices-kept h cs t q ok; room = refl })
 
   -- none is quiet: one tick
-  pub did-one : (left ≡ 0 → ⊥) → quiet-ticks left (view h cs t) ≡ 0 → (a : Stepped) (t′ o o′ : List ℕ)
-      → Did (one-tick at asked left (view h cs t)) a cs t′ o o′ → Did (tick-next at asked left (view h cs t)) a cs t′ o o′
+  pub did-one : (left ≡ 0 → ⊥) → quiet-ticks left (view h cs t q) ≡ 0 → (a : Stepped) (t′ q′ o o′ : List ℕ)
+      → Did (one-tick at asked left (view h cs t q)) a cs t′ q′ o o′ → Did (tick-next at asked left (view h cs t q)) a cs t′ q′ o o′
   unfolding tick-next
-  did-one l e a t′ o o′ d = rw (ne-eqb left 0 l, eq-eqb (quiet-ticks left (view h cs t)) 0 e) d
+  did-one l e a t′ q′ o o′ d = rw (ne-eqb left 0 l, eq-eqb (quiet-ticks left (view h cs t q)) 0 e) d
 
 -- ---- the verdict of a `TK` whose ticks are all done
 
-module _ (h : Hub) (cs t : List ℕ) (asked : ℕ) where
-  pub some-asked : (asked ≡ 0 → ⊥) → 0 ≡ all-done-verdict asked (view h cs t)
+module _ (h : Hub) (cs t q : List ℕ) (asked : ℕ) where
+  pub some-asked : (asked ≡ 0 → ⊥) → 0 ≡ all-done-verdict asked (view h cs t q)
   some-asked n = rw (ne-eqb asked 0 n)
 
-  pub no-link-set : sound-hub h cs t ≡ true → asked ≡ 0 → h .link .levels ≡ 0 → 2 ≡ all-done-verdict asked (view h cs t)
-  no-link-set ok a l = rw (eq-eqb asked 0 a, tested h cs t ok .state, eq-eqb (h .link .levels) 0 l)
+  pub no-link-set : sound-hub h cs t q ≡ true → asked ≡ 0 → h .link .levels ≡ 0 → 2 ≡ all-done-verdict asked (view h cs t q)
+  no-link-set ok a l = rw (eq-eqb asked 0 a, tested h cs t q ok .state, eq-eqb (h .link .levels) 0 l)
 
-  pub link-set : sound-hub h cs t ≡ true → asked ≡ 0 → (h .link .levels ≡ 0 → ⊥) → 0 ≡ all-done-verdict asked (view h cs t)
-  link-set ok a l = rw (eq-eqb asked 0 a, tested h cs t ok .state, ne-eqb (h .link .levels) 0 l)
+  pub link-set : sound-hub h cs t q ≡ true → asked ≡ 0 → (h .link .levels ≡ 0 → ⊥) → 0 ≡ all-done-verdict asked (view h cs t q)
+  link-set ok a l = rw (eq-eqb asked 0 a, tested h cs t q ok .state, ne-eqb (h .link .levels) 0 l)

@@ -9,8 +9,10 @@ use lib.Seq.{drop-length}
 use borrow.Author.Tests.{eq-eqb, ne-eqb}
 use Rattle.rules.specs.Limits.{clock-end}
 use Rattle.rules.specs.declared.Packet.{Packet}
+use Rattle.rules.specs.declared.Notice.{Notice}
 use Rattle.rules.specs.Model.{State}
 use Rattle.tables.specs.Places.{rows}
+use Rattle.tables.specs.Notices.{notices}
 use Rattle.tables.proofs.PlacesLaws.{rows-from}
 use Rattle.service.specs.declared.Hub.{Hub}
 use Rattle.service.specs.View.{view}
@@ -50,27 +52,33 @@ module _ (t : List ℕ) where
 
 -- ---- the line
 
-pub in-service-for : (u : ℕ) (held : List Packet) (clock : ℕ) → (u ≡ 0 → ⊥) → u - 1 ≡ quiet-for u held clock
-in-service-for zero held clock n = absurd (n refl)
-in-service-for (suc u) held clock n = omega arith
+pub in-service-for : (u : ℕ) (held : List Packet) (ns : List Notice) (clock : ℕ) → (u ≡ 0 → ⊥) → u - 1 ≡ quiet-for u held ns clock
+in-service-for zero held ns clock n = absurd (n refl)
+in-service-for (suc u) held ns clock n = omega arith
 
-pub idle-for : (u : ℕ) (held : List Packet) (clock : ℕ) → u ≡ 0 → earliest held - clock ≡ quiet-for u held clock
-idle-for u held clock z = rw z
+-- a notice that waits starts at once
+pub notice-waits : (u : ℕ) (held : List Packet) (ns : List Notice) (clock : ℕ) → u ≡ 0 → (length ns ≡ 0 → ⊥) → 0 ≡ quiet-for u held ns clock
+notice-waits u held [] clock z n = absurd (n refl)
+notice-waits u held (m ∷ ns) clock z n = rw z
+
+pub idle-for : (u : ℕ) (held : List Packet) (ns : List Notice) (clock : ℕ) → u ≡ 0 → length ns ≡ 0 → earliest held - clock ≡ quiet-for u held ns clock
+idle-for u held [] clock z n = rw z
+idle-for u held (m ∷ ns) clock z n = absurd (omega arith)
 
 -- ---- those that are passed over
 
-module _ (h : Hub) (cs t : List ℕ) (ok : sound-hub h cs t ≡ true) (left : ℕ) where
-  pub none-without-link : h .link .levels ≡ 0 → 0 ≡ quiet-ticks left (view h cs t)
+module _ (h : Hub) (cs t q : List ℕ) (ok : sound-hub h cs t q ≡ true) (left : ℕ) where
+  pub none-without-link : h .link .levels ≡ 0 → 0 ≡ quiet-ticks left (view h cs t q)
   unfolding quiet-ticks
-  none-without-link z = rw (tested h cs t ok .state, eq-eqb (h .link .levels) 0 z)
+  none-without-link z = rw (tested h cs t q ok .state, eq-eqb (h .link .levels) 0 z)
 
   module _ (n : h .link .levels ≡ 0 → ⊥) where
     pub clock-in-time : h .clock ≤ clock-end
-    clock-in-time = is-sound h cs t ok .with-one n .clock-le
+    clock-in-time = is-sound h cs t q ok .with-one n .clock-le
 
-    pub some-quiet : (k : ℕ) → k ≡ min (min (quiet-for (h .units) (rows t) (h .clock)) (clock-end - h .clock)) left → k ≡ quiet-ticks left (view h cs t)
+    pub some-quiet : (k : ℕ) → k ≡ min (min (quiet-for (h .units) (rows t) (notices q) (h .clock)) (clock-end - h .clock)) left → k ≡ quiet-ticks left (view h cs t q)
     unfolding quiet-ticks
-    some-quiet k e = rw (tested h cs t ok .state, ne-eqb (h .link .levels) 0 n) e
+    some-quiet k e = rw (tested h cs t q ok .state, ne-eqb (h .link .levels) 0 n) e
 
 -- they are no more than are left, and the clock does not pass its end
 pub quiet-room : (left : ℕ) (s : State) {k : ℕ} → k ≡ quiet-ticks left s → (k ≡ 0 → ⊥) → Quiets left s k

@@ -11,7 +11,7 @@ use Rattle.fields.specs.Kinds.{bytes}
 use Rattle.fields.specs.Formats.{laid, length-after, room-after}
 use Rattle.answers.specs.Answers.{answer-bytes}
 use Rattle.answers.specs.declared.Reply.{Reply}
-use Rattle.answers.specs.declared.Reply.the-variants.{Linked, Admitted, Offered, Departed, Ticked}
+use Rattle.answers.specs.declared.Reply.the-variants.{Linked, Admitted, Offered, Noticed, Departed, Ticked}
 use Rattle.log.specs.Steps.{longest-answer}
 use Rattle.log.proofs.ReadLaws.{answer-short}
 use Rattle.ticks.specs.Tie.{over}
@@ -40,6 +40,10 @@ admitted-low v n x y e f = rw (e, f, low-twice x, low-twice y)
 pub offered-low : (v n x y : ℕ) → v ≡ x % 256 → n ≡ y → answer-bytes (Offered v n) ≡ answer-bytes (Offered x y)
 unfolding laid bytes put-fields little
 offered-low v n x y e f = rw (e, f, low-twice x)
+
+pub noticed-low : (v n x y : ℕ) → v ≡ x % 256 → n ≡ y → answer-bytes (Noticed v n) ≡ answer-bytes (Noticed x y)
+unfolding laid bytes put-fields little
+noticed-low v n x y e f = rw (e, f, low-twice x)
 
 pub ticked-low : (v n x : ℕ) → v ≡ x % 256 → answer-bytes (Ticked v n) ≡ answer-bytes (Ticked x n)
 unfolding laid bytes put-fields little

@@ -5,6 +5,7 @@ ghost use Prim.Native.Nat.{_+_, _-_, _%_, _≤_, min};
 ghost use lib.ListN.{length};
 ghost use Rattle.rules.specs.Limits.{clock-end};
 ghost use Rattle.tables.specs.Places.{rows, places, places-length};
+ghost use Rattle.tables.specs.Notices.{notices};
 ghost use Rattle.answers.specs.Answers.{answer-bytes};
 ghost use Rattle.service.specs.View.{view};
 ghost use Rattle.calls.specs.Acts.{sound-hub};
@@ -51,9 +52,9 @@ pub fn answered(at: u32, hub: Hub, used: usize, reply: Reply, out: &mut [u8]) ->
 }
 
 // The verdict of a `TK` whose ticks are all done: 2 if none was asked and no link is set.
-fn all_done_verdict(h: Hub, cs: &[u32], t: &[u32], asked: u16) -> u8
-    requires { ⌜ sound-hub h (now cs) (now t) ≡ true ⌝ }
-    ensures { λ r. ⌜ r ≡ all-done-verdict asked (view h (now (cs .entry)) (now (t .entry))) ⌝ }
+fn all_done_verdict(h: Hub, cs: &[u32], t: &[u32], q: &[u32], asked: u16) -> u8
+    requires { ⌜ sound-hub h (now cs) (now t) (now q) ≡ true ⌝ }
+    ensures { λ r. ⌜ r ≡ all-done-verdict asked (view h (now (cs .entry)) (now (t .entry)) (now (q .entry))) ⌝ }
 {
     if asked != 0 {
         return 0;
@@ -118,26 +119,30 @@ fn wait(t: &[u32], clock: u32) -> u32
     without(first, clock)
 }
 
-// The ticks in which nothing starts and nothing departs, by the line and the places alone.
-fn quiet_for(h: Hub, t: &[u32]) -> u32
+// The ticks in which nothing starts and nothing departs, by the line, the places and the notices alone.
+fn quiet_for(h: Hub, t: &[u32], q: &[u32]) -> u32
     requires { ⌜ (now t ≡ places (rows (now t))) × (length (now t) ≡ places-length) ⌝ }
-    ensures { λ r. ⌜ r ≡ quiet-for (h .units) (rows (now (t .entry))) (h .clock) ⌝ }
+    ensures { λ r. ⌜ r ≡ quiet-for (h .units) (rows (now (t .entry))) (notices (now (q .entry))) (h .clock) ⌝ }
 {
     if h.units != 0 {
         return h.units - 1;
+    }
+    // a notice that waits starts at once
+    if tables::held(q) != 0 {
+        return 0;
     }
     wait(t, h.clock)
 }
 
 // Of `left` ticks those that can be passed over at once.
-fn quiet_ticks(h: Hub, cs: &[u32], t: &[u32], left: u16) -> u16
-    requires { ⌜ sound-hub h (now cs) (now t) ≡ true ⌝ }
-    ensures { λ r. ⌜ r ≡ quiet-ticks left (view h (now (cs .entry)) (now (t .entry))) ⌝ }
+fn quiet_ticks(h: Hub, cs: &[u32], t: &[u32], q: &[u32], left: u16) -> u16
+    requires { ⌜ sound-hub h (now cs) (now t) (now q) ≡ true ⌝ }
+    ensures { λ r. ⌜ r ≡ quiet-ticks left (view h (now (cs .entry)) (now (t .entry)) (now (q .entry))) ⌝ }
 {
     if h.link.levels == 0 {
         return 0;
     }
-    let rest = least(quiet_for(h, t), CLOCK_END - h.clock);
+    let rest = least(quiet_for(h, t, q), CLOCK_END - h.clock);
     if rest < left as u32 {
         return rest as u16;
     }
@@ -175,12 +180,13 @@ fn one_tick(
     left: u16,
     cs: &[u32],
     t: &mut [u32],
+    q: &mut [u32],
     out: &mut [u8],
 ) -> Stepped
-    requires { ⌜ (sound-hub h (now cs) (now t) ≡ true) × (longest-answer ≤ length (now out)) × (left ≡ 0 → ⊥) ⌝ }
-    ensures { λ r. ⌜ Did (one-tick at asked left (view h (now (cs .entry)) (now (t .entry)))) r (now (cs .entry)) (now (t .exit)) (now (out .entry)) (now (out .exit)) ⌝ }
+    requires { ⌜ (sound-hub h (now cs) (now t) (now q) ≡ true) × (longest-answer ≤ length (now out)) × (left ≡ 0 → ⊥) ⌝ }
+    ensures { λ r. ⌜ Did (one-tick at asked left (view h (now (cs .entry)) (now (t .entry)) (now (q .entry)))) r (now (cs .entry)) (now (t .exit)) (now (q .exit)) (now (out .entry)) (now (out .exit)) ⌝ }
 {
-    let told = calls::tick_tested(h, cs, t);
+    let told = calls::tick_tested(h, cs, t, q);
     let then = told.hub;
     if told.verdict != 0 {
         let done = without(asked as u32, left as u32) as u16;
@@ -215,21 +221,22 @@ pub fn tick_step(
     left: u16,
     cs: &[u32],
     t: &mut [u32],
+    q: &mut [u32],
     out: &mut [u8],
 ) -> Stepped
-    requires { ⌜ (sound-hub h (now cs) (now t) ≡ true) × (longest-answer ≤ length (now out)) ⌝ }
-    ensures { λ r. ⌜ Did (tick-next at asked left (view h (now (cs .entry)) (now (t .entry)))) r (now (cs .entry)) (now (t .exit)) (now (out .entry)) (now (out .exit)) ⌝ }
+    requires { ⌜ (sound-hub h (now cs) (now t) (now q) ≡ true) × (longest-answer ≤ length (now out)) ⌝ }
+    ensures { λ r. ⌜ Did (tick-next at asked left (view h (now (cs .entry)) (now (t .entry)) (now (q .entry)))) r (now (cs .entry)) (now (t .exit)) (now (q .exit)) (now (out .entry)) (now (out .exit)) ⌝ }
 {
     if left == 0 {
         let reply = Reply::Ticked {
-            verdict: all_done_verdict(h, cs, t, asked),
+            verdict: all_done_verdict(h, cs, t, q, asked),
             ticks: asked,
         };
         return answered(at, h, 0, reply, out);
     }
-    let k = quiet_ticks(h, cs, t, left);
+    let k = quiet_ticks(h, cs, t, q, left);
     if k != 0 {
         return pass_over(at, h, asked, left, k);
     }
-    one_tick(at, h, asked, left, cs, t, out)
+    one_tick(at, h, asked, left, cs, t, q, out)
 }

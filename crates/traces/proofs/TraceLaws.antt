@@ -1,18 +1,18 @@
 -- The laws of the trace kinds: what is their own.
 use mathlib.Core.Path.{_≡_, refl, ap, _∙_}
-use mathlib.Core.Bool.{true, false}
+use mathlib.Core.Bool.{true}
 use mathlib.Core.List.{List, [], _∷_, _++_}
 use mathlib.Core.Option.{some}
 use Prim.Native.Nat.{ℕ, _%_, _<_, _≤_}
 use native.Mathlib.Omega.{arith}
 use lib.ListN.{length, getD, take, drop, replicate, length-replicate}
-use Rattle.fields.specs.Numbers.{pick, little, number, put-fields, get-fields, sum, Fit}
+use Rattle.fields.specs.Numbers.{little, number, put-fields, get-fields, sum, Fit}
 use Rattle.fields.specs.Kinds.{bytes}
-use Rattle.traces.specs.Kinds.{LK, CN, PK, TK}
+use Rattle.traces.specs.Kinds.{LK, CN, PK, NQ, TK}
 use Rattle.fields.specs.Formats.{starts, read-rows, laid}
-use Rattle.traces.specs.Trace.{trace, trace-table, link-from, zeros, link-layout, link-row, admit-row, offer-row, ticks-row, trace-layout}
+use Rattle.traces.specs.Trace.{trace, trace-table, link-from, zeros, link-layout, link-row, admit-row, offer-row, notice-row, ticks-row, trace-layout}
 use Rattle.fields.specs.Laws.{Reads-back-what-is-written, Has-the-length-of}
-use Rattle.traces.specs.declared.Record.the-variants.{Link, Admit, Offer, Ticks, Malformed}
+use Rattle.traces.specs.declared.Record.the-variants.{Link, Admit, Offer, Notice, Ticks, Malformed}
 use Rattle.fields.proofs.NumberLaws.{one-byte, length-get}
 use Rattle.fields.proofs.FormatLaws.{Fair, All-fair, two-letters, plain-fair, row-back, length-bytes}
 use Rattle.fields.proofs.WindowLaws.{All-within}
@@ -64,6 +64,8 @@ trace-back (Admit level gap size) rest w =
     let t = w .typed in row-back admit-row (level ∷ gap ∷ size ∷ []) rest _ refl (t .0, (t .1, (t .2, tt))) refl refl
 trace-back (Offer connection len tag) rest w =
     let t = w .typed in row-back offer-row (connection ∷ len ∷ tag ∷ []) rest _ refl (t .0, (t .1, (t .2, tt))) refl refl
+trace-back (Notice len tag) rest w =
+    let t = w .typed in row-back notice-row (len ∷ tag ∷ []) rest _ refl (t .0, (t .1, tt)) refl refl
 trace-back (Ticks ticks) rest w = row-back ticks-row (ticks ∷ []) rest _ refl (w .typed, tt) refl refl
 trace-back Malformed rest w = absurd (omega (arith, w .some-byte))
 
@@ -94,7 +96,10 @@ trace-fair = (
     plain-fair admit-row (two-letters 0x43 0x4E (omega arith) (omega arith)) (λ b c. refl) (λ bs a. refl),
     (
       plain-fair offer-row (two-letters 0x50 0x4B (omega arith) (omega arith)) (λ b c. refl) (λ bs a. refl),
-      (plain-fair ticks-row (two-letters 0x54 0x4B (omega arith) (omega arith)) (λ b c. refl) (λ bs a. refl), tt),
+      (
+        plain-fair notice-row (two-letters 0x4E 0x51 (omega arith) (omega arith)) (λ b c. refl) (λ bs a. refl),
+        (plain-fair ticks-row (two-letters 0x54 0x4B (omega arith) (omega arith)) (λ b c. refl) (λ bs a. refl), tt),
+      ),
     ),
   ),
 )
@@ -106,6 +111,7 @@ trace-length (Link n s d1 d2 d3 d4 d5 d6 d7 d8) h =
     ap (λ l. length (laid l)) (written-as n s ds (has-bytes n s ds h)) ∙ length-bytes LK (n ∷ s ∷ take n ds) ∙ sum-link n
 trace-length (Admit level gap size) h = length-bytes CN (level ∷ gap ∷ size ∷ [])
 trace-length (Offer connection len tag) h = length-bytes PK (connection ∷ len ∷ tag ∷ [])
+trace-length (Notice len tag) h = length-bytes NQ (len ∷ tag ∷ [])
 trace-length (Ticks ticks) h = length-bytes TK (ticks ∷ [])
 trace-length Malformed h = absurd (omega arith)
 
@@ -118,7 +124,10 @@ trace-within = (
     λ b a. omega arith,
     (
       λ b a. omega arith,
-      (λ b a. omega arith, tt),
+      (
+        λ b a. omega arith,
+        (λ b a. omega arith, tt),
+      ),
     ),
   ),
 )

@@ -1,4 +1,4 @@
--- Document 01, "Trace and answer records": the trace kinds of its table, in its order.
+-- Document 01, "Trace and answer records": the trace kinds of its table, in its order; and the one of document 02, R-1, behind `PK`.
 use mathlib.Core.Bool.{true, false}
 use mathlib.Core.List.{[], _∷_}
 use lib.ListN.{replicate}
@@ -22,6 +22,10 @@ CN = plain (0x43 ∷ 0x4E ∷ []) (1 ∷ 2 ∷ 2 ∷ [])
 -- "connection (1), length (2), tag (4)"
 abbrev pub PK : Kind
 PK = plain (0x50 ∷ 0x4B ∷ []) (1 ∷ 2 ∷ 4 ∷ [])
+
+-- document 02, R-1, as docs/RULES-AFTER-BASE.md lays it out: "length (2), tag (4)"
+abbrev pub NQ : Kind
+NQ = plain (0x4E ∷ 0x51 ∷ []) (2 ∷ 4 ∷ [])
 
 -- "ticks (2)"
 abbrev pub TK : Kind

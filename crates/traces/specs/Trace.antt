@@ -1,4 +1,4 @@
--- Document 01, "Trace and answer records": the four trace kinds.
+-- Document 01, "Trace and answer records": the four trace kinds; and document 02, R-1: a fifth, the notice.
 use mathlib.Core.Bool.{Bool, true, false}
 use mathlib.Core.List.{List, [], _∷_}
 use mathlib.Core.Option.{Option, some, none}
@@ -7,10 +7,10 @@ use lib.ListN.{getD, take, drop, replicate}
 use lib.Dec.{eqb}
 use Rattle.fields.specs.Numbers.{pick, number, get-fields}
 use Rattle.fields.specs.Kinds.{Kind}
-use Rattle.traces.specs.Kinds.{LK, CN, PK, TK}
+use Rattle.traces.specs.Kinds.{LK, CN, PK, NQ, TK}
 use Rattle.fields.specs.Formats.{Row, Format, read-rows, laid}
 use Rattle.traces.specs.declared.Record.{Record}
-use Rattle.traces.specs.declared.Record.the-variants.{Link, Admit, Offer, Ticks, Malformed}
+use Rattle.traces.specs.declared.Record.the-variants.{Link, Admit, Offer, Notice, Ticks, Malformed}
 use Rattle.traces.specs.declared.Found.{Found}
 
 -- The records that the numbers of each kind make. "Bounds past n are read as 0": they are not among the numbers.
@@ -24,6 +24,9 @@ admit-from xs = Admit (getD xs 0 0) (getD xs 1 0) (getD xs 2 0)
 abbrev pub offer-from : List ℕ → Record
 offer-from xs = Offer (getD xs 0 0) (getD xs 1 0) (getD xs 2 0)
 
+abbrev pub notice-from : List ℕ → Record
+notice-from xs = Notice (getD xs 0 0) (getD xs 1 0)
+
 abbrev pub ticks-from : List ℕ → Record
 ticks-from xs = Ticks (getD xs 0 0)
 
@@ -35,6 +38,9 @@ admit-row = record { kind = CN; make = admit-from }
 
 abbrev pub offer-row : Row Record
 offer-row = record { kind = PK; make = offer-from }
+
+abbrev pub notice-row : Row Record
+notice-row = record { kind = NQ; make = notice-from }
 
 abbrev pub ticks-row : Row Record
 ticks-row = record { kind = TK; make = ticks-from }
@@ -56,6 +62,7 @@ abbrev pub trace-layout : Record → Option (Kind × List ℕ)
 trace-layout (Link n s d1 d2 d3 d4 d5 d6 d7 d8) = link-layout n s (d1 ∷ d2 ∷ d3 ∷ d4 ∷ d5 ∷ d6 ∷ d7 ∷ d8 ∷ [])
 trace-layout (Admit level gap size) = some (CN, level ∷ gap ∷ size ∷ [])
 trace-layout (Offer connection len tag) = some (PK, connection ∷ len ∷ tag ∷ [])
+trace-layout (Notice len tag) = some (NQ, len ∷ tag ∷ [])
 trace-layout (Ticks ticks) = some (TK, ticks ∷ [])
 trace-layout Malformed = none
 
@@ -65,14 +72,15 @@ trace-typed (Link n s d1 d2 d3 d4 d5 d6 d7 d8) =
     (n < 256) × (s < 65536) × (d1 < 65536) × (d2 < 65536) × (d3 < 65536) × (d4 < 65536) × (d5 < 65536) × (d6 < 65536) × (d7 < 65536) × (d8 < 65536)
 trace-typed (Admit level gap size) = (level < 256) × (gap < 65536) × (size < 65536)
 trace-typed (Offer connection len tag) = (connection < 256) × (len < 65536) × (tag < 4294967296)
+trace-typed (Notice len tag) = (len < 65536) × (tag < 4294967296)
 trace-typed (Ticks ticks) = ticks < 65536
 trace-typed Malformed = Unit {0}
 
--- The format of traces: "the four trace kinds".
+-- The format of traces: "the four trace kinds", and the notice behind the offer.
 abbrev pub trace : Format Record
 trace =
     record {
-      rows = link-row ∷ admit-row ∷ offer-row ∷ ticks-row ∷ [];
+      rows = link-row ∷ admit-row ∷ offer-row ∷ notice-row ∷ ticks-row ∷ [];
       layout = trace-layout;
       typed = trace-typed;
     }
@@ -90,11 +98,12 @@ read-trace bs = found (read-rows (trace .rows) bs)
 abbrev pub trace-bytes : Record → List ℕ
 trace-bytes r = laid (trace .layout r)
 
--- The table's column "Bytes".
+-- The tables' column "Bytes".
 abbrev pub trace-table : Record → ℕ
 trace-table (Link n s d1 d2 d3 d4 d5 d6 d7 d8) = 5 + 2 * n
 trace-table (Admit level gap size) = 7
 trace-table (Offer connection len tag) = 9
+trace-table (Notice len tag) = 8
 trace-table (Ticks ticks) = 4
 trace-table Malformed = 0
 

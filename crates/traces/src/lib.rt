@@ -1,4 +1,4 @@
-// The trace records of document 01, "Trace and answer records": their kinds as values, read and written.
+// The trace records of document 01, "Trace and answer records", and of document 02, R-1: their kinds as values, read and written.
 mod link; // link.rt: links, of which one number says how many follow
 
 ghost use mathlib.Core.Path.{_≡_};
@@ -13,12 +13,14 @@ use fields::read::known;
 use fields::read::one;
 use fields::read::two;
 
-// The marks of the table, compared on reading and written on writing.
+// The marks of the tables, compared on reading and written on writing.
 const LK: [u8; 2] = *b"LK";
 
 const CN: [u8; 2] = *b"CN";
 
 const PK: [u8; 2] = *b"PK";
+
+const NQ: [u8; 2] = *b"NQ";
 
 const TK: [u8; 2] = *b"TK";
 
@@ -43,6 +45,10 @@ pub enum Record {
     },
     Offer {
         connection: u8,
+        len: u16,
+        tag: u32,
+    },
+    Notice {
         len: u16,
         tag: u32,
     },
@@ -86,12 +92,13 @@ fn mark_of(s: &[u8]) -> u16
     ensures { λ r. ⌜ r ≡ mark-among (trace .rows) (now (s .entry)) ⌝ }
 {
     let mark = known(s, TK, 0);
+    let mark = known(s, NQ, mark);
     let mark = known(s, PK, mark);
     let mark = known(s, CN, mark);
     known(s, LK, mark)
 }
 
-// The record that the bytes start with: the marks are LK, CN, PK and TK as numbers.
+// The record that the bytes start with: the marks are LK, CN, PK, NQ and TK as numbers.
 pub fn read(s: &[u8]) -> Found
     ensures { λ r. ⌜ r ≡ read-trace (now (s .entry)) ⌝ }
 {
@@ -114,6 +121,13 @@ pub fn read(s: &[u8]) -> Found
                 tag: four(s, 5),
             };
             whole_of(s, 9, offer)
+        }
+        0x514E => {
+            let notice = Record::Notice {
+                len: two(s, 2),
+                tag: four(s, 4),
+            };
+            whole_of(s, 8, notice)
         }
         0x4B54 => whole_of(s, 4, Record::Ticks { ticks: two(s, 2) }),
         _ => nothing(),
@@ -154,6 +168,7 @@ fn draft(r: Record) -> Draft
             len,
             tag,
         } => Draft::headed(PK, connection).two(len).four(tag),
+        Record::Notice { len, tag } => Draft::marked(NQ).two(len).four(tag),
         Record::Ticks { ticks } => Draft::marked(TK).two(ticks),
         Record::Malformed => Draft::empty(),
     }

@@ -62,7 +62,11 @@ fn write_trace(kind: &str, seed: &str, size: Option<&str>) -> io::Result<()> {
 
 fn print_stats(seeds: u64) -> io::Result<()> {
     let mut out = io::stdout().lock();
-    writeln!(out, "{} departures          ticks", Stats::head("kind"))?;
+    writeln!(
+        out,
+        "{} departures notices          ticks",
+        Stats::head("kind")
+    )?;
     for kind in &KINDS {
         let mut total = Stats::default();
         for seed in 0..seeds {

@@ -1,7 +1,7 @@
 //! Damaged traces: changed, cut, spliced and made-up bytes.
 
 use super::script::Script;
-use super::{edges, traffic};
+use super::{edges, notices, traffic};
 use crate::random::Random;
 
 /// Answer marks and how many bytes follow them.
@@ -22,17 +22,22 @@ const GOOD: [&[u8]; 4] = [
     b"TK\x05\x00",
 ];
 
+/// The records that came with the notices; the lists above stay as they were.
+const NOTICE: &[u8] = b"NQ\x01\x00\x07\x00\x00\x00";
+const NOTICE_ANSWER: (&[u8; 2], usize) = (b"NA", 5);
+
 /// A trace and the places where its records started before it was damaged.
 struct Trace {
     bytes: Vec<u8>,
     starts: Vec<usize>,
+    with_notices: bool,
 }
 
 /// A good trace with one bad record in it; the bad records take turns with the seed.
 pub fn bad_record(seed: u64, random: &mut Random, size: usize) -> Vec<u8> {
     let (bad, cut) = (bad_marks_and_links(), cut_records());
     let turn = (seed % (bad.len() + cut.len()) as u64) as usize;
-    let mut trace = good_trace(random, size);
+    let mut trace = good_trace(random, size, false);
     if let Some(record) = bad.get(turn) {
         let at = late_start(&trace, random);
         insert(&mut trace, at, record);
@@ -46,32 +51,66 @@ pub fn bad_record(seed: u64, random: &mut Random, size: usize) -> Vec<u8> {
 fn bad_marks_and_links() -> Vec<Vec<u8>> {
     let mut all: Vec<Vec<u8>> = [0, 9, 10, 128, 255].map(link_of_levels).to_vec();
     all.extend(ANSWERS.map(|(mark, fields)| answer_of(mark, fields)));
-    for record in GOOD {
-        let changes: [fn(&mut [u8]); 6] = [
-            |mark| mark.make_ascii_lowercase(),
-            |mark| mark.swap(0, 1),
-            |mark| mark[0] += 1,
-            |mark| mark[1] += 1,
-            |mark| mark[0] ^= 128,
-            |mark| mark[1] = 0,
-        ];
-        for change in changes {
-            let mut changed = record.to_vec();
-            change(&mut changed[..2]);
-            all.push(changed);
-        }
-    }
+    all.extend(GOOD.into_iter().flat_map(wrong_marks));
     all
+}
+
+/// A good record under marks that are nearly its own.
+fn wrong_marks(record: &'static [u8]) -> impl Iterator<Item = Vec<u8>> {
+    let changes: [fn(&mut [u8]); 6] = [
+        |mark| mark.make_ascii_lowercase(),
+        |mark| mark.swap(0, 1),
+        |mark| mark[0] += 1,
+        |mark| mark[1] += 1,
+        |mark| mark[0] ^= 128,
+        |mark| mark[1] = 0,
+    ];
+    changes.into_iter().map(move |change| {
+        let mut changed = record.to_vec();
+        change(&mut changed[..2]);
+        changed
+    })
 }
 
 /// Every good record cut after each of its bytes but the last.
 fn cut_records() -> Vec<Vec<u8>> {
-    let cuts = |record: &'static [u8]| (1..record.len()).map(|length| record[..length].to_vec());
-    GOOD.into_iter().flat_map(cuts).collect()
+    GOOD.into_iter().flat_map(cuts_of).collect()
+}
+
+fn cuts_of(record: &'static [u8]) -> impl Iterator<Item = Vec<u8>> {
+    (1..record.len()).map(move |length| record[..length].to_vec())
+}
+
+/// The same for `NQ` and `NA`, in traces with notices. The cuts come at the end and, in other
+/// turns, between records, where the next bytes are read as the missing fields.
+pub fn bad_notice(seed: u64, random: &mut Random, size: usize) -> Vec<u8> {
+    let mut inside = vec![answer_of(NOTICE_ANSWER.0, NOTICE_ANSWER.1)];
+    inside.extend(wrong_marks(NOTICE));
+    inside.extend(cuts_of(NOTICE));
+    let at_the_end: Vec<Vec<u8>> = cuts_of(NOTICE).collect();
+    let turn = (seed % (inside.len() + at_the_end.len()) as u64) as usize;
+    let mut trace = good_trace(random, size, true);
+    if let Some(record) = inside.get(turn) {
+        let at = late_start(&trace, random);
+        insert(&mut trace, at, record);
+    } else {
+        trace
+            .bytes
+            .extend_from_slice(&at_the_end[turn - inside.len()]);
+    }
+    trace.bytes
 }
 
 pub fn malformed(_seed: u64, random: &mut Random, size: usize) -> Vec<u8> {
-    let mut trace = good_trace(random, size);
+    damaged(random, size, false)
+}
+
+pub fn damaged_notices(_seed: u64, random: &mut Random, size: usize) -> Vec<u8> {
+    damaged(random, size, true)
+}
+
+fn damaged(random: &mut Random, size: usize, with_notices: bool) -> Vec<u8> {
+    let mut trace = good_trace(random, size, with_notices);
     for _ in 0..random.between(1, 2) {
         damage(&mut trace, random, size);
     }
@@ -79,18 +118,38 @@ pub fn malformed(_seed: u64, random: &mut Random, size: usize) -> Vec<u8> {
 }
 
 /// A short trace of another kind.
-fn good_trace(random: &mut Random, size: usize) -> Trace {
+fn good_trace(random: &mut Random, size: usize, with_notices: bool) -> Trace {
     let mut script = Script::new(random.number());
-    match random.between(0, 5) {
-        0 => traffic::quiet(&mut script, size),
-        1 => traffic::flooded(&mut script, size / 2),
-        2 => traffic::midrun(&mut script, 2 * size),
-        3 => traffic::ties(&mut script, size / 3),
-        4 => edges::tight(&mut script, size / 2),
-        _ => edges::refusals(&mut script, size),
+    if with_notices {
+        good_notices(&mut script, random, size);
+    } else {
+        good_packets(&mut script, random, size);
     }
     let (bytes, starts) = script.finish();
-    Trace { bytes, starts }
+    Trace {
+        bytes,
+        starts,
+        with_notices,
+    }
+}
+
+fn good_packets(script: &mut Script, random: &mut Random, size: usize) {
+    match random.between(0, 5) {
+        0 => traffic::quiet(script, size),
+        1 => traffic::flooded(script, size / 2),
+        2 => traffic::midrun(script, 2 * size),
+        3 => traffic::ties(script, size / 3),
+        4 => edges::tight(script, size / 2),
+        _ => edges::refusals(script, size),
+    }
+}
+
+fn good_notices(script: &mut Script, random: &mut Random, size: usize) {
+    match random.between(0, 3) {
+        0 => notices::notice_flood(script, size / 2),
+        1 => notices::notice_refusals(script, size),
+        _ => notices::mixed(script, size / 2),
+    }
 }
 
 fn damage(trace: &mut Trace, random: &mut Random, size: usize) {
@@ -149,7 +208,7 @@ fn cut_anywhere(trace: &mut Trace, random: &mut Random) {
 
 /// Whole records of another trace between two records.
 fn splice_records(trace: &mut Trace, random: &mut Random, size: usize) {
-    let other = good_trace(random, size);
+    let other = good_trace(random, size, trace.with_notices);
     let (one, two) = (late_start(&other, random), late_start(&other, random));
     let at = late_start(trace, random);
     insert(trace, at, &other.bytes[one.min(two)..one.max(two)]);
@@ -157,7 +216,7 @@ fn splice_records(trace: &mut Trace, random: &mut Random, size: usize) {
 
 /// Any bytes of another trace at any place.
 fn splice_anywhere(trace: &mut Trace, random: &mut Random, size: usize) {
-    let other = good_trace(random, size);
+    let other = good_trace(random, size, trace.with_notices);
     let from = random.place(other.bytes.len());
     let to = (from + random.place(60)).min(other.bytes.len());
     let at = random.place(trace.bytes.len() + 1);
@@ -166,7 +225,11 @@ fn splice_anywhere(trace: &mut Trace, random: &mut Random, size: usize) {
 
 /// An answer record where a trace record should be.
 fn insert_answer(trace: &mut Trace, random: &mut Random) {
-    let (mark, fields) = random.pick(ANSWERS);
+    let (mark, fields) = if trace.with_notices && random.once_in(3) {
+        NOTICE_ANSWER
+    } else {
+        random.pick(ANSWERS)
+    };
     let answer = answer_of(mark, fields);
     let at = late_start(trace, random);
     insert(trace, at, &answer);
@@ -233,7 +296,11 @@ fn change_a_mark(trace: &mut Trace, random: &mut Random) {
 fn only_noise(trace: &mut Trace, random: &mut Random) {
     let mut bytes = Vec::new();
     for _ in 0..random.between(1, 20) {
-        let (mark, fields) = random.pick([(b"CN", 5), (b"PK", 7), (b"TK", 2), (b"LK", 5)]);
+        let (mark, fields) = if trace.with_notices && random.once_in(3) {
+            (b"NQ", 6)
+        } else {
+            random.pick([(b"CN", 5), (b"PK", 7), (b"TK", 2), (b"LK", 5)])
+        };
         bytes.extend_from_slice(mark);
         for _ in 0..fields {
             bytes.push(random.pick([0, 1, 1, 2, 4, 255]));

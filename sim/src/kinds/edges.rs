@@ -45,7 +45,7 @@ fn before_the_link(script: &mut Script) {
     broken_link(script);
 }
 
-fn broken_link(script: &mut Script) -> u8 {
+pub fn broken_link(script: &mut Script) -> u8 {
     match script.random.between(0, 8) {
         0 => script.link(0, &[10]),
         1 => script.link(MOST_UNITS + 1, &[9_000]),
@@ -309,7 +309,7 @@ pub fn limit(script: &mut Script, size: usize) {
     }
 }
 
-/// The bytes of a good record of any of the four kinds.
+/// The bytes of a good record of any of document 01's four kinds.
 fn some_record(script: &mut Script) -> Vec<u8> {
     let record = match script.random.between(0, 3) {
         0 => Record::Link {
@@ -334,13 +334,13 @@ fn some_record(script: &mut Script) -> Vec<u8> {
     bytes
 }
 
-fn end_with(script: &mut Script, length: usize, bytes: &[u8]) {
+pub fn end_with(script: &mut Script, length: usize, bytes: &[u8]) {
     fill_up_to(script, length);
     script.raw(bytes);
 }
 
 /// Whole records up to exactly this length: mostly long ones, then 9 and 4 bytes at a time.
-fn fill_up_to(script: &mut Script, length: usize) {
+pub fn fill_up_to(script: &mut Script, length: usize) {
     while script.length() + 200 < length {
         match script.random.between(0, 99) {
             0 => script.offer_on_any(),

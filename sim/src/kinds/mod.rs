@@ -2,6 +2,7 @@
 
 mod damage;
 mod edges;
+mod notices;
 mod script;
 mod traffic;
 
@@ -23,7 +24,7 @@ pub struct Kind {
 }
 
 #[rustfmt::skip] // One line for each kind.
-pub const KINDS: [Kind; 13] = [
+pub const KINDS: [Kind; 21] = [
     Kind { name: "quiet", size: 60, maker: Maker::Scripted(traffic::quiet) },
     Kind { name: "flooded", size: 60, maker: Maker::Scripted(traffic::flooded) },
     Kind { name: "wild", size: 60, maker: Maker::Scripted(traffic::wild) },
@@ -37,6 +38,14 @@ pub const KINDS: [Kind; 13] = [
     Kind { name: "badrecord", size: 20, maker: Maker::Bytes(damage::bad_record) },
     Kind { name: "clockend", size: 40, maker: Maker::Scripted(edges::clock_end) },
     Kind { name: "limit", size: 40, maker: Maker::Scripted(edges::limit) },
+    Kind { name: "notices", size: 60, maker: Maker::Scripted(notices::mixed) },
+    Kind { name: "noticeflood", size: 60, maker: Maker::Scripted(notices::notice_flood) },
+    Kind { name: "noticefull", size: 60, maker: Maker::Scripted(notices::notice_full) },
+    Kind { name: "noticerefusals", size: 60, maker: Maker::Scripted(notices::notice_refusals) },
+    Kind { name: "noticedamage", size: 30, maker: Maker::Bytes(damage::damaged_notices) },
+    Kind { name: "badnotice", size: 20, maker: Maker::Bytes(damage::bad_notice) },
+    Kind { name: "noticeend", size: 40, maker: Maker::Scripted(notices::notice_end) },
+    Kind { name: "noticelimit", size: 40, maker: Maker::Scripted(notices::notice_limit) },
 ];
 
 impl Kind {

@@ -16,6 +16,7 @@ pub struct Script {
     job: Job,
     bytes: Vec<u8>,
     starts: Vec<usize>,
+    notices_once_in: u64,
 }
 
 impl Script {
@@ -26,6 +27,7 @@ impl Script {
             job: Job::new(Pace::Passing),
             bytes: Vec::new(),
             starts: Vec::new(),
+            notices_once_in: 0,
         }
     }
 
@@ -100,7 +102,47 @@ impl Script {
         })
     }
 
+    /// A notice with a tag made up from the seed.
+    pub fn notice(&mut self, length: u16) -> u8 {
+        let tag = self.random.number() as u32;
+        self.put(Record::Notice { length, tag })
+    }
+
+    /// A notice of allowed length.
+    pub fn notice_good(&mut self) -> u8 {
+        let largest = self.largest();
+        let some = self.random.between16(1, largest);
+        let length = self.random.pick([1, some, some, largest]);
+        self.notice(length)
+    }
+
+    /// A notice with a length at or past its limits.
+    pub fn notice_odd(&mut self) -> u8 {
+        let largest = self.largest();
+        let length = self.random.pick([0, 1, largest, largest + 1, u16::MAX]);
+        self.notice(length)
+    }
+
+    /// From now on notices come before one `TK` in so many; 0 for none.
+    pub fn mix_in_notices(&mut self, once_in: u64) {
+        self.notices_once_in = once_in;
+    }
+
+    fn notices_before_ticks(&mut self) {
+        if self.notices_once_in == 0 || !self.random.once_in(self.notices_once_in) {
+            return;
+        }
+        for _ in 0..self.random.between(1, 3) {
+            if self.random.once_in(10) {
+                self.notice_odd();
+            } else {
+                self.notice_good();
+            }
+        }
+    }
+
     pub fn tick(&mut self, asked: u16) -> u8 {
+        self.notices_before_ticks();
         self.put(Record::Ticks { asked })
     }
 
@@ -127,6 +169,11 @@ impl Script {
         self.hub().link().ok().copied()
     }
 
+    /// S of the link that was set; 1 without one.
+    pub fn largest(&self) -> u16 {
+        self.link_set().map_or(1, |link| link.largest())
+    }
+
     /// Some standing connection, with its number.
     pub fn any_connection(&mut self) -> Option<(u8, Connection)> {
         let connections = self.connections();
@@ -151,8 +198,17 @@ impl Script {
         self.offer(number, length)
     }
 
-    /// Ticks until everything held must have gone.
+    /// Ticks until everything held and every notice must have gone; no notice is mixed in.
     pub fn drain(&mut self) {
+        self.mix_in_notices(0);
+        self.drain_places();
+        while self.hub().notices_waiting() > 0 {
+            let some = self.random.between(1, 3 * u64::from(self.largest()));
+            self.ticks(some);
+        }
+    }
+
+    fn drain_places(&mut self) {
         for _ in 0..1_000 {
             let connections = self.connections();
             let holding =

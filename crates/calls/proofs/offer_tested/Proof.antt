@@ -21,9 +21,9 @@ same-length-2 c = search needs
 
 returns : tie.Need-returns
 returns c =
-    let a = c .before .before .before .before .before .before .before .args in
+    let a = c .before .before .before .before .before .before .before .before .args in
     let v = c .before .before .offer-verdict .result in
-    A.refuses (a .h) (a .cs .now) (a .t .now) (c .before .before .before .before .before .before .before .pre) (offer (a .c) (a .len) (a .tag)) v (v - 1) 0 (c .say .result) (sym (c .before .before .offer-verdict .ensures)) (omega (arith, c .before .if1 .taken)) refl (c .say .ensures)
+    A.refuses (a .h) (a .cs .now) (a .t .now) (a .q .now) (c .before .before .before .before .before .before .before .before .pre) (offer (a .c) (a .len) (a .tag)) v (v - 1) 0 (c .say .result) (sym (c .before .before .offer-verdict .ensures)) (omega (arith, c .before .if1 .taken)) refl (c .say .ensures)
 
 accept-requires : tie.Need-accept-requires
 accept-requires c κs = search needs

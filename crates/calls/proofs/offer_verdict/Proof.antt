@@ -20,10 +20,10 @@ use Rattle.calls.proofs.offer_verdict.Tie as tie
 
 returns : tie.Need-returns
 returns c =
-    let a = c .before .before .before .before .before .args in
-    let ok = c .before .before .before .before .before .pre in
-    let st = A.tested (a .h) (a .cs .now) (a .t .now) ok .state in
-    let s = view (a .h) (a .cs .now) (a .t .now) in
+    let a = c .before .before .before .before .before .before .args in
+    let ok = c .before .before .before .before .before .before .pre in
+    let st = A.tested (a .h) (a .cs .now) (a .t .now) (a .q .now) ok .state in
+    let s = view (a .h) (a .cs .now) (a .t .now) (a .q .now) in
     sym (W.offer-unset s st (a .c) (a .len) (a .tag) (c .if1 .taken))
 
 held-requires : tie.Need-held-requires
@@ -31,54 +31,54 @@ held-requires c κs = search needs
 
 returns-2 : tie.Need-returns-2
 returns-2 c =
-    let a = c .before .before .before .before .before .before .before .args in
-    let ok = c .before .before .before .before .before .before .before .pre in
-    let st = A.tested (a .h) (a .cs .now) (a .t .now) ok .state in
-    let s = view (a .h) (a .cs .now) (a .t .now) in
+    let a = c .before .before .before .before .before .before .before .before .args in
+    let ok = c .before .before .before .before .before .before .before .before .pre in
+    let st = A.tested (a .h) (a .cs .now) (a .t .now) (a .q .now) ok .state in
+    let s = view (a .h) (a .cs .now) (a .t .now) (a .q .now) in
     let n : c .before .held .result ≡ length (connections (a .cs .now)) = c .before .held .ensures ∙ M.members-rows (a .cs .now) ∙ sym (M.connections-length (a .cs .now)) in
     sym (W.offer-nobody s st (a .c) (a .len) (a .tag) (c .before .before .if1 .left) (omega arith))
 
 connection-at-requires : tie.Need-connection-at-requires
 connection-at-requires c κs =
-    let a = c .before .before .before .before .before .before .before .args in
+    let a = c .before .before .before .before .before .before .before .before .args in
     omega (arith, c .before .held .ensures, M.members-rows (a .cs .now))
 
 returns-3 : tie.Need-returns-3
 returns-3 c =
-    let a = c .before .before .before .before .before .before .before .before .before .args in
-    let ok = c .before .before .before .before .before .before .before .before .before .pre in
-    let st = A.tested (a .h) (a .cs .now) (a .t .now) ok .state in
-    let s = view (a .h) (a .cs .now) (a .t .now) in
+    let a = c .before .before .before .before .before .before .before .before .before .before .args in
+    let ok = c .before .before .before .before .before .before .before .before .before .before .pre in
+    let st = A.tested (a .h) (a .cs .now) (a .t .now) (a .q .now) ok .state in
+    let s = view (a .h) (a .cs .now) (a .t .now) (a .q .now) in
     let n : c .before .before .before .held .result ≡ length (connections (a .cs .now)) = c .before .before .before .held .ensures ∙ M.members-rows (a .cs .now) ∙ sym (M.connections-length (a .cs .now)) in
     sym (W.offer-length s st (a .c) (a .len) (a .tag) (c .before .before .before .before .if1 .left) (omega arith) (C.too-low 1 (nth (connections (a .cs .now)) (a .c) .size) (a .len) (search needs)))
 
 returns-4 : tie.Need-returns-4
 returns-4 c =
-    let a = c .before .before .before .before .before .before .before .before .before .before .before .args in
-    let ok = c .before .before .before .before .before .before .before .before .before .before .before .pre in
-    let st = A.tested (a .h) (a .cs .now) (a .t .now) ok .state in
-    let s = view (a .h) (a .cs .now) (a .t .now) in
+    let a = c .before .before .before .before .before .before .before .before .before .before .before .before .args in
+    let ok = c .before .before .before .before .before .before .before .before .before .before .before .before .pre in
+    let st = A.tested (a .h) (a .cs .now) (a .t .now) (a .q .now) ok .state in
+    let s = view (a .h) (a .cs .now) (a .t .now) (a .q .now) in
     let n : c .before .before .before .before .before .held .result ≡ length (connections (a .cs .now)) = c .before .before .before .before .before .held .ensures ∙ M.members-rows (a .cs .now) ∙ sym (M.connections-length (a .cs .now)) in
     let e : c .before .before .before .connection-at .result .size ≡ nth (connections (a .cs .now)) (a .c) .size = ap (λ (x : Connection). x .size) (c .before .before .before .connection-at .ensures) in
     sym (W.offer-length s st (a .c) (a .len) (a .tag) (c .before .before .before .before .before .before .if1 .left) (omega arith) (C.too-high 1 (nth (connections (a .cs .now)) (a .c) .size) (a .len) (omega arith) (omega arith)))
 
 reserve-requires : tie.Need-reserve-requires
 reserve-requires c κs =
-    let a = c .before .before .before .before .before .before .before .before .before .before .before .args in
+    let a = c .before .before .before .before .before .before .before .before .before .before .before .before .args in
     let n : c .before .before .before .before .before .held .result ≡ length (connections (a .cs .now)) = c .before .before .before .before .before .held .ensures ∙ M.members-rows (a .cs .now) ∙ sym (M.connections-length (a .cs .now)) in
-    F.figure-at (a .h .link) (connections (a .cs .now)) (A.figures-in-limits (a .h) (a .cs .now) (a .t .now) (c .before .before .before .before .before .before .before .before .before .before .before .pre) (c .before .before .before .before .before .before .if1 .left)) (a .c) (c .before .before .before .connection-at .result) (omega arith) (c .before .before .before .connection-at .ensures) .0
+    F.figure-at (a .h .link) (connections (a .cs .now)) (A.figures-in-limits (a .h) (a .cs .now) (a .t .now) (a .q .now) (c .before .before .before .before .before .before .before .before .before .before .before .before .pre) (c .before .before .before .before .before .before .if1 .left)) (a .c) (c .before .before .before .connection-at .result) (omega arith) (c .before .before .before .connection-at .ensures) .0
 
 held-by-requires : tie.Need-held-by-requires
 held-by-requires c κs =
-    let s = c .before .before .before .before .before .before .before .before .before .before .before .before in
-    (A.places-kept (s .args .h) (s .args .cs .now) (s .args .t .now) (s .pre), A.places-size (s .args .h) (s .args .cs .now) (s .args .t .now) (s .pre))
+    let s = c .before .before .before .before .before .before .before .before .before .before .before .before .before in
+    (A.places-kept (s .args .h) (s .args .cs .now) (s .args .t .now) (s .args .q .now) (s .pre), A.places-size (s .args .h) (s .args .cs .now) (s .args .t .now) (s .args .q .now) (s .pre))
 
 returns-5 : tie.Need-returns-5
 returns-5 c =
-    let a = c .before .before .before .before .before .before .before .before .before .before .before .before .before .before .args in
-    let ok = c .before .before .before .before .before .before .before .before .before .before .before .before .before .before .pre in
-    let st = A.tested (a .h) (a .cs .now) (a .t .now) ok .state in
-    let s = view (a .h) (a .cs .now) (a .t .now) in
+    let a = c .before .before .before .before .before .before .before .before .before .before .before .before .before .before .before .args in
+    let ok = c .before .before .before .before .before .before .before .before .before .before .before .before .before .before .before .pre in
+    let st = A.tested (a .h) (a .cs .now) (a .t .now) (a .q .now) ok .state in
+    let s = view (a .h) (a .cs .now) (a .t .now) (a .q .now) in
     let n : c .before .before .before .before .before .before .before .before .held .result ≡ length (connections (a .cs .now)) = c .before .before .before .before .before .before .before .before .held .ensures ∙ M.members-rows (a .cs .now) ∙ sym (M.connections-length (a .cs .now)) in
     let e : c .before .before .before .before .before .before .connection-at .result .size ≡ nth (connections (a .cs .now)) (a .c) .size = ap (λ (x : Connection). x .size) (c .before .before .before .before .before .before .connection-at .ensures) in
     let r : c .before .before .reserve .result ≡ reservation (a .h .link) (nth (connections (a .cs .now)) (a .c)) = c .before .before .reserve .ensures .0 ∙ ap (reservation (a .h .link)) (c .before .before .before .before .before .before .connection-at .ensures) in
@@ -87,10 +87,10 @@ returns-5 c =
 
 returns-6 : tie.Need-returns-6
 returns-6 c =
-    let a = c .before .before .before .before .before .before .before .before .before .before .before .before .before .before .before .before .args in
-    let ok = c .before .before .before .before .before .before .before .before .before .before .before .before .before .before .before .before .pre in
-    let st = A.tested (a .h) (a .cs .now) (a .t .now) ok .state in
-    let s = view (a .h) (a .cs .now) (a .t .now) in
+    let a = c .before .before .before .before .before .before .before .before .before .before .before .before .before .before .before .before .before .args in
+    let ok = c .before .before .before .before .before .before .before .before .before .before .before .before .before .before .before .before .before .pre in
+    let st = A.tested (a .h) (a .cs .now) (a .t .now) (a .q .now) ok .state in
+    let s = view (a .h) (a .cs .now) (a .t .now) (a .q .now) in
     let n : c .before .before .before .before .before .before .before .before .before .before .held .result ≡ length (connections (a .cs .now)) = c .before .before .before .before .before .before .before .before .before .before .held .ensures ∙ M.members-rows (a .cs .now) ∙ sym (M.connections-length (a .cs .now)) in
     let e : c .before .before .before .before .before .before .before .before .connection-at .result .size ≡ nth (connections (a .cs .now)) (a .c) .size = ap (λ (x : Connection). x .size) (c .before .before .before .before .before .before .before .before .connection-at .ensures) in
     let r : c .before .before .before .before .reserve .result ≡ reservation (a .h .link) (nth (connections (a .cs .now)) (a .c)) = c .before .before .before .before .reserve .ensures .0 ∙ ap (reservation (a .h .link)) (c .before .before .before .before .before .before .before .before .connection-at .ensures) in
@@ -99,10 +99,10 @@ returns-6 c =
 
 returns-7 : tie.Need-returns-7
 returns-7 c =
-    let a = c .before .before .before .before .before .before .before .before .before .before .before .before .before .before .before .before .args in
-    let ok = c .before .before .before .before .before .before .before .before .before .before .before .before .before .before .before .before .pre in
-    let st = A.tested (a .h) (a .cs .now) (a .t .now) ok .state in
-    let s = view (a .h) (a .cs .now) (a .t .now) in
+    let a = c .before .before .before .before .before .before .before .before .before .before .before .before .before .before .before .before .before .args in
+    let ok = c .before .before .before .before .before .before .before .before .before .before .before .before .before .before .before .before .before .pre in
+    let st = A.tested (a .h) (a .cs .now) (a .t .now) (a .q .now) ok .state in
+    let s = view (a .h) (a .cs .now) (a .t .now) (a .q .now) in
     let n : c .before .before .before .before .before .before .before .before .before .before .held .result ≡ length (connections (a .cs .now)) = c .before .before .before .before .before .before .before .before .before .before .held .ensures ∙ M.members-rows (a .cs .now) ∙ sym (M.connections-length (a .cs .now)) in
     let e : c .before .before .before .before .before .before .before .before .connection-at .result .size ≡ nth (connections (a .cs .now)) (a .c) .size = ap (λ (x : Connection). x .size) (c .before .before .before .before .before .before .before .before .connection-at .ensures) in
     let r : c .before .before .before .before .reserve .result ≡ reservation (a .h .link) (nth (connections (a .cs .now)) (a .c)) = c .before .before .before .before .reserve .ensures .0 ∙ ap (reservation (a .h .link)) (c .before .before .before .before .before .before .before .before .connection-at .ensures) in

@@ -13,39 +13,44 @@ say-requires c κs = search needs
 
 returns : tie.Need-returns
 returns c =
-    let a = c .before .before .before .before .before .args in
-    let ok = c .before .before .before .before .before .pre in
-    let st = A.tested (a .h) (a .cs .now) (a .t .now) ok .state in
-    let s = view (a .h) (a .cs .now) (a .t .now) in
-    A.refuses (a .h) (a .cs .now) (a .t .now) ok tick 2 1 0 (c .say .result) (W.tick-unset s st (c .before .if1 .taken)) refl refl (c .say .ensures)
+    let a = c .before .before .before .before .before .before .args in
+    let ok = c .before .before .before .before .before .before .pre in
+    let st = A.tested (a .h) (a .cs .now) (a .t .now) (a .q .now) ok .state in
+    let s = view (a .h) (a .cs .now) (a .t .now) (a .q .now) in
+    A.refuses (a .h) (a .cs .now) (a .t .now) (a .q .now) ok tick 2 1 0 (c .say .result) (W.tick-unset s st (c .before .if1 .taken)) refl refl (c .say .ensures)
 
 say-requires-2 : tie.Need-say-requires-2
 say-requires-2 c κs = search needs
 
 returns-2 : tie.Need-returns-2
 returns-2 c =
-    let a = c .before .before .before .before .before .before .before .args in
-    let ok = c .before .before .before .before .before .before .before .pre in
-    let st = A.tested (a .h) (a .cs .now) (a .t .now) ok .state in
-    let s = view (a .h) (a .cs .now) (a .t .now) in
-    A.refuses (a .h) (a .cs .now) (a .t .now) ok tick 13 12 0 (c .say2 .result) (W.tick-ended s st (c .before .before .before .if1 .left) (search needs)) refl refl (c .say2 .ensures)
+    let a = c .before .before .before .before .before .before .before .before .args in
+    let ok = c .before .before .before .before .before .before .before .before .pre in
+    let st = A.tested (a .h) (a .cs .now) (a .t .now) (a .q .now) ok .state in
+    let s = view (a .h) (a .cs .now) (a .t .now) (a .q .now) in
+    A.refuses (a .h) (a .cs .now) (a .t .now) (a .q .now) ok tick 13 12 0 (c .say2 .result) (W.tick-ended s st (c .before .before .before .if1 .left) (search needs)) refl refl (c .say2 .ensures)
 
 run-tick-requires : tie.Need-run-tick-requires
 run-tick-requires c κs =
-    let a = c .before .before .before .before .before .before .before .args in
-    A.ready-to-tick (a .h) (a .cs .now) (a .t .now) (c .before .before .before .before .before .before .before .pre) (c .before .before .before .if1 .left) (search needs)
+    let s = c .before .before .before .before .before .before .before .before .before in
+    let a = s .args in
+    A.ready-to-tick (a .h) (a .cs .now) (a .t .now) (a .q .now) (s .pre) (c .before .before .before .before .if1 .left) (search needs)
 
 same-length : tie.Need-same-length
 same-length c = search needs
 
+same-length-2 : tie.Need-same-length-2
+same-length-2 c = search needs
+
 returns-3 : tie.Need-returns-3
 returns-3 c =
-    let a = c .before .before .before .before .before .before .before .before .before .before .args in
-    let ok = c .before .before .before .before .before .before .before .before .before .before .pre in
-    let st = A.tested (a .h) (a .cs .now) (a .t .now) ok .state in
-    let s = view (a .h) (a .cs .now) (a .t .now) in
-    A.acts (a .h) (a .cs .now) (a .t .now) ok tick (c .before .before .run-tick .result) (a .cs .now) (c .before .before .run-tick .last .1 .1 .0)
-    (W.tick-good s st (c .before .before .before .before .before .before .if1 .left) (search needs)) (c .before .before .run-tick .ensures .0) (A.tick-members (a .h) (a .cs .now) (a .t .now) ok) (c .before .before .run-tick .ensures .1)
+    let a = c .before .before .before .before .before .before .before .before .before .before .before .before .before .before .args in
+    let ok = c .before .before .before .before .before .before .before .before .before .before .before .before .before .before .pre in
+    let st = A.tested (a .h) (a .cs .now) (a .t .now) (a .q .now) ok .state in
+    let s = view (a .h) (a .cs .now) (a .t .now) (a .q .now) in
+    let r = c .before .before .before .before .run-tick in
+    A.acts (a .h) (a .cs .now) (a .t .now) (a .q .now) ok tick (r .result) (a .cs .now) _ _
+    (W.tick-good s st (c .before .before .before .before .before .before .before .before .before .if1 .left) (search needs)) (r .ensures .0) (A.tick-members (a .h) (a .cs .now) (a .t .now) (a .q .now) ok) (r .ensures .1) (r .ensures .2)
 
 pub tick-tested-spec : {M : Type 1} → statement M
 tick-tested-spec =
@@ -57,4 +62,5 @@ tick-tested-spec =
     returns-2
     run-tick-requires
     same-length
+    same-length-2
     returns-3)

@@ -17,16 +17,16 @@ same-length : tie.Need-same-length
 same-length c = search needs
 
 returns : tie.Need-returns
-returns c = let a = c .before .before .before .before .before .before .before .args in D.refuses-unsound (admit (a .x)) (a .h) (a .cs .now) (a .t .now) (D.tested (admit (a .x)) (a .h) (a .cs .now) (a .t .now) (c .before .before .is-sound .result) false (c .before .before .is-sound .ensures) (not-true _ (c .before .if1 .taken))) (c .say .result) 255 refl (c .say .ensures)
+returns c = let a = c .before .before .before .before .before .before .before .before .args in D.refuses-unsound (admit (a .x)) (a .h) (a .cs .now) (a .t .now) (a .q .now) (D.tested (admit (a .x)) (a .h) (a .cs .now) (a .t .now) (a .q .now) (c .before .before .is-sound .result) false (c .before .before .is-sound .ensures) (not-true _ (c .before .if1 .taken))) (c .say .result) 255 refl (c .say .ensures)
 
 admit-tested-requires : tie.Need-admit-tested-requires
-admit-tested-requires c κs = let a = c .before .before .before .before .before .before .before .args in (D.tested (admit (a .x)) (a .h) (a .cs .now) (a .t .now) (c .before .before .is-sound .result) true (c .before .before .is-sound .ensures) (not-false _ (c .before .if1 .left)))
+admit-tested-requires c κs = let a = c .before .before .before .before .before .before .before .before .args in (D.tested (admit (a .x)) (a .h) (a .cs .now) (a .t .now) (a .q .now) (c .before .before .is-sound .result) true (c .before .before .is-sound .ensures) (not-false _ (c .before .if1 .left)))
 
 same-length-2 : tie.Need-same-length-2
 same-length-2 c = search needs
 
 returns-2 : tie.Need-returns-2
-returns-2 c = let a = c .before .before .before .before .before .before .before .before .before .before .args in D.does (admit (a .x)) (a .h) (a .cs .now) (a .t .now) (D.tested (admit (a .x)) (a .h) (a .cs .now) (a .t .now) (c .before .before .before .before .before .is-sound .result) true (c .before .before .before .before .before .is-sound .ensures) (not-false _ (c .before .before .before .before .if1 .left))) (c .before .before .admit-tested .result) (c .before .before .admit-tested .last .1 .0) (a .t .now) (c .before .before .admit-tested .ensures)
+returns-2 c = let a = c .before .before .before .before .before .before .before .before .before .before .before .args in D.does (admit (a .x)) (a .h) (a .cs .now) (a .t .now) (a .q .now) (D.tested (admit (a .x)) (a .h) (a .cs .now) (a .t .now) (a .q .now) (c .before .before .before .before .before .is-sound .result) true (c .before .before .before .before .before .is-sound .ensures) (not-false _ (c .before .before .before .before .if1 .left))) (c .before .before .admit-tested .result) (c .before .before .admit-tested .last .1 .0) (a .t .now) (a .q .now) (c .before .before .admit-tested .ensures)
 
 pub admit-spec : {M : Type 1} → statement M
 admit-spec =

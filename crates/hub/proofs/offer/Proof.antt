@@ -20,10 +20,10 @@ same-length-2 : tie.Need-same-length-2
 same-length-2 c = search needs
 
 returns : tie.Need-returns
-returns c = let a = c .before .before .before .before .before .before .before .before .args in D.refuses-unsound (offer (a .c) (a .len) (a .tag)) (a .h) (a .cs .now) (a .t .now) (D.tested (offer (a .c) (a .len) (a .tag)) (a .h) (a .cs .now) (a .t .now) (c .before .before .is-sound .result) false (c .before .before .is-sound .ensures) (not-true _ (c .before .if1 .taken))) (c .say .result) 0 refl (c .say .ensures)
+returns c = let a = c .before .before .before .before .before .before .before .before .before .args in D.refuses-unsound (offer (a .c) (a .len) (a .tag)) (a .h) (a .cs .now) (a .t .now) (a .q .now) (D.tested (offer (a .c) (a .len) (a .tag)) (a .h) (a .cs .now) (a .t .now) (a .q .now) (c .before .before .is-sound .result) false (c .before .before .is-sound .ensures) (not-true _ (c .before .if1 .taken))) (c .say .result) 0 refl (c .say .ensures)
 
 offer-tested-requires : tie.Need-offer-tested-requires
-offer-tested-requires c κs = let a = c .before .before .before .before .before .before .before .before .before .args in (D.tested (offer (a .c) (a .len) (a .tag)) (a .h) (a .cs .now) (a .t .now) (c .before .before .before .is-sound .result) true (c .before .before .before .is-sound .ensures) (not-false _ (c .before .before .if1 .left)))
+offer-tested-requires c κs = let a = c .before .before .before .before .before .before .before .before .before .before .args in (D.tested (offer (a .c) (a .len) (a .tag)) (a .h) (a .cs .now) (a .t .now) (a .q .now) (c .before .before .before .is-sound .result) true (c .before .before .before .is-sound .ensures) (not-false _ (c .before .before .if1 .left)))
 
 same-length-3 : tie.Need-same-length-3
 same-length-3 c = search needs
@@ -32,7 +32,7 @@ same-length-4 : tie.Need-same-length-4
 same-length-4 c = search needs
 
 returns-2 : tie.Need-returns-2
-returns-2 c = let a = c .before .before .before .before .before .before .before .before .before .before .before .before .before .before .args in D.does (offer (a .c) (a .len) (a .tag)) (a .h) (a .cs .now) (a .t .now) (D.tested (offer (a .c) (a .len) (a .tag)) (a .h) (a .cs .now) (a .t .now) (c .before .before .before .before .before .before .before .before .is-sound .result) true (c .before .before .before .before .before .before .before .before .is-sound .ensures) (not-false _ (c .before .before .before .before .before .before .before .if1 .left))) (c .before .before .before .before .offer-tested .result) (c .before .before .before .before .offer-tested .last .1 .0) (c .before .before .before .before .offer-tested .last .1 .1 .0) (c .before .before .before .before .offer-tested .ensures)
+returns-2 c = let a = c .before .before .before .before .before .before .before .before .before .before .before .before .before .before .before .args in D.does (offer (a .c) (a .len) (a .tag)) (a .h) (a .cs .now) (a .t .now) (a .q .now) (D.tested (offer (a .c) (a .len) (a .tag)) (a .h) (a .cs .now) (a .t .now) (a .q .now) (c .before .before .before .before .before .before .before .before .is-sound .result) true (c .before .before .before .before .before .before .before .before .is-sound .ensures) (not-false _ (c .before .before .before .before .before .before .before .if1 .left))) (c .before .before .before .before .offer-tested .result) (c .before .before .before .before .offer-tested .last .1 .0) (c .before .before .before .before .offer-tested .last .1 .1 .0) (a .q .now) (c .before .before .before .before .offer-tested .ensures)
 
 pub offer-spec : {M : Type 1} → statement M
 offer-spec =

@@ -32,6 +32,12 @@ enum-told-4 c = search needs
 no-connection-requires-4 : tie.Need-no-connection-requires-4
 no-connection-requires-4 c κs = search needs
 
+enum-told-5 : tie.Need-enum-told-5
+enum-told-5 c = search needs
+
+no-connection-requires-5 : tie.Need-no-connection-requires-5
+no-connection-requires-5 c κs = search needs
+
 returns : tie.Need-returns
 returns c = rw (c .before .before .what .given .1) (c .connection-named .ensures)
 
@@ -47,6 +53,9 @@ returns-4 c = rw (c .before .enum-told3 .given .1) (c .no-connection3 .ensures)
 returns-5 : tie.Need-returns-5
 returns-5 c = rw (c .before .enum-told4 .given .1) (c .no-connection4 .ensures)
 
+returns-6 : tie.Need-returns-6
+returns-6 c = rw (c .before .enum-told5 .given .1) (c .no-connection5 .ensures)
+
 pub connection-of-spec : {M : Type 1} → statement M
 connection-of-spec =
     tie.close
@@ -61,8 +70,11 @@ connection-of-spec =
     no-connection-requires-3
     enum-told-4
     no-connection-requires-4
+    enum-told-5
+    no-connection-requires-5
     returns
     returns-2
     returns-3
     returns-4
-    returns-5)
+    returns-5
+    returns-6)

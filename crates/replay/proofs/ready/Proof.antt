@@ -9,18 +9,27 @@ is-sound-requires c κs = search needs
 
 returns : tie.Need-returns
 returns c =
-    let a = c .before .before .before .before .before .before .args in
-    not-sound (a .c) (a .cs .now) (a .t .now) (a .room) (c .before .is-sound .result) (c .before .is-sound .ensures) (not-true _ (c .if1 .taken))
+    let a = c .before .before .before .before .before .before .before .args in
+    let s = c .before .is-sound in
+    not-sound (a .c) (a .cs .now) (a .t .now) (a .q .now) (a .room) (s .result) (s .ensures) (not-true _ (c .if1 .taken))
 
 returns-2 : tie.Need-returns-2
 returns-2 c =
-    let a = c .before .before .before .before .before .before .before .args in
-    no-room (a .c) (a .cs .now) (a .t .now) (a .room) (c .before .before .is-sound .result) (c .before .before .is-sound .ensures) (not-false _ (c .before .if1 .left)) (c .if2 .taken)
+    let a = c .before .before .before .before .before .before .before .before .args in
+    let s = c .before .before .is-sound in
+    no-room (a .c) (a .cs .now) (a .t .now) (a .q .now) (a .room) (s .result) (s .ensures) (not-false _ (c .before .if1 .left)) (c .if2 .taken)
 
 returns-3 : tie.Need-returns-3
 returns-3 c =
-    let a = c .before .before .before .before .before .before .before .args in
-    is-ready (a .c) (a .cs .now) (a .t .now) (a .room) (c .before .before .is-sound .result) (c .before .before .is-sound .ensures) (not-false _ (c .before .if1 .left)) (c .if2 .left)
+    let a = c .before .before .before .before .before .before .before .before .args in
+    let s = c .before .before .is-sound in
+    is-ready (a .c) (a .cs .now) (a .t .now) (a .q .now) (a .room) (s .result) (s .ensures) (not-false _ (c .before .if1 .left)) (c .if2 .left)
 
 pub ready-spec : {M : Type 1} → statement M
-ready-spec = tie.close (tie.spec is-sound-requires returns returns-2 returns-3)
+ready-spec =
+    tie.close
+    (tie.spec
+    is-sound-requires
+    returns
+    returns-2
+    returns-3)

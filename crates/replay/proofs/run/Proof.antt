@@ -28,112 +28,120 @@ sub-less : (n i : ℕ) → i < n → n - (i + 1) < n - i
 sub-less n i h = omega arith
 
 abbrev Inv-loop : tie.InvT-loop
-Inv-loop cs₀ t₀ window last out₀ n cur₀ used₀ wrote₀ i₀ cs t out cur used wrote i = (n ≡ length out₀ / 19) × (19 ≤ length out₀) × (i ≤ n) × Made cur₀ cs₀ t₀ window last out₀ i GoOn cur cs t out used wrote × (length out₀ < 18446744073709551616) × (sound-hub (cur₀ .hub) cs₀ t₀ ≡ true)
+Inv-loop cs₀ t₀ q₀ window last out₀ n cur₀ used₀ wrote₀ i₀ cs t q out cur used wrote i = (n ≡ length out₀ / 19) × (19 ≤ length out₀) × (i ≤ n) × Made cur₀ cs₀ t₀ q₀ window last out₀ i GoOn cur cs t q out used wrote × (length out₀ < 18446744073709551616) × (sound-hub (cur₀ .hub) cs₀ t₀ q₀ ≡ true)
 
 abbrev μ-loop : tie.MeasureT-loop
-μ-loop cs₀ t₀ window last out₀ n cur₀ used₀ wrote₀ i₀ cs t out cur used wrote i = n - i
+μ-loop cs₀ t₀ q₀ window last out₀ n cur₀ used₀ wrote₀ i₀ cs t q out cur used wrote i = n - i
 
 loop-holds : tie.Need-loop-holds Inv-loop μ-loop
 loop-holds c =
-    let a = c .before .before .before .before .args in
-    (refl, c .before .before .before .before .pre .1, search needs, made-none (a .c) (a .cs .now) (a .t .now) (a .window .now) (a .last) (a .out .now) (c .before .before .before .before .pre .0), search needs, c .before .before .before .before .pre .0)
+    let z = c .before .before .before .before .before in
+    let a = z .args in
+    (refl, z .pre .1, search needs, made-none (a .c) (a .cs .now) (a .t .now) (a .q .now) (a .window .now) (a .last) (a .out .now) (z .pre .0), search needs, z .pre .0)
 
 step-at-requires : tie.Need-step-at-requires Inv-loop μ-loop
 step-at-requires c κs =
-    let a = c .before .before .before .before .before .before .before .before .before .args in
-    let l = c .before .before .before .before .loop in
+    let a = c .before .before .before .before .before .before .before .before .before .before .before .args in
+    let l = c .before .before .before .before .before .loop in
     let M = l .inv .3 in (
-      made-sound (a .c) (a .cs .now) (a .t .now) (a .window .now) (a .last) (a .out .now) (l .inv .5) (l .i) GoOn (l .cur) (l .cs) (l .t) (l .out) (l .used) (l .wrote) M,
+      made-sound (a .c) (a .cs .now) (a .t .now) (a .q .now) (a .window .now) (a .last) (a .out .now) (l .inv .5) (l .i) GoOn (l .cur) (l .cs) (l .t) (l .q) (l .out) (l .used) (l .wrote) M,
       M .in-window,
-      room-fits _ _ _ _ _ (M .in-room) (M .same-room) (c .before .before .before .loop-test .taken) (l .inv .0),
+      room-fits _ _ _ _ _ (M .in-room) (M .same-room) (c .before .before .before .before .loop-test .taken) (l .inv .0),
     )
 
 add-used : tie.Need-add-used Inv-loop μ-loop
 add-used c =
-    let M = c .before .before .before .before .before .before .before .before .before .before .before .before .before .loop .inv .3 in
-    let f = c .before .before .before .before .before .before .before .before .step-at .ensures .1 in
-    omega (arith, M .in-window, f .used)
+    let l = c .before .before .before .before .before .before .before .before .before .before .before .before .before .before .before .before .loop in
+    let s = c .before .before .before .before .before .before .before .before .before .before .step-at in
+    omega (arith, l .inv .3 .in-window, s .ensures .1 .used)
 
 add-wrote : tie.Need-add-wrote Inv-loop μ-loop
 add-wrote c =
-    let l = c .before .before .before .before .before .before .before .before .before .before .before .before .before .before .loop in
-    let f = c .before .before .before .before .before .before .before .before .before .step-at .ensures .1 in
-    record { fits = wrote-fits _ _ _ _ _ _ (l .inv .3 .in-room) (f .wrote) (l .inv .3 .same-room) (l .inv .4) (c .before .before .before .before .before .before .before .before .before .before .before .before .before .loop-test .taken) (l .inv .0) }
+    let l = c .before .before .before .before .before .before .before .before .before .before .before .before .before .before .before .before .before .loop in
+    let s = c .before .before .before .before .before .before .before .before .before .before .before .step-at in
+    record { fits = wrote-fits _ _ _ _ _ _ (l .inv .3 .in-room) (s .ensures .1 .wrote) (l .inv .3 .same-room) (l .inv .4) (c .before .before .before .before .before .before .before .before .before .before .before .before .before .before .before .before .loop-test .taken) (l .inv .0) }
 
 goes-on-requires : tie.Need-goes-on-requires Inv-loop μ-loop
-goes-on-requires c κs =
-    tt
+goes-on-requires c κs = tt
 
 same-length : tie.Need-same-length Inv-loop μ-loop
 same-length c =
-    let l = c .before .before .before .before .before .before .before .before .before .before .before .before .before .before .before .before .loop in
-    let s = c .before .before .before .before .before .before .before .before .before .before .before .step-at in
+    let l = c .before .before .before .before .before .before .before .before .before .before .before .before .before .before .before .before .before .before .before .loop in
+    let s = c .before .before .before .before .before .before .before .before .before .before .before .before .before .step-at in
     let k : length (s .last .1 .0) ≡ length (l .cs) = search needs in
-    let q = k ∙ l .inv .3 .same-members in
+    let e = k ∙ l .inv .3 .same-members in
     search needs
 
 same-length-2 : tie.Need-same-length-2 Inv-loop μ-loop
 same-length-2 c =
-    let l = c .before .before .before .before .before .before .before .before .before .before .before .before .before .before .before .before .loop in
-    let s = c .before .before .before .before .before .before .before .before .before .before .before .step-at in
+    let l = c .before .before .before .before .before .before .before .before .before .before .before .before .before .before .before .before .before .before .before .loop in
+    let s = c .before .before .before .before .before .before .before .before .before .before .before .before .before .step-at in
     let k : length (s .last .1 .1 .0) ≡ length (l .t) = search needs in
-    let q = k ∙ l .inv .3 .same-table in
+    let e = k ∙ l .inv .3 .same-table in
     search needs
 
 same-length-3 : tie.Need-same-length-3 Inv-loop μ-loop
 same-length-3 c =
-    let l = c .before .before .before .before .before .before .before .before .before .before .before .before .before .before .before .before .loop in
-    let s = c .before .before .before .before .before .before .before .before .before .before .before .step-at in
-    let k : length (s .last .1 .1 .1 .1 .1 .1 .0) ≡ length (l .out) = search needs in
-    let q = k ∙ l .inv .3 .same-room in
+    let l = c .before .before .before .before .before .before .before .before .before .before .before .before .before .before .before .before .before .before .before .loop in
+    let s = c .before .before .before .before .before .before .before .before .before .before .before .before .before .step-at in
+    let k : length (s .last .1 .1 .1 .0) ≡ length (l .q) = search needs in
+    let e = k ∙ l .inv .3 .same-queue in
+    search needs
+
+same-length-4 : tie.Need-same-length-4 Inv-loop μ-loop
+same-length-4 c =
+    let l = c .before .before .before .before .before .before .before .before .before .before .before .before .before .before .before .before .before .before .before .loop in
+    let s = c .before .before .before .before .before .before .before .before .before .before .before .before .before .step-at in
+    let k : length (s .last .1 .1 .1 .1 .1 .1 .1 .0) ≡ length (l .out) = search needs in
+    let e = k ∙ l .inv .3 .same-room in
     search needs
 
 returns : tie.Need-returns Inv-loop μ-loop
 returns c =
-    let a = c .before .before .before .before .before .before .before .before .before .before .before .before .before .before .before .before .before .before .before .before .before .args in
-    let l = c .before .before .before .before .before .before .before .before .before .before .before .before .before .before .before .before .loop in
-    let s = c .before .before .before .before .before .before .before .before .before .before .before .step-at in
-    let M = made-more (a .c) (a .cs .now) (a .t .now) (a .window .now) (a .last) (a .out .now) (l .inv .5) (l .i) (l .cur) (l .cs) (l .t) (l .out) (l .used) (l .wrote) (l .inv .3)
-    (s .result) (s .last .1 .0) (s .last .1 .1 .0) (s .last .1 .1 .1 .1 .1 .1 .0) (s .ensures .0) (s .ensures .1) (search needs) (search needs) (search needs) in
+    let a = c .before .before .before .before .before .before .before .before .before .before .before .before .before .before .before .before .before .before .before .before .before .before .before .before .before .args in
+    let l = c .before .before .before .before .before .before .before .before .before .before .before .before .before .before .before .before .before .before .before .loop in
+    let s = c .before .before .before .before .before .before .before .before .before .before .before .before .before .step-at in
+    let M = made-more (a .c) (a .cs .now) (a .t .now) (a .q .now) (a .window .now) (a .last) (a .out .now) (l .inv .5) (l .i) (l .cur) (l .cs) (l .t) (l .q) (l .out) (l .used) (l .wrote) (l .inv .3)
+    (s .result) (s .last .1 .0) (s .last .1 .1 .0) (s .last .1 .1 .1 .0) (s .last .1 .1 .1 .1 .1 .1 .1 .0) (s .ensures .0) (s .ensures .1) (search needs) (search needs) (search needs) (search needs) in
     let g : is-go (s .result .status) ≡ false = sym (c .before .goes-on .ensures) ∙ not-true _ (c .if1 .taken) in
-    run-stopped (a .c) (a .cs .now) (a .t .now) (a .window .now) (a .last) (a .out .now) (l .inv .5) (l .i + 1) (s .result .status) _ _ _ _ _ _ M g (next-le _ _ _ (c .before .before .before .before .before .before .before .before .before .before .before .before .before .before .before .loop-test .taken) (l .inv .0))
+    run-stopped (a .c) (a .cs .now) (a .t .now) (a .q .now) (a .window .now) (a .last) (a .out .now) (l .inv .5) (l .i + 1) (s .result .status) _ _ _ _ _ _ _ M g (next-le _ _ _ (c .before .before .before .before .before .before .before .before .before .before .before .before .before .before .before .before .before .before .loop-test .taken) (l .inv .0))
 
 add-i : tie.Need-add-i Inv-loop μ-loop
 add-i c =
-    let l = c .before .before .before .before .before .before .before .before .before .before .before .before .before .before .before .before .loop in record { fits = i-fits _ _ _ (c .before .before .before .before .before .before .before .before .before .before .before .before .before .before .before .loop-test .taken) (l .inv .0) (l .inv .4) }
+    let l = c .before .before .before .before .before .before .before .before .before .before .before .before .before .before .before .before .before .before .before .loop in
+    record { fits = i-fits _ _ _ (c .before .before .before .before .before .before .before .before .before .before .before .before .before .before .before .before .before .before .loop-test .taken) (l .inv .0) (l .inv .4) }
 
 loop-less : tie.Need-loop-less Inv-loop μ-loop
-loop-less c =
-    sub-less _ _ (c .before .before .before .before .before .before .before .before .before .before .before .before .before .before .before .loop-test .taken)
+loop-less c = sub-less _ _ (c .before .before .before .before .before .before .before .before .before .before .before .before .before .before .before .before .before .before .loop-test .taken)
 
 loop-again : tie.Need-loop-again Inv-loop μ-loop
 loop-again c =
-    let a = c .before .before .before .before .before .before .before .before .before .before .before .before .before .before .before .before .before .before .before .before .before .args in
-    let l = c .before .before .before .before .before .before .before .before .before .before .before .before .before .before .before .before .loop in
-    let s = c .before .before .before .before .before .before .before .before .before .before .before .step-at in
-    let M = made-more (a .c) (a .cs .now) (a .t .now) (a .window .now) (a .last) (a .out .now) (l .inv .5) (l .i) (l .cur) (l .cs) (l .t) (l .out) (l .used) (l .wrote) (l .inv .3)
-    (s .result) (s .last .1 .0) (s .last .1 .1 .0) (s .last .1 .1 .1 .1 .1 .1 .0) (s .ensures .0) (s .ensures .1) (search needs) (search needs) (search needs) in
+    let a = c .before .before .before .before .before .before .before .before .before .before .before .before .before .before .before .before .before .before .before .before .before .before .before .before .before .args in
+    let l = c .before .before .before .before .before .before .before .before .before .before .before .before .before .before .before .before .before .before .before .loop in
+    let s = c .before .before .before .before .before .before .before .before .before .before .before .before .before .step-at in
+    let M = made-more (a .c) (a .cs .now) (a .t .now) (a .q .now) (a .window .now) (a .last) (a .out .now) (l .inv .5) (l .i) (l .cur) (l .cs) (l .t) (l .q) (l .out) (l .used) (l .wrote) (l .inv .3)
+    (s .result) (s .last .1 .0) (s .last .1 .1 .0) (s .last .1 .1 .1 .0) (s .last .1 .1 .1 .1 .1 .1 .1 .0) (s .ensures .0) (s .ensures .1) (search needs) (search needs) (search needs) (search needs) in
     let g : is-go (s .result .status) ≡ true = sym (c .before .goes-on .ensures) ∙ not-false _ (c .if1 .left) in
-    (refl, l .inv .1, next-le _ _ _ (c .before .before .before .before .before .before .before .before .before .before .before .before .before .before .before .loop-test .taken) refl, made-on (a .c) (a .cs .now) (a .t .now) (a .window .now) (a .last) (a .out .now) (l .inv .5) (l .i + 1) (s .result .status) _ _ _ _ _ _ M g, l .inv .4, l .inv .5)
-
-same-length-4 : tie.Need-same-length-4 Inv-loop μ-loop
-same-length-4 c =
-    search needs
+    (refl, l .inv .1, next-le _ _ _ (c .before .before .before .before .before .before .before .before .before .before .before .before .before .before .before .before .before .before .loop-test .taken) refl, made-on (a .c) (a .cs .now) (a .t .now) (a .q .now) (a .window .now) (a .last) (a .out .now) (l .inv .5) (l .i + 1) (s .result .status) _ _ _ _ _ _ _ M g, l .inv .4, l .inv .5)
 
 same-length-5 : tie.Need-same-length-5 Inv-loop μ-loop
-same-length-5 c =
-    search needs
+same-length-5 c = search needs
 
 same-length-6 : tie.Need-same-length-6 Inv-loop μ-loop
-same-length-6 c =
-    search needs
+same-length-6 c = search needs
+
+same-length-7 : tie.Need-same-length-7 Inv-loop μ-loop
+same-length-7 c = search needs
+
+same-length-8 : tie.Need-same-length-8 Inv-loop μ-loop
+same-length-8 c = search needs
 
 returns-2 : tie.Need-returns-2 Inv-loop μ-loop
 returns-2 c =
-    let a = c .before .before .before .before .before .before .args in
+    let a = c .before .before .before .before .before .before .before .args in
     let l = c .before .loop in
     let e : l .i ≡ length (a .out .now) / 19 = omega arith in
-    run-ended (a .c) (a .cs .now) (a .t .now) (a .window .now) (a .last) (a .out .now) (l .inv .5) (l .i) GoOn (l .cur) (l .cs) (l .t) (l .out) (l .used) (l .wrote) (l .inv .3) e (search needs)
+    run-ended (a .c) (a .cs .now) (a .t .now) (a .q .now) (a .window .now) (a .last) (a .out .now) (l .inv .5) (l .i) GoOn (l .cur) (l .cs) (l .t) (l .q) (l .out) (l .used) (l .wrote) (l .inv .3) e (search needs)
 
 pub run-spec : {M : Type 1} → statement M
 run-spec =
@@ -149,11 +157,13 @@ run-spec =
     same-length
     same-length-2
     same-length-3
+    same-length-4
     returns
     add-i
     loop-less
     loop-again
-    same-length-4
     same-length-5
     same-length-6
+    same-length-7
+    same-length-8
     returns-2)

@@ -16,19 +16,22 @@ same-length c = search needs
 same-length-2 : tie.Need-same-length-2
 same-length-2 c = search needs
 
+same-length-3 : tie.Need-same-length-3
+same-length-3 c = search needs
+
 returns : tie.Need-returns
 returns c =
-    let a = c .before .before .before .before .before .before .before .before .before .args in
-    does-nothing (a .c) (a .cs .now) (a .t .now) (a .out .now) (c .before .before .ready .ensures) (c .before .goes-on .ensures) (a .window .now) _ (not-true _ (c .if1 .taken))
+    let a = c .before .before .before .before .before .before .before .before .before .before .before .args in
+    let r = c .before .before .ready .ensures in
+    let g = c .before .goes-on .ensures in
+    does-nothing (a .c) (a .cs .now) (a .t .now) (a .q .now) (a .out .now) r g (a .window .now) _ (not-true _ (c .if1 .taken))
 
 step-tested-requires : tie.Need-step-tested-requires
 step-tested-requires c κs =
-    let k = c .before .before .before in
-    let a = k .before .before .before .before .before .before .before .before .before .args in
-    may-go (a .c) (a .cs .now) (a .t .now) (a .out .now) (k .before .before .ready .ensures) (k .before .goes-on .ensures) (not-false _ (k .if1 .left))
-
-same-length-3 : tie.Need-same-length-3
-same-length-3 c = search needs
+    let a = c .before .before .before .before .before .before .before .before .before .before .before .before .before .before .before .args in
+    let r = c .before .before .before .before .before .before .ready .ensures in
+    let g = c .before .before .before .before .before .goes-on .ensures in
+    may-go (a .c) (a .cs .now) (a .t .now) (a .q .now) (a .out .now) r g (not-false _ (c .before .before .before .before .if1 .left))
 
 same-length-4 : tie.Need-same-length-4
 same-length-4 c = search needs
@@ -36,12 +39,19 @@ same-length-4 c = search needs
 same-length-5 : tie.Need-same-length-5
 same-length-5 c = search needs
 
+same-length-6 : tie.Need-same-length-6
+same-length-6 c = search needs
+
+same-length-7 : tie.Need-same-length-7
+same-length-7 c = search needs
+
 returns-2 : tie.Need-returns-2
 returns-2 c =
-    let r = c .before .before .before .before .before .before in
-    let k = r .before .before .before .before in
-    let a = k .before .before .before .before .before .before .before .before .before .args in
-    (does-all (a .c) (a .cs .now) (a .t .now) (a .out .now) (k .before .before .ready .ensures) (k .before .goes-on .ensures) (not-false _ (k .if1 .left)) (r .step-tested .ensures .0), r .step-tested .ensures .1)
+    let a = c .before .before .before .before .before .before .before .before .before .before .before .before .before .before .before .before .before .before .before .before .before .before .before .before .args in
+    let r = c .before .before .before .before .before .before .before .before .before .before .before .before .before .before .before .ready .ensures in
+    let g = c .before .before .before .before .before .before .before .before .before .before .before .before .before .before .goes-on .ensures in
+    let s = c .before .before .before .before .before .before .before .before .step-tested .ensures in
+    (does-all (a .c) (a .cs .now) (a .t .now) (a .q .now) (a .out .now) r g (not-false _ (c .before .before .before .before .before .before .before .before .before .before .before .before .before .if1 .left)) (s .0), s .1)
 
 pub step-spec : {M : Type 1} → statement M
 step-spec =
@@ -51,9 +61,11 @@ step-spec =
     goes-on-requires
     same-length
     same-length-2
+    same-length-3
     returns
     step-tested-requires
-    same-length-3
     same-length-4
     same-length-5
+    same-length-6
+    same-length-7
     returns-2)

@@ -34,13 +34,16 @@ same-length-2 c = search needs
 same-length-3 : tie.Need-same-length-3
 same-length-3 c = search needs
 
+same-length-4 : tie.Need-same-length-4
+same-length-4 c = search needs
+
 returns : tie.Need-returns
 returns c =
-    let a = c .before .before .before .before .before .before .before .before .before .before .before .before .before .before .before .args in
-    let k = c .before .before .before .before .before .before .step-tested in
+    let a = c .before .before .before .before .before .before .before .before .before .before .before .before .before .before .before .before .before .before .before .args in
+    let k = c .before .before .before .before .before .before .before .before .step-tested in
     let d = rw (part-all (a .used) (a .window .now), part-all (a .wrote) (a .out .now)) at (k .ensures .0) in
     let f = rw (part-all (a .used) (a .window .now), part-all (a .wrote) (a .out .now), length-drop (a .wrote) (a .out .now), length-drop (a .used) (a .window .now)) at (k .ensures .1) in
-    (record { answers = d .answers; connections = d .connections; table = d .table; room = part-back (a .wrote) (a .out .now) _ _ (d .room) }, f)
+    (record { answers = d .answers; connections = d .connections; table = d .table; queue = d .queue; room = part-back (a .wrote) (a .out .now) _ _ (d .room) }, f)
 
 pub step-at-spec : {M : Type 1} → statement M
 step-at-spec =
@@ -56,4 +59,5 @@ step-at-spec =
     same-length
     same-length-2
     same-length-3
+    same-length-4
     returns)

@@ -1,8 +1,10 @@
 -- `service::depart` meets its contract: the row found is the first of the connection in service, and is the one removed. Assumes nothing.
 use native.Mathlib.Omega.{arith}
-use mathlib.Core.Path.{_∙_}
+use mathlib.Core.Path.{_≡_, sym, _∙_}
 use mathlib.Core.Bool.{true}
-use Rattle.tables.proofs.PlacesLaws.{rows-end}
+use lib.ListN.{length}
+use Rattle.tables.specs.Places.{rows, table-of, cut}
+use Rattle.tables.proofs.PlacesLaws.{rows-end, is-places}
 use Rattle.service.proofs.TickLaws as L
 use borrow.Author.Needs.{needs}
 use Rattle.service.proofs.depart.Statement.{statement}
@@ -16,14 +18,16 @@ find-requires c κs = search needs
 
 row-requires : tie.Need-row-requires
 row-requires c κs =
-    let s = c .before .before .before .before .before .before in
-    omega (arith, s .pre .0 .line (λ e. omega arith), rows-end (s .args .t .now))
+    let s = c .before .before .before .before .before .before .before in
+    omega (arith, s .pre .0 .line (λ e. omega arith) (s .pre .2), rows-end (s .args .t .now))
 
 remove-requires : tie.Need-remove-requires
 remove-requires c κs =
-    let s = c .before .before .before .before .before .before .before .before in
-    let l = s .pre .0 .line (λ e. omega arith) in
-    let k = rows-end (s .args .t .now) in
+    let s = c .before .before .before .before .before .before .before .before .before in
+    let t = s .args .t .now in
+    let l = s .pre .0 .line (λ e. omega arith) (s .pre .2) in
+    let k = rows-end t in
+    let w : t ≡ table-of (length t) (rows t) = s .pre .0 .table ∙ sym (is-places t (rows t) (s .pre .0 .size)) in
     search needs
 
 with-line-requires : tie.Need-with-line-requires
@@ -37,11 +41,15 @@ same-length c = search needs
 
 returns : tie.Need-returns
 returns c =
-    let s = c .before .before .before .before .before .before .before .before .before .before .before .before .before in
+    let s = c .before .before .before .before .before .before .before .before .before .before .before .before .before .before in
+    let a = s .args in
     let f = c .before .before .before .before .before .before .before .before .find in
-    let l = s .pre .0 .line (λ e. omega arith) in
-    let k = L.goes-off (s .args .g) (s .args .t .now) (f .result) (f .ensures) (omega arith) in
-    (c .pass .ensures ∙ L.passes true (c .before .with-line .ensures) (c .before .before .before .before .before .before .row .ensures) ∙ k .0, c .before .before .before .before .remove .ensures ∙ k .1)
+    let l = s .pre .0 .line (λ e. omega arith) (s .pre .2) in
+    let k = L.goes-off (a .g) (a .t .now) (a .q .now) (s .pre .0 .table) (s .pre .0 .notices) (f .result) (s .pre .2) (f .ensures) (omega arith) in (
+      c .pass .ensures ∙ L.passes true (c .before .with-line .ensures) (c .before .before .before .before .before .before .row .ensures) ∙ k .0,
+      c .before .before .before .before .remove .ensures ∙ is-places (a .t .now) (cut (f .result) (rows (a .t .now))) (s .pre .0 .size) ∙ k .1,
+      k .2,
+    )
 
 pub depart-spec : {M : Type 1} → statement M
 depart-spec =

@@ -8,16 +8,22 @@ start-requires : tie.Need-start-requires
 start-requires c κs = search needs
 
 send-requires : tie.Need-send-requires
-send-requires c κs = let s = c .before .before .before .before .before in L.in-place-then (s .args .h) (s .args .cs .now) (s .args .t .now) (s .pre .in-place) (c .before .start .result) (c .before .start .ensures)
+send-requires c κs =
+    let s = c .before .before .before .before .before .before .before .before in
+    let a = s .args in
+    L.in-place-then (a .h) (a .cs .now) (a .t .now) (a .q .now) (s .pre .others) (s .pre .in-place) (c .before .before .start .result) (c .before .before .start .ensures)
 
 same-length : tie.Need-same-length
 same-length c = search needs
 
+same-length-2 : tie.Need-same-length-2
+same-length-2 c = search needs
+
 returns : tie.Need-returns
 returns c =
-    let a = c .before .before .before .before .before .before .before .before .args in
-    let g = c .before .before .before .before .start in
-    L.ticks (a .h) (a .cs .now) (a .t .now) (g .result) _ _ (g .ensures) (c .before .before .send .ensures)
+    let a = c .before .before .before .before .before .before .before .before .before .before .before .before .before .args in
+    let g = c .before .before .before .before .before .before .before .start in
+    L.ticks (a .h) (a .cs .now) (a .t .now) (a .q .now) (g .result) _ _ _ (g .ensures) (c .before .before .before .before .send .ensures)
 
 pub run-tick-spec : {M : Type 1} → statement M
-run-tick-spec = tie.close (tie.spec start-requires send-requires same-length returns)
+run-tick-spec = tie.close (tie.spec start-requires send-requires same-length same-length-2 returns)

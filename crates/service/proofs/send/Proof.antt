@@ -1,5 +1,5 @@
--- `service::send` meets its contract: an idle line, a last unit, any other unit. Assumes nothing.
-use mathlib.Core.Path.{_≡_, _∙_}
+-- `service::send` meets its contract: an idle line, a last unit of a notice or of a packet, any other unit. Assumes nothing.
+use mathlib.Core.Path.{_∙_}
 use mathlib.Core.Bool.{false}
 use Rattle.service.proofs.TickLaws as L
 use borrow.Author.Needs.{needs}
@@ -17,18 +17,33 @@ pass-requires c κs = rw (c .before .with-line .ensures) (search needs)
 
 returns : tie.Need-returns
 returns c =
-    let s = c .before .before .before .before .before .before in
-    let k = L.still (s .args .g) (s .args .t .now) (s .pre .table) (search needs) in
-    (c .pass .ensures ∙ L.passes false (c .before .before .with-line .ensures) (c .before .no-packet .ensures) ∙ k .0, k .1)
+    let s = c .before .before .before .before .before .before .before in
+    let k = L.still (s .args .g) (s .args .t .now) (s .args .q .now) (s .pre .table) (s .pre .notices) (search needs) in
+    (c .pass .ensures ∙ L.passes false (c .before .before .with-line .ensures) (c .before .no-packet .ensures) ∙ k .0, k .1, k .2)
 
-depart-requires : tie.Need-depart-requires
-depart-requires c κs = search needs
+depart-notice-requires : tie.Need-depart-notice-requires
+depart-notice-requires c κs = search needs
 
 same-length : tie.Need-same-length
 same-length c = search needs
 
+same-length-2 : tie.Need-same-length-2
+same-length-2 c = search needs
+
 returns-2 : tie.Need-returns-2
-returns-2 c = let e : c .before .before .before .before .before .before .before .before .before .args .g .units ≡ 1 = search needs in rw e (c .before .before .depart .ensures)
+returns-2 c = let a = c .before .before .before .before .before .before .before .before .before .before .before .before .before .args in L.last-unit (a .g) (a .t .now) (a .q .now) _ _ _ (search needs) (c .before .before .depart-notice .ensures)
+
+depart-requires : tie.Need-depart-requires
+depart-requires c κs = search needs
+
+same-length-3 : tie.Need-same-length-3
+same-length-3 c = search needs
+
+same-length-4 : tie.Need-same-length-4
+same-length-4 c = search needs
+
+returns-3 : tie.Need-returns-3
+returns-3 c = let a = c .before .before .before .before .before .before .before .before .before .before .before .before .before .args in L.last-unit (a .g) (a .t .now) (a .q .now) _ _ _ (search needs) (c .before .before .depart .ensures)
 
 sub-with-line : tie.Need-sub-with-line
 sub-with-line c = search needs
@@ -42,11 +57,11 @@ no-packet-requires-2 c κs = search needs
 pass-requires-2 : tie.Need-pass-requires-2
 pass-requires-2 c κs = rw (c .before .with-line2 .ensures) (search needs)
 
-returns-3 : tie.Need-returns-3
-returns-3 c =
-    let s = c .before .before .before .before .before .before .before .before .before in
-    let k = L.goes-on (s .args .g) (s .args .t .now) (s .pre .table) (search needs) (search needs) in
-    (c .pass2 .ensures ∙ L.passes false (c .before .before .with-line2 .ensures) (c .before .no-packet2 .ensures) ∙ k .0, k .1)
+returns-4 : tie.Need-returns-4
+returns-4 c =
+    let s = c .before .before .before .before .before .before .before .before .before .before in
+    let k = L.goes-on (s .args .g) (s .args .t .now) (s .args .q .now) (s .pre .table) (s .pre .notices) (search needs) (search needs) in
+    (c .pass2 .ensures ∙ L.passes false (c .before .before .with-line2 .ensures) (c .before .no-packet2 .ensures) ∙ k .0, k .1, k .2)
 
 pub send-spec : {M : Type 1} → statement M
 send-spec =
@@ -56,11 +71,16 @@ send-spec =
     no-packet-requires
     pass-requires
     returns
-    depart-requires
+    depart-notice-requires
     same-length
+    same-length-2
     returns-2
+    depart-requires
+    same-length-3
+    same-length-4
+    returns-3
     sub-with-line
     with-line-requires-2
     no-packet-requires-2
     pass-requires-2
-    returns-3)
+    returns-4)

@@ -1,12 +1,15 @@
--- `service::start` meets its contract: a line in service is left alone, an idle one takes what was chosen. Assumes nothing.
-use mathlib.Core.Path.{_∙_}
+-- `service::start` meets its contract: a line in service is left alone, an idle one takes what was chosen, else the first notice. Assumes nothing.
+use native.Mathlib.Omega.{arith}
+use mathlib.Core.Path.{ap, _∙_}
+use Rattle.rules.specs.declared.Packet.{Packet}
+use Rattle.tables.proofs.NoticeLaws.{notices-length-is}
 use borrow.Author.Needs.{needs}
 use Rattle.service.proofs.TickLaws as L
 use Rattle.service.proofs.start.Statement.{statement}
 use Rattle.service.proofs.start.Tie as tie
 
 returns : tie.Need-returns
-returns c = let a = c .before .before .before .before .args in L.busy (a .h) (a .cs .now) (a .t .now) (search needs)
+returns c = let a = c .before .before .before .before .before .args in L.busy (a .h) (a .cs .now) (a .t .now) (a .q .now) (search needs)
 
 choose-requires : tie.Need-choose-requires
 choose-requires c κs = search needs
@@ -16,10 +19,27 @@ with-line-requires c κs = search needs
 
 returns-2 : tie.Need-returns-2
 returns-2 c =
-    let b = c .before .choose in
-    let i = c .before .before in
-    let a = i .before .before .before .before .args in
-    c .with-line .ensures ∙ L.idle (a .h) (a .cs .now) (a .t .now) (b .result) (i .if1 .left) (b .ensures)
+    let b = c .before .before .choose in
+    let i = c .before .before .before in
+    let a = i .before .before .before .before .before .args in
+    c .with-line .ensures ∙ L.takes-packet (a .h) (a .cs .now) (a .t .now) (a .q .now) (b .result) (i .if1 .left) (b .ensures) (c .before .if2 .taken)
+
+row-requires : tie.Need-row-requires
+row-requires c κs = let s = c .before .before .before .before .before .before .before in omega (arith, notices-length-is (s .args .q .now) (s .pre .3))
+
+with-line-requires-2 : tie.Need-with-line-requires-2
+with-line-requires-2 c κs = search needs
+
+returns-3 : tie.Need-returns-3
+returns-3 c =
+    let r = c .before .row in
+    let b = c .before .before .before .choose in
+    let i = c .before .before .before .before in
+    let s = i .before .before .before .before .before in
+    let a = s .args in
+    c .with-line2 .ensures
+    ∙ ap (λ (p : Packet). L.lined (a .h) (p .connection, p .len)) (r .ensures)
+    ∙ L.takes-notice (a .h) (a .cs .now) (a .t .now) (a .q .now) (b .result) (i .if1 .left) (b .ensures) (c .before .before .if2 .left) (s .pre .3)
 
 pub start-spec : {M : Type 1} → statement M
-start-spec = tie.close (tie.spec returns choose-requires with-line-requires returns-2)
+start-spec = tie.close (tie.spec returns choose-requires with-line-requires returns-2 row-requires with-line-requires-2 returns-3)

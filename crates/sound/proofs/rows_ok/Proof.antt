@@ -2,14 +2,13 @@ use borrow.Author.Needs.{needs}
 use Rattle.sound.proofs.StateLaws as S
 use Rattle.tables.proofs.PlacesLaws as P
 use borrow.Author.Tests.{not-true, not-false}
-use Prim.Native.Nat.{ℕ, suc, _≤_, _-_}
+use Prim.Native.Nat.{_≤_, _-_}
 use native.Mathlib.Omega.{arith}
-use native.Mathlib.Numerals.{add-one}
-use mathlib.Core.Path.{_≡_, refl, sym, ap, _∙_}
-use lib.ListN.{length, drop}
+use mathlib.Core.Path.{_≡_, refl, sym, _∙_}
+use lib.ListN.{drop}
 use Rattle.rules.specs.Words.{each}
 use Rattle.rules.specs.SoundTest.{row-sound}
-use Rattle.tables.specs.Places.{rows, row-at}
+use Rattle.tables.specs.Places.{rows}
 use Rattle.lines.specs.Members.{connections}
 use Rattle.sound.proofs.rows_ok.Statement.{statement}
 use Rattle.sound.proofs.rows_ok.Tie as tie
@@ -32,10 +31,7 @@ row-ok-requires c κs = search needs
 returns : tie.Need-returns Inv-loop μ-loop
 returns c =
     let a = c .before .before .before .before .before .before .before .args in
-    let i = c .before .before .before .before .loop .i in
-    S.each-stop (row-sound (connections (a .cs .now)) (a .clock)) (drop i (rows (a .t .now))) (row-at (a .t .now) i) (drop (suc i) (rows (a .t .now))) (P.rows-from (a .t .now) i (omega arith))
-    (ap (row-sound (connections (a .cs .now)) (a .clock)) (sym (c .before .before .row .ensures)) ∙ sym (c .before .row-ok .ensures) ∙ not-true _ (c .if1 .taken))
-    ∙ c .before .before .before .before .loop .inv .1
+    S.row-stops (row-sound (connections (a .cs .now)) (a .clock)) (a .t .now) (c .before .before .before .before .loop .i) (omega arith) _ (c .before .before .row .ensures) (c .before .before .before .before .loop .inv .1) (sym (c .before .row-ok .ensures) ∙ not-true _ (c .if1 .taken))
 
 add-i : tie.Need-add-i Inv-loop μ-loop
 add-i c = search needs
@@ -46,19 +42,10 @@ loop-less c = search needs
 loop-again : tie.Need-loop-again Inv-loop μ-loop
 loop-again c =
     let a = c .before .before .before .before .before .before .before .args in
-    let i = c .before .before .before .before .loop .i in (
-      search needs,
-      ap (λ (j : ℕ). each (row-sound (connections (a .cs .now)) (a .clock)) (drop j (rows (a .t .now)))) (add-one i)
-          ∙ S.each-pass (row-sound (connections (a .cs .now)) (a .clock)) (drop i (rows (a .t .now))) (row-at (a .t .now) i) (drop (suc i) (rows (a .t .now))) (P.rows-from (a .t .now) i (omega arith))
-          (ap (row-sound (connections (a .cs .now)) (a .clock)) (sym (c .before .before .row .ensures)) ∙ sym (c .before .row-ok .ensures) ∙ not-false _ (c .if1 .left))
-          ∙ c .before .before .before .before .loop .inv .1,
-    )
+    (search needs, S.row-passes (row-sound (connections (a .cs .now)) (a .clock)) (a .t .now) (c .before .before .before .before .loop .i) (omega arith) _ (c .before .before .row .ensures) (c .before .before .before .before .loop .inv .1) (sym (c .before .row-ok .ensures) ∙ not-false _ (c .if1 .left)))
 
 returns-2 : tie.Need-returns-2 Inv-loop μ-loop
-returns-2 c =
-    let a = c .before .before .before .before .args in
-    let e : c .before .loop .i ≡ length (rows (a .t .now)) = omega arith in
-    S.each-end (row-sound (connections (a .cs .now)) (a .clock)) (rows (a .t .now)) ∙ rw e at (c .before .loop .inv .1)
+returns-2 c = let a = c .before .before .before .before .args in S.rows-done (row-sound (connections (a .cs .now)) (a .clock)) (a .t .now) (c .before .loop .i) (omega arith) (c .before .loop .inv .1)
 
 pub rows-ok-spec : {M : Type 1} → statement M
 rows-ok-spec =

@@ -1,4 +1,3 @@
-use borrow.Author.Needs.{needs}
 use Rattle.sound.proofs.ChainLaws as C
 use borrow.Author.Tests.{not-true, not-false, eq-eqb, ne-eqb}
 use mathlib.Core.Path.{refl, sym, _∙_}
@@ -28,10 +27,13 @@ returns-5 : tie.Need-returns-5
 returns-5 c = let a = c .before .before .before .before .before .before .before .before .before .args in C.goes-on _ _ _ (eq-eqb (a .l .largest) 0 (search needs)) (C.goes-on _ _ _ (sym (c .before .before .before .before .zero-from .ensures) ∙ not-false _ (c .before .before .before .if2 .left)) (C.goes-on _ _ _ (eq-eqb (a .n) 0 (search needs)) (C.goes-on _ _ _ (eq-eqb (a .clock) 0 (search needs)) (C.fails _ _ (ne-eqb (a .held) 0 (search needs))))))
 
 returns-6 : tie.Need-returns-6
-returns-6 c = let a = c .before .before .before .before .before .before .before .before .before .before .args in C.goes-on _ _ _ (eq-eqb (a .l .largest) 0 (search needs)) (C.goes-on _ _ _ (sym (c .before .before .before .before .before .zero-from .ensures) ∙ not-false _ (c .before .before .before .before .if2 .left)) (C.goes-on _ _ _ (eq-eqb (a .n) 0 (search needs)) (C.goes-on _ _ _ (eq-eqb (a .clock) 0 (search needs)) (C.goes-on _ _ _ (eq-eqb (a .held) 0 (search needs)) (C.fails _ _ (ne-eqb (a .serving) 0 (search needs)))))))
+returns-6 c = let a = c .before .before .before .before .before .before .before .before .before .before .args in C.goes-on _ _ _ (eq-eqb (a .l .largest) 0 (search needs)) (C.goes-on _ _ _ (sym (c .before .before .before .before .before .zero-from .ensures) ∙ not-false _ (c .before .before .before .before .if2 .left)) (C.goes-on _ _ _ (eq-eqb (a .n) 0 (search needs)) (C.goes-on _ _ _ (eq-eqb (a .clock) 0 (search needs)) (C.goes-on _ _ _ (eq-eqb (a .held) 0 (search needs)) (C.fails _ _ (ne-eqb (a .waiting) 0 (search needs)))))))
 
 returns-7 : tie.Need-returns-7
-returns-7 c = let a = c .before .before .before .before .before .before .before .before .before .before .args in C.goes-on _ _ _ (eq-eqb (a .l .largest) 0 (search needs)) (C.goes-on _ _ _ (sym (c .before .before .before .before .before .zero-from .ensures) ∙ not-false _ (c .before .before .before .before .if2 .left)) (C.goes-on _ _ _ (eq-eqb (a .n) 0 (search needs)) (C.goes-on _ _ _ (eq-eqb (a .clock) 0 (search needs)) (C.goes-on _ _ _ (eq-eqb (a .held) 0 (search needs)) (C.goes-on _ _ _ (eq-eqb (a .serving) 0 (search needs)) (refl))))))
+returns-7 c = let a = c .before .before .before .before .before .before .before .before .before .before .before .args in C.goes-on _ _ _ (eq-eqb (a .l .largest) 0 (search needs)) (C.goes-on _ _ _ (sym (c .before .before .before .before .before .before .zero-from .ensures) ∙ not-false _ (c .before .before .before .before .before .if2 .left)) (C.goes-on _ _ _ (eq-eqb (a .n) 0 (search needs)) (C.goes-on _ _ _ (eq-eqb (a .clock) 0 (search needs)) (C.goes-on _ _ _ (eq-eqb (a .held) 0 (search needs)) (C.goes-on _ _ _ (eq-eqb (a .waiting) 0 (search needs)) (C.fails _ _ (ne-eqb (a .serving) 0 (search needs))))))))
+
+returns-8 : tie.Need-returns-8
+returns-8 c = let a = c .before .before .before .before .before .before .before .before .before .before .before .args in C.goes-on _ _ _ (eq-eqb (a .l .largest) 0 (search needs)) (C.goes-on _ _ _ (sym (c .before .before .before .before .before .before .zero-from .ensures) ∙ not-false _ (c .before .before .before .before .before .if2 .left)) (C.goes-on _ _ _ (eq-eqb (a .n) 0 (search needs)) (C.goes-on _ _ _ (eq-eqb (a .clock) 0 (search needs)) (C.goes-on _ _ _ (eq-eqb (a .held) 0 (search needs)) (C.goes-on _ _ _ (eq-eqb (a .waiting) 0 (search needs)) (C.goes-on _ _ _ (eq-eqb (a .serving) 0 (search needs)) (refl)))))))
 
 pub unused-ok-spec : {M : Type 1} → statement M
 unused-ok-spec =
@@ -45,4 +47,5 @@ unused-ok-spec =
     returns-4
     returns-5
     returns-6
-    returns-7)
+    returns-7
+    returns-8)

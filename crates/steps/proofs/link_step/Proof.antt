@@ -23,12 +23,19 @@ same-length c = search needs
 
 returns : tie.Need-returns
 returns c =
-    let a = c .before .before .before .before .before .before .before .before .before .args in
+    let a = c .before .before .before .before .before .before .before .before .before .before .args in
     let k = c .before .before .before .before .before .link-tested in
+    let w = c .before .before .answered .ensures in
     let v = c .before .before .before .before .low .ensures ∙ ap (λ (x : Told). x .verdict % 256) (k .ensures .answers) in
-    did-call (link (a .l)) (a .h) (a .cs .now) (a .t .now) _ _ _ _ (k .result) (k .ensures) (a .at) (a .used) _ (Linked (c .before .before .before .before .low .result)) _
-    (linked-low _ _ v) (c .before .before .answered .ensures .0) (c .before .before .answered .ensures .1)
+    did-call (link (a .l)) (a .h) (a .cs .now) (a .t .now) (a .q .now) _ _ _ _ _ (k .result) (k .ensures) (a .at) (a .used) _ (Linked (c .before .before .before .before .low .result)) _
+    (linked-low _ _ v) (w .0) (w .1)
 
 pub link-step-spec : {M : Type 1} → statement M
 link-step-spec =
-    tie.close (tie.spec link-tested-requires low-requires answered-requires same-length returns)
+    tie.close
+    (tie.spec
+    link-tested-requires
+    low-requires
+    answered-requires
+    same-length
+    returns)

@@ -29,12 +29,13 @@ same-length-3 c = search needs
 
 returns : tie.Need-returns
 returns c =
-    let a = c .before .before .before .before .before .before .before .before .before .before .before .before .before .before .before .args in
+    let a = c .before .before .before .before .before .before .before .before .before .before .before .before .before .before .before .before .args in
     let k = c .before .before .before .before .before .before .before .before .before .offer-tested in
+    let w = c .before .before .answered .ensures in
     let v = c .before .before .before .before .low .ensures ∙ ap (λ (x : Told). x .verdict % 256) (k .ensures .answers) in
     let n = ap (λ (x : Told). x .number) (k .ensures .answers) in
-    did-call (offer (a .c) (a .len) (a .tag)) (a .h) (a .cs .now) (a .t .now) _ _ _ _ (k .result) (k .ensures) (a .at) (a .used) _ (Offered (c .before .before .before .before .low .result) (k .result .number)) _
-    (offered-low _ _ _ _ v n) (c .before .before .answered .ensures .0) (c .before .before .answered .ensures .1)
+    did-call (offer (a .c) (a .len) (a .tag)) (a .h) (a .cs .now) (a .t .now) (a .q .now) _ _ _ _ _ (k .result) (k .ensures) (a .at) (a .used) _ (Offered (c .before .before .before .before .low .result) (k .result .number)) _
+    (offered-low _ _ _ _ v n) (w .0) (w .1)
 
 pub offer-step-spec : {M : Type 1} → statement M
 offer-step-spec =

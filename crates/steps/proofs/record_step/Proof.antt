@@ -46,6 +46,15 @@ offer-step-requires c κs = search needs
 enum-known-what-4 : tie.Need-enum-known-what-4
 enum-known-what-4 c = search needs
 
+cast-notice-step : tie.Need-cast-notice-step
+cast-notice-step c = search needs
+
+notice-step-requires : tie.Need-notice-step-requires
+notice-step-requires c κs = search needs
+
+enum-known-what-5 : tie.Need-enum-known-what-5
+enum-known-what-5 c = search needs
+
 enum-told : tie.Need-enum-told
 enum-told c = search needs
 
@@ -61,13 +70,13 @@ same-length-2 c = search needs
 same-length-3 : tie.Need-same-length-3
 same-length-3 c = search needs
 
+same-length-4 : tie.Need-same-length-4
+same-length-4 c = search needs
+
 returns : tie.Need-returns
 returns c =
     let k = c .before .before .link-step in
-    (rw (c .before .before .before .before .before .before .before .before .what .given .1) (rw (c .before .before .before .before .before .before .link-named .ensures) at (k .ensures)), rw (k .ensures .answers) (omega arith))
-
-same-length-4 : tie.Need-same-length-4
-same-length-4 c = search needs
+    (rw (c .before .before .before .before .before .before .before .before .before .what .given .1) (rw (c .before .before .before .before .before .before .before .link-named .ensures) at (k .ensures)), rw (k .ensures .answers) (omega arith))
 
 same-length-5 : tie.Need-same-length-5
 same-length-5 c = search needs
@@ -75,38 +84,70 @@ same-length-5 c = search needs
 same-length-6 : tie.Need-same-length-6
 same-length-6 c = search needs
 
-returns-2 : tie.Need-returns-2
-returns-2 c =
-    let k = c .before .before .before .before .admit-step in
-    (rw (c .before .before .before .before .before .before .before .before .before .before .what2 .given .1) (rw (c .before .before .before .before .before .before .before .before .connection-named .ensures) at (k .ensures)), rw (k .ensures .answers) (omega arith))
-
 same-length-7 : tie.Need-same-length-7
 same-length-7 c = search needs
 
 same-length-8 : tie.Need-same-length-8
 same-length-8 c = search needs
 
+returns-2 : tie.Need-returns-2
+returns-2 c =
+    let k = c .before .before .before .before .admit-step in
+    (rw (c .before .before .before .before .before .before .before .before .before .before .before .what2 .given .1) (rw (c .before .before .before .before .before .before .before .before .before .connection-named .ensures) at (k .ensures)), rw (k .ensures .answers) (omega arith))
+
 same-length-9 : tie.Need-same-length-9
 same-length-9 c = search needs
-
-returns-3 : tie.Need-returns-3
-returns-3 c =
-    let k = c .before .before .before .before .before .before .offer-step in
-    (rw (c .before .before .before .before .before .before .before .before .before .before .before .what3 .given .1) (k .ensures), rw (k .ensures .answers) (omega arith))
-
-returns-4 : tie.Need-returns-4
-returns-4 c =
-    let a = c .before .before .before .before .before .before .args in
-    (rw (c .before .what4 .given .1) (did-kept (a .h) (a .cs .now) (a .t .now) (c .before .before .before .before .before .before .pre .0) _ _ _ [] GoOn _ _ _ refl refl), search needs)
 
 same-length-10 : tie.Need-same-length-10
 same-length-10 c = search needs
 
+same-length-11 : tie.Need-same-length-11
+same-length-11 c = search needs
+
+same-length-12 : tie.Need-same-length-12
+same-length-12 c = search needs
+
+returns-3 : tie.Need-returns-3
+returns-3 c =
+    let k = c .before .before .before .before .before .before .offer-step in
+    (rw (c .before .before .before .before .before .before .before .before .before .before .before .before .what3 .given .1) (k .ensures), rw (k .ensures .answers) (omega arith))
+
+same-length-13 : tie.Need-same-length-13
+same-length-13 c = search needs
+
+same-length-14 : tie.Need-same-length-14
+same-length-14 c = search needs
+
+same-length-15 : tie.Need-same-length-15
+same-length-15 c = search needs
+
+same-length-16 : tie.Need-same-length-16
+same-length-16 c = search needs
+
+returns-4 : tie.Need-returns-4
+returns-4 c =
+    let k = c .before .before .before .before .notice-step in
+    (rw (c .before .before .before .before .before .before .before .before .before .before .what4 .given .1) (k .ensures), rw (k .ensures .answers) (omega arith))
+
 returns-5 : tie.Need-returns-5
 returns-5 c =
-    let a = c .before .before .before .before .before .before .before .before .before .args in
+    let s = c .before .before .before .before .before .before .before .before in
+    let a = s .args in
+    let k = c .begin-ticks in
+    (rw (c .before .before .what5 .given .1) (did-kept (a .h) (a .cs .now) (a .t .now) (a .q .now) (s .pre .0) _ _ _ [] GoOn _ _ _ (k .ensures) refl), rw (k .ensures) (search needs))
+
+same-length-17 : tie.Need-same-length-17
+same-length-17 c = search needs
+
+returns-6 : tie.Need-returns-6
+returns-6 c =
+    let s = c .before .before .before .before .before .before .before .before .before .before in
+    let a = s .args in
     let k = c .before .before .broken-step in
-    (rw (c .before .before .before .before .enum-told .given .1) (did-kept (a .h) (a .cs .now) (a .t .now) (c .before .before .before .before .before .before .before .before .before .pre .0) _ _ _ _ Done _ _ _ (k .ensures .0) (k .ensures .1)), rw (k .ensures .0) (omega arith))
+    (rw (c .before .before .before .before .enum-told .given .1) (did-kept (a .h) (a .cs .now) (a .t .now) (a .q .now) (s .pre .0) _ _ _ _ Done _ _ _ (k .ensures .0) (k .ensures .1)), rw (k .ensures .0) (omega arith))
+
+begin-ticks-requires : tie.Need-begin-ticks-requires
+begin-ticks-requires c κs = search needs
 
 pub record-step-spec : {M : Type 1} → statement M
 record-step-spec =
@@ -125,20 +166,32 @@ record-step-spec =
     cast-offer-step-2
     offer-step-requires
     enum-known-what-4
+    cast-notice-step
+    notice-step-requires
+    enum-known-what-5
+    begin-ticks-requires
     enum-told
     broken-step-requires
     same-length
     same-length-2
     same-length-3
-    returns
     same-length-4
+    returns
     same-length-5
     same-length-6
-    returns-2
     same-length-7
     same-length-8
+    returns-2
     same-length-9
-    returns-3
-    returns-4
     same-length-10
-    returns-5)
+    same-length-11
+    same-length-12
+    returns-3
+    same-length-13
+    same-length-14
+    same-length-15
+    same-length-16
+    returns-4
+    returns-5
+    same-length-17
+    returns-6)

@@ -38,17 +38,17 @@ same-length-2 c = search needs
 same-length-3 : tie.Need-same-length-3
 same-length-3 c = search needs
 
-returns : tie.Need-returns
-returns c =
-    let a = c .before .before .before .before .before .before .before .before .before .before .before .before .before .before .before .before .before .args in
-    let e = c .before .before .before .before .before .before .before .before .before .before .enum-told .given .1 in
-    let k = c .before .before .before .before .before .before .read-step in (
-      rw (next-phase (a .c) (a .cs .now) (a .t .now) (a .window .now) (a .last) e) (k .ensures .0),
-      facts-phase (a .c) e (length (a .window .now)) (a .last) (length (a .out .now)) (k .result) (k .ensures .1),
-    )
-
 same-length-4 : tie.Need-same-length-4
 same-length-4 c = search needs
+
+returns : tie.Need-returns
+returns c =
+    let a = c .before .before .before .before .before .before .before .before .before .before .before .before .before .before .before .before .before .before .before .before .before .args in
+    let e = c .before .before .before .before .before .before .before .before .before .before .before .before .before .enum-told .given .1 in
+    let k = c .before .before .before .before .before .before .before .before .read-step in (
+      rw (next-phase (a .c) (a .cs .now) (a .t .now) (a .q .now) (a .window .now) (a .last) e) (k .ensures .0),
+      facts-phase (a .c) e (length (a .window .now)) (a .last) (length (a .out .now)) (k .result) (k .ensures .1),
+    )
 
 same-length-5 : tie.Need-same-length-5
 same-length-5 c = search needs
@@ -56,24 +56,33 @@ same-length-5 c = search needs
 same-length-6 : tie.Need-same-length-6
 same-length-6 c = search needs
 
+same-length-7 : tie.Need-same-length-7
+same-length-7 c = search needs
+
+same-length-8 : tie.Need-same-length-8
+same-length-8 c = search needs
+
 returns-2 : tie.Need-returns-2
 returns-2 c =
-    let a = c .before .before .before .before .before .before .before .before .before .before .before .before .before .before .before .before .args in
-    let e = c .before .before .before .before .before .before .before .before .before .p .given .1 in
-    let k = c .before .before .before .before .tick-step in (
-      rw (next-phase (a .c) (a .cs .now) (a .t .now) (a .window .now) (a .last) e) (k .ensures),
+    let s = c .before .before .before .before .before .before .before .before .before .before .before .before .before .before .before .before .before .before .before .before in
+    let a = s .args in
+    let e = c .before .before .before .before .before .before .before .before .before .before .before .before .p .given .1 in
+    let k = c .before .before .before .before .before .before .tick-step in (
+      rw (next-phase (a .c) (a .cs .now) (a .t .now) (a .q .now) (a .window .now) (a .last) e) (k .ensures),
       facts-phase (a .c) e (length (a .window .now)) (a .last) (length (a .out .now)) (k .result)
-          (tick-facts _ _ _ (view (a .c .hub) (a .cs .now) (a .t .now)) _ _ _ _ (c .before .before .before .before .before .before .before .before .before .before .before .before .before .before .before .before .pre .1) _ (k .ensures .answers)),
+          (tick-facts _ _ _ (view (a .c .hub) (a .cs .now) (a .t .now) (a .q .now)) _ _ _ _ (s .pre .1) _ (k .ensures .answers)),
     )
 
 returns-3 : tie.Need-returns-3
 returns-3 c =
-    let a = c .before .before .before .before .before .before .before .before .args in
-    let e = c .before .enum-told2 .given .1 in (
-      rw (next-phase (a .c) (a .cs .now) (a .t .now) (a .window .now) (a .last) e)
-          (did-kept (a .c .hub) (a .cs .now) (a .t .now) (c .before .before .before .before .before .before .before .before .pre .0) (a .c .at) Finished 0 [] Done (c .waits .result) _ _ (c .waits .ensures) refl),
-      facts-phase (a .c) e (length (a .window .now)) (a .last) (length (a .out .now)) (c .waits .result)
-          (rw (c .waits .ensures) (waits-facts (a .c .at) Finished Finished (a .c .hub) (length (a .window .now)) (a .last) (length (a .out .now)) Done (omega arith) refl (λ z. cc))),
+    let s = c .before .before .before .before .before .before .before .before .before in
+    let a = s .args in
+    let e = c .before .enum-told2 .given .1 in
+    let w = c .waits in (
+      rw (next-phase (a .c) (a .cs .now) (a .t .now) (a .q .now) (a .window .now) (a .last) e)
+          (did-kept (a .c .hub) (a .cs .now) (a .t .now) (a .q .now) (s .pre .0) (a .c .at) Finished 0 [] Done (w .result) _ _ (w .ensures) refl),
+      facts-phase (a .c) e (length (a .window .now)) (a .last) (length (a .out .now)) (w .result)
+          (rw (w .ensures) (waits-facts (a .c .at) Finished Finished (a .c .hub) (length (a .window .now)) (a .last) (length (a .out .now)) Done (omega arith) refl (λ z. cc))),
     )
 
 pub step-tested-spec : {M : Type 1} → statement M
@@ -89,9 +98,11 @@ step-tested-spec =
     same-length
     same-length-2
     same-length-3
-    returns
     same-length-4
+    returns
     same-length-5
     same-length-6
+    same-length-7
+    same-length-8
     returns-2
     returns-3)

@@ -1,3 +1,4 @@
+use lib.ListN.{length}
 use mathlib.Core.List.{List}
 use Rattle.rules.specs.declared.Packet.{Packet}
 use Rattle.tables.specs.Places.{no-packet}
@@ -43,7 +44,7 @@ returns c =
     c .before .before .put-row .ensures
     ∙ ap (λ (u : List ℕ). put u (a .held - 1) (c .before .before .before .no-packet .result)) (c .before .before .before .before .before .before .before .shift .ensures)
     ∙ ap (λ (p : Packet). put (shifted (a .t .now) (5 * a .i) (5 * (a .held - a .i - 1))) (a .held - 1) p) (c .before .before .before .no-packet .ensures) in
-    flat ∙ L.cut-table (a .t .now) (a .held) (a .i) (search needs) (search needs) (search needs) (search needs)
+    flat ∙ L.cut-table (length (a .t .now)) (a .t .now) (a .held) (a .i) (search needs) (search needs) (search needs) (search needs)
 
 pub remove-spec : {M : Type 1} → statement M
 remove-spec =

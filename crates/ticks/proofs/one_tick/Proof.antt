@@ -24,12 +24,16 @@ same-length c = search needs
 same-length-2 : tie.Need-same-length-2
 same-length-2 c = search needs
 
+same-length-3 : tie.Need-same-length-3
+same-length-3 c = search needs
+
 returns : tie.Need-returns
 returns c =
-    let a = c .before .before .before .before .before .before .before .before .before .before .before .before .before .before .before .before .args in
+    let a = c .before .before .before .before .before .before .before .before .before .before .before .before .before .before .before .before .before .before .before .before .args in
     let k = c .before .before .answered .ensures in
-    let q = c .before .before .before .before .before .before .before .before .before .before .before .tick-tested in
-    did-refused (a .at) (a .asked) (a .left) (a .h) (a .cs .now) (a .t .now) (q .result) _ (q .ensures) _ _ _ (c .before .before .before .before .before .before .if1 .taken) (c .before .before .before .before .low .result) (c .before .before .before .before .before .without .result) (c .before .before .before .before .low .ensures) (c .before .before .before .before .before .without .ensures) (k .0) (k .1)
+    let w = c .before .before .before .before .before .before .before .before .before .before .before .before .before .tick-tested in
+    let n = c .before .before .before .before .before .without in
+    did-refused (a .at) (a .asked) (a .left) (a .h) (a .cs .now) (a .t .now) (a .q .now) (w .result) _ _ (w .ensures) _ _ _ (c .before .before .before .before .before .before .if1 .taken) (c .before .before .before .before .low .result) (n .result) (c .before .before .before .before .low .ensures) (n .ensures) (k .0) (k .1)
 
 put-departure-requires : tie.Need-put-departure-requires
 put-departure-requires c κs = search needs
@@ -37,18 +41,21 @@ put-departure-requires c κs = search needs
 sub-rest : tie.Need-sub-rest
 sub-rest c = search needs
 
-same-length-3 : tie.Need-same-length-3
-same-length-3 c = search needs
-
 same-length-4 : tie.Need-same-length-4
 same-length-4 c = search needs
 
+same-length-5 : tie.Need-same-length-5
+same-length-5 c = search needs
+
+same-length-6 : tie.Need-same-length-6
+same-length-6 c = search needs
+
 returns-2 : tie.Need-returns-2
 returns-2 c =
-    let a = c .before .before .before .before .before .before .before .before .before .before .before .before .before .before .args in
+    let a = c .before .before .before .before .before .before .before .before .before .before .before .before .before .before .before .before .before .before .args in
     let k = c .before .before .put-departure .ensures in
-    let q = c .before .before .before .before .before .before .before .before .before .tick-tested in
-    did-tick (a .at) (a .asked) (a .left) (a .h) (a .cs .now) (a .t .now) (q .result) _ (q .ensures) _ _ _ (c .before .before .before .before .if1 .left) (rw (k .0)) (k .1)
+    let w = c .before .before .before .before .before .before .before .before .before .before .before .tick-tested in
+    did-tick (a .at) (a .asked) (a .left) (a .h) (a .cs .now) (a .t .now) (a .q .now) (w .result) _ _ (w .ensures) _ _ _ (c .before .before .before .before .if1 .left) (rw (k .0)) (k .1)
 
 pub one-tick-spec : {M : Type 1} → statement M
 one-tick-spec =
@@ -61,9 +68,11 @@ one-tick-spec =
     answered-requires
     same-length
     same-length-2
+    same-length-3
     returns
     put-departure-requires
     sub-rest
-    same-length-3
     same-length-4
+    same-length-5
+    same-length-6
     returns-2)

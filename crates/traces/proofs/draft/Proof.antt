@@ -4,7 +4,7 @@ use native.Mathlib.Omega.{arith}
 use Rattle.fields.specs.Formats.{laid}
 use Rattle.fields.specs.Numbers.{sum}
 use Rattle.fields.proofs.DraftLaws.{done, before, drafted, drafted-behind}
-use Rattle.traces.specs.Kinds.{CN, PK, TK}
+use Rattle.traces.specs.Kinds.{CN, PK, NQ, TK}
 use borrow.Author.Needs.{needs}
 use Rattle.traces.proofs.draft.Statement.{statement}
 use Rattle.traces.proofs.draft.Tie as tie
@@ -48,6 +48,18 @@ marked-requires c κs = search needs
 two-requires-4 : tie.Need-two-requires-4
 two-requires-4 c κs = search needs
 
+four-requires-2 : tie.Need-four-requires-2
+four-requires-2 c κs = search needs
+
+enum-known-r-5 : tie.Need-enum-known-r-5
+enum-known-r-5 c = search needs
+
+marked-requires-2 : tie.Need-marked-requires-2
+marked-requires-2 c κs = search needs
+
+two-requires-5 : tie.Need-two-requires-5
+two-requires-5 c κs = search needs
+
 enum-told : tie.Need-enum-told
 enum-told c = search needs
 
@@ -67,11 +79,15 @@ returns-3 c = rw (c .before .before .before .before .r3 .given .1) (drafted-behi
 
 returns-4 : tie.Need-returns-4
 unfolding laid sum
-returns-4 c = rw (c .before .before .before .r4 .given .1) (drafted TK _ (c .before .marked .ensures) (before (c .two4 .ensures) done) (omega arith))
+returns-4 c = rw (c .before .before .before .before .r4 .given .1) (drafted NQ _ (c .before .before .marked .ensures) (before (c .before .two4 .ensures) (before (c .four2 .ensures) done)) (omega arith))
 
 returns-5 : tie.Need-returns-5
+unfolding laid sum
+returns-5 c = rw (c .before .before .before .r5 .given .1) (drafted TK _ (c .before .marked2 .ensures) (before (c .two5 .ensures) done) (omega arith))
+
+returns-6 : tie.Need-returns-6
 unfolding laid
-returns-5 c = rw (c .before .enum-told .given .1) (c .empty .ensures)
+returns-6 c = rw (c .before .enum-told .given .1) (c .empty .ensures)
 
 pub draft-spec : {M : Type 1} → statement M
 draft-spec =
@@ -90,10 +106,15 @@ draft-spec =
     enum-known-r-4
     marked-requires
     two-requires-4
+    four-requires-2
+    enum-known-r-5
+    marked-requires-2
+    two-requires-5
     enum-told
     empty-requires
     returns
     returns-2
     returns-3
     returns-4
-    returns-5)
+    returns-5
+    returns-6)

@@ -40,8 +40,17 @@ whole-of-requires-2 c κs = search needs
 two-requires-4 : tie.Need-two-requires-4
 two-requires-4 c κs = search needs
 
+four-requires-2 : tie.Need-four-requires-2
+four-requires-2 c κs = search needs
+
 whole-of-requires-3 : tie.Need-whole-of-requires-3
 whole-of-requires-3 c κs = search needs
+
+two-requires-5 : tie.Need-two-requires-5
+two-requires-5 c κs = search needs
+
+whole-of-requires-4 : tie.Need-whole-of-requires-4
+whole-of-requires-4 c κs = search needs
 
 nothing-requires : tie.Need-nothing-requires
 nothing-requires c κs = search needs
@@ -70,19 +79,27 @@ returns-3 c =
 returns-4 : tie.Need-returns-4
 unfolding read-numbered number read-row get-fields sum
 returns-4 c =
-    let m = c .before .before .before .before .mark-of in
-    rw (numbered (trace .rows) (c .before .before .before .before .before .before .args .s .now) (m .result) 0x4B54 trace-marks (m .ensures) (search needs))
-    (rw (c .whole-of3 .ensures, c .before .two4 .ensures))
+    let m = c .before .before .before .before .before .mark-of in
+    rw (numbered (trace .rows) (c .before .before .before .before .before .before .before .args .s .now) (m .result) 0x514E trace-marks (m .ensures) (search needs))
+    (rw (c .whole-of3 .ensures, c .before .before .two4 .ensures, c .before .four2 .ensures))
 
 returns-5 : tie.Need-returns-5
-unfolding read-numbered number
+unfolding read-numbered number read-row get-fields sum
 returns-5 c =
+    let m = c .before .before .before .before .mark-of in
+    rw (numbered (trace .rows) (c .before .before .before .before .before .before .args .s .now) (m .result) 0x4B54 trace-marks (m .ensures) (search needs))
+    (rw (c .whole-of4 .ensures, c .before .two5 .ensures))
+
+returns-6 : tie.Need-returns-6
+unfolding read-numbered number
+returns-6 c =
     let m = c .before .before .before .mark-of in
     rw (
       numbered (trace .rows) (c .before .before .before .before .before .args .s .now) (m .result) (m .result) trace-marks (m .ensures) refl,
       ne-eqb (m .result) 0x4B4C (search needs),
       ne-eqb (m .result) 0x4E43 (search needs),
       ne-eqb (m .result) 0x4B50 (search needs),
+      ne-eqb (m .result) 0x514E (search needs),
       ne-eqb (m .result) 0x4B54 (search needs),
     )
     (c .nothing .ensures)
@@ -101,10 +118,14 @@ read-spec =
     four-requires
     whole-of-requires-2
     two-requires-4
+    four-requires-2
     whole-of-requires-3
+    two-requires-5
+    whole-of-requires-4
     nothing-requires
     returns
     returns-2
     returns-3
     returns-4
-    returns-5)
+    returns-5
+    returns-6)

@@ -4,25 +4,25 @@ use Rattle.hub_cases.proofs.world.joined.Statement.{statement}
 use Rattle.hub_cases.proofs.world.joined.Tie as tie
 
 abbrev Inv-loop : tie.InvT-loop
-Inv-loop places w₀ i₀ w i = i ≤ 3456
+Inv-loop from behind x₀ i₀ x i = from ≤ i
 
 abbrev μ-loop : tie.MeasureT-loop
-μ-loop places w₀ i₀ w i = 3456 - i
+μ-loop from behind x₀ i₀ x i = 3857 - i
 
 loop-holds : tie.Need-loop-holds Inv-loop μ-loop
 loop-holds c = search needs
 
-mul-w : tie.Need-mul-w Inv-loop μ-loop
-mul-w c = search needs
+mul-x : tie.Need-mul-x Inv-loop μ-loop
+mul-x c = search needs
 
-array-read-w : tie.Need-array-read-w Inv-loop μ-loop
-array-read-w c = search needs
+array-read-x : tie.Need-array-read-x Inv-loop μ-loop
+array-read-x c = search needs
 
-mul-w-2 : tie.Need-mul-w-2 Inv-loop μ-loop
-mul-w-2 c = search needs
+mul-x-2 : tie.Need-mul-x-2 Inv-loop μ-loop
+mul-x-2 c = search needs
 
-element-write-w : tie.Need-element-write-w Inv-loop μ-loop
-element-write-w c = search needs
+element-write-x : tie.Need-element-write-x Inv-loop μ-loop
+element-write-x c = search needs
 
 add-i : tie.Need-add-i Inv-loop μ-loop
 add-i c = search needs
@@ -43,10 +43,10 @@ joined-spec =
     Inv-loop
     μ-loop
     loop-holds
-    mul-w
-    array-read-w
-    mul-w-2
-    element-write-w
+    mul-x
+    array-read-x
+    mul-x-2
+    element-write-x
     add-i
     loop-less
     loop-again

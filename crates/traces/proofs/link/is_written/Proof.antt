@@ -1,5 +1,5 @@
 -- `traces::link::is_written` meets its contract: the bounds passed are 0, so those left decide.
-use mathlib.Core.Path.{_≡_, refl, sym, _∙_}
+use mathlib.Core.Path.{_≡_, sym, _∙_}
 use Prim.Native.Nat.{_≤_, _-_}
 use lib.ListN.{length, drop}
 use Rattle.traces.specs.Trace.{zeros, link-written}

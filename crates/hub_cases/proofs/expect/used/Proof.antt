@@ -1,28 +1,25 @@
 use Prim.Native.Nat.{_≤_, _-_}
 use borrow.Author.Needs.{needs}
-use Rattle.hub_cases.proofs.expect.rows.Statement.{statement}
-use Rattle.hub_cases.proofs.expect.rows.Tie as tie
+use Rattle.hub_cases.proofs.expect.used.Statement.{statement}
+use Rattle.hub_cases.proofs.expect.used.Tie as tie
 
 abbrev Inv-loop : tie.InvT-loop
-Inv-loop w i₀ i = i ≤ 600
+Inv-loop w lengths most at₀ i₀ at i = i ≤ most
 
 abbrev μ-loop : tie.MeasureT-loop
-μ-loop w i₀ i = 600 - i
+μ-loop w lengths most at₀ i₀ at i = most - i
 
 loop-holds : tie.Need-loop-holds Inv-loop μ-loop
 loop-holds c = search needs
-
-place-requires : tie.Need-place-requires Inv-loop μ-loop
-place-requires c κs = search needs
-
-add-get : tie.Need-add-get Inv-loop μ-loop
-add-get c = search needs
 
 get-requires : tie.Need-get-requires Inv-loop μ-loop
 get-requires c κs = search needs
 
 returns : tie.Need-returns Inv-loop μ-loop
 returns c = search needs
+
+wrapping-add-usize-requires : tie.Need-wrapping-add-usize-requires Inv-loop μ-loop
+wrapping-add-usize-requires c κs = search needs
 
 add-i : tie.Need-add-i Inv-loop μ-loop
 add-i c = search needs
@@ -36,17 +33,16 @@ loop-again c = search needs
 returns-2 : tie.Need-returns-2 Inv-loop μ-loop
 returns-2 c = search needs
 
-pub rows-spec : {M : Type 1} → statement M
-rows-spec =
+pub used-spec : {M : Type 1} → statement M
+used-spec =
     tie.close
     (tie.spec
     Inv-loop
     μ-loop
     loop-holds
-    place-requires
-    add-get
     get-requires
     returns
+    wrapping-add-usize-requires
     add-i
     loop-less
     loop-again

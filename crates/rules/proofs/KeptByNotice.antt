@@ -1,0 +1,81 @@
+-- An accepted notice keeps the invariant: no packet of a level moves, and what is on the line stays. Assumes nothing.
+use Prim.Native.Nat.{ℕ}
+use native.Mathlib.Omega.{arith}
+use mathlib.Core.Path.{_≡_, refl, sym, ap, _∙_, subst}
+use mathlib.Core.Logic.{inl, inr}
+use mathlib.Core.List.{List, [], _∷_, _++_, map, append-assoc}
+use Rattle.rules.specs.Model.{Packet, Notice, State, notice-packet, first-notice}
+use Rattle.rules.specs.Service.{of}
+use Rattle.rules.specs.SoundState.{Sound}
+use Rattle.rules.specs.Calls.{noted}
+use Rattle.rules.specs.Runs.{History, in-hub}
+use Rattle.rules.proofs.Lists.{all-map}
+use Rattle.rules.proofs.Rows.{of-append, map-append}
+use Rattle.rules.proofs.Notices.{first-notice-is, level-packets, levels-and-notice}
+use Rattle.rules.proofs.Line.{left-same}
+use Rattle.rules.proofs.Busy.{Notice-on-line, Line, Regular, Busy}
+use Rattle.rules.proofs.Invariant.{whats, Invariant}
+
+module _ (s : State) (len tag : ℕ) where
+  abbrev new : Notice
+  new = record { len = len; tag = tag; arrival = s .clock }
+
+  -- the notice in service is still the first
+  noted-notice : (k : ℕ) → Notice-on-line s k → Notice-on-line (noted s len tag) k
+  noted-notice k n =
+      let r = n .in-service in
+      let f = first-notice-is (s .notices) (r .it) (r .is-first) in
+      record {
+        in-service = record {
+          it = r .it;
+          is-first = ap (λ (ns : List Notice). first-notice (ns ++ new ∷ [])) (f .1);
+          is-notice = r .is-notice;
+          some-to-go = r .some-to-go;
+          to-go-le = r .to-go-le;
+        };
+        short = n .short;
+        alone = n .alone;
+      }
+
+  noted-line : (k : ℕ) → Line s k → Line (noted s len tag) k
+  noted-line k (inl z) = inl z
+  noted-line k (inr (inl r)) = inr (inl r)
+  noted-line k (inr (inr n)) = inr (inr (noted-notice k n))
+
+  noted-busy : (acc : List Packet) (m : ℕ) → Busy s acc m (s .clock) → Busy (noted s len tag) acc m (s .clock)
+  noted-busy acc m B = record {
+    from = B .from;
+    started = B .started;
+    since = B .since;
+    work = omega (arith, B .work, left-same s (noted s len tag) refl);
+    in-time = B .in-time;
+  }
+
+module _ (h : History) (I : Invariant h) where
+  open History h using (now as s, accepted as all, departed as gone)
+
+  pub noted-keeps : (len tag : ℕ) → Sound (noted s len tag)
+      → Invariant (record { accepted = all ++ notice-packet (new s len tag) ∷ []; departed = gone; now = noted s len tag })
+  noted-keeps len tag T = record {
+    sound = T;
+    regular = subst (Regular (noted s len tag)) (sym own) (record { fit = I .regular .fit; spaced = I .regular .spaced; remembered = I .regular .remembered; part = I .regular .part });
+    line = noted-line s len tag 1 (I .line);
+    busy = λ m low high. subst (λ (acc : List Packet). Busy (noted s len tag) acc m (s .clock)) (sym own) (noted-busy s len tag (level-packets all) m (I .busy m low high));
+    conserved = λ d.
+        of-append d all (p ∷ [])
+        ∙ ap (λ (l : List Packet). l ++ of d (p ∷ [])) (I .conserved d)
+        ∙ append-assoc (of d (whats gone)) (of d (in-hub s)) (of d (p ∷ []))
+        ∙ ap (λ (l : List Packet). of d (whats gone) ++ l) (sym (of-append d (in-hub s) (p ∷ [])) ∙ ap (of d) waits);
+    on-time = all-map (λ d k n. record { admitted = k n .admitted; in-time = k n .in-time }) gone (I .on-time);
+  }
+    where
+      p : Packet
+      p = notice-packet (new s len tag)
+
+      own : level-packets (all ++ notice-packet (new s len tag) ∷ []) ≡ level-packets all
+      own = levels-and-notice all (notice-packet (new s len tag)) refl
+
+      waits : in-hub s ++ notice-packet (new s len tag) ∷ [] ≡ in-hub (noted s len tag)
+      waits =
+          append-assoc (s .held) (map notice-packet (s .notices)) (notice-packet (new s len tag) ∷ [])
+          ∙ ap (λ (l : List Packet). s .held ++ l) (sym (map-append notice-packet (s .notices) (new s len tag ∷ [])))

@@ -1,0 +1,38 @@
+-- A notice comes into service only where no held packet is eligible. Assumes nothing.
+use Prim.Native.Nat.{ℕ, _<_}
+use native.Mathlib.Omega.{arith}
+use mathlib.Core.Path.{_≡_, sym, ap, _∙_, subst}
+use mathlib.Core.Logic.{⊎-elim}
+use mathlib.Core.List.{List}
+use mathlib.Core.Option.{Option, none, some}
+use Rattle.rules.specs.Limits.{notice-number}
+use Rattle.rules.specs.Model.{Packet, State}
+use Rattle.rules.specs.Service.{level-of, chosen, takes, line-after-start, started}
+use Rattle.rules.specs.SoundState.{Fits, Sound-with-link, Sound}
+use Rattle.rules.proofs.Lists.{All}
+use Rattle.rules.proofs.Sums.{same}
+use Rattle.rules.proofs.Rows.{first-all}
+use Rattle.rules.proofs.Standing.{stands-below}
+use Rattle.rules.proofs.Choice.{Chosen}
+use Rattle.rules.proofs.SoundTick.{choice-holds}
+
+-- a packet that is chosen bears its connection's number
+nothing-chosen : (s : State) → Sound-with-link s → (o : Option Packet) → Chosen (level-of s) (s .clock) (s .held) o → takes o (s .notices) .0 ≡ notice-number
+    → All (λ p. s .clock < p .eligibility) (s .held)
+nothing-chosen s S none k e = k
+nothing-chosen s S (some p) k e =
+    absurd
+    (omega (
+      arith,
+      S .few,
+      stands-below (s .connections) (p .connection) (first-all (p .connection) (Fits (s .connections)) (s .held) p (k .2) (S .fit) .standing),
+    ))
+
+pub none-eligible : (s : State) → Sound s → s .to-go ≡ 0 → started s .serving ≡ notice-number → All (λ p. s .clock < p .eligibility) (s .held)
+none-eligible s S idle e =
+    ⊎-elim
+    (λ z. subst (λ (ps : List Packet). All (λ p. s .clock < p .eligibility) ps) (sym (ap (λ (r : State). r .held) (S .with-no-link z))) tt)
+    (λ n.
+    let T = S .with-one n in
+    nothing-chosen s T (chosen s) (choice-holds s T) (sym (ap (λ (u : ℕ). line-after-start s u .0) idle) ∙ e))
+    (same (s .link .levels) 0)

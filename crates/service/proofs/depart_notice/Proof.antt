@@ -1,0 +1,53 @@
+-- `service::depart_notice` meets its contract: the first row goes. Assumes nothing.
+use native.Mathlib.Omega.{arith}
+use mathlib.Core.Path.{_≡_, sym, ap, _∙_}
+use mathlib.Core.Bool.{true}
+use Prim.Native.Nat.{ℕ}
+use lib.ListN.{length}
+use Rattle.tables.specs.Places.{rows, table-of}
+use Rattle.tables.proofs.PlacesLaws.{rows-end}
+use Rattle.tables.proofs.NoticeLaws.{notices-length-is, notices-table}
+use Rattle.service.proofs.TickLaws as L
+use borrow.Author.Needs.{needs}
+use Rattle.service.proofs.depart_notice.Statement.{statement}
+use Rattle.service.proofs.depart_notice.Tie as tie
+
+held-requires : tie.Need-held-requires
+held-requires c κs = search needs
+
+row-requires : tie.Need-row-requires
+row-requires c κs = let s = c .before .before .before .before .before in omega (arith, notices-length-is (s .args .q .now) (s .pre .0 .notices))
+
+remove-requires : tie.Need-remove-requires
+remove-requires c κs =
+    let s = c .before .before .before .before .before .before .before in
+    let q = s .args .q .now in
+    let f = s .pre .0 .notices in
+    let l = s .pre .0 .notice-line (λ e. omega arith) (s .pre .2) in
+    let k = rows-end q in
+    let t : q ≡ table-of (length q) (rows q) = notices-table q f ∙ ap (λ (n : ℕ). table-of n (rows q)) (sym (notices-length-is q f)) in
+    search needs
+
+with-line-requires : tie.Need-with-line-requires
+with-line-requires c κs = search needs
+
+pass-requires : tie.Need-pass-requires
+pass-requires c κs = rw (c .with-line .ensures) (search needs)
+
+same-length : tie.Need-same-length
+same-length c = search needs
+
+returns : tie.Need-returns
+returns c =
+    let s = c .before .before .before .before .before .before .before .before .before .before .before .before in
+    let a = s .args in
+    let l = s .pre .0 .notice-line (λ e. omega arith) (s .pre .2) in
+    let k = L.notice-goes-off (a .g) (a .t .now) (a .q .now) (s .pre .0 .table) (s .pre .0 .notices) (s .pre .2) l in (
+      c .pass .ensures ∙ L.passes true (c .before .with-line .ensures) (c .before .before .before .before .before .before .row .ensures) ∙ k .0,
+      k .1,
+      c .before .before .before .before .remove .ensures ∙ k .2,
+    )
+
+pub depart-notice-spec : {M : Type 1} → statement M
+depart-notice-spec =
+    tie.close (tie.spec held-requires row-requires remove-requires with-line-requires pass-requires same-length returns)

@@ -1,0 +1,203 @@
+//! Kinds with notices (docs/RULES-AFTER-BASE.md, section R-1). The kinds of document 01 are left
+//! as they are, so that their seeds go on giving the same traces.
+
+use super::edges::{broken_link, end_with, fill_up_to, refusals, tight};
+use super::script::Script;
+use super::traffic::{
+    admit_some, big_packets, flood, flooded, midrun, modest_link, quiet, reserve, ties, wild, Due,
+};
+use crate::hub::CLOCK_END;
+use crate::link::MOST_UNITS;
+use crate::notices::{MOST_NOTICES, NOTICE_NUMBER};
+use crate::record::Record;
+use crate::replay::SIZE_LIMIT;
+
+/// The other kinds in turn, with notices mixed in between their ticks.
+pub fn mixed(script: &mut Script, size: usize) {
+    let once_in = script.random.pick([1, 2, 5]);
+    script.mix_in_notices(once_in);
+    match script.seed() % 9 {
+        0 => quiet(script, size),
+        1 => flooded(script, size),
+        2 => wild(script, size),
+        3 => midrun(script, 2 * size),
+        4 => ties(script, size / 2),
+        5 => reserve(script, size / 12),
+        6 => big_packets(script, size / 2),
+        7 => refusals(script, size),
+        _ => tight(script, size / 2),
+    }
+}
+
+/// A flood of notices beside packets: in turn all connections keep their gap, or none does.
+pub fn notice_flood(script: &mut Script, size: usize) {
+    modest_link(script);
+    let wanted = script.random.between(1, 8) as usize;
+    admit_some(script, wanted);
+    let keeps = script.seed() % 2 == 0;
+    let mut due = Due::all_but(script, None);
+    for _ in 0..size {
+        for _ in 0..script.random.between(1, 12) {
+            script.notice_good();
+        }
+        if keeps {
+            let portion = script.clock() + script.random.between(1, 40);
+            script.ticks_until(due.earliest().unwrap_or(portion).min(portion));
+            due.offer_due(script);
+        } else {
+            flood(script, 1);
+        }
+    }
+    script.drain();
+}
+
+/// A queue that is filled up again as often as a place is freed, and sometimes emptied.
+pub fn notice_full(script: &mut Script, size: usize) {
+    modest_link(script);
+    let wanted = script.random.between(0, 4) as usize;
+    admit_some(script, wanted);
+    for _ in 0..size {
+        fill_the_queue(script);
+        if script.random.once_in(3) {
+            script.offer_on_any();
+        }
+        let largest = script.largest();
+        let ticks = [1, 1, 2, largest - 1, largest, largest + 1, 4 * largest];
+        let ticks = script.random.pick(ticks);
+        script.tick(ticks);
+        if script.random.once_in(20) {
+            script.drain();
+        }
+    }
+    script.drain();
+}
+
+/// Notices up to the last place and refused ones past it, or one less than the places.
+fn fill_the_queue(script: &mut Script) {
+    let one_less = script.random.once_in(8);
+    let wanted = MOST_NOTICES - usize::from(one_less);
+    while script.hub().notices_waiting() < wanted && script.notice_good() == 0 {}
+    if !one_less {
+        script.notice_good();
+        script.notice_odd();
+    }
+}
+
+/// Wrong lengths and no link: with room, with a full queue, beside offers on the number 254.
+pub fn notice_refusals(script: &mut Script, size: usize) {
+    for _ in 0..script.random.between(1, 6) {
+        script.notice_odd();
+        if script.random.once_in(2) {
+            broken_link(script);
+        }
+    }
+    notice_link(script);
+    admit_some(script, 3);
+    for _ in 0..size {
+        match script.random.between(0, 9) {
+            0 | 1 => fill_the_queue(script),
+            2..=5 => {
+                script.notice_odd();
+            }
+            6 => script.offer_on_any(),
+            7 => {
+                let number = script.random.pick([NOTICE_NUMBER, NOTICE_NUMBER - 1, 255]);
+                script.offer(number, 1);
+            }
+            _ => {
+                let ticks = script.random.pick([0, 1, 2, 9, 300]);
+                script.tick(ticks);
+            }
+        }
+    }
+    script.drain();
+}
+
+/// The largest packets and the smallest beside ordinary ones.
+fn notice_link(script: &mut Script) {
+    match script.random.between(0, 3) {
+        0 => {
+            script.link(MOST_UNITS, &[MOST_UNITS, 9_000]);
+        }
+        1 => {
+            script.link(1, &[1, 40]);
+        }
+        _ => modest_link(script),
+    }
+}
+
+/// Notices up to the clock's end and behind it, in turn: a full queue; a last unit that just
+/// goes; one that just does not; packets beside them.
+pub fn notice_end(script: &mut Script, size: usize) {
+    let largest = script.random.between16(4, 24);
+    script.link(largest, &[3 * largest, 5 * largest]);
+    admit_some(script, 3);
+    script.mix_in_notices(2);
+    flood(script, size);
+    script.drain();
+    let lead = script.random.between(200, 900);
+    script.ticks_until(CLOCK_END - lead);
+    match script.seed() % 4 {
+        0 => full_at_the_end(script, largest),
+        1 => last_notice(script, largest, largest),
+        2 => last_notice(script, largest, largest - 1),
+        _ => {
+            script.mix_in_notices(1);
+            while script.clock() + 50 < CLOCK_END {
+                flood(script, 2);
+            }
+        }
+    }
+    script.tick(u16::MAX);
+    for _ in 0..size {
+        notice_after_the_end(script);
+    }
+}
+
+/// The end comes before the last unit of the first notice, so that no place is freed.
+fn full_at_the_end(script: &mut Script, largest: u16) {
+    script.ticks_until(CLOCK_END - u64::from(largest - 1));
+    while script.notice(largest) == 0 {}
+}
+
+/// A notice that starts on an idle line when so many ticks are left.
+fn last_notice(script: &mut Script, length: u16, left: u16) {
+    script.ticks_until(CLOCK_END - u64::from(left));
+    script.notice(length);
+    script.notice(1);
+    script.tick(left);
+}
+
+fn notice_after_the_end(script: &mut Script) {
+    match script.random.between(0, 4) {
+        0 => script.offer_on_any(),
+        1 => {
+            let ticks = script.random.pick([0, 1, u16::MAX]);
+            script.tick(ticks);
+        }
+        2 => {
+            script.notice_good();
+        }
+        _ => {
+            script.notice_odd();
+        }
+    }
+}
+
+/// A notice at the size limit, in turn: that ends there; that crosses it; cut at it.
+pub fn notice_limit(script: &mut Script, size: usize) {
+    let limit = SIZE_LIMIT as usize;
+    modest_link(script);
+    script.mix_in_notices(2);
+    flood(script, size);
+    fill_up_to(script, limit - 10_000);
+    script.mix_in_notices(0);
+    let mut notice = Vec::new();
+    Record::Notice { length: 1, tag: 7 }.append_to(&mut notice);
+    let inside = script.random.between(1, notice.len() as u64 - 1) as usize;
+    match script.seed() % 3 {
+        0 => end_with(script, limit - notice.len(), &notice),
+        1 => end_with(script, limit - inside, &notice),
+        _ => end_with(script, limit - inside, &notice[..inside]),
+    }
+}

@@ -1,0 +1,56 @@
+//! The queue of notices below all levels (docs/RULES-AFTER-BASE.md, section R-1).
+
+use std::collections::VecDeque;
+
+use crate::hub::{Departure, Tick};
+
+/// The places of the queue; the notice in service keeps its own until its last unit has gone.
+pub const MOST_NOTICES: usize = 64;
+
+/// What a departed notice bears where a connection's number would stand.
+pub const NOTICE_NUMBER: u8 = 254;
+
+/// A notice that waits or is in service; its eligibility is its arrival.
+#[derive(Clone, Copy, Debug, PartialEq, Eq)]
+pub struct Notice {
+    pub length: u16,
+    pub tag: u32,
+    pub arrival: Tick,
+}
+
+/// The notices in the order offered.
+#[derive(Clone, Debug, Default)]
+pub struct Notices {
+    waiting: VecDeque<Notice>,
+}
+
+impl Notices {
+    pub fn count(&self) -> usize {
+        self.waiting.len()
+    }
+
+    pub fn are_full(&self) -> bool {
+        self.count() >= MOST_NOTICES
+    }
+
+    pub fn add(&mut self, notice: Notice) {
+        self.waiting.push_back(notice);
+    }
+
+    /// The notice that is next to start, or is in service.
+    pub fn first(&self) -> Option<&Notice> {
+        self.waiting.front()
+    }
+
+    /// The first notice departs and the others move up.
+    pub fn depart_first(&mut self, finish: Tick) -> Option<Departure> {
+        let notice = self.waiting.pop_front()?;
+        Some(Departure {
+            connection: NOTICE_NUMBER,
+            tag: notice.tag,
+            arrival: notice.arrival,
+            eligibility: notice.arrival,
+            finish,
+        })
+    }
+}
