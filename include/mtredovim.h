@@ -1,9 +1,9 @@
-/* The two questions that the hub's firmware asks (document 01, "Two questions from C firmware"), answered by the same rules as the hub's
-   own calls: the archive's functions are proved equal to the rules' definitions.
+/* The questions that the hub's firmware asks (document 01, "Two questions from C firmware"; document 02, R-2), answered by the same rules as
+   the hub's own calls: the archive's functions are proved equal to the rules' definitions.
 
    Link with the archive that `rt staticlib firmware` writes, target/staticlib/libfirmware.a, for x86-64. It needs `memset` of the C library
-   and nothing else. Both functions may be called at any time and from any thread: they keep nothing, write nothing that the caller can see,
-   take no memory but some 1,500 bytes of stack, and always return. */
+   and nothing else. The functions may be called at any time and from any thread: they keep nothing, write nothing that the caller can see,
+   take no memory but some 1,600 bytes of stack, and always return. */
 #ifndef MTREDOVIM_H
 #define MTREDOVIM_H
 
@@ -32,6 +32,11 @@ uint64_t mtredovim_next_eligibility(uint32_t flag, uint32_t last, uint32_t gap, 
    The caller sees to it that each pointer is valid for reading as many bytes as its length says, while the function runs. With length 0 any
    pointer will do that is not null: nothing is read there. Null is never allowed. */
 uint8_t mtredovim_short_level(const uint8_t *lk, size_t lk_len, const uint8_t *rows, size_t rows_len);
+
+/* By how many units that level is over, asked with the same bytes and under the same conditions: the level's sum with S, less its delay bound.
+   Answer, in units: 0 exactly where mtredovim_short_level answers 0 or 255. Where an admission is refused with 8, the two answers for the hub's
+   connections and the newcomer are level and units of its `CA`. A sum can pass 32 bits, so the answer has 64. */
+uint64_t mtredovim_short_units(const uint8_t *lk, size_t lk_len, const uint8_t *rows, size_t rows_len);
 
 #ifdef __cplusplus
 }

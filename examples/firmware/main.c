@@ -1,4 +1,4 @@
-/* How firmware asks the hub's two questions: the admissions P1 to P7 and the offers of P8 and P10 of document 01, "Table of proved examples". */
+/* How firmware asks the hub's questions: the admissions P1 to P7 and the offers of P8 and P10 of document 01, "Table of proved examples". */
 #include <inttypes.h>
 #include <stdio.h>
 
@@ -44,7 +44,7 @@ static void may_join(const char *name, const uint8_t *rows, size_t count)
     else if (answer == 255)
         printf("%s: not well asked\n", name);
     else
-        printf("%s: level %u is short\n", name, answer);
+        printf("%s: level %u is short by %" PRIu64 "\n", name, answer, mtredovim_short_units(link_a, sizeof link_a, rows, ROW * count));
 }
 
 /* When would a packet that is offered now be eligible? */

@@ -1,7 +1,7 @@
-//! The two questions of the firmware (section "Two questions from C firmware").
+//! The questions of the firmware (section "Two questions from C firmware"; units by R-2).
 
 use crate::hub;
-use crate::level_test::lowest_failing_level;
+use crate::level_test::lowest_shortage;
 use crate::link::{Connection, Link, MOST_CONNECTIONS};
 use crate::record::Record;
 
@@ -18,15 +18,25 @@ pub fn next_eligibility(flag: u32, last: u32, gap: u32, now: u32) -> u64 {
 
 /// Question (b): 0 if all level tests hold, else the lowest failing level, or 255.
 pub fn level_answer(link_bytes: &[u8], rows: &[u8]) -> u8 {
-    let link = match whole_link(link_bytes) {
-        Some(link) => link,
-        _ => return NOT_TO_BE_ASKED,
-    };
-    let connections = match all_connections(&link, rows) {
-        Some(connections) => connections,
-        _ => return NOT_TO_BE_ASKED,
-    };
-    lowest_failing_level(&link, &connections).unwrap_or(0)
+    match well_asked(link_bytes, rows) {
+        Some((link, connections)) => {
+            lowest_shortage(&link, &connections).map_or(0, |short| short.level)
+        }
+        None => NOT_TO_BE_ASKED,
+    }
+}
+
+/// The units that the level of question (b) is over; 0 where it answers 0 or 255.
+pub fn units_answer(link_bytes: &[u8], rows: &[u8]) -> u64 {
+    well_asked(link_bytes, rows)
+        .and_then(|(link, connections)| lowest_shortage(&link, &connections))
+        .map_or(0, |short| short.units)
+}
+
+fn well_asked(link_bytes: &[u8], rows: &[u8]) -> Option<(Link, Vec<Connection>)> {
+    let link = whole_link(link_bytes)?;
+    let connections = all_connections(&link, rows)?;
+    Some((link, connections))
 }
 
 /// One whole `LK` record, not a byte more, within the link limits.

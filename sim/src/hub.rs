@@ -1,6 +1,6 @@
 //! The state of the hub and its calls: link, admit, offer, offer of a notice, tick.
 
-use crate::level_test::lowest_failing_level;
+use crate::level_test::lowest_shortage;
 use crate::link::{Connection, Link, MOST_CONNECTIONS, MOST_RESERVED};
 use crate::notices::{Notice, Notices};
 use crate::verdict::Refusal;
@@ -118,7 +118,8 @@ impl Hub {
         Ok(())
     }
 
-    /// Admits a connection and gives its number: verdicts 2, 5, 6, 7, 8, 9 in that order.
+    /// Admits a connection and gives its number: verdicts 2, 5, 6, 7, 8, 9 in that order. With 8
+    /// comes which level is short and by how much, the newcomer counted.
     pub fn admit(&mut self, level: u8, gap: u16, size: u16) -> Result<u8, Refusal> {
         let link = self.link()?;
         let newcomer = Connection::new(link, level, gap, size)?;
@@ -128,8 +129,8 @@ impl Hub {
         }
         let mut counted = self.connections();
         counted.push(newcomer);
-        if lowest_failing_level(link, &counted).is_some() {
-            return Err(Refusal::LevelTest);
+        if let Some(shortage) = lowest_shortage(link, &counted) {
+            return Err(Refusal::LevelTest(shortage));
         }
         let reserved: u64 = counted.iter().map(|one| one.reservation(link)).sum();
         if reserved > MOST_RESERVED {

@@ -1,4 +1,4 @@
-//! The level test (section "The level test").
+//! The level test (section "The level test"; which level was short by R-2).
 
 use crate::link::{Connection, Link};
 
@@ -14,8 +14,24 @@ pub fn level_sum(link: &Link, connections: &[Connection], level: u8) -> u64 {
     packets + u64::from(link.largest())
 }
 
-/// The lowest level whose sum is above its bound; nothing if the test holds at every level.
-pub fn lowest_failing_level(link: &Link, connections: &[Connection]) -> Option<u8> {
-    (1..=link.levels())
-        .find(|&level| level_sum(link, connections, level) > u64::from(link.bound(level)))
+/// A level that fails and by how many units: its sum, in which S is counted, less its bound.
+#[derive(Clone, Copy, Debug, PartialEq, Eq)]
+pub struct Shortage {
+    pub level: u8,
+    pub units: u64,
+}
+
+/// The lowest level that fails; nothing if the test holds at every level.
+pub fn lowest_shortage(link: &Link, connections: &[Connection]) -> Option<Shortage> {
+    (1..=link.levels()).find_map(|level| shortage_at(link, connections, level))
+}
+
+/// A level fails if its sum is above its bound.
+fn shortage_at(link: &Link, connections: &[Connection], level: u8) -> Option<Shortage> {
+    let sum = level_sum(link, connections, level);
+    let bound = u64::from(link.bound(level));
+    (sum > bound).then(|| Shortage {
+        level,
+        units: sum - bound,
+    })
 }

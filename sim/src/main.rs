@@ -12,7 +12,8 @@ sim                        trace on standard input, answers on standard output
 sim --plain                the same, every tick by itself
 sim --stats                trace on standard input, counts of verdicts and departures out
 sim --next FLAG LAST GAP NOW   next eligibility, four 32-bit numbers
-sim --level LINK ROWS      level question, both in hexadecimal ('-' is no bytes)";
+sim --level LINK ROWS      level question, both in hexadecimal ('-' is no bytes)
+sim --units LINK ROWS      the units by which that level is over";
 
 fn main() -> ExitCode {
     let arguments: Vec<String> = std::env::args_os()
@@ -26,6 +27,7 @@ fn main() -> ExitCode {
         ["--stats"] => Stats::of(io::stdin().lock()).and_then(|stats| say(&stats.table())),
         ["--next", numbers @ ..] => answer(next_question(numbers)),
         ["--level", link, rows] => answer(level_question(link, rows)),
+        ["--units", link, rows] => answer(units_question(link, rows)),
         _ => answer(None),
     };
     match result {
@@ -59,6 +61,10 @@ fn next_question(numbers: &[&str]) -> Option<u64> {
 fn level_question(link: &str, rows: &str) -> Option<u64> {
     let answer = firmware::level_answer(&bytes_of(link)?, &bytes_of(rows)?);
     Some(u64::from(answer))
+}
+
+fn units_question(link: &str, rows: &str) -> Option<u64> {
+    Some(firmware::units_answer(&bytes_of(link)?, &bytes_of(rows)?))
 }
 
 /// Bytes from hexadecimal digits; `-` is no bytes.

@@ -1,6 +1,8 @@
-//! Trace and answer records (section "Trace and answer records"; `NQ` and `NA` by R-1).
+//! Trace and answer records (section "Trace and answer records"; `NQ` and `NA` by R-1,
+//! level and units in `CA` by R-2).
 
 use crate::hub::{Departure, Tick};
+use crate::level_test::Shortage;
 use crate::link::MOST_LEVELS;
 use crate::verdict::Refusal;
 
@@ -157,13 +159,30 @@ impl Fields<'_> {
 /// An answer record.
 #[derive(Clone, Copy, Debug, PartialEq, Eq)]
 pub enum Answer {
-    Link { verdict: u8 },
-    Connection { verdict: u8, connection: u8 },
-    Packet { verdict: u8, eligibility: Tick },
-    Notice { verdict: u8, eligibility: Tick },
+    Link {
+        verdict: u8,
+    },
+    Connection {
+        verdict: u8,
+        connection: u8,
+        short: Option<Shortage>,
+    },
+    Packet {
+        verdict: u8,
+        eligibility: Tick,
+    },
+    Notice {
+        verdict: u8,
+        eligibility: Tick,
+    },
     Departed(Departure),
-    Ticks { verdict: u8, done: u16 },
-    Malformed { offset: u32 },
+    Ticks {
+        verdict: u8,
+        done: u16,
+    },
+    Malformed {
+        offset: u32,
+    },
 }
 
 impl Answer {
@@ -187,7 +206,11 @@ impl Answer {
             Answer::Connection {
                 verdict,
                 connection,
-            } => out.extend_from_slice(&[b'C', b'A', verdict, connection]),
+                short,
+            } => {
+                out.extend_from_slice(&[b'C', b'A', verdict, connection]);
+                append_shortage(out, short);
+            }
             Answer::Packet {
                 verdict,
                 eligibility,
@@ -213,6 +236,14 @@ impl Answer {
             }
         }
     }
+}
+
+/// Level and units, both 0 where no level was short. Four bytes hold the units: on a sound
+/// state they are at most what the newcomer adds, 32,768 packets of 2,048 units.
+fn append_shortage(out: &mut Vec<u8>, short: Option<Shortage>) {
+    let (level, units) = short.map_or((0, 0), |short| (short.level, short.units));
+    out.push(level);
+    out.extend_from_slice(&units.to_le_bytes()[..4]);
 }
 
 fn append_departure(out: &mut Vec<u8>, departure: &Departure) {

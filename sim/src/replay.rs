@@ -5,7 +5,7 @@ use std::io::{self, Read, Write};
 use crate::hub::{Hub, Tick};
 use crate::link::Link;
 use crate::record::{Answer, Record, LONGEST_RECORD, NO_CONNECTION};
-use crate::verdict::{number_of, DONE};
+use crate::verdict::{number_of, Refusal, DONE};
 
 /// The size limit: a record that would end beyond it is malformed.
 pub const SIZE_LIMIT: u64 = 16_777_216;
@@ -73,9 +73,14 @@ impl Job {
 
     fn admit(&mut self, level: u8, gap: u16, size: u16) -> Answer {
         let result = self.hub.admit(level, gap, size);
+        let short = match result {
+            Err(Refusal::LevelTest(shortage)) => Some(shortage),
+            _ => None,
+        };
         Answer::Connection {
             verdict: number_of(&result),
             connection: result.unwrap_or(NO_CONNECTION),
+            short,
         }
     }
 

@@ -4,6 +4,7 @@ use std::fmt::Write as _;
 use std::io::{self, Read};
 use std::ops::AddAssign;
 
+use crate::link::MOST_LEVELS;
 use crate::notices::NOTICE_NUMBER;
 use crate::record::Answer;
 use crate::replay::{walk, Pace};
@@ -14,14 +15,19 @@ const VERDICTS: usize = HIGHEST as usize + 1;
 /// The answers that carry a verdict.
 const MARKS: [&str; 6] = ["LA", "CA", "PA", "TA", "ER", "NA"];
 
+/// How many bytes of a `CA` the units have.
+const UNIT_BYTES: usize = 4;
+
 /// How often each answer carried each verdict, how many packets departed and how many notices
-/// were among them.
+/// were among them; which levels were short, and how many bytes their units needed.
 #[derive(Clone, Debug, Default, PartialEq, Eq)]
 pub struct Stats {
     counts: [[u64; VERDICTS]; MARKS.len()],
     pub departures: u64,
     pub notices: u64,
     pub ticks: u64,
+    pub short_levels: [u64; MOST_LEVELS],
+    pub short_units: [u64; UNIT_BYTES],
 }
 
 impl Stats {
@@ -37,7 +43,13 @@ impl Stats {
     fn count(&mut self, answer: &Answer) {
         let row = match answer {
             Answer::Link { .. } => 0,
-            Answer::Connection { .. } => 1,
+            Answer::Connection { short, .. } => {
+                if let Some(short) = short {
+                    self.short_levels[usize::from(short.level) - 1] += 1;
+                    self.short_units[bytes_for(short.units) - 1] += 1;
+                }
+                1
+            }
             Answer::Packet { .. } => 2,
             Answer::Ticks { done, .. } => {
                 self.ticks += u64::from(*done);
@@ -96,8 +108,41 @@ impl Stats {
         let _ = write!(table, "\ndepartures {}", self.departures);
         let _ = write!(table, "\nnotices among them {}", self.notices);
         let _ = write!(table, "\nticks done {}", self.ticks);
+        let _ = write!(
+            table,
+            "\n{}\n{}",
+            Stats::short_head(""),
+            self.short_line("short")
+        );
         table
     }
+
+    /// The head line for `short_line`: levels, then the bytes that the units need.
+    pub fn short_head(name: &str) -> String {
+        let mut head = format!("{name:<15}");
+        for level in 1..=MOST_LEVELS {
+            let _ = write!(head, "{:>9}", format!("level {level}"));
+        }
+        for bytes in 1..=UNIT_BYTES {
+            let _ = write!(head, "{:>9}", format!("{bytes} B"));
+        }
+        head
+    }
+
+    /// Admissions refused with 8: by the level that was short, then by its units.
+    pub fn short_line(&self, name: &str) -> String {
+        let mut line = format!("{name:<15}");
+        for count in self.short_levels.iter().chain(&self.short_units) {
+            let _ = write!(line, "{count:>9}");
+        }
+        line
+    }
+}
+
+/// How many bytes a number needs; at least 1.
+fn bytes_for(number: u64) -> usize {
+    let bits = u64::BITS - number.leading_zeros();
+    (bits.max(1) as usize + 7) / 8
 }
 
 /// Verdict 1 cannot occur in a trace.
@@ -114,5 +159,9 @@ impl AddAssign<&Stats> for Stats {
         self.departures += other.departures;
         self.notices += other.notices;
         self.ticks += other.ticks;
+        let mine = self.short_levels.iter_mut().chain(&mut self.short_units);
+        for (count, more) in mine.zip(other.short_levels.iter().chain(&other.short_units)) {
+            *count += more;
+        }
     }
 }

@@ -1,34 +1,50 @@
 //! The verdict numbers (section "Verdict numbers"; 15 by R-1).
 
-/// Why a call was refused. The number of each case is its verdict number.
+use crate::level_test::Shortage;
+
+/// Why a call was refused. Only a failed level test tells more than its number.
 #[derive(Clone, Copy, Debug, PartialEq, Eq)]
-#[repr(u8)]
 pub enum Refusal {
-    NoLink = 2,
-    LinkSetAlready = 3,
-    LinkLimit = 4,
-    NoSuchLevel = 5,
-    GapOrSize = 6,
-    AllConnectionsStand = 7,
-    LevelTest = 8,
-    Reservations = 9,
-    NoSuchConnection = 10,
-    Length = 11,
-    ReservationFull = 12,
-    ClockEnded = 13,
-    Malformed = 14,
-    NoticesFull = 15,
+    NoLink,
+    LinkSetAlready,
+    LinkLimit,
+    NoSuchLevel,
+    GapOrSize,
+    AllConnectionsStand,
+    LevelTest(Shortage),
+    Reservations,
+    NoSuchConnection,
+    Length,
+    ReservationFull,
+    ClockEnded,
+    Malformed,
+    NoticesFull,
 }
 
 /// The verdict of a call that was done.
 pub const DONE: u8 = 0;
 
 /// The highest verdict number.
-pub const HIGHEST: u8 = Refusal::NoticesFull as u8;
+pub const HIGHEST: u8 = Refusal::NoticesFull.number();
 
 impl Refusal {
-    pub fn number(self) -> u8 {
-        self as u8
+    pub const fn number(self) -> u8 {
+        match self {
+            Refusal::NoLink => 2,
+            Refusal::LinkSetAlready => 3,
+            Refusal::LinkLimit => 4,
+            Refusal::NoSuchLevel => 5,
+            Refusal::GapOrSize => 6,
+            Refusal::AllConnectionsStand => 7,
+            Refusal::LevelTest(_) => 8,
+            Refusal::Reservations => 9,
+            Refusal::NoSuchConnection => 10,
+            Refusal::Length => 11,
+            Refusal::ReservationFull => 12,
+            Refusal::ClockEnded => 13,
+            Refusal::Malformed => 14,
+            Refusal::NoticesFull => 15,
+        }
     }
 }
 

@@ -1,7 +1,8 @@
-//! The examples P1 to P10 and the whole run (section "Table of proved examples").
+//! The examples P1 to P10 and the whole run (section "Table of proved examples"), with the level
+//! and units of R-2.
 
 use sim::hub::{Departure, Hub};
-use sim::level_test::level_sum;
+use sim::level_test::{level_sum, Shortage};
 use sim::link::{Connection, Link};
 use sim::replay::{answers, Pace};
 use sim::verdict::Refusal;
@@ -30,6 +31,11 @@ fn sums_with(hub: &Hub, level: u8, gap: u16, size: u16) -> (u64, u64) {
     let mut counted = hub.connections();
     counted.push(Connection::new(&link, level, gap, size).expect("within its limits"));
     (level_sum(&link, &counted, 1), level_sum(&link, &counted, 2))
+}
+
+/// Verdict 8, with the level that is short and its units.
+fn short(level: u8, units: u64) -> Result<u8, Refusal> {
+    Err(Refusal::LevelTest(Shortage { level, units }))
 }
 
 fn reservation(hub: &Hub, connection: usize) -> u64 {
@@ -69,7 +75,7 @@ fn p3_rounded_up() {
 fn p4_sum_past_level_1() {
     let mut hub = hub_after_p2();
     assert_eq!(sums_with(&hub, 1, 9, 2).0, 12);
-    assert_eq!(hub.admit(1, 9, 2), Err(Refusal::LevelTest));
+    assert_eq!(hub.admit(1, 9, 2), short(1, 2));
 }
 
 #[test]
@@ -79,7 +85,7 @@ fn p5_and_p6_exactly_the_bound_and_one_more() {
     assert_eq!(sums_with(&hub, 2, 20, 1).1, 20);
     assert_eq!(hub.admit(2, 20, 1), Ok(3));
     assert_eq!(sums_with(&hub, 2, 20, 1).1, 21);
-    assert_eq!(hub.admit(2, 20, 1), Err(Refusal::LevelTest));
+    assert_eq!(hub.admit(2, 20, 1), short(2, 1));
 }
 
 #[test]
@@ -90,7 +96,7 @@ fn p7_a_level_below_fails() {
     }
     assert_eq!(level_sum(&link_a(), &hub.connections(), 2), 16);
     assert_eq!(sums_with(&hub, 1, 10, 4), (8, 24));
-    assert_eq!(hub.admit(1, 10, 4), Err(Refusal::LevelTest));
+    assert_eq!(hub.admit(1, 10, 4), short(2, 4));
 }
 
 /// P8: finishes 4 and 8; the hub is left at clock 8.
@@ -141,7 +147,7 @@ fn whole_run_on_link_b() {
     .concat();
     let expected = [
         &b"LA\x00"[..],
-        b"CA\x00\x00",
+        b"CA\x00\x00\x00\x00\x00\x00\x00",
         b"PA\x00\x00\x00\x00\x00",
         b"DP\x00\x07\x00\x00\x00\x00\x00\x00\x00\x00\x00\x00\x00\x02\x00\x00\x00",
         b"TA\x00\x02\x00",

@@ -1,6 +1,6 @@
-//! The two questions of the firmware against worked answers.
+//! The questions of the firmware against worked answers.
 
-use sim::firmware::{level_answer, next_eligibility};
+use sim::firmware::{level_answer, next_eligibility, units_answer};
 
 fn lines(text: &str) -> impl Iterator<Item = Vec<&str>> {
     let data = text.lines().filter(|line| !line.starts_with('#'));
@@ -48,9 +48,25 @@ fn level_answers() {
             _ => panic!("three fields: {line:?}"),
         };
         assert_eq!(u64::from(given), number(line[2]), "{line:?}");
+        let units = units_answer(&bytes(line[0]), &bytes(line[1]));
+        assert_eq!(units > 0, (1..=8).contains(&given), "{line:?}");
         count += 1;
     }
     assert!(count > 500, "only {count} lines");
+}
+
+#[test]
+fn units_answers() {
+    let mut count = 0;
+    for line in lines(include_str!("c_units.txt")) {
+        let given = match line[..] {
+            [link, rows, _] => units_answer(&bytes(link), &bytes(rows)),
+            _ => panic!("three fields: {line:?}"),
+        };
+        assert_eq!(given, number(line[2]), "{line:?}");
+        count += 1;
+    }
+    assert!(count > 30, "only {count} lines");
 }
 
 #[test]

@@ -1,7 +1,8 @@
 //! Slips that have happened (section of that name): each would change one of these answers.
 
-use sim::firmware::level_answer;
+use sim::firmware::{level_answer, units_answer};
 use sim::hub::Hub;
+use sim::level_test::Shortage;
 use sim::link::Link;
 use sim::verdict::Refusal;
 
@@ -13,10 +14,14 @@ fn hub(largest: u16, bounds: [u16; 2]) -> Hub {
     hub
 }
 
+fn short(level: u8, units: u64) -> Result<u8, Refusal> {
+    Err(Refusal::LevelTest(Shortage { level, units }))
+}
+
 #[test]
 fn rounding_down() {
     // Two packets of gap 9 fit into 10 ticks: 4 + 2 * 3 is 10, 4 + 2 * 4 is 12.
-    assert_eq!(hub(4, [10, 20]).admit(1, 9, 4), Err(Refusal::LevelTest));
+    assert_eq!(hub(4, [10, 20]).admit(1, 9, 4), short(1, 2));
     let mut hub = hub(4, [10, 20]);
     assert_eq!(hub.admit(1, 9, 3), Ok(0));
     assert_eq!(hub.offer(0, 1, 0), Ok(0));
@@ -30,7 +35,7 @@ fn testing_only_the_level_of_the_newcomer() {
     for number in 0..3 {
         assert_eq!(hub.admit(2, 20, 4), Ok(number));
     }
-    assert_eq!(hub.admit(1, 10, 4), Err(Refusal::LevelTest));
+    assert_eq!(hub.admit(1, 10, 4), short(2, 4));
 }
 
 #[test]
@@ -75,6 +80,8 @@ fn summing_in_32_bits() {
     let row = [1, 1, 0, 0x00, 0x08];
     assert_eq!(level_answer(link, &row.repeat(64)), 1);
     assert_eq!(level_answer(link, &row.repeat(65)), 255);
+    assert_eq!(units_answer(link, &row.repeat(64)), 4_294_936_576);
+    assert_eq!(units_answer(link, &row.repeat(65)), 0);
 }
 
 #[test]

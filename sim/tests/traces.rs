@@ -81,7 +81,11 @@ fn a_second_link_is_3_also_with_broken_limits() {
 #[test]
 fn no_link_set() {
     let trace = [CONNECTION, PACKET, TICKS, &ticks(0)].concat();
-    let expected = b"CA\x02\xFFPA\x02\x00\x00\x00\x00TA\x02\x00\x00TA\x02\x00\x00";
+    let expected = [
+        &b"CA\x02\xFF\x00\x00\x00\x00\x00PA\x02\x00\x00\x00\x00"[..],
+        b"TA\x02\x00\x00TA\x02\x00\x00",
+    ]
+    .concat();
     assert_eq!(answered(&trace), expected);
 }
 
@@ -123,7 +127,8 @@ fn offers_and_admissions_at_the_clocks_end() {
     let too_long = b"PK\x00\x05\x00\x07\x00\x00\x00";
     assert_eq!(answered_after(&run, too_long), b"PA\x0B\x00\x00\x00\x00");
     let newcomer = b"CN\x02\x14\x00\x04\x00";
-    assert_eq!(answered_after(&run, newcomer), b"CA\x00\x01");
+    let accepted = b"CA\x00\x01\x00\x00\x00\x00\x00";
+    assert_eq!(answered_after(&run, newcomer), accepted);
     assert_eq!(answered_after(&run, LINK), b"LA\x03");
 }
 

@@ -3,6 +3,7 @@
 #include "asking.h"
 
 #include <inttypes.h>
+#include <stdbool.h>
 #include <stdio.h>
 #include <stdlib.h>
 #include <string.h>
@@ -18,6 +19,9 @@ struct tally tally;
 /* SPAN bytes between two spans that can't be read. */
 static uint8_t *lk_span;
 static uint8_t *rows_span;
+
+/* Whether the next question's bytes end their spans. */
+static bool at_the_end;
 
 static uint8_t *fenced_span(void)
 {
@@ -36,10 +40,10 @@ void prepare(void)
     rows_span = fenced_span();
 }
 
-/* A copy that starts the span in every other question, else ends it. */
+/* A copy that starts the span, or ends it. */
 static uint8_t *lent(uint8_t *span, const uint8_t *bytes, size_t len)
 {
-    uint8_t *at = tally.asked % 2 == 0 ? span : span + SPAN - len;
+    uint8_t *at = at_the_end ? span + SPAN - len : span;
 
     if (len > SPAN) {
         fprintf(stderr, "%zu bytes are too many to lend\n", len);
@@ -79,20 +83,27 @@ uint64_t ask_next(uint32_t flag, uint32_t last, uint32_t gap, uint32_t now)
     return given;
 }
 
-uint8_t ask_level(const uint8_t *lk, size_t lk_len, const uint8_t *rows, size_t rows_len)
+struct shortage ask_short(const uint8_t *lk, size_t lk_len, const uint8_t *rows, size_t rows_len)
 {
     uint8_t *lk_lent = lent(lk_span, lk, lk_len);
     uint8_t *rows_lent = lent(rows_span, rows, rows_len);
-    uint8_t given = mtredovim_short_level(lk_lent, lk_len, rows_lent, rows_len);
-    uint8_t expected = reference_level(lk, lk_len, rows, rows_len);
+    struct shortage given = {
+        mtredovim_short_level(lk_lent, lk_len, rows_lent, rows_len),
+        mtredovim_short_units(lk_lent, lk_len, rows_lent, rows_len),
+    };
+    struct shortage expected = {
+        reference_level(lk, lk_len, rows, rows_len),
+        reference_units(lk, lk_len, rows, rows_len),
+    };
 
-    tally.asked++;
-    tally.levels[given]++;
-    if (given != expected) {
-        differs("level");
+    at_the_end = !at_the_end;
+    tally.asked += 2;
+    tally.levels[given.level]++;
+    if (given.level != expected.level || given.units != expected.units) {
+        differs("level or units");
         show("LK", lk, lk_len);
         show("rows", rows, rows_len);
-        printf("  %d, expected %d\n", given, expected);
+        printf("  %d by %" PRIu64 ", expected %d by %" PRIu64 "\n", given.level, given.units, expected.level, expected.units);
     }
     if ((lk_len > 0 && memcmp(lk_lent, lk, lk_len) != 0) || (rows_len > 0 && memcmp(rows_lent, rows, rows_len) != 0))
         differs("bytes that were lent were changed");

@@ -11,15 +11,21 @@ struct tally {
     unsigned long levels[256]; /* how often each answer to the level question was given */
 };
 
+/* The answers to a level question: the level, and the units by which it is over. */
+struct shortage {
+    uint8_t level;
+    uint64_t units;
+};
+
 extern struct tally tally;
 
 /* Before the first question. */
 void prepare(void);
 
-/* The archive's answer. */
+/* The archive's answer. A level question is put to two functions, and counts as two. */
 uint64_t ask_next(uint32_t flag, uint32_t last, uint32_t gap, uint32_t now);
 
-uint8_t ask_level(const uint8_t *lk, size_t lk_len, const uint8_t *rows, size_t rows_len);
+struct shortage ask_short(const uint8_t *lk, size_t lk_len, const uint8_t *rows, size_t rows_len);
 
 /* Says that something is not as it must be, and counts it as a difference. */
 void differs(const char *what);

@@ -1,7 +1,6 @@
 /* Every limit at its last good and first bad value, every length, every mark, rows in every order, sums about their bounds and about 2^32. */
 #include <string.h>
 
-#include "asking.h"
 #include "questions.h"
 
 enum { REFUSED = 255, LAST_BOUND = 32768, MOST_LARGEST = 2048, MOST_GAP = 65535 };
@@ -88,7 +87,7 @@ static void row_lengths(void)
     q.rows_len = ROW * 12;
     expect(&q, 0, "12 rows of 1 unit and S 4 with bound 16");
     q.rows_len = ROW * MOST_ROWS;
-    expect(&q, 1, "64 rows");
+    expect_over(&q, 1, 52, "64 rows of 1 unit and S 4");
     q.rows_len = ROW * (MOST_ROWS + 1);
     expect(&q, REFUSED, "65 rows");
 }
@@ -162,7 +161,7 @@ static void sums_about_the_bound(void)
                 for (; left > 4; left -= 4)
                     put_row(&q, m, MOST_GAP, 4);
                 put_row(&q, m, MOST_GAP, left);
-                expect(&q, away < 2 ? 0 : m, "a sum about its bound");
+                expect_over(&q, away < 2 ? 0 : m, away < 2 ? 0 : 1, "a sum about its bound");
             }
 }
 
@@ -187,9 +186,10 @@ static void gaps_about_divisors(void)
 }
 
 /* 64 rows of the most that a row can add, 2^26: their sum is 2^32, and S comes on top. A row of size 2,047 takes 2^15 off; nothing between the two
-   can be reached. In 32 bits 2^32 + 2,048 would pass for 2,048. */
+   can be reached. In 32 bits 2^32 + 2,048 would pass for 2,048. The units, the bound taken off, stay 30,720 below 2^32 at most. */
 static void sums_about_32_bits(void)
 {
+    const uint64_t taken_off = LAST_BOUND, added = LAST_BOUND * (uint64_t)MOST_LARGEST;
     struct question q;
     unsigned bounds[MOST_LEVELS];
 
@@ -200,7 +200,7 @@ static void sums_about_32_bits(void)
                 put_link(&q, n, MOST_LARGEST, bounds);
                 for (unsigned i = 0; i < rows; i++)
                     put_row(&q, n, 1, i < smaller ? MOST_LARGEST - 1 : MOST_LARGEST);
-                expect(&q, n, "a sum about 2^32");
+                expect_over(&q, n, rows * added - smaller * taken_off + MOST_LARGEST - LAST_BOUND, "a sum about 2^32");
             }
 }
 
@@ -215,10 +215,10 @@ static void swap_rows(struct question *q, unsigned i, unsigned j)
 }
 
 /* All orders of the rows from `from` on, by exchanges; each must be answered alike. */
-static void every_order(struct question *q, unsigned from, unsigned count, unsigned answer)
+static void every_order(struct question *q, unsigned from, unsigned count, struct shortage answer)
 {
     if (from == count) {
-        expect(q, answer, "rows in another order");
+        expect_over(q, answer.level, answer.units, "rows in another order");
         return;
     }
     for (unsigned i = from; i < count; i++) {
@@ -240,13 +240,13 @@ static void orders(void)
     put_row(&q, 3, 7, 2);
     put_row(&q, 4, 3, 3);
     put_row(&q, 3, 48, 1);
-    every_order(&q, 0, 6, 3);
+    every_order(&q, 0, 6, (struct shortage){3, 3});
     /* 20 of 16 at level 1 */
     put_row(&q, 1, 4, 2);
-    every_order(&q, 0, 7, 1);
+    every_order(&q, 0, 7, (struct shortage){1, 4});
     /* a level too many in one of them */
     q.rows[ROW] = 5;
-    every_order(&q, 0, 7, REFUSED);
+    every_order(&q, 0, 7, (struct shortage){REFUSED, 0});
 }
 
 void boundary_questions(void)

@@ -1,16 +1,15 @@
-/* Asks the archive's two functions boundary questions, worked ones from two files and a million random ones of each; ends with 0 if all
+/* Asks the archive's three functions boundary questions, worked ones from three files and a million random ones each; ends with 0 if all
    answers agree. */
 #include <stdio.h>
 
-#include "asking.h"
 #include "questions.h"
 
 int main(int argc, char **argv)
 {
     unsigned long before;
 
-    if (argc != 3) {
-        fprintf(stderr, "usage: %s NEXT-VECTORS LEVEL-VECTORS\n", argv[0]);
+    if (argc != 4) {
+        fprintf(stderr, "usage: %s NEXT-VECTORS LEVEL-VECTORS UNITS-VECTORS\n", argv[0]);
         return 2;
     }
     prepare();
@@ -19,6 +18,7 @@ int main(int argc, char **argv)
     before = tally.asked;
     next_vectors(argv[1]);
     level_vectors(argv[2]);
+    units_vectors(argv[3]);
     printf("worked questions: %lu\n", tally.asked - before);
     before = tally.asked;
     random_questions(1000000);

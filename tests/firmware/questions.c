@@ -2,8 +2,6 @@
 
 #include <string.h>
 
-#include "asking.h"
-
 static void put_two(uint8_t *at, unsigned value)
 {
     at[0] = (uint8_t)(value % 256);
@@ -32,13 +30,20 @@ void put_row(struct question *q, unsigned level, unsigned gap, unsigned size)
     q->rows_len += ROW;
 }
 
-uint8_t ask(const struct question *q)
+struct shortage ask(const struct question *q)
 {
-    return ask_level(q->lk, q->lk_len, q->rows, q->rows_len);
+    return ask_short(q->lk, q->lk_len, q->rows, q->rows_len);
+}
+
+void expect_over(const struct question *q, unsigned level, uint64_t units, const char *what)
+{
+    struct shortage given = ask(q);
+
+    if (given.level != level || given.units != units)
+        differs(what);
 }
 
 void expect(const struct question *q, unsigned answer, const char *what)
 {
-    if (ask(q) != answer)
-        differs(what);
+    expect_over(q, answer, 0, what);
 }

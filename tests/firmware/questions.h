@@ -5,6 +5,8 @@
 #include <stddef.h>
 #include <stdint.h>
 
+#include "asking.h"
+
 enum { ROW = 5, MOST_ROWS = 64, MOST_LEVELS = 8, BOUNDS = 10 };
 
 /* A level question while it is put together, with room for two levels too many. */
@@ -21,19 +23,25 @@ void put_link(struct question *q, unsigned n, unsigned largest, const unsigned *
 /* A row more. */
 void put_row(struct question *q, unsigned level, unsigned gap, unsigned size);
 
-uint8_t ask(const struct question *q);
+struct shortage ask(const struct question *q);
 
-/* The same, where the answer is known. */
+/* The same, where the answers are known: level and units. */
+void expect_over(const struct question *q, unsigned level, uint64_t units, const char *what);
+
+/* .. where nothing is over: 0 or 255. */
 void expect(const struct question *q, unsigned answer, const char *what);
 
 void boundary_questions(void);
 
-/* So many of each of the two. */
+/* So many of each of the two kinds. */
 void random_questions(unsigned long count);
 
-/* Questions with worked answers, one to a line: `flag last gap now answer`; `LK rows answer`, bytes in hexadecimal, `-` for none. */
+/* Questions with worked answers, one to a line: `flag last gap now answer`; `LK rows answer`, where the answer is the level or the units; bytes in
+   hexadecimal, `-` for none. */
 void next_vectors(const char *path);
 
 void level_vectors(const char *path);
+
+void units_vectors(const char *path);
 
 #endif

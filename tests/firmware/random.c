@@ -1,5 +1,4 @@
 /* Random questions from a fixed seed: mostly well asked, with sums about their bounds; some damaged. */
-#include "asking.h"
 #include "questions.h"
 
 /* Each answer to the level question must be met this often, or the questions are too much alike. */

@@ -1,4 +1,4 @@
-/* Document 01, "Eligibility", "Link, connections, places", "The level test" and "Two questions from C firmware". */
+/* Document 01, "Eligibility", "Link, connections, places", "The level test" and "Two questions from C firmware"; docs/RULES-AFTER-BASE.md, R-2. */
 #include <stdbool.h>
 
 #include "reference.h"
@@ -79,18 +79,40 @@ static uint64_t level_sum(const struct link *link, unsigned m, const uint8_t *ro
     return sum;
 }
 
-uint8_t reference_level(const uint8_t *lk, size_t lk_len, const uint8_t *rows, size_t rows_len)
+/* The answer to the level question, and the units by which that level is over: 0 unless one fails. */
+static uint8_t level_and_units(const uint8_t *lk, size_t lk_len, const uint8_t *rows, size_t rows_len, uint64_t *units)
 {
     struct link link;
     size_t count = rows_len / ROW;
 
+    *units = 0;
     if (!read_link(lk, lk_len, &link) || !link_allowed(&link) || rows_len % ROW != 0 || count > MOST_ROWS)
         return REFUSED;
     for (size_t i = 0; i < count; i++)
         if (!row_allowed(&link, rows + ROW * i))
             return REFUSED;
-    for (unsigned m = 1; m <= link.levels; m++)
-        if (level_sum(&link, m, rows, count) > link.bound[m])
+    for (unsigned m = 1; m <= link.levels; m++) {
+        uint64_t sum = level_sum(&link, m, rows, count);
+
+        if (sum > link.bound[m]) {
+            *units = sum - link.bound[m];
             return (uint8_t)m;
+        }
+    }
     return 0;
+}
+
+uint8_t reference_level(const uint8_t *lk, size_t lk_len, const uint8_t *rows, size_t rows_len)
+{
+    uint64_t units;
+
+    return level_and_units(lk, lk_len, rows, rows_len, &units);
+}
+
+uint64_t reference_units(const uint8_t *lk, size_t lk_len, const uint8_t *rows, size_t rows_len)
+{
+    uint64_t units;
+
+    (void)level_and_units(lk, lk_len, rows, rows_len, &units);
+    return units;
 }

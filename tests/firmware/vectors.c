@@ -1,10 +1,10 @@
 /* Questions with worked answers, from files. A file that can't be read, or has no question, is a difference. */
 #include <inttypes.h>
+#include <stdbool.h>
 #include <stdio.h>
 #include <stdlib.h>
 #include <string.h>
 
-#include "asking.h"
 #include "questions.h"
 
 enum { LONGEST = 4096 };
@@ -33,20 +33,32 @@ static void next_line(const char *line)
         differs(line);
 }
 
-static void level_line(const char *line)
+/* The answer is the units, or the level. */
+static void short_line(const char *line, bool units)
 {
     static char lk_word[LONGEST], rows_word[LONGEST];
     static uint8_t lk[LONGEST], rows[LONGEST];
-    unsigned answer;
+    uint64_t answer;
 
-    if (sscanf(line, "%4095s %4095s %u", lk_word, rows_word, &answer) != 3) {
+    if (sscanf(line, "%4095s %4095s %" SCNu64, lk_word, rows_word, &answer) != 3) {
         differs("a line that is no question");
         return;
     }
     size_t lk_len = bytes_of(lk_word, lk);
     size_t rows_len = bytes_of(rows_word, rows);
-    if (ask_level(lk, lk_len, rows, rows_len) != answer)
+    struct shortage given = ask_short(lk, lk_len, rows, rows_len);
+    if ((units ? given.units : given.level) != answer)
         differs(line);
+}
+
+static void level_line(const char *line)
+{
+    short_line(line, false);
+}
+
+static void units_line(const char *line)
+{
+    short_line(line, true);
 }
 
 static void each_line(const char *path, void (*question)(const char *line))
@@ -75,4 +87,9 @@ void next_vectors(const char *path)
 void level_vectors(const char *path)
 {
     each_line(path, level_line);
+}
+
+void units_vectors(const char *path)
+{
+    each_line(path, units_line);
 }

@@ -25,8 +25,9 @@ answer-marks = refl
 pub answer-back : Reads-back-what-is-written answers
 unfolding read-rows starts laid bytes put-fields little Fit
 answer-back (Linked verdict) rest w = row-back linked-row (verdict ∷ []) rest _ refl (w .typed, tt) refl refl
-answer-back (Admitted verdict connection) rest w =
-    let t = w .typed in row-back admitted-row (verdict ∷ connection ∷ []) rest _ refl (t .0, (t .1, tt)) refl refl
+answer-back (Admitted verdict connection level units) rest w =
+    let t = w .typed in
+    row-back admitted-row (verdict ∷ connection ∷ level ∷ units ∷ []) rest _ refl (t .0, (t .1, (t .2, (t .3, tt)))) refl refl
 answer-back (Offered verdict eligibility) rest w =
     let t = w .typed in row-back offered-row (verdict ∷ eligibility ∷ []) rest _ refl (t .0, (t .1, tt)) refl refl
 answer-back (Noticed verdict eligibility) rest w =
@@ -68,7 +69,7 @@ answers-fair = (
 pub answer-length : Has-the-length-of answers answer-table
 unfolding laid sum
 answer-length (Linked verdict) h = length-bytes LA (verdict ∷ [])
-answer-length (Admitted verdict connection) h = length-bytes CA (verdict ∷ connection ∷ [])
+answer-length (Admitted verdict connection level units) h = length-bytes CA (verdict ∷ connection ∷ level ∷ units ∷ [])
 answer-length (Offered verdict eligibility) h = length-bytes PA (verdict ∷ eligibility ∷ [])
 answer-length (Noticed verdict eligibility) h = length-bytes NA (verdict ∷ eligibility ∷ [])
 answer-length (Departed connection tag arrival eligibility finish) h = length-bytes DP (connection ∷ tag ∷ arrival ∷ eligibility ∷ finish ∷ [])

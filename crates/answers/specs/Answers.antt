@@ -1,4 +1,4 @@
--- Document 01, "Trace and answer records": the six answer kinds; and document 02, R-1: a seventh, the answer to a notice.
+-- Document 01, "Trace and answer records": the six answer kinds; and document 02: R-1, a seventh, the answer to a notice; R-2, the level and the units of `CA`.
 use mathlib.Core.List.{List, [], _∷_}
 use mathlib.Core.Option.{Option, some, none}
 use Prim.Native.Nat.{ℕ, _<_}
@@ -15,7 +15,7 @@ abbrev pub linked-row : Row Reply
 linked-row = record { kind = LA; make = λ xs. Linked (getD xs 0 0) }
 
 abbrev pub admitted-row : Row Reply
-admitted-row = record { kind = CA; make = λ xs. Admitted (getD xs 0 0) (getD xs 1 0) }
+admitted-row = record { kind = CA; make = λ xs. Admitted (getD xs 0 0) (getD xs 1 0) (getD xs 2 0) (getD xs 3 0) }
 
 abbrev pub offered-row : Row Reply
 offered-row = record { kind = PA; make = λ xs. Offered (getD xs 0 0) (getD xs 1 0) }
@@ -37,7 +37,7 @@ broken-row = record { kind = ER; make = λ xs. Broken (getD xs 1 0) }
 -- As which kind, with which numbers, an answer is written.
 abbrev pub answer-layout : Reply → Option (Kind × List ℕ)
 answer-layout (Linked verdict) = some (LA, verdict ∷ [])
-answer-layout (Admitted verdict connection) = some (CA, verdict ∷ connection ∷ [])
+answer-layout (Admitted verdict connection level units) = some (CA, verdict ∷ connection ∷ level ∷ units ∷ [])
 answer-layout (Offered verdict eligibility) = some (PA, verdict ∷ eligibility ∷ [])
 answer-layout (Noticed verdict eligibility) = some (NA, verdict ∷ eligibility ∷ [])
 answer-layout (Departed connection tag arrival eligibility finish) =
@@ -49,7 +49,7 @@ answer-layout Malformed = none
 -- The numbers of an answer fit their types: of one, two or four bytes.
 abbrev pub answer-typed : Reply → Type 0
 answer-typed (Linked verdict) = verdict < 256
-answer-typed (Admitted verdict connection) = (verdict < 256) × (connection < 256)
+answer-typed (Admitted verdict connection level units) = (verdict < 256) × (connection < 256) × (level < 256) × (units < 4294967296)
 answer-typed (Offered verdict eligibility) = (verdict < 256) × (eligibility < 4294967296)
 answer-typed (Noticed verdict eligibility) = (verdict < 256) × (eligibility < 4294967296)
 answer-typed (Departed connection tag arrival eligibility finish) =
@@ -83,7 +83,7 @@ answer-bytes r = laid (answers .layout r)
 -- The tables' column "Bytes".
 abbrev pub answer-table : Reply → ℕ
 answer-table (Linked verdict) = 3
-answer-table (Admitted verdict connection) = 4
+answer-table (Admitted verdict connection level units) = 9
 answer-table (Offered verdict eligibility) = 7
 answer-table (Noticed verdict eligibility) = 7
 answer-table (Departed connection tag arrival eligibility finish) = 19

@@ -1,4 +1,4 @@
--- Document 01, "Trace and answer records": the answer kinds of its table, in its order; and the one of document 02, R-1, behind `PA`.
+-- Document 01, "Trace and answer records": the answer kinds of its table, in its order; the one of document 02, R-1, behind `PA`; and `CA` as R-2 has it.
 use mathlib.Core.List.{[], _∷_}
 use lib.Dec.{eqb}
 use Rattle.fields.specs.Kinds.{Kind, plain}
@@ -7,9 +7,9 @@ use Rattle.fields.specs.Kinds.{Kind, plain}
 abbrev pub LA : Kind
 LA = plain (0x4C ∷ 0x41 ∷ []) (1 ∷ [])
 
--- "verdict (1), connection (1)"
+-- "verdict (1), connection (1)"; document 02, R-2: "one byte of level and four of units"
 abbrev pub CA : Kind
-CA = plain (0x43 ∷ 0x41 ∷ []) (1 ∷ 1 ∷ [])
+CA = plain (0x43 ∷ 0x41 ∷ []) (1 ∷ 1 ∷ 1 ∷ 4 ∷ [])
 
 -- "verdict (1), eligibility (4)"
 abbrev pub PA : Kind

@@ -1,11 +1,11 @@
-// The answer records of document 01, "Trace and answer records", and of document 02, R-1: their kinds as values, read and written.
+// The answer records of document 01, "Trace and answer records", and of document 02, R-1 and R-2: their kinds as values, read and written.
 ghost use mathlib.Core.Path.{_≡_};
 ghost use mathlib.Core.Option.{none};
 ghost use lib.ListN.{getD};
 ghost use Rattle.fields.specs.Drafts.{Holds};
 ghost use Rattle.fields.specs.Formats.{whole, read-row, mark-among, length-after, room-after};
 ghost use Rattle.answers.specs.declared.Reply.the-variants.{Departed};
-ghost use Rattle.answers.specs.Answers.{answers, broken-row, departed-row, found-reply, read-answer, answer-bytes};
+ghost use Rattle.answers.specs.Answers.{answers, admitted-row, broken-row, departed-row, found-reply, read-answer, answer-bytes};
 use fields::Draft;
 use fields::read::four;
 use fields::read::known;
@@ -35,6 +35,8 @@ pub enum Reply {
     Admitted {
         verdict: u8,
         connection: u8,
+        level: u8,
+        units: u32,
     },
     Offered {
         verdict: u8,
@@ -114,6 +116,19 @@ fn read_broken(s: &[u8]) -> FoundReply
     }
 }
 
+// The answer to an admission: the level that was short and its units stand behind the connection.
+fn read_admitted(s: &[u8]) -> FoundReply
+    ensures { λ r. ⌜ r ≡ found-reply (read-row admitted-row (getD (now (s .entry)) 2 0) (now (s .entry))) ⌝ }
+{
+    let admitted = Reply::Admitted {
+        verdict: one(s, 2),
+        connection: one(s, 3),
+        level: one(s, 4),
+        units: four(s, 5),
+    };
+    whole_of(s, 9, admitted)
+}
+
 // A packet's departure.
 fn read_departed(s: &[u8]) -> FoundReply
     ensures { λ r. ⌜ r ≡ found-reply (read-row departed-row (getD (now (s .entry)) 2 0) (now (s .entry))) ⌝ }
@@ -136,13 +151,7 @@ pub fn read(s: &[u8]) -> FoundReply
     let verdict = one(s, 2);
     match mark {
         0x414C => whole_of(s, 3, Reply::Linked { verdict: verdict }),
-        0x4143 => {
-            let admitted = Reply::Admitted {
-                verdict: verdict,
-                connection: one(s, 3),
-            };
-            whole_of(s, 4, admitted)
-        }
+        0x4143 => read_admitted(s),
         0x4150 => {
             let offered = Reply::Offered {
                 verdict: verdict,
@@ -190,7 +199,12 @@ fn draft(r: Reply) -> Draft
         Reply::Admitted {
             verdict,
             connection,
-        } => Draft::headed(CA, verdict).one(connection),
+            level,
+            units,
+        } => Draft::headed(CA, verdict)
+            .one(connection)
+            .one(level)
+            .four(units),
         Reply::Offered {
             verdict,
             eligibility,

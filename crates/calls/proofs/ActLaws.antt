@@ -1,7 +1,7 @@
 -- What a sound hub gives a call, and how a refusal and each call done meet the contract. Assumes nothing.
-use Prim.Native.Nat.{ℕ, suc, _+_, _*_, _≤_, _<_}
+use Prim.Native.Nat.{ℕ, suc, _+_, _*_, _-_, _≤_, _<_}
 use native.Mathlib.Omega.{arith}
-use mathlib.Core.Path.{_≡_, sym, ap, _∙_}
+use mathlib.Core.Path.{_≡_, refl, sym, ap, _∙_}
 use mathlib.Core.Bool.{Bool, true, false, cond, not, _&&_}
 use mathlib.Core.List.{List, [], _∷_, _++_}
 use lib.Dec.{eqb}
@@ -14,12 +14,12 @@ use Rattle.rules.specs.declared.Past.{Past}
 use Rattle.rules.specs.declared.Packet.{Packet}
 use Rattle.rules.specs.Words.{All, sum}
 use Rattle.rules.specs.Limits.{max-connections, clock-end, beyond-32-bits, notice-number}
-use Rattle.rules.specs.Model.{Call, link, admit, offer, notice, nth, figures, notice-packet}
-use Rattle.rules.specs.Admission.{reservation, reserved}
+use Rattle.rules.specs.Model.{State, Call, link, admit, offer, notice, Short, no-short, nth, figures, notice-packet}
+use Rattle.rules.specs.Admission.{reservation, reserved, level-test}
 use Rattle.rules.specs.Service.{next-eligibility, remember, of, ticked}
 use Rattle.rules.specs.SoundState.{Sound-with-link, Sound}
 use Rattle.rules.specs.SoundTest.{nothing-used, sound, line-sound, rows-sound, notices-sound, admissions-sound}
-use Rattle.rules.specs.Calls.{verdict, done, refused-number, settle, eligibility-now, placed}
+use Rattle.rules.specs.Calls.{verdict, done, refused-number, refused-short, settle, eligibility-now, placed}
 use Rattle.rules.proofs.Lists.{all-map}
 use Rattle.rules.proofs.Rows.{map-append}
 use Rattle.rules.proofs.Tests.{and-true}
@@ -31,24 +31,26 @@ use Rattle.rules.proofs.Bounds.{rows-fit-places, eligibilities-fit-32}
 use Rattle.rules.proofs.SoundKept.{done-sound}
 use Rattle.rules.proofs.Verdicts.{admit-done, Offer-done, offer-done, notice-done}
 use Rattle.tables.specs.Table.{formed}
-use Rattle.tables.specs.Places.{places-length, packet-of, rows, places, table-of}
+use Rattle.tables.specs.Places.{places-length, packet-of, rows, places, table-of, no-packet}
 use Rattle.tables.specs.Notices.{notices-length, notice-of, notices, notices-formed}
 use Rattle.tables.proofs.TableLaws.{formed-length}
 use Rattle.tables.proofs.PlacesLaws.{table-back}
 use Rattle.tables.proofs.NoticeLaws.{notices-length-is, notice-rows, notices-table, notices-back}
 use Rattle.lines.specs.declared.Member.{Member}
 use Rattle.lines.specs.Members.{members-length, member-of, no-member, member-in, members, connections, pasts, connection-of, past-of, written-members, members-formed}
-use Rattle.lines.specs.Within.{Within, gap-only}
+use Rattle.lines.specs.Within.{Within, short-of, shortage-of, gap-only}
+use Rattle.lines.specs.declared.Shortage.{Shortage}
 use Rattle.lines.proofs.MemberLaws.{member-is, connections-length}
 use Rattle.lines.proofs.FigureLaws.{sum-more}
 use Rattle.lines.proofs.WrittenLaws.{members-written}
 use Rattle.sound.specs.SoundTables.{places-formed, sound-tables}
 use Rattle.service.specs.declared.Hub.{Hub}
 use Rattle.service.specs.declared.Told.{Told}
-use Rattle.service.specs.View.{view, told-of, refusal}
+use Rattle.service.specs.View.{view, told-of, refusal, refusal-short}
 use Rattle.service.specs.Ready.{Ready}
 use Rattle.service.proofs.ReadyLaws.{ready}
-use Rattle.calls.specs.Acts.{sound-hub, members-of, places-of, notices-of, Acts}
+use Rattle.calls.specs.declared.Ruling.{Ruling}
+use Rattle.calls.specs.Acts.{sound-hub, members-of, places-of, notices-of, ruling-of, Acts}
 
 -- ---- what a sound hub says
 
@@ -88,14 +90,18 @@ module _ (h : Hub) (cs t q : List ℕ) (ok : sound-hub h cs t q ≡ true) where
   places-size = formed-length packet-of places-length t (tested .places-shape)
 
   -- a refusal: the rules leave the state, and writing what was read gives the tables back
-  pub refuses : (k : Call) (v w n : ℕ) (r : Told) → verdict k (view h cs t q) ≡ v → v ≡ suc w → n ≡ refused-number k → r ≡ refusal h v n → Acts k h cs t q r cs t q
+  pub refuses : (k : Call) (v w n : ℕ) (r : Told) → verdict k (view h cs t q) ≡ v → v ≡ suc w → n ≡ refused-number k
+      → r ≡ refusal-short h v n (refused-short k (view h cs t q) v) → Acts k h cs t q r cs t q
   refuses k v w n r e f g i =
-      let j : suc w ≡ verdict k (view h cs t q) = sym f ∙ sym e in
+      let s = view h cs t q in
+      let j : suc w ≡ verdict k s = sym f ∙ sym e in
       record {
-        answers = i ∙ ap (λ (u : ℕ). refusal h u n) f ∙ ap (refusal h (suc w)) g ∙ ap (λ (u : ℕ). told-of (settle k (view h cs t q) u)) j;
-        connections = members-kept ∙ ap (λ (u : ℕ). members-of (settle k (view h cs t q) u .next)) j;
-        table = places-kept ∙ ap (λ (u : ℕ). places-of (settle k (view h cs t q) u .next)) j;
-        queue = notices-kept ∙ ap (λ (u : ℕ). notices-of (settle k (view h cs t q) u .next)) j;
+        answers =
+            i ∙ ap (λ (u : ℕ). refusal-short h u n (refused-short k s u)) f ∙ ap (λ (m : ℕ). refusal-short h (suc w) m (refused-short k s (suc w))) g
+            ∙ ap (λ (u : ℕ). told-of (settle k s u)) j;
+        connections = members-kept ∙ ap (λ (u : ℕ). members-of (settle k s u .next)) j;
+        table = places-kept ∙ ap (λ (u : ℕ). places-of (settle k s u .next)) j;
+        queue = notices-kept ∙ ap (λ (u : ℕ). notices-of (settle k s u .next)) j;
       }
 
   -- a call done
@@ -151,6 +157,31 @@ module _ (h : Hub) (cs t q : List ℕ) (ok : sound-hub h cs t q ≡ true) where
 
 pub admit-room : (h : Hub) (cs t q : List ℕ) (x : Connection) (n : ℕ) → verdict (admit x) (view h cs t q) ≡ 0 → n ≡ length (members cs) → n < max-connections
 admit-room h cs t q x n e f = omega (arith, admit-done (view h cs t q) x e .few, connections-length cs)
+
+-- what is ruled: a verdict with nothing short, or 8 with what the level test says
+pub ruled-as : (x : Connection) (s : State) (v : ℕ) → verdict (admit x) s ≡ v → (v ≡ 8 → ⊥) → record { verdict = v; short = shortage-of no-short } ≡ ruling-of (admit x) s
+ruled-as x s v e n =
+    ap (λ (t : Short). record { verdict = v; short = shortage-of t }) (sym (cond-is (level-test (s .link) (s .connections ++ x ∷ [])) no-short (ne-eqb v 8 n)))
+    ∙ ap (λ (w : ℕ). record { verdict = w; short = shortage-of (refused-short (admit x) s w) }) (sym e)
+
+pub ruled-short : (x : Connection) (s : State) (t : Shortage) → verdict (admit x) s ≡ 8 → short-of t ≡ level-test (s .link) (s .connections ++ x ∷ [])
+    → record { verdict = 8; short = t } ≡ ruling-of (admit x) s
+ruled-short x s t e f =
+    ap (λ (u : Short). record { verdict = 8; short = shortage-of u }) f
+    ∙ ap (λ (w : ℕ). record { verdict = w; short = shortage-of (refused-short (admit x) s w) }) (sym e)
+
+module _ (h : Hub) (cs t q : List ℕ) (ok : sound-hub h cs t q ≡ true) where
+  -- an admission that is refused as it was ruled
+  pub admit-refuses : (x : Connection) (v : Ruling) (p : Packet) → v ≡ ruling-of (admit x) (view h cs t q) → (v .verdict ≡ 0 → ⊥) → p ≡ no-packet
+      → Acts (admit x) h cs t q (record { verdict = v .verdict; number = 255; short = v .short; gone = false; packet = p; hub = h }) cs t q
+  admit-refuses x v p e n f =
+      let s = view h cs t q in
+      let i : v .verdict ≡ verdict (admit x) s = ap (λ (y : Ruling). y .verdict) e in
+      let j : v .short ≡ shortage-of (refused-short (admit x) s (v .verdict))
+      = ap (λ (y : Ruling). y .short) e ∙ ap (λ (w : ℕ). shortage-of (refused-short (admit x) s w)) (sym i) in
+      refuses h cs t q ok (admit x) (v .verdict) (v .verdict - 1) 255 _ (sym i) (omega (arith, n)) refl
+      (ap (λ (u : Shortage). record { verdict = v .verdict; number = 255; short = u; gone = false; packet = p; hub = h }) j
+      ∙ ap (λ (u : Packet). record { verdict = v .verdict; number = 255; short = shortage-of (refused-short (admit x) s (v .verdict)); gone = false; packet = u; hub = h }) f)
 
 -- reservations with a newcomer
 

@@ -4,10 +4,12 @@ use mathlib.Core.Path.{_≡_}
 use mathlib.Core.Bool.{Bool}
 use mathlib.Core.List.{List}
 use Rattle.rules.specs.Model.{State, Call}
-use Rattle.rules.specs.Calls.{answer}
+use Rattle.rules.specs.Calls.{verdict, refused-short, answer}
 use Rattle.tables.specs.Places.{places}
 use Rattle.tables.specs.Notices.{written-notices}
 use Rattle.lines.specs.Members.{written-members}
+use Rattle.lines.specs.Within.{shortage-of}
+use Rattle.calls.specs.declared.Ruling.{Ruling}
 use Rattle.sound.specs.SoundTables.{sound-tables}
 use Rattle.service.specs.declared.Hub.{Hub}
 use Rattle.service.specs.declared.Told.{Told}
@@ -26,6 +28,10 @@ places-of s = places (s .held)
 
 abbrev pub notices-of : State → List ℕ
 notices-of s = written-notices (s .notices)
+
+-- the verdict of a call, and what the level test said where that is the cause
+abbrev pub ruling-of : Call → State → Ruling
+ruling-of k s = record { verdict = verdict k s; short = shortage-of (refused-short k s (verdict k s)) }
 
 -- handed the hub h and the tables cs, t and q, the call answers r and leaves cs′, t′ and q′: what the rules' answer says, written back
 pub record Acts (k : Call) (h : Hub) (cs t q : List ℕ) (r : Told) (cs′ t′ q′ : List ℕ) : Type 0 where

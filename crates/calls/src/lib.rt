@@ -4,14 +4,16 @@ ghost use mathlib.Core.Bool.{true, cond};
 ghost use Prim.Native.Nat.{ℕ};
 ghost use lib.Dec.{eqb};
 ghost use lib.ListN.{length};
-ghost use Rattle.rules.specs.Model.{link, admit, offer, notice, tick};
+ghost use Rattle.rules.specs.Model.{link, admit, offer, notice, tick, no-short};
 ghost use Rattle.rules.specs.Service.{of};
 ghost use Rattle.rules.specs.Calls.{verdict};
 ghost use Rattle.tables.specs.Places.{rows, places, places-length};
 ghost use Rattle.lines.specs.Members.{members};
 ghost use Rattle.service.specs.View.{view, refusal};
-ghost use Rattle.calls.specs.Acts.{sound-hub, Acts};
+ghost use Rattle.lines.specs.Within.{shortage-of};
+ghost use Rattle.calls.specs.Acts.{sound-hub, ruling-of, Acts};
 use lines::MAX_CONNECTIONS;
+use lines::Shortage;
 use rules::Connection;
 use rules::Link;
 use rules::Packet;
@@ -31,6 +33,7 @@ pub fn say(h: Hub, verdict: u32, number: u32) -> Told
     Told {
         verdict: verdict,
         number: number,
+        short: lines::no_shortage(),
         gone: false,
         packet: tables::no_packet(),
         hub: h,
@@ -67,32 +70,51 @@ pub fn tick_tested(h: Hub, cs: &[u32], t: &mut [u32], q: &mut [u32]) -> Told
     service::run_tick(h, cs, t, q)
 }
 
-// The verdict of an admission.
-fn admit_verdict(h: Hub, cs: &[u32], t: &[u32], q: &[u32], n: usize, x: Connection) -> u32
+// The verdict of an admission, and what the level test said where it is 8.
+pub struct Ruling {
+    pub verdict: u32,
+    pub short: Shortage,
+}
+
+// A verdict of which no level is the cause.
+fn ruled(verdict: u32) -> Ruling
+    ensures { λ r. ⌜ r ≡ record { verdict = verdict; short = shortage-of no-short } ⌝ }
+{
+    Ruling {
+        verdict: verdict,
+        short: lines::no_shortage(),
+    }
+}
+
+// What is said to an admission.
+fn admit_verdict(h: Hub, cs: &[u32], t: &[u32], q: &[u32], n: usize, x: Connection) -> Ruling
     requires { ⌜ (sound-hub h (now cs) (now t) (now q) ≡ true) × (n ≡ length (members (now cs))) ⌝ }
-    ensures { λ r. ⌜ r ≡ verdict (admit x) (view h (now (cs .entry)) (now (t .entry)) (now (q .entry))) ⌝ }
+    ensures { λ r. ⌜ r ≡ ruling-of (admit x) (view h (now (cs .entry)) (now (t .entry)) (now (q .entry))) ⌝ }
 {
     let l = h.link;
     if l.levels == 0 {
-        return 2;
+        return ruled(2);
     }
     if !sound::level_ok(l, x) {
-        return 5;
+        return ruled(5);
     }
     if !sound::figures_ok(l, x) {
-        return 6;
+        return ruled(6);
     }
     if MAX_CONNECTIONS <= n {
-        return 7;
+        return ruled(7);
     }
     let short = lines::level_test(l, cs, n, x);
     if short.level != 0 {
-        return 8;
+        return Ruling {
+            verdict: 8,
+            short: short,
+        };
     }
     if MAX_RESERVED < lines::reserved_by(l, cs, n) + lines::reserve(l, x) {
-        return 9;
+        return ruled(9);
     }
-    0
+    ruled(0)
 }
 
 // A connection asks to be admitted.
@@ -102,8 +124,16 @@ pub fn admit_tested(h: Hub, cs: &mut [u32], t: &[u32], q: &[u32], x: Connection)
 {
     let n = tables::held(cs);
     let v = admit_verdict(h, cs, t, q, n, x);
-    if v != 0 {
-        return say(h, v, NO_CONNECTION);
+    let short = v.short;
+    if v.verdict != 0 {
+        return Told {
+            verdict: v.verdict,
+            number: NO_CONNECTION,
+            short: short,
+            gone: false,
+            packet: tables::no_packet(),
+            hub: h,
+        };
     }
     lines::add_member(cs, n, x);
     say(h, 0, n as u32)

@@ -2,18 +2,18 @@
 use Prim.Native.Nat.{ℕ, zero, suc, _+_, _*_, _≤_, _<_}
 use native.Mathlib.Omega.{arith}
 use mathlib.Core.Path.{_≡_, refl, sym, ap, _∙_, subst}
-use mathlib.Core.Bool.{Bool, true, false, cond, not, _&&_}
+use mathlib.Core.Bool.{Bool, true, false, not, _&&_}
 use mathlib.Core.Logic.{_⊎_, inl, inr, ⊎-elim}
 use mathlib.Core.List.{List, [], _∷_, _++_}
 use lib.Dec.{eqb, leb}
 use lib.ListN.{length, getD, take, drop, length-append}
 use lib.Seq.{drop-cons, getD-append-seam}
-use borrow.Author.Tests.{le-leb, lt-leb, eq-eqb, ne-eqb}
+use borrow.Author.Tests.{leb-true, le-leb, lt-leb, eq-eqb, ne-eqb}
 use Rattle.rules.specs.declared.Link.{Link}
 use Rattle.rules.specs.declared.Connection.{Connection}
 use Rattle.rules.specs.Words.{every}
 use Rattle.rules.specs.Limits.{max-levels, max-connections}
-use Rattle.rules.specs.Model.{no-link, no-connection, nth}
+use Rattle.rules.specs.Model.{Short, no-link, no-connection, nth}
 use Rattle.rules.specs.Admission.{link-within, level-within, figures-within, level-test}
 use Rattle.rules.specs.Service.{next-eligibility}
 use Rattle.rules.proofs.Sums.{same, cond-is}
@@ -28,7 +28,7 @@ use Rattle.lines.specs.Within.{Within, gap-only}
 use Rattle.lines.proofs.FigureLaws.{figure-limits, link-limits}
 use Rattle.sound.proofs.ChainLaws.{fails, goes-on}
 use Rattle.firmware.specs.Questions.{next-asked, link-asked, row-bytes, rows-asked, row-asked, first-rows, all-rows, row-within}
-use Rattle.firmware.specs.Questions.{well-asked, not-well-asked, short-level}
+use Rattle.firmware.specs.Questions.{testable, well-asked, not-well-asked, short-asked, short-level}
 
 -- ---- (a)
 
@@ -108,50 +108,77 @@ module _ (l : Link) (rows : List ℕ) (n : ℕ) (ok : every n (row-within l rows
         subst (λ (x : Connection). figures-within l x ≡ true) (sym (nth-first rows n i k)) (figures-ok i k);
   }
 
+-- ---- the tests of the link and the rows, in the order of the code
+
+module _ (l : Link) (rows : List ℕ) where
+  pub bad-link : link-within l ≡ false → false ≡ testable l rows
+  unfolding testable
+  bad-link b = fails _ _ b
+
+  module _ (good : link-within l ≡ true) where
+    pub cut-row : (length rows ≡ row-bytes * rows-asked rows → ⊥) → false ≡ testable l rows
+    unfolding testable
+    cut-row n = goes-on _ _ false good (fails _ _ (ne-eqb (length rows) (row-bytes * rows-asked rows) n))
+
+    module _ (fit : length rows ≡ row-bytes * rows-asked rows) where
+      on : (r : Bool) → r ≡ (leb (rows-asked rows) max-connections && every (rows-asked rows) (row-within l rows)) → r ≡ testable l rows
+      unfolding testable
+      on r h = goes-on _ _ r good (goes-on _ _ r (eq-eqb (length rows) (row-bytes * rows-asked rows) fit) h)
+
+      pub many-rows : max-connections < rows-asked rows → false ≡ testable l rows
+      many-rows m = on false (fails _ _ (lt-leb (rows-asked rows) max-connections m))
+
+      pub each-row : rows-asked rows ≤ max-connections → (ok : Bool) → ok ≡ every (rows-asked rows) (row-within l rows) → ok ≡ testable l rows
+      each-row few ok e = on ok (goes-on _ _ ok (le-leb (rows-asked rows) max-connections few) e)
+
+pub record Asked (l : Link) (rows : List ℕ) : Type 0 where
+  pub link-in : link-within l ≡ true
+  pub few : rows-asked rows ≤ max-connections
+  pub rows-in : every (rows-asked rows) (row-within l rows) ≡ true
+
+pub asked : (l : Link) (rows : List ℕ) → testable l rows ≡ true → Asked l rows
+unfolding testable
+asked l rows e =
+    let a = and-true (link-within l) _ e in
+    let b = and-true (eqb (length rows) (row-bytes * rows-asked rows)) _ (a .1) in
+    let d = and-true (leb (rows-asked rows) max-connections) _ (b .1) in
+    record { link-in = a .0; few = leb-true (rows-asked rows) max-connections (d .0); rows-in = d .1 }
+
+-- ---- the answer
+
 -- a level is one of the link's: no more than 8
-pub level-le : (l : Link) (cs : List Connection) → link-within l ≡ true → level-test l cs .level ≤ max-levels
+level-le : (l : Link) (cs : List Connection) → link-within l ≡ true → level-test l cs .level ≤ max-levels
 level-le l cs e =
     ⊎-elim
     (λ z. omega (arith, z))
     (λ n. omega (arith, names-lowest l cs n .1, link-limits l e .levels-le))
     (same (level-test l cs .level) 0)
 
--- ---- the whole question with a link, test by test in the order of the code
+module _ (lk rows : List ℕ) where
+  pub refuses : well-asked lk rows ≡ false → short-asked lk rows ≡ not-well-asked
+  unfolding short-asked
+  refuses e = cond-is (level-test (link-asked lk) (all-rows rows)) not-well-asked e
 
-abbrev short : Link → List ℕ → Bool → ℕ
-short l rows ok = cond ok (level-test l (all-rows rows) .level) not-well-asked
+  module _ (e : well-asked lk rows ≡ true) where
+    pub answers : short-asked lk rows ≡ level-test (link-asked lk) (all-rows rows)
+    unfolding short-asked
+    answers = cond-is (level-test (link-asked lk) (all-rows rows)) not-well-asked e
 
-module _ (lk rows : List ℕ) (l : Link) (e : l ≡ link-asked lk) where
-  abbrev tests : Link → Bool
-  tests k =
-      link-within k
-      && (eqb (length rows) (row-bytes * rows-asked rows)
-      && (leb (rows-asked rows) max-connections && every (rows-asked rows) (row-within k rows)))
+    pub is-level : short-level lk rows ≤ max-levels
+    is-level = omega (arith, ap (λ (t : Short). t .level) answers, level-le (link-asked lk) (all-rows rows) (asked (link-asked lk) rows e .link-in))
 
-  settles : (ok : Bool) → ok ≡ tests l → short l rows ok ≡ short-level lk rows
-  unfolding well-asked short-level
-  settles ok t = ap (short l rows) t ∙ ap (λ (k : Link). short k rows (tests k)) e
+  -- either way a byte
+  pub level-byte : short-level lk rows < 256
+  level-byte = go (well-asked lk rows) refl
+    where
+      go : (b : Bool) → well-asked lk rows ≡ b → short-level lk rows < 256
+      go true e = omega (arith, is-level e)
+      go false e = omega (arith, ap (λ (t : Short). t .level) (refuses e))
 
-  pub bad-link : link-within l ≡ false → not-well-asked ≡ short-level lk rows
-  bad-link b = settles false (fails _ _ b)
+  -- as the code asks: of a link that is the one asked about
+  module _ (l : Link) (e : l ≡ link-asked lk) where
+    pub refused : testable l rows ≡ false → not-well-asked ≡ short-asked lk rows
+    refused f = sym (refuses (ap (λ (k : Link). testable k rows) (sym e) ∙ f))
 
-  module _ (good : link-within l ≡ true) where
-    pub cut-row : (length rows ≡ row-bytes * rows-asked rows → ⊥) → not-well-asked ≡ short-level lk rows
-    cut-row n = settles false (goes-on _ _ false good (fails _ _ (ne-eqb (length rows) (row-bytes * rows-asked rows) n)))
-
-    module _ (fit : length rows ≡ row-bytes * rows-asked rows) where
-      on : (b r : Bool) → r ≡ b → r ≡ (link-within l && (eqb (length rows) (row-bytes * rows-asked rows) && b))
-      on b r h = goes-on _ _ r good (goes-on _ _ r (eq-eqb (length rows) (row-bytes * rows-asked rows) fit) h)
-
-      pub many-rows : max-connections < rows-asked rows → not-well-asked ≡ short-level lk rows
-      many-rows m = settles false (on _ false (fails _ _ (lt-leb (rows-asked rows) max-connections m)))
-
-      module _ (few : rows-asked rows ≤ max-connections) (ok : Bool) (each : ok ≡ every (rows-asked rows) (row-within l rows)) where
-        all : ok ≡ tests l
-        all = on _ ok (goes-on _ _ ok (le-leb (rows-asked rows) max-connections few) each)
-
-        pub bad-row : ok ≡ false → not-well-asked ≡ short-level lk rows
-        bad-row f = settles false (sym f ∙ all)
-
-        pub answered : ok ≡ true → (r : ℕ) → r ≡ level-test l (all-rows rows) .level → r ≡ short-level lk rows
-        answered t r h = h ∙ settles true (sym t ∙ all)
+    pub answered : testable l rows ≡ true → level-test l (all-rows rows) ≡ short-asked lk rows
+    answered g = ap (λ (k : Link). level-test k (all-rows rows)) e ∙ sym (answers (ap (λ (k : Link). testable k rows) (sym e) ∙ g))

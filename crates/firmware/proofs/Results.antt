@@ -1,34 +1,37 @@
 -- THE PROOFS of the statements in specs/Promises, each under its name in small letters. Assumes nothing.
-use Prim.Native.Nat.{ℕ, _+_, _*_, _≤_, _<_}
+use Prim.Native.Nat.{ℕ, _+_, _<_}
 use native.Mathlib.Omega.{arith}
 use mathlib.Core.Path.{_≡_, refl, sym, ap, _∙_, subst}
 use mathlib.Core.Bool.{Bool, true, false, not, _&&_}
+use mathlib.Core.Logic.{_⊎_, inl, inr, _↔_}
 use mathlib.Core.List.{List, [], _∷_, _++_}
-use lib.Dec.{eqb, leb}
+use lib.Dec.{eqb}
 use lib.ListN.{length, length-append}
 use lib.Seq.{getD-append-seam}
-use borrow.Author.Tests.{leb-true, lt-leb, eqb-true, eqb-false, eq-eqb, ne-eqb}
+use borrow.Author.Tests.{lt-leb, eqb-false, eq-eqb, ne-eqb}
 use Rattle.rules.specs.declared.Link.{Link}
 use Rattle.rules.specs.declared.Connection.{Connection}
-use Rattle.rules.specs.Words.{every, within}
+use Rattle.rules.specs.Words.{within}
 use Rattle.rules.specs.Limits.{max-levels, max-connections}
-use Rattle.rules.specs.Model.{State, admit, offer, Answer, no-connection, nth, past, figures}
-use Rattle.rules.specs.Admission.{link-within, level-within, figures-within, level-test, passes}
+use Rattle.rules.specs.Model.{State, admit, offer, Short, no-short, Answer, no-connection, nth, past, figures}
+use Rattle.rules.specs.Admission.{link-within, level-within, figures-within, cost, level-sum, level-test, passes}
 use Rattle.rules.specs.Service.{next-eligibility}
 use Rattle.rules.specs.SoundState.{Sound}
 use Rattle.rules.specs.SoundTest.{sound}
-use Rattle.rules.specs.Calls.{verdicts, verdict}
-use Rattle.rules.proofs.Sums.{cond-is}
+use Rattle.rules.specs.Calls.{verdicts, verdict, answer}
+use Rattle.rules.specs.Promises as R
+use Rattle.rules.specs.Promises.{No-level-fails}
+use Rattle.rules.proofs.Sums.{same}
 use Rattle.rules.proofs.Tests.{never-number, and-true, within-true, every-true, not-true-false}
 use Rattle.rules.proofs.Verdicts.{settled}
-use Rattle.rules.proofs.LevelTest.{test-holds, holds-test, names-lowest}
+use Rattle.rules.proofs.Figures.{link-facts}
 use Rattle.rules.proofs.SoundExact.{exact}
-use Rattle.rules.proofs.Results.{answer-verdict}
-use Rattle.firmware.specs.Questions.{next-asked, link-asked, row-bytes, rows-asked, row-asked, all-rows, row-within}
-use Rattle.firmware.specs.Questions.{well-asked, not-well-asked, short-level}
-use Rattle.firmware.specs.Promises.{Same-eligibility-as-an-offer, Refused-exactly, Holds-exactly, Lowest-failing}
-use Rattle.firmware.specs.Promises.{Names-the-lowest, Same-test-as-an-admission}
-use Rattle.firmware.proofs.AskedLaws.{length-first, nth-first, level-le}
+use Rattle.rules.proofs.Results.{answer-verdict, level-test-tells, short-is-told}
+use Rattle.firmware.specs.Questions.{next-asked, link-asked, rows-asked, row-asked, all-rows, row-within}
+use Rattle.firmware.specs.Questions.{testable, well-asked, short-asked, short-level, short-units}
+use Rattle.firmware.specs.Promises.{Same-eligibility-as-an-offer, Refused-exactly, Holds-exactly, No-units-exactly}
+use Rattle.firmware.specs.Promises.{Names-the-lowest, No-rows-hold, Same-test-as-an-admission}
+use Rattle.firmware.proofs.AskedLaws.{length-first, nth-first, Asked, asked, refuses, answers, is-level}
 
 -- ---- (a)
 
@@ -47,54 +50,50 @@ same-eligibility-as-an-offer s c len tag flag e =
 
 -- ---- (b)
 
-record Asked (lk rows : List ℕ) : Type 0 where
-  pub link-in : link-within (link-asked lk) ≡ true
-  pub few : rows-asked rows ≤ max-connections
-  pub rows-in : every (rows-asked rows) (row-within (link-asked lk) rows) ≡ true
-
-asked : (lk rows : List ℕ) → well-asked lk rows ≡ true → Asked lk rows
-unfolding well-asked
-asked lk rows e =
-    let a = and-true (link-within (link-asked lk)) _ e in
-    let b = and-true (eqb (length rows) (row-bytes * rows-asked rows)) _ (a .1) in
-    let d = and-true (leb (rows-asked rows) max-connections) _ (b .1) in
-    record { link-in = a .0; few = leb-true (rows-asked rows) max-connections (d .0); rows-in = d .1 }
-
-module _ (lk rows : List ℕ) where
-  refuses : well-asked lk rows ≡ false → short-level lk rows ≡ not-well-asked
-  unfolding short-level
-  refuses e = cond-is (level-test (link-asked lk) (all-rows rows) .level) not-well-asked e
-
-  module _ (e : well-asked lk rows ≡ true) where
-    answers : short-level lk rows ≡ level-test (link-asked lk) (all-rows rows) .level
-    unfolding short-level
-    answers = cond-is (level-test (link-asked lk) (all-rows rows) .level) not-well-asked e
-
-    -- the answer is a level
-    is-level : short-level lk rows ≤ max-levels
-    is-level = omega (arith, answers, level-le (link-asked lk) (all-rows rows) (asked lk rows e .link-in))
-
-    -- 0 says that the test holds, and the other way round
-    passed : short-level lk rows ≡ 0 → passes (link-asked lk) (all-rows rows) ≡ true
-    passed z = eq-eqb (level-test (link-asked lk) (all-rows rows) .level) 0 (sym answers ∙ z)
-
-    none-named : passes (link-asked lk) (all-rows rows) ≡ true → short-level lk rows ≡ 0
-    none-named p = answers ∙ eqb-true (level-test (link-asked lk) (all-rows rows) .level) 0 p
+module _ (lk rows : List ℕ) (e : well-asked lk rows ≡ true) where
+  -- what the rules say of the level test, said of the answer
+  tells : (short-level lk rows ≡ 0 ↔ No-level-fails (link-asked lk) (all-rows rows))
+      × (short-units lk rows ≡ 0 ↔ No-level-fails (link-asked lk) (all-rows rows))
+      × ((short-level lk rows ≡ 0 → ⊥) → R.Names-the-lowest (link-asked lk) (all-rows rows) (short-asked lk rows))
+  tells =
+      subst
+      (λ (t : Short). (t .level ≡ 0 ↔ No-level-fails (link-asked lk) (all-rows rows))
+      × (t .units ≡ 0 ↔ No-level-fails (link-asked lk) (all-rows rows))
+      × ((t .level ≡ 0 → ⊥) → R.Names-the-lowest (link-asked lk) (all-rows rows) t))
+      (sym (answers lk rows e)) (level-test-tells (link-asked lk) (all-rows rows))
 
 pub refused-exactly : Refused-exactly
-refused-exactly lk rows = (λ z w. omega (arith, z, is-level lk rows w), λ n. refuses lk rows (not-true-false (well-asked lk rows) n))
-
-pub holds-exactly : Holds-exactly
-holds-exactly lk rows e = (
-  λ z. test-holds (link-asked lk) (all-rows rows) (passed lk rows e z),
-  λ h. none-named lk rows e (holds-test (link-asked lk) (all-rows rows) h),
+refused-exactly lk rows = (
+  λ z w. omega (arith, z, is-level lk rows w),
+  λ n. ap (λ (t : Short). t .level) (refuses lk rows (not-true-false (well-asked lk rows) n)),
 )
 
+pub holds-exactly : Holds-exactly
+holds-exactly lk rows e = tells lk rows e .0
+
+pub no-units-exactly : No-units-exactly
+no-units-exactly lk rows = (λ u e. tells lk rows e .1 .0 u, go (well-asked lk rows) refl)
+  where
+    go : (b : Bool) → well-asked lk rows ≡ b → (well-asked lk rows ≡ true → No-level-fails (link-asked lk) (all-rows rows)) → short-units lk rows ≡ 0
+    go true e h = tells lk rows e .1 .1 (h e)
+    go false e h = ap (λ (t : Short). t .units) (refuses lk rows e)
+
 pub names-the-lowest : Names-the-lowest
-names-the-lowest lk rows e n =
-    let k = names-lowest (link-asked lk) (all-rows rows) (λ z. n (answers lk rows e ∙ z)) in
-    subst (Lowest-failing (link-asked lk) (all-rows rows)) (sym (answers lk rows e))
-    (record { from-1 = k .0; to-n = omega (arith, k .1); fails = k .2; lower-hold = k .3 })
+names-the-lowest lk rows e n = tells lk rows e .2 n
+
+-- without rows a sum is S alone, and no bound is below it
+none-short : (l : Link) → link-within l ≡ true → No-level-fails l []
+unfolding level-sum cost
+none-short l e m p q = omega (arith, link-facts l e .largest-le m p q)
+
+bare : (l : Link) → link-within l ≡ true → testable l [] ≡ true
+unfolding testable
+bare l e = rw e
+
+pub no-rows-hold : No-rows-hold
+no-rows-hold lk e =
+    let t = tells lk [] (bare (link-asked lk) e) in
+    (t .0 .1 (none-short (link-asked lk) e), t .1 .1 (none-short (link-asked lk) e))
 
 -- ---- the same question as an admission's
 
@@ -139,7 +138,7 @@ not-eight s x p =
     other n e i = absurd (eqb-false n 8 e i)
 
 -- the newcomer is the last row
-module _ (lk rows : List ℕ) (s : State) (x : Connection) (same-rows : all-rows rows ≡ s .connections ++ x ∷ []) (A : Asked lk rows) where
+module _ (lk rows : List ℕ) (s : State) (x : Connection) (same-rows : all-rows rows ≡ s .connections ++ x ∷ []) (A : Asked (link-asked lk) rows) where
   count : length (s .connections) + 1 ≡ rows-asked rows
   count =
       sym (length-append (s .connections) (x ∷ []))
@@ -167,10 +166,30 @@ module _ (lk rows : List ℕ) (s : State) (x : Connection) (same-rows : all-rows
       let n = within-true 1 max-levels (s .link .levels) (and-true (within 1 max-levels (s .link .levels)) _ (a .0) .0) in
       eight s x (exact s .1 S) (λ z. omega (arith, n .0)) (a .1) (a .2) (omega (arith, count, A .few)) f
 
+-- the two tests are one
+module _ (lk rows : List ℕ) (s : State) (x : Connection) (S : Sound s) (same-link : link-asked lk ≡ s .link)
+    (same-rows : all-rows rows ≡ s .connections ++ x ∷ []) (e : well-asked lk rows ≡ true) where
+  same-test : short-asked lk rows ≡ level-test (s .link) (s .connections ++ x ∷ [])
+  same-test = answers lk rows e ∙ rw (same-link, same-rows)
+
+  passed : short-level lk rows ≡ 0 → passes (s .link) (s .connections ++ x ∷ []) ≡ true
+  passed z = eq-eqb _ 0 (ap (λ (t : Short). t .level) (sym same-test) ∙ z)
+
+  fails : (short-level lk rows ≡ 0 → ⊥) → passes (s .link) (s .connections ++ x ∷ []) ≡ false
+  fails n = ne-eqb _ 0 (λ z. n (ap (λ (t : Short). t .level) same-test ∙ z))
+
+  eight-if : answer (admit x) s .verdict ≡ 8 ↔ (short-level lk rows ≡ 0 → ⊥)
+  eight-if = (
+    λ v z. not-eight s x (passed z) (sym (answer-verdict (admit x) s) ∙ v),
+    λ n. answer-verdict (admit x) s ∙ gets-eight lk rows s x same-rows (asked (link-asked lk) rows e) S same-link (fails n),
+  )
+
+  none : short-level lk rows ≡ 0 → no-short ≡ short-asked lk rows
+  none z = let u = tells lk rows e .1 .1 (tells lk rows e .0 .0 z) in sym (rw (z, u))
+
+  same-short : (short-level lk rows ≡ 0) ⊎ (short-level lk rows ≡ 0 → ⊥) → answer (admit x) s .short ≡ short-asked lk rows
+  same-short (inl z) = short-is-told (admit x) s .0 (λ v. eight-if .0 v z) ∙ none z
+  same-short (inr n) = short-is-told (admit x) s .1 x refl (eight-if .1 n) .0 ∙ sym same-test
+
 pub same-test-as-an-admission : Same-test-as-an-admission
-same-test-as-an-admission lk rows s x S same-link same-rows e =
-    let same-test : passes (link-asked lk) (all-rows rows) ≡ passes (s .link) (s .connections ++ x ∷ []) = rw (same-link, same-rows) in (
-      λ v z. not-eight s x (sym same-test ∙ passed lk rows e z) (sym (answer-verdict (admit x) s) ∙ v),
-      λ n. answer-verdict (admit x) s
-          ∙ gets-eight lk rows s x same-rows (asked lk rows e) S same-link (not-true-false _ (λ p. n (none-named lk rows e (same-test ∙ p)))),
-    )
+same-test-as-an-admission lk rows s x S l r e = (eight-if lk rows s x S l r e, same-short lk rows s x S l r e (same (short-level lk rows) 0))

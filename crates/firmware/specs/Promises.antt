@@ -1,18 +1,19 @@
--- THE STATEMENTS of the two questions, apart from their proofs: each is proved in proofs/Results under the same name in small letters.
+-- THE STATEMENTS of the questions, apart from their proofs: each is proved in proofs/Results under the same name in small letters.
 -- Assumes nothing.
-use Prim.Native.Nat.{ℕ, _≤_, _<_}
+use Prim.Native.Nat.{ℕ}
 use mathlib.Core.Path.{_≡_}
 use mathlib.Core.Bool.{true, not}
 use mathlib.Core.Logic.{_↔_}
 use mathlib.Core.List.{List, [], _∷_, _++_}
 use lib.Dec.{eqb}
-use Rattle.rules.specs.declared.Link.{Link}
 use Rattle.rules.specs.declared.Connection.{Connection}
 use Rattle.rules.specs.Model.{State, admit, offer, past, figures}
-use Rattle.rules.specs.Admission.{bound, level-sum}
+use Rattle.rules.specs.Admission.{link-within}
 use Rattle.rules.specs.SoundState.{Sound}
 use Rattle.rules.specs.Calls.{answer}
-use Rattle.firmware.specs.Questions.{next-asked, link-asked, all-rows, well-asked, not-well-asked, short-level}
+use Rattle.rules.specs.Promises as R
+use Rattle.rules.specs.Promises.{No-level-fails}
+use Rattle.firmware.specs.Questions.{next-asked, link-asked, all-rows, well-asked, not-well-asked, short-level, short-units}
 
 -- ---- (a) is the eligibility that the hub gives
 
@@ -28,30 +29,31 @@ Same-eligibility-as-an-offer =
 
 -- 255 exactly where the question is not well asked: no level has that number
 abbrev pub Refused-exactly : Type 0
-Refused-exactly = (lk rows : List ℕ) → short-level lk rows ≡ not-well-asked ↔ (well-asked lk rows ≡ true → ⊥)
+Refused-exactly = (lk rows : List ℕ) → short-level lk rows ≡ not-well-asked .level ↔ (well-asked lk rows ≡ true → ⊥)
 
 -- 0 exactly where every level's sum is at most its bound
 abbrev pub Holds-exactly : Type 0
-Holds-exactly =
-    (lk rows : List ℕ) → well-asked lk rows ≡ true
-    → short-level lk rows ≡ 0 ↔ ((m : ℕ) → 1 ≤ m → m ≤ link-asked lk .levels → level-sum (link-asked lk) (all-rows rows) m ≤ bound (link-asked lk) m)
+Holds-exactly = (lk rows : List ℕ) → well-asked lk rows ≡ true → short-level lk rows ≡ 0 ↔ No-level-fails (link-asked lk) (all-rows rows)
 
--- m is the lowest level whose sum is above its bound
-pub record Lowest-failing (l : Link) (cs : List Connection) (m : ℕ) : Type 0 where
-  pub from-1 : 1 ≤ m
-  pub to-n : m ≤ l .levels
-  pub fails : bound l m < level-sum l cs m
-  pub lower-hold : (j : ℕ) → 1 ≤ j → j < m → level-sum l cs j ≤ bound l j
+-- the units are 0 exactly where no level fails or the question is not well asked (document 02, R-2)
+abbrev pub No-units-exactly : Type 0
+No-units-exactly = (lk rows : List ℕ) → short-units lk rows ≡ 0 ↔ (well-asked lk rows ≡ true → No-level-fails (link-asked lk) (all-rows rows))
 
+-- else the level is the lowest whose sum is above its bound, and the units are that level's sum less its bound
 abbrev pub Names-the-lowest : Type 0
 Names-the-lowest =
     (lk rows : List ℕ) → well-asked lk rows ≡ true
     → (short-level lk rows ≡ 0 → ⊥)
-    → Lowest-failing (link-asked lk) (all-rows rows) (short-level lk rows)
+    → R.Names-the-lowest (link-asked lk) (all-rows rows) (record { level = short-level lk rows; units = short-units lk rows })
+
+-- a good `LK` and no rows: nothing is short
+abbrev pub No-rows-hold : Type 0
+No-rows-hold = (lk : List ℕ) → link-within (link-asked lk) ≡ true → (short-level lk [] ≡ 0) × (short-units lk [] ≡ 0)
 
 -- ---- (b) is the question that an admission asks
 
--- asked with the hub's link, and its connections and a newcomer as rows: a level is named exactly where the newcomer's admission gets 8
+-- asked with the hub's link, and its connections and a newcomer as rows: a level is named exactly where the newcomer's admission gets 8,
+-- and level and units are those of its answer
 abbrev pub Same-test-as-an-admission : Type 0
 Same-test-as-an-admission =
     (lk rows : List ℕ) (s : State) (x : Connection)
@@ -59,4 +61,5 @@ Same-test-as-an-admission =
     → link-asked lk ≡ s .link
     → all-rows rows ≡ s .connections ++ x ∷ []
     → well-asked lk rows ≡ true
-    → answer (admit x) s .verdict ≡ 8 ↔ (short-level lk rows ≡ 0 → ⊥)
+    → (answer (admit x) s .verdict ≡ 8 ↔ (short-level lk rows ≡ 0 → ⊥))
+    × (answer (admit x) s .short ≡ record { level = short-level lk rows; units = short-units lk rows })

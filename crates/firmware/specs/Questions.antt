@@ -1,4 +1,4 @@
--- THE TWO QUESTIONS, answered by the rules' own definitions. Document 01, "Two questions from C firmware". Assumes nothing.
+-- THE QUESTIONS, answered by the rules' own definitions. Document 01, "Two questions from C firmware"; document 02, R-2. Assumes nothing.
 use Prim.Native.Nat.{ℕ, zero, suc, _*_, _/_}
 use mathlib.Core.Bool.{Bool, cond, not, _&&_}
 use mathlib.Core.List.{List, [], _∷_, _++_}
@@ -8,7 +8,7 @@ use Rattle.rules.specs.declared.Link.{Link}
 use Rattle.rules.specs.declared.Connection.{Connection}
 use Rattle.rules.specs.Words.{every}
 use Rattle.rules.specs.Limits.{max-connections}
-use Rattle.rules.specs.Model.{no-link}
+use Rattle.rules.specs.Model.{Short, no-link}
 use Rattle.rules.specs.Admission.{link-within, level-within, figures-within, level-test}
 use Rattle.rules.specs.Service.{next-eligibility}
 use Rattle.traces.specs.Kinds.{CN}
@@ -50,16 +50,29 @@ all-rows rows = first-rows (rows-asked rows) rows
 abbrev pub row-within : Link → List ℕ → ℕ → Bool
 row-within l rows i = level-within l (row-asked rows i) && figures-within l (row-asked rows i)
 
--- no "length doesn't fit, the bytes are malformed, a link or connection limit is broken or there are more than 64 rows"
-unfoldable pub well-asked : List ℕ → List ℕ → Bool
-well-asked lk rows =
-    link-within (link-asked lk)
+-- no "length doesn't fit, .. a link or connection limit is broken or there are more than 64 rows"
+unfoldable pub testable : Link → List ℕ → Bool
+testable l rows =
+    link-within l
     && (eqb (length rows) (row-bytes * rows-asked rows)
-    && (leb (rows-asked rows) max-connections && every (rows-asked rows) (row-within (link-asked lk) rows)))
+    && (leb (rows-asked rows) max-connections && every (rows-asked rows) (row-within l rows)))
 
-abbrev pub not-well-asked : ℕ
-not-well-asked = 255
+-- .. nor are "the bytes malformed": they name no link then
+abbrev pub well-asked : List ℕ → List ℕ → Bool
+well-asked lk rows = testable (link-asked lk) rows
+
+-- "255 if" it is not: no level has that number, and no units go with it
+abbrev pub not-well-asked : Short
+not-well-asked = record { level = 255; units = 0 }
+
+-- what the level test says of the link and all rows
+unfoldable pub short-asked : List ℕ → List ℕ → Short
+short-asked lk rows = cond (well-asked lk rows) (level-test (link-asked lk) (all-rows rows)) not-well-asked
 
 -- "0 if all level tests hold, else the lowest failing level, or 255"
-unfoldable pub short-level : List ℕ → List ℕ → ℕ
-short-level lk rows = cond (well-asked lk rows) (level-test (link-asked lk) (all-rows rows) .level) not-well-asked
+abbrev pub short-level : List ℕ → List ℕ → ℕ
+short-level lk rows = short-asked lk rows .level
+
+-- R-2: the units by which that level is over, 0 unless one fails
+abbrev pub short-units : List ℕ → List ℕ → ℕ
+short-units lk rows = short-asked lk rows .units

@@ -1,4 +1,4 @@
-// The two questions that the hub's firmware asks across the C boundary. Document 01, "Two questions from C firmware"; for C: include/mtredovim.h.
+// The questions that the hub's firmware asks across the C boundary. Document 01, "Two questions from C firmware", and R-2; for C: include/mtredovim.h.
 ghost use mathlib.Core.Path.{_≡_};
 ghost use mathlib.Core.Bool.{true};
 ghost use Prim.Native.Nat.{ℕ, _+_, _*_, _<_, _≤_};
@@ -6,18 +6,21 @@ ghost use lib.ListN.{length};
 ghost use Rattle.rules.specs.Words.{every};
 ghost use Rattle.rules.specs.Limits.{max-connections};
 ghost use Rattle.rules.specs.Admission.{link-within, level-test};
-ghost use Rattle.firmware.specs.Questions.{next-asked, link-asked, row-bytes, row-asked, first-rows, row-within, short-level};
+ghost use Rattle.lines.specs.Within.{short-of};
+ghost use Rattle.firmware.specs.Questions.{next-asked, link-asked, row-bytes, row-asked, first-rows, row-within, testable};
+ghost use Rattle.firmware.specs.Questions.{short-asked, short-level, short-units};
 ghost use Rattle.firmware.specs.Laid.{laid-out};
 use lines::MAX_CONNECTIONS;
 use lines::MEMBERS;
+use lines::Shortage;
 use rules::Connection;
 use rules::Link;
 
 // The bytes of a row.
 const ROW: usize = 5;
 
-// The answer where a question is not well asked.
-const NOT_WELL_ASKED: u8 = 255;
+// The level of a question that is not well asked.
+const NOT_WELL_ASKED: u32 = 255;
 
 // The next eligibility of a connection, from a flag (0: no packet of it was accepted), the last eligibility, its gap and the present tick.
 #[no_mangle]
@@ -89,35 +92,61 @@ fn lay_out(rows: &[u8], n: usize, cs: &mut [u32])
     }
 }
 
-// The lowest level that is short over the first n rows; 0 where none is.
-fn short_over(l: Link, rows: &[u8], n: usize) -> u8
+// The level test over the first n rows.
+fn short_over(l: Link, rows: &[u8], n: usize) -> Shortage
     requires { ⌜ (link-within l ≡ true) × (n ≤ max-connections) × (row-bytes * n ≤ length (now rows)) × (every n (row-within l (now rows)) ≡ true) ⌝ }
-    ensures { λ r. ⌜ r ≡ level-test l (first-rows n (now (rows .entry))) .level ⌝ }
+    ensures { λ r. ⌜ short-of r ≡ level-test l (first-rows n (now (rows .entry))) ⌝ }
 {
     let mut cs = [0u32; MEMBERS];
     lay_out(rows, n, &mut cs);
-    let short = lines::standing_test(l, &cs, n);
-    short.level as u8
+    lines::standing_test(l, &cs, n)
 }
 
-// The level-test answer, from one whole `LK` and a table of rows: 0 where every level holds, else the lowest that does not, or 255.
+// The link and all rows are within their limits.
+fn testable(l: Link, rows: &[u8]) -> bool
+    ensures { λ r. ⌜ r ≡ testable l (now (rows .entry)) ⌝ }
+{
+    if !sound::link_ok(l) {
+        return false;
+    }
+    let n = rows.len() / ROW;
+    if rows.len() != ROW * n {
+        return false;
+    }
+    if MAX_CONNECTIONS < n {
+        return false;
+    }
+    rows_ok(l, rows, n)
+}
+
+// The level test, from one whole `LK` and a table of rows.
+fn short_asked(lk: &[u8], rows: &[u8]) -> Shortage
+    ensures { λ r. ⌜ short-of r ≡ short-asked (now (lk .entry)) (now (rows .entry)) ⌝ }
+{
+    let l = link_asked(lk);
+    if !testable(l, rows) {
+        return Shortage {
+            level: NOT_WELL_ASKED,
+            units: 0,
+        };
+    }
+    short_over(l, rows, rows.len() / ROW)
+}
+
+// The level-test answer: 0 where every level holds, else the lowest that does not, or 255.
 #[no_mangle]
 pub extern "C" fn mtredovim_short_level(lk: &[u8], rows: &[u8]) -> u8
     ensures { λ r. ⌜ r ≡ short-level (now (lk .entry)) (now (rows .entry)) ⌝ }
 {
-    let l = link_asked(lk);
-    if !sound::link_ok(l) {
-        return NOT_WELL_ASKED;
-    }
-    let n = rows.len() / ROW;
-    if rows.len() != ROW * n {
-        return NOT_WELL_ASKED;
-    }
-    if MAX_CONNECTIONS < n {
-        return NOT_WELL_ASKED;
-    }
-    if !rows_ok(l, rows, n) {
-        return NOT_WELL_ASKED;
-    }
-    short_over(l, rows, n)
+    let short = short_asked(lk, rows);
+    short.level as u8
+}
+
+// The units by which that level is over; 0 unless one fails.
+#[no_mangle]
+pub extern "C" fn mtredovim_short_units(lk: &[u8], rows: &[u8]) -> u64
+    ensures { λ r. ⌜ r ≡ short-units (now (lk .entry)) (now (rows .entry)) ⌝ }
+{
+    let over = short_asked(lk, rows);
+    over.units
 }

@@ -51,6 +51,7 @@ pub fn fresh() -> World {
     let told = Told {
         verdict: 0,
         number: 0,
+        short: lines::no_shortage(),
         gone: false,
         packet: none,
         hub: hub::fresh_hub(),

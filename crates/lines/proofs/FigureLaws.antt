@@ -3,13 +3,12 @@ use mathlib.Core.Path.{_≡_, refl, sym, ap, _∙_, subst}
 use mathlib.Core.Bool.{true, not, _&&_}
 use mathlib.Core.List.{List, [], _∷_, _++_}
 use Prim.Native.Nat.{ℕ, zero, suc, _+_, _*_, _-_, _/_, _≤_, _<_}
-use native.Mathlib.Nat.{mul-le-mul-right, mul-le-mul-left, le-trans, div-lt-iff-lt-mul}
+use native.Mathlib.Nat.{mul-le-mul-right, mul-le-mul-left, le-trans}
 use native.Mathlib.Omega.{arith}
 use native.Mathlib.Numerals.{add-one}
 use lib.Dec.{leb, eqb}
 use borrow.Author.Tests.{leb-true, le-leb, lt-leb, eq-eqb, ne-eqb}
-use lib.ListN.{length, getD, List·getD-eq-default, length-append}
-use lib.Seq.{getD-append-seam}
+use lib.ListN.{length, getD, List·getD-eq-default}
 use Rattle.rules.specs.declared.Link.{Link}
 use Rattle.rules.specs.declared.Connection.{Connection}
 use Rattle.rules.specs.Words.{within, sum}
@@ -18,8 +17,8 @@ use Rattle.rules.specs.Model.{nth}
 use Rattle.rules.specs.Admission.{rising, link-within, figures-within, bound, count, cost, load, level-sum, short-from, level-test}
 use Rattle.rules.specs.Service.{next-eligibility}
 use Rattle.rules.proofs.Tests.{never, and-true, within-true}
-use Rattle.rules.proofs.Sums.{upto-yes, upto-no, cond-is, sum-eq}
-use Rattle.rules.proofs.Standing.{nth-old}
+use Rattle.rules.proofs.Sums.{upto-yes, upto-no, cond-is}
+use Rattle.rules.proofs.Shortage.{count-le, load-newcomer}
 use Rattle.lines.specs.Within.{Within, share-of, most-share, gap-only}
 
 -- ---- bounds
@@ -76,14 +75,6 @@ figure-limits l x e =
     record { some-gap = within-true 1 max-gap (x .gap) (a .0) .0; some-size = b .0; size-le = b .1 }
 
 -- ---- counts and shares
-
--- a quotient rounded up is no more than what is divided
-quotient-le : (w g : ℕ) → 1 ≤ g → (w + (g - 1)) / g ≤ w
-quotient-le w g h = let k : (w + (g - 1)) / g < suc w = div-lt-iff-lt-mul h .1 (omega (arith, mul-le-mul-left w h)) in omega arith
-
-count-le : (x : Connection) (w : ℕ) → 1 ≤ x .gap → count x w ≤ w
-unfolding count
-count-le x w g = quotient-le w (x .gap) g
 
 -- what the code divides is the count, and no more than the window
 pub counted : (x : Connection) (w a b c : ℕ) → a ≡ w → b ≡ x .gap → c ≡ x .gap → 1 ≤ x .gap → ((a + (b - 1)) / c ≡ count x w) × ((a + (b - 1)) / c ≤ w)
@@ -152,18 +143,9 @@ module _ (l : Link) (cs : List Connection) where
 
 -- a newcomer adds its share
 module _ (l : Link) (cs : List Connection) (x : Connection) where
-  load-newcomer : (m d : ℕ) → load l (cs ++ x ∷ []) m d ≡ load l cs m d + share-of l m d x
-  load-newcomer m d =
-      let n : length (cs ++ x ∷ []) ≡ length cs + 1 = length-append cs (x ∷ []) in
-      ap (λ (k : ℕ). sum k (λ (c : ℕ). share-of l m d (nth (cs ++ x ∷ []) c))) n
-      ∙ sym
-      (sum-more (length cs) (load l cs m d) (share-of l m d x) (λ (c : ℕ). share-of l m d (nth (cs ++ x ∷ []) c))
-      (sum-eq (length cs) (λ c k. ap (share-of l m d) (sym (nth-old cs x c k))))
-      (ap (share-of l m d) (sym (getD-append-seam cs x [] _))))
-
   pub sum-newcomer : (m d a b c : ℕ) → d ≡ bound l m → a ≡ load l cs m d → b ≡ share-of l m d x → c ≡ l .largest → a + b + c ≡ level-sum l (cs ++ x ∷ []) m
   unfolding level-sum cost
-  sum-newcomer m d a b c e f g h = rw (f, g, h, e) (ap (λ (k : ℕ). k + l .largest) (sym (load-newcomer m (bound l m))))
+  sum-newcomer m d a b c e f g h = rw (f, g, h, e) (ap (λ (k : ℕ). k + l .largest) (sym (load-newcomer l cs x m (bound l m))))
 
 -- a connection of a level above all others adds to no sum, so the test is the same with and without it
 module _ (l : Link) (cs : List Connection) (x : Connection) (above : l .levels < x .level) where

@@ -7,10 +7,10 @@ use lib.ListN.{length}
 use Rattle.rules.specs.declared.Link.{Link}
 use Rattle.rules.specs.declared.Connection.{Connection}
 use Rattle.rules.specs.Limits.{max-largest, max-bound}
-use Rattle.rules.specs.Model.{nth}
+use Rattle.rules.specs.Model.{Short, nth}
 use Rattle.rules.specs.Words.{upto}
 use Rattle.lines.specs.declared.Shortage.{Shortage}
-use Rattle.rules.specs.Admission.{link-within, figures-within, count, cost, Short}
+use Rattle.rules.specs.Admission.{link-within, figures-within, count, cost}
 
 pub record Within (l : Link) (cs : List Connection) : Type 0 where
   pub link-in : link-within l ≡ true
@@ -26,6 +26,10 @@ most-share = max-bound * max-largest
 -- an answer of the code, as the rules give it
 abbrev pub short-of : Shortage → Short
 short-of r = record { level = r .level; units = r .units }
+
+-- .. and the other way round
+abbrev pub shortage-of : Short → Shortage
+shortage-of t = record { level = t .level; units = t .units }
 
 -- a connection of which only the gap counts, as for an eligibility
 abbrev pub gap-only : ℕ → Connection

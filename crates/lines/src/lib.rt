@@ -6,12 +6,12 @@ ghost use Prim.Native.Nat.{ℕ, _+_, _*_, _-_, _/_, _<_, _≤_};
 ghost use lib.Dec.{eqb};
 ghost use lib.ListN.{length, set};
 ghost use Rattle.rules.specs.Limits.{max-largest, max-bound, max-connections, beyond-32-bits};
-ghost use Rattle.rules.specs.Model.{nth, no-past};
+ghost use Rattle.rules.specs.Model.{no-short, nth, no-past};
 ghost use Rattle.rules.specs.Admission.{bound, count, reservation, reserved, load, level-sum, level-test};
 ghost use Rattle.rules.specs.Service.{next-eligibility};
 ghost use Rattle.tables.specs.Table.{formed};
 ghost use Rattle.lines.specs.Members.{members-length, member-of, member-in, members, connections, pasts, written-members};
-ghost use Rattle.lines.specs.Within.{Within, most-share, share-of, short-of, gap-only};
+ghost use Rattle.lines.specs.Within.{Within, most-share, share-of, short-of, shortage-of, gap-only};
 use rules::Connection;
 use rules::Link;
 use tables::Five;
@@ -175,6 +175,13 @@ fn sum_at(l: Link, cs: &[u32], n: usize, x: Connection, m: u32) -> u64
 pub struct Shortage {
     pub level: u32,
     pub units: u64,
+}
+
+// Nothing is short.
+pub fn no_shortage() -> Shortage
+    ensures { λ r. ⌜ r ≡ shortage-of no-short ⌝ }
+{
+    Shortage { level: 0, units: 0 }
 }
 
 // The level test over the first n connections and a newcomer.

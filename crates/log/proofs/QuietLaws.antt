@@ -15,7 +15,7 @@ use Rattle.rules.specs.declared.Notice.{Notice}
 use Rattle.rules.specs.Model.{State, tick, Answer}
 use Rattle.rules.specs.SoundState.{Sound, Idle, Serves}
 use Rattle.rules.specs.SoundTest.{sound}
-use Rattle.rules.specs.Service.{choice, level-of, ticked}
+use Rattle.rules.specs.Service.{choice, level-of, tick-answer, ticked}
 use Rattle.rules.specs.Calls.{verdicts, verdict, settle, answer}
 use Rattle.rules.proofs.Tests.{and-true}
 use Rattle.rules.proofs.Lists.{all-map}
@@ -49,7 +49,7 @@ module _ (level : ℕ → ℕ) (t : ℕ) where
 
 -- the clock moves on, and nothing departs
 abbrev quiet-answer : State → Answer
-quiet-answer s = record { verdict = 0; number = 0; departed = none; next = passed s 1 }
+quiet-answer s = tick-answer none (passed s 1)
 
 module _ (s : State) (k : ℕ) (Q : Quiet s (suc k)) where
   tick-good : verdict tick s ≡ 0

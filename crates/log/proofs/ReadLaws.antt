@@ -66,7 +66,7 @@ read-onward at w u h = rw (trace-looks-no-further w u h)
 
 table-short : (r : Reply) → answer-table r ≤ longest-answer
 table-short (Linked v) = omega arith
-table-short (Admitted v c) = omega arith
+table-short (Admitted v c l u) = omega arith
 table-short (Offered v e) = omega arith
 table-short (Noticed v e) = omega arith
 table-short (Departed c t a e f) = omega arith

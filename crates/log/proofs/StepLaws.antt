@@ -34,7 +34,7 @@ record-same m n (LinkRecord a b d1 d2 d3 d4 d5 d6 d7 d8) (suc k) at s bs none f 
     ap (λ l. answer-bytes (Linked (q .verdict)) ++ l) (f (at + suc k) (q .next) (omega arith))
 record-same m n (Admit a b d) (suc k) at s bs none f =
     let q = answer (admit (connection-named a b d)) s in
-    ap (λ l. answer-bytes (Admitted (q .verdict) (q .number)) ++ l) (f (at + suc k) (q .next) (omega arith))
+    ap (λ l. answer-bytes (Admitted (q .verdict) (q .number) (q .short .level) (q .short .units)) ++ l) (f (at + suc k) (q .next) (omega arith))
 record-same m n (Offer a b d) (suc k) at s bs none f =
     let q = answer (offer a b d) s in
     ap (λ l. answer-bytes (Offered (q .verdict) (q .number)) ++ l) (f (at + suc k) (q .next) (omega arith))

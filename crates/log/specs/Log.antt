@@ -1,5 +1,5 @@
 -- THE ANSWER LOG of a trace, from bytes to bytes, by the rules alone: no hub value, no table, no window. Document 01, "Trace and answer records" and
--- "One tick"; document 02, R-1. Assumes nothing.
+-- "One tick"; document 02, R-1 and R-2. Assumes nothing.
 use Prim.Native.Nat.{ℕ, zero, suc, _+_, _-_}
 use mathlib.Core.Bool.{not}
 use mathlib.Core.List.{List, [], _∷_, _++_}
@@ -70,7 +70,7 @@ record-log more (LinkRecord n m d1 d2 d3 d4 d5 d6 d7 d8) k at s bs =
     answer-bytes (Linked (a .verdict)) ++ more (at + k) (a .next) (drop k bs)
 record-log more (Admit level gap size) k at s bs =
     let a = answer (admit (connection-named level gap size)) s in
-    answer-bytes (Admitted (a .verdict) (a .number)) ++ more (at + k) (a .next) (drop k bs)
+    answer-bytes (Admitted (a .verdict) (a .number) (a .short .level) (a .short .units)) ++ more (at + k) (a .next) (drop k bs)
 record-log more (Offer c len tag) k at s bs =
     let a = answer (offer c len tag) s in
     answer-bytes (Offered (a .verdict) (a .number)) ++ more (at + k) (a .next) (drop k bs)

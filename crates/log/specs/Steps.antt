@@ -66,7 +66,9 @@ link-next l k to s = goes to Reading (answer (link l) s .next) k (answer-bytes (
 
 abbrev pub admit-next : Connection → ℕ → ℕ → State → Next
 admit-next x k to s =
-    goes to Reading (answer (admit x) s .next) k (answer-bytes (Admitted (answer (admit x) s .verdict) (answer (admit x) s .number)))
+    goes to Reading (answer (admit x) s .next) k
+    (answer-bytes
+    (Admitted (answer (admit x) s .verdict) (answer (admit x) s .number) (answer (admit x) s .short .level) (answer (admit x) s .short .units)))
 
 abbrev pub offer-next : ℕ → ℕ → ℕ → ℕ → ℕ → State → Next
 offer-next c len tag k to s =

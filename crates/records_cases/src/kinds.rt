@@ -101,13 +101,15 @@ fn answer_numbers(taken: u64, r: Reply) -> [u64; 12] {
         Reply::Admitted {
             verdict,
             connection,
+            level,
+            units,
         } => [
             taken,
             CA,
             verdict as u64,
             connection as u64,
-            0,
-            0,
+            level as u64,
+            units as u64,
             0,
             0,
             0,

@@ -16,7 +16,7 @@ fn lost(line: &[u8], t: u64) -> u64 {
 
 // Tries what a line says, by its first character.
 fn act(line: &[u8], numbers: &[u64; 13], buffer: &[u8], end: usize, t: u64) -> u64
-    requires { ⌜ (length (now buffer) ≡ 64) × (end ≤ 50) ⌝ }
+    requires { ⌜ (length (now buffer) ≡ 64) × (end ≤ 53) ⌝ }
 {
     if end < START {
         return lost(line, t);

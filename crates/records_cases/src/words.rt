@@ -8,7 +8,7 @@ pub const START: usize = 10;
 // LOST is neither.
 const BYTES: usize = 20;
 
-const MOST: usize = 100;
+const MOST: usize = 106;
 
 const LOST: usize = 999;
 
@@ -65,7 +65,7 @@ fn character(numbers: &mut [u64; 13], buffer: &mut [u8], k: usize, c: u8) -> usi
 
 // Where the bytes end in their buffer; 0 where the line is not understood.
 fn ending(k: usize) -> usize
-    ensures { λ r. ⌜ r ≤ 50 ⌝ }
+    ensures { λ r. ⌜ r ≤ 53 ⌝ }
 {
     if k < BYTES {
         return 0;
@@ -81,7 +81,7 @@ fn ending(k: usize) -> usize
 
 // The words as numbers, and the bytes; where these end, or 0.
 pub fn parse(line: &[u8], numbers: &mut [u64; 13], buffer: &mut [u8]) -> usize
-    ensures { λ r. ⌜ r ≤ 50 ⌝ }
+    ensures { λ r. ⌜ r ≤ 53 ⌝ }
 {
     let mut k: usize = 0;
     let mut i: usize = 1;

@@ -1,26 +1,32 @@
 -- Every number of an answer fits its field. Assumes nothing.
-use Prim.Native.Nat.{ℕ, zero, suc, _≤_, _<_}
+use Prim.Native.Nat.{ℕ, zero, suc, _*_, _≤_, _<_}
 use native.Mathlib.Omega.{arith}
-use mathlib.Core.Path.{_≡_, refl, ap, subst}
+use mathlib.Core.Path.{_≡_, refl, ap, _∙_, subst}
 use mathlib.Core.Bool.{Bool, true, false, cond}
-use mathlib.Core.List.{List, [], _∷_}
+use mathlib.Core.List.{List, [], _∷_, _++_}
 use mathlib.Core.Option.{none, some}
 use mathlib.Core.Logic.{_⊎_, inl, inr, ⊎-elim}
 use lib.Dec.{eqb}
 use Rattle.rules.specs.Words.{first-number}
-use Rattle.rules.specs.Limits.{clock-end, beyond-32-bits, notice-number}
-use Rattle.rules.specs.Model.{Packet, Notice, State, Call, link, admit, offer, notice, tick, Answer, notice-packet, first-notice}
-use Rattle.rules.specs.Service.{first, started, packet-departs, notice-departs, after-unit, ticked}
+use Rattle.rules.specs.Limits.{max-largest, max-bound, clock-end, beyond-32-bits, notice-number}
+use Rattle.rules.specs.Model.{Connection, Packet, Notice, State, Call, link, admit, offer, notice, tick, Short, no-short, Answer, notice-packet, first-notice}
+use Rattle.rules.specs.Admission.{level-test}
+use Rattle.rules.specs.Service.{first, started, tick-answer, packet-departs, notice-departs, after-unit, ticked}
 use Rattle.rules.specs.SoundState.{Fits, Dated, Notice-fits, Sound-with-link, Sound}
-use Rattle.rules.specs.Calls.{verdicts, verdict, done, refused-number, refused, settle, answer}
-use Rattle.rules.specs.Promises.{Packet-fits, Answer-fits, number-limit}
+use Rattle.rules.specs.Calls.{verdicts, verdict, done, refused-number, refused-short, refused, settle, answer}
+use Rattle.rules.specs.Promises.{Names-the-lowest, own-term, Packet-fits, Answer-fits, number-limit}
 use Rattle.rules.proofs.Lists.{All, all-zip}
 use Rattle.rules.proofs.Rows.{none-some, some-inj, first-all}
 use Rattle.rules.proofs.Notices.{first-notice-is}
 use Rattle.rules.proofs.Standing.{stands-below}
-use Rattle.rules.proofs.Verdicts.{admit-done, tick-done}
+use Rattle.rules.proofs.Verdicts.{admit-done, Short-refused, short-refused, tick-done}
 use Rattle.rules.proofs.Line.{tick-leaves}
 use Rattle.rules.proofs.Invariant.{clock-le-end}
+use Rattle.rules.proofs.Figures.{link-facts}
+use Rattle.rules.proofs.Shortage.{names, excess-le, term-le}
+use Rattle.rules.proofs.SoundExact.{exact}
+use Rattle.rules.proofs.Sums.{cond-ind}
+use borrow.Author.Tests.{eqb-true, eqb-false}
 use Rattle.rules.proofs.Bounds.{eligibilities-fit-32}
 
 -- the number of a table's row, or 0
@@ -34,14 +40,15 @@ number-le n (r ∷ rs) h = go (r .1) (number-le n rs (h .1))
 
 -- ---- what a unit says
 
--- no refusal, no number, and a packet only if it is held or the first notice
+-- no refusal, no number, nothing short, and a packet only if it is held or the first notice
 record Unit-says (s : State) (a : Answer) : Type 0 where
   no-refusal : a .verdict ≡ 0
   no-number : a .number ≡ 0
+  nothing-short : a .short ≡ no-short
   sends-off : (p : Packet) → a .departed ≡ some p → (first (s .serving) (s .held) ≡ some p) ⊎ ((n : Notice) × (first-notice (s .notices) ≡ some n) × (notice-packet n ≡ p))
 
-says-nothing : (s : State) (r : State) → Unit-says s (record { verdict = 0; number = 0; departed = none; next = r })
-says-nothing s r = record { no-refusal = refl; no-number = refl; sends-off = λ p e. absurd (none-some e) }
+says-nothing : (s : State) (r : State) → Unit-says s (tick-answer none r)
+says-nothing s r = record { no-refusal = refl; no-number = refl; nothing-short = refl; sends-off = λ p e. absurd (none-some e) }
 
 unit-says : (s : State) (u : ℕ) → Unit-says s (after-unit s u)
 unit-says s zero = says-nothing s _
@@ -49,12 +56,25 @@ unit-says s (suc zero) = go (eqb (s .serving) notice-number) (s .notices) refl
   where
     go : (b : Bool) (ns : List Notice) → s .notices ≡ ns → Unit-says s (cond b (notice-departs s ns) (packet-departs s))
     go true [] i = says-nothing s _
-    go true (n ∷ ns) i = record { no-refusal = refl; no-number = refl; sends-off = λ p e. inr (n, ap first-notice i, some-inj e) }
-    go false ns i = record { no-refusal = refl; no-number = refl; sends-off = λ p e. inl e }
+    go true (n ∷ ns) i = record { no-refusal = refl; no-number = refl; nothing-short = refl; sends-off = λ p e. inr (n, ap first-notice i, some-inj e) }
+    go false ns i = record { no-refusal = refl; no-number = refl; nothing-short = refl; sends-off = λ p e. inl e }
 unit-says s (suc (suc u)) = says-nothing s _
 
 pub unit-done : (s : State) (u : ℕ) → after-unit s u .verdict ≡ 0
 unit-done s u = unit-says s u .no-refusal
+
+pub unit-short : (s : State) (u : ℕ) → after-unit s u .short ≡ no-short
+unit-short s u = unit-says s u .nothing-short
+
+-- the units of an admission that is refused with 8 are no more than the newcomer's term, since without it every level holds
+pub short-fits : (x : Connection) (s : State) → Short-refused s x → (t : Short) → Names-the-lowest (s .link) (s .connections ++ x ∷ []) t
+    → (t .units ≤ own-term (s .link) x (t .level)) × (t .units ≤ max-bound * max-largest)
+short-fits x s R t N =
+    let S = exact s .0 (R .sound-state) .with-one (R .set) in
+    let a = N .is-level in
+    let k = excess-le (s .link) (s .connections) x (t .level) (S .tested (t .level) (a .0) (a .1)) in
+    let b = term-le (s .link) x (t .level) (S .link-in) (R .figures-in) (a .0) (a .1) in
+    (omega (arith, N .units-are), omega (arith, N .units-are))
 
 verdict-le : (k : Call) (s : State) → verdict k s ≤ 15
 unfolding verdicts
@@ -81,6 +101,8 @@ ticked-fits : (s : State) → Sound s → Sound-with-link s → s .clock < clock
 ticked-fits s S T r = record {
   verdict = omega (arith, says .no-refusal);
   number = omega (arith, says .no-number);
+  level = omega (arith, ap (λ (t : Short). t .level) (says .nothing-short));
+  units = omega (arith, ap (λ (t : Short). t .units) (says .nothing-short));
   departed = λ p e.
       ⊎-elim
       (λ f. first-all (started s .serving) Packet-fits (s .held) p f (held-fit s S T))
@@ -93,16 +115,34 @@ ticked-fits s S T r = record {
     says = unit-says (started s) (started s .to-go)
 
 done-fits : (k : Call) (s : State) → Sound s → verdict k s ≡ 0 → Answer-fits k (done k s)
-done-fits (link l) s S e = record { verdict = omega arith; number = omega arith; departed = λ p i. absurd (none-some i); finish = omega (arith, clock-le-end s S) }
-done-fits (admit x) s S e = record { verdict = omega arith; number = omega (arith, admit-done s x e .few); departed = λ p i. absurd (none-some i); finish = omega (arith, clock-le-end s S) }
+done-fits (link l) s S e = record { verdict = omega arith; number = omega arith; level = omega arith; units = omega arith; departed = λ p i. absurd (none-some i); finish = omega (arith, clock-le-end s S) }
+done-fits (admit x) s S e = record { verdict = omega arith; number = omega (arith, admit-done s x e .few); level = omega arith; units = omega arith; departed = λ p i. absurd (none-some i); finish = omega (arith, clock-le-end s S) }
 done-fits (offer c len tag) s S e =
-    record { verdict = omega arith; number = eligibilities-fit-32 s S .1 c .1; departed = λ p i. absurd (none-some i); finish = omega (arith, clock-le-end s S) }
+    record { verdict = omega arith; number = eligibilities-fit-32 s S .1 c .1; level = omega arith; units = omega arith; departed = λ p i. absurd (none-some i); finish = omega (arith, clock-le-end s S) }
 done-fits (notice len tag) s S e =
-    record { verdict = omega arith; number = omega (arith, clock-le-end s S); departed = λ p i. absurd (none-some i); finish = omega (arith, clock-le-end s S) }
+    record { verdict = omega arith; number = omega (arith, clock-le-end s S); level = omega arith; units = omega arith; departed = λ p i. absurd (none-some i); finish = omega (arith, clock-le-end s S) }
 done-fits tick s S e = let d = tick-done s e in ticked-fits s S (S .with-one (d .set)) (d .running)
 
-refused-fits : (k : Call) (s : State) (v : ℕ) → Sound s → v < 256 → Answer-fits k (refused k s v)
-refused-fits k s v S l = record { verdict = l; number = small k; departed = λ p i. absurd (none-some i); finish = omega (arith, clock-le-end s S) }
+-- level and units in their fields
+abbrev Small-short : Short → Type 0
+Small-short t = (t .level < 256) × (t .units < beyond-32-bits)
+
+refused-small : (k : Call) (s : State) (v : ℕ) → verdict k s ≡ v → Small-short (refused-short k s v)
+refused-small (link l) s v e = (omega arith, omega arith)
+refused-small (admit x) s v e = cond-ind Small-short (eqb v 8) (λ i. eight (e ∙ eqb-true v 8 i)) (λ _. (omega arith, omega arith))
+  where
+    eight : verdict (admit x) s ≡ 8 → Small-short (level-test (s .link) (s .connections ++ x ∷ []))
+    eight i =
+        let R = short-refused s x i in
+        let N = names (s .link) (s .connections ++ x ∷ []) (eqb-false _ 0 (R .fails)) in
+        let S = exact s .0 (R .sound-state) .with-one (R .set) in
+        (omega (arith, N .is-level .1, link-facts (s .link) (S .link-in) .few-levels), omega (arith, short-fits x s R _ N .1))
+refused-small (offer c len tag) s v e = (omega arith, omega arith)
+refused-small (notice len tag) s v e = (omega arith, omega arith)
+refused-small tick s v e = (omega arith, omega arith)
+
+refused-fits : (k : Call) (s : State) (v : ℕ) → Sound s → v < 256 → Small-short (refused-short k s v) → Answer-fits k (refused k s v)
+refused-fits k s v S l t = record { verdict = l; number = small k; level = t .0; units = t .1; departed = λ p i. absurd (none-some i); finish = omega (arith, clock-le-end s S) }
   where
     small : (k : Call) → refused-number k < number-limit k
     small (link l) = omega arith
@@ -116,4 +156,4 @@ answer-fits k s S = go (verdict k s) refl
   where
     go : (v : ℕ) → verdict k s ≡ v → Answer-fits k (settle k s v)
     go zero e = done-fits k s S e
-    go (suc v) e = refused-fits k s (suc v) S (omega (arith, verdict-le k s))
+    go (suc v) e = refused-fits k s (suc v) S (omega (arith, verdict-le k s)) (refused-small k s (suc v) e)

@@ -24,9 +24,20 @@ rising-low low (suc n) (d ∷ ds) e (suc k) l =
     let b = and-true (leb d max-bound) (rising (suc d) n ds) (a .1) in
     omega (arith, leb-true low d (a .0), rising-low (suc d) n ds (b .1) k (omega arith))
 
+rising-high : (low n : ℕ) (ds : List ℕ) → rising low n ds ≡ true → (k : ℕ) → k < n → getD ds k 0 ≤ max-bound
+rising-high low zero ds e k l = absurd (omega arith)
+rising-high low (suc n) [] e k l = never e
+rising-high low (suc n) (d ∷ ds) e zero l =
+    leb-true d max-bound (and-true (leb d max-bound) (rising (suc d) n ds) (and-true (leb low d) (leb d max-bound && rising (suc d) n ds) e .1) .0)
+rising-high low (suc n) (d ∷ ds) e (suc k) l =
+    rising-high (suc d) n ds (and-true (leb d max-bound) (rising (suc d) n ds) (and-true (leb low d) (leb d max-bound && rising (suc d) n ds) e .1) .1) k (omega arith)
+
 pub record Link-facts (l : Link) : Type 0 where
   pub some-level : 1 ≤ l .levels
+  pub few-levels : l .levels ≤ max-levels
   pub some-largest : 1 ≤ l .largest
+  pub largest-max : l .largest ≤ max-largest
+  pub bound-le : (m : ℕ) → 1 ≤ m → m ≤ l .levels → bound l m ≤ max-bound
   pub largest-le : (m : ℕ) → 1 ≤ m → m ≤ l .levels → l .largest ≤ bound l m
 
 pub link-facts : (l : Link) → link-within l ≡ true → Link-facts l
@@ -36,10 +47,17 @@ link-facts l e =
     let b = and-true (within 1 max-largest (l .largest)) (rising (l .largest) (l .levels) (l .bounds)) (a .1) in
     record {
       some-level = within-true 1 max-levels (l .levels) (a .0) .0;
+      few-levels = within-true 1 max-levels (l .levels) (a .0) .1;
       some-largest = within-true 1 max-largest (l .largest) (b .0) .0;
+      largest-max = within-true 1 max-largest (l .largest) (b .0) .1;
+      bound-le = high (b .1);
       largest-le = low (b .1);
     }
   where
+    high : rising (l .largest) (l .levels) (l .bounds) ≡ true → (m : ℕ) → 1 ≤ m → m ≤ l .levels → bound l m ≤ max-bound
+    high r zero p q = absurd (omega arith)
+    high r (suc m) p q = rising-high (l .largest) (l .levels) (l .bounds) r m q
+
     low : rising (l .largest) (l .levels) (l .bounds) ≡ true → (m : ℕ) → 1 ≤ m → m ≤ l .levels → l .largest ≤ bound l m
     low r zero p q = absurd (omega arith)
     low r (suc m) p q = rising-low (l .largest) (l .levels) (l .bounds) r m q
@@ -60,6 +78,13 @@ connection-facts l c e f =
     let v = within-true 1 (l .levels) (c .level) e in
     let g = within-true 1 max-gap (c .gap) (a .0) in
     record { low-level = v .0; high-level = v .1; some-gap = g .0; gap-le = g .1; size-le = within-true 1 (l .largest) (c .size) (a .1) .1 }
+
+-- gap and size alone, whatever the level
+pub figures-gap : (l : Link) (c : Connection) → figures-within l c ≡ true → (1 ≤ c .gap) × (c .size ≤ l .largest)
+unfolding figures-within
+figures-gap l c f =
+    let a = and-true (within 1 max-gap (c .gap)) (within 1 (l .largest) (c .size)) f in
+    (within-true 1 max-gap (c .gap) (a .0) .0, within-true 1 (l .largest) (c .size) (a .1) .1)
 
 -- ---- the reservation, the cost and the sum
 

@@ -8,8 +8,8 @@ use mathlib.Core.Logic.{_⊎_, inl, inr, ⊎-elim}
 use mathlib.Core.List.{List}
 use lib.Dec.{leb}
 use borrow.Author.Tests.{leb-true, leb-false, eqb-true, eq-eqb}
-use Rattle.rules.specs.Model.{Link, Connection}
-use Rattle.rules.specs.Admission.{bound, level-sum, Short, short-from, level-test, passes}
+use Rattle.rules.specs.Model.{Link, Connection, Short}
+use Rattle.rules.specs.Admission.{bound, level-sum, short-from, level-test, passes}
 use Rattle.rules.proofs.Sums.{same, cond-ind, cond-cases}
 
 module _ (l : Link) (cs : List Connection) where

@@ -11,8 +11,10 @@ pub mod Scan
 pub mod Choice
 pub mod Verdicts
 pub mod Figures
+pub mod Shortage
 pub mod Line
 pub mod SoundTick
+pub mod SoundExact
 pub mod SoundOffer
 pub mod SoundKept
 pub mod Window
@@ -31,5 +33,4 @@ pub mod Keeper
 pub mod NoticesLast
 pub mod Fields
 pub mod Results
-pub mod SoundExact
 pub mod Examples

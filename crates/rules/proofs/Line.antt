@@ -10,7 +10,7 @@ use borrow.Author.Tests.{eq-eqb, ne-eqb}
 use Rattle.rules.specs.Limits.{notice-number}
 use Rattle.rules.specs.Model.{Packet, Notice, State, Answer, notice-packet}
 use Rattle.rules.specs.Admission.{cost}
-use Rattle.rules.specs.Service.{chosen, takes, with-line, later, line-after-start, started, packet-departs, notice-departs, after-unit, ticked, line-left}
+use Rattle.rules.specs.Service.{chosen, takes, with-line, later, line-after-start, started, tick-answer, packet-departs, notice-departs, after-unit, ticked, line-left}
 use Rattle.rules.specs.SoundState.{In-service, Notice-in-service}
 use Rattle.rules.proofs.Sums.{cond-is}
 
@@ -24,17 +24,17 @@ pub start-busy : (s : State) (u : ℕ) → line-after-start s (suc u) ≡ (s .se
 start-busy s u = refl
 
 -- on an idle line nothing goes; else a unit goes, and with the last one the packet or the notice departs and its row is removed
-pub nothing-goes : (s : State) → after-unit s 0 ≡ record { verdict = 0; number = 0; departed = none; next = later s (s .held) (s .notices) 0 0 }
+pub nothing-goes : (s : State) → after-unit s 0 ≡ tick-answer none (later s (s .held) (s .notices) 0 0)
 nothing-goes s = refl
 
 pub last-of-packet : (s : State) → (s .serving ≡ notice-number → ⊥) → after-unit s 1 ≡ packet-departs s
 last-of-packet s n = cond-is (notice-departs s (s .notices)) (packet-departs s) (ne-eqb (s .serving) notice-number n)
 
 pub last-of-notice : (s : State) (n : Notice) (ns : List Notice) → s .serving ≡ notice-number → s .notices ≡ n ∷ ns
-    → after-unit s 1 ≡ record { verdict = 0; number = 0; departed = some (notice-packet n); next = later s (s .held) ns 0 0 }
+    → after-unit s 1 ≡ tick-answer (some (notice-packet n)) (later s (s .held) ns 0 0)
 last-of-notice s n ns e f = cond-is (notice-departs s (s .notices)) (packet-departs s) (eq-eqb (s .serving) notice-number e) ∙ ap (notice-departs s) f
 
-pub unit-goes : (s : State) (u : ℕ) → after-unit s (suc (suc u)) ≡ record { verdict = 0; number = 0; departed = none; next = later s (s .held) (s .notices) (s .serving) (suc u) }
+pub unit-goes : (s : State) (u : ℕ) → after-unit s (suc (suc u)) ≡ tick-answer none (later s (s .held) (s .notices) (s .serving) (suc u))
 unit-goes s u = refl
 
 -- ---- what a tick leaves alone

@@ -8,23 +8,23 @@ use mathlib.Core.List.{List, [], _∷_, _++_, append-assoc, append-nil}
 use mathlib.Core.Option.{Option, none, some}
 use lib.Dec.{leb, eqb}
 use lib.ListN.{length, getElem?}
-use borrow.Author.Tests.{eq-eqb, leb-false}
+use borrow.Author.Tests.{eq-eqb, ne-eqb, eqb-false, leb-false}
 use Rattle.rules.specs.Words.{push, within}
 use Rattle.rules.specs.Limits.{clock-end, max-notices, notice-number}
-use Rattle.rules.specs.Model.{Link, Connection, Packet, State, Call, link, admit, offer, notice, tick, figures}
-use Rattle.rules.specs.Admission.{stands, bound, reservation}
+use Rattle.rules.specs.Model.{Link, Connection, Packet, State, Call, link, admit, offer, notice, tick, no-short, figures}
+use Rattle.rules.specs.Admission.{stands, bound, reservation, level-test}
 use Rattle.rules.specs.Service.{Spaced, of, started}
 use Rattle.rules.specs.SoundState.{Sound}
 use Rattle.rules.specs.SoundTest.{sound}
 use Rattle.rules.specs.Calls.{verdicts, verdict, eligibility-now, done, refused-number, settle, answer}
 use Rattle.rules.specs.Runs.{History, taken, logged, after, run-from, nothing-yet, run, bound-of, allowed, offer-tick, offer-ticks-from, offer-ticks, Keeps-its-gap}
-use Rattle.rules.specs.Promises.{Demand-1-refusals, Test-is-exact, Verdict-1-exactly, No-link-means-zero, Sound-is-kept, Runs-are-sound, Rows-fit, Notices-fit, Notices-come-last, Fifteen-after-thirteen, Eligibilities-fit, Answers-fit, Conservation, Left-by, Demand-3-first, Demand-3-second}
+use Rattle.rules.specs.Promises.{Demand-1-refusals, Test-is-exact, Verdict-1-exactly, No-link-means-zero, Sound-is-kept, Runs-are-sound, Rows-fit, Notices-fit, Notices-come-last, Fifteen-after-thirteen, Names-the-lowest, Level-test-tells, Short-is-told, Units-are-missing, Units-fit, Eligibilities-fit, Answers-fit, Conservation, Left-by, Demand-3-first, Demand-3-second}
 use Rattle.rules.proofs.Sums.{cond-is}
 use Rattle.rules.proofs.Tests.{and-true, and-intro, not-true-false, never-number}
 use Rattle.rules.proofs.Rows.{of-append}
 use Rattle.rules.proofs.Spacing.{spaced-front}
 use Rattle.rules.proofs.Standing.{stands-below}
-use Rattle.rules.proofs.Verdicts.{settled, refused-leaves}
+use Rattle.rules.proofs.Verdicts.{settled, refused-leaves, short-refused}
 use Rattle.rules.proofs.SoundExact.{exact}
 use Rattle.rules.proofs.SoundKept.{kept}
 use Rattle.rules.proofs.Invariant.{connections-few}
@@ -32,7 +32,8 @@ use Rattle.rules.proofs.Every.{fresh-invariant, invariant}
 use Rattle.rules.proofs.InTime.{conserved-lists, left-in-time}
 use Rattle.rules.proofs.Bounds.{rows-fit-places, notices-fit-places, eligibilities-fit-32}
 use Rattle.rules.proofs.NoticesLast.{none-eligible}
-use Rattle.rules.proofs.Fields.{unit-done, answer-fits}
+use Rattle.rules.proofs.Fields.{unit-done, unit-short, short-fits, answer-fits}
+use Rattle.rules.proofs.Shortage.{tells, names}
 use Rattle.rules.proofs.Room.{not-for-room, welcome}
 use Rattle.rules.proofs.Keeper.{stays, All-taken, all-taken, on-arrival, has-room}
 
@@ -112,6 +113,53 @@ fifteen-after-thirteen len tag s e =
 
 pub eligibilities-fit : Eligibilities-fit
 eligibilities-fit s S = eligibilities-fit-32 s S
+
+-- ---- which level was short
+
+pub level-test-tells : Level-test-tells
+level-test-tells l cs = tells l cs
+
+-- what is told where the verdict is 8
+module _ (x : Connection) (s : State) (e : answer (admit x) s .verdict ≡ 8) where
+  eight : verdict (admit x) s ≡ 8
+  eight = sym (answer-verdict (admit x) s) ∙ e
+
+  told-short : answer (admit x) s .short ≡ level-test (s .link) (s .connections ++ x ∷ [])
+  told-short = ap (λ (v : ℕ). settle (admit x) s v .short) eight
+
+  short-named : Names-the-lowest (s .link) (s .connections ++ x ∷ []) (answer (admit x) s .short)
+  short-named =
+      subst (Names-the-lowest (s .link) (s .connections ++ x ∷ [])) (sym told-short)
+      (names (s .link) (s .connections ++ x ∷ []) (eqb-false _ 0 (short-refused s x eight .fails)))
+
+pub short-is-told : Short-is-told
+short-is-told k s = (λ n. go k (verdict k s) (λ e. n (answer-verdict k s ∙ e)), eight-told)
+  where
+    go : (k : Call) (v : ℕ) → (v ≡ 8 → ⊥) → settle k s v .short ≡ no-short
+    go (link l) zero n = refl
+    go (admit x) zero n = refl
+    go (offer c len tag) zero n = refl
+    go (notice len tag) zero n = refl
+    go tick zero n = unit-short (started s) (started s .to-go)
+    go (link l) (suc v) n = refl
+    go (admit x) (suc v) n = cond-is (level-test (s .link) (s .connections ++ x ∷ [])) no-short (ne-eqb (suc v) 8 n)
+    go (offer c len tag) (suc v) n = refl
+    go (notice len tag) (suc v) n = refl
+    go tick (suc v) n = refl
+
+    eight-told : (x : Connection) → k ≡ admit x → answer k s .verdict ≡ 8
+        → (answer k s .short ≡ level-test (s .link) (s .connections ++ x ∷ [])) × Names-the-lowest (s .link) (s .connections ++ x ∷ []) (answer k s .short)
+    eight-told x i =
+        subst
+        (λ (j : Call). answer j s .verdict ≡ 8
+        → (answer j s .short ≡ level-test (s .link) (s .connections ++ x ∷ [])) × Names-the-lowest (s .link) (s .connections ++ x ∷ []) (answer j s .short))
+        (sym i) (λ e. (told-short x s e, short-named x s e))
+
+pub units-are-missing : Units-are-missing
+units-are-missing x s v e = let n = short-named x s e in (λ h. omega (arith, n .units-are), λ h. omega (arith, n .units-are))
+
+pub units-fit : Units-fit
+units-fit x s e = short-fits x s (short-refused s x (eight x s e)) (answer (admit x) s .short) (short-named x s e)
 
 pub answers-fit : Answers-fit
 answers-fit k s S = answer-fits k s S

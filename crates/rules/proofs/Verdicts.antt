@@ -2,15 +2,16 @@
 use Prim.Native.Nat.{ℕ, zero, suc, _≤_, _<_}
 use native.Mathlib.Omega.{arith}
 use mathlib.Core.Path.{_≡_, refl}
-use mathlib.Core.Bool.{Bool, true, false, cond}
+use mathlib.Core.Bool.{Bool, true, false, cond, not}
 use mathlib.Core.List.{List, [], _∷_, _++_}
-use lib.Dec.{eqb}
+use lib.Dec.{leb, ltb, eqb}
 use lib.ListN.{length}
-use borrow.Author.Tests.{eqb-true, eqb-false, leb-false, ltb-false, not-false}
+use borrow.Author.Tests.{eqb-true, eqb-false, leb-false, ltb-false, not-false, not-true}
 use Rattle.rules.specs.Limits.{max-connections, max-reserved, clock-end, max-notices}
 use Rattle.rules.specs.Model.{Link, Connection, State, Call, link, admit, offer, notice, tick, Answer, figures}
 use Rattle.rules.specs.Admission.{link-within, level-within, figures-within, stands, reservation, reserved, passes}
 use Rattle.rules.specs.Service.{of}
+use Rattle.rules.specs.SoundTest.{sound}
 use Rattle.rules.specs.Calls.{verdicts, verdict, done, refused, settle}
 use Rattle.rules.proofs.Lists.{All}
 use Rattle.rules.proofs.Tests.{passed, within-true}
@@ -73,6 +74,32 @@ admit-done s x e = record {
   tests-hold = not-false _ (not-given (admit x) s e 8);
   reserved-le = ltb-false _ _ (not-given (admit x) s e 9);
 }
+
+-- an admission refused with 8: the state is sound, a link is set, the figures are within their limits, and the level test fails with the newcomer
+pub record Short-refused (s : State) (x : Connection) : Type 0 where
+  pub sound-state : sound s ≡ true
+  pub set : s .link .levels ≡ 0 → ⊥
+  pub figures-in : figures-within (s .link) x ≡ true
+  pub fails : passes (s .link) (s .connections ++ x ∷ []) ≡ false
+
+pub short-refused : (s : State) (x : Connection) → verdict (admit x) s ≡ 8 → Short-refused s x
+unfolding verdicts
+short-refused s x e =
+    let k =
+    go (not (sound s)) (eqb (s .link .levels) 0) (not (level-within (s .link) x)) (not (figures-within (s .link) x)) (leb max-connections (length (s .connections)))
+    (not (passes (s .link) (s .connections ++ x ∷ []))) (ltb max-reserved (reserved (s .link) (s .connections ++ x ∷ []))) e in
+    record { sound-state = not-false _ (k .0); set = eqb-false _ _ (k .1); figures-in = not-false _ (k .2); fails = not-true _ (k .3) }
+  where
+    go : (a b c d f g h : Bool) → _≡_ {A = ℕ} (cond a 1 (cond b 2 (cond c 5 (cond d 6 (cond f 7 (cond g 8 (cond h 9 0))))))) 8
+        → (a ≡ false) × (b ≡ false) × (d ≡ false) × (g ≡ true)
+    go true b c d f g h e = absurd (omega arith)
+    go false true c d f g h e = absurd (omega arith)
+    go false false true d f g h e = absurd (omega arith)
+    go false false false true f g h e = absurd (omega arith)
+    go false false false false true g h e = absurd (omega arith)
+    go false false false false false true h e = (refl, refl, refl, refl)
+    go false false false false false false true e = absurd (omega arith)
+    go false false false false false false false e = absurd (omega arith)
 
 pub record Offer-done (s : State) (c len : ℕ) : Type 0 where
   pub set : s .link .levels ≡ 0 → ⊥

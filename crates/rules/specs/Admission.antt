@@ -1,5 +1,5 @@
 -- Who may come in: the limits, the window count, the reservation and the level test.
--- Document 01, "Link, connections, places" and "The level test". Assumes nothing.
+-- Document 01, "Link, connections, places" and "The level test"; document 02, R-2. Assumes nothing.
 use Prim.Native.Nat.{ℕ, zero, suc, _+_, _*_, _-_, _/_}
 use mathlib.Core.Bool.{Bool, true, false, cond, _&&_}
 use mathlib.Core.List.{List, [], _∷_}
@@ -7,7 +7,7 @@ use lib.Dec.{leb, ltb, eqb}
 use lib.ListN.{length, getD}
 use Rattle.rules.specs.Words.{within, upto, sum}
 use Rattle.rules.specs.Limits.{max-levels, max-largest, max-bound, max-gap}
-use Rattle.rules.specs.Model.{Link, Connection, nth}
+use Rattle.rules.specs.Model.{Link, Connection, Short, no-short, nth}
 
 -- ---- "Link, connections, places"
 
@@ -68,14 +68,9 @@ load l cs m d = sum (length cs) (λ c. upto (nth cs c .level) m (count (nth cs c
 unfoldable pub level-sum : Link → List Connection → ℕ → ℕ
 level-sum l cs m = load l cs m (bound l m) + cost l (l .largest)
 
--- the lowest level whose sum is above its bound, and by how many units; both 0 where every sum is at most its bound
-pub record Short : Type 0 where
-  pub level : ℕ
-  pub units : ℕ
-
--- the k levels from m on
+-- the lowest level whose sum is above its bound, and by how many units (document 02, R-2): the k levels from m on
 abbrev pub short-from : Link → List Connection → ℕ → ℕ → Short
-short-from l cs m zero = record { level = 0; units = 0 }
+short-from l cs m zero = no-short
 short-from l cs m (suc k) =
     cond (leb (level-sum l cs m) (bound l m)) (short-from l cs (suc m) k) (record { level = m; units = level-sum l cs m - bound l m })
 

@@ -1,15 +1,15 @@
 -- The five calls: their verdicts as one table, and what each does where the verdict is 0. Document 01, "Verdict numbers"; document 02, R-1.
 -- Assumes nothing.
 use Prim.Native.Nat.{ℕ, zero, suc}
-use mathlib.Core.Bool.{Bool, false, not}
+use mathlib.Core.Bool.{Bool, false, cond, not}
 use mathlib.Core.List.{List, [], _∷_, _++_}
 use mathlib.Core.Option.{none}
 use lib.Dec.{leb, ltb, eqb}
 use lib.ListN.{length, set}
 use Rattle.rules.specs.Words.{within, first-number}
 use Rattle.rules.specs.Limits.{max-connections, max-reserved, clock-end, max-notices, no-connection-number}
-use Rattle.rules.specs.Model.{Link, Connection, Packet, State, Call, link, admit, offer, notice, tick, Answer, no-past, past, figures}
-use Rattle.rules.specs.Admission.{link-within, level-within, figures-within, next-number, stands, reservation, reserved, passes}
+use Rattle.rules.specs.Model.{Link, Connection, Packet, State, Call, link, admit, offer, notice, tick, Short, no-short, Answer, no-past, past, figures}
+use Rattle.rules.specs.Admission.{link-within, level-within, figures-within, next-number, stands, reservation, reserved, level-test, passes}
 use Rattle.rules.specs.Service.{next-eligibility, remember, of, ticked}
 use Rattle.rules.specs.SoundTest.{sound}
 
@@ -151,11 +151,15 @@ noted s len tag = record {
   to-go = s .to-go;
 }
 
+-- no packet leaves but in a tick
+abbrev pub accepted : ℕ → State → Answer
+accepted n s = record { verdict = 0; number = n; short = no-short; departed = none; next = s }
+
 abbrev pub done : Call → State → Answer
-done (link l) s = record { verdict = 0; number = 0; departed = none; next = linked s l }
-done (admit x) s = record { verdict = 0; number = next-number (s .connections); departed = none; next = joined s x }
-done (offer c len tag) s = record { verdict = 0; number = eligibility-now s c; departed = none; next = placed s c len tag }
-done (notice len tag) s = record { verdict = 0; number = s .clock; departed = none; next = noted s len tag }
+done (link l) s = accepted 0 (linked s l)
+done (admit x) s = accepted (next-number (s .connections)) (joined s x)
+done (offer c len tag) s = accepted (eligibility-now s c) (placed s c len tag)
+done (notice len tag) s = accepted (s .clock) (noted s len tag)
 done tick s = ticked s
 
 -- a refused admission gives connection 255, a refused offer or notice eligibility 0
@@ -166,9 +170,17 @@ refused-number (offer c len tag) = 0
 refused-number (notice len tag) = 0
 refused-number tick = 0
 
+-- document 02, R-2: which level was short and by how many units, with the new one counted; nothing unless the verdict is 8
+abbrev pub refused-short : Call → State → ℕ → Short
+refused-short (link l) s v = no-short
+refused-short (admit x) s v = cond (eqb v 8) (level-test (s .link) (s .connections ++ x ∷ [])) no-short
+refused-short (offer c len tag) s v = no-short
+refused-short (notice len tag) s v = no-short
+refused-short tick s v = no-short
+
 -- a verdict other than 0 changes nothing, and no packet leaves
 abbrev pub refused : Call → State → ℕ → Answer
-refused k s v = record { verdict = v; number = refused-number k; departed = none; next = s }
+refused k s v = record { verdict = v; number = refused-number k; short = refused-short k s v; departed = none; next = s }
 
 abbrev pub settle : Call → State → ℕ → Answer
 settle k s zero = done k s

@@ -3,16 +3,17 @@ use Prim.Native.Nat.{ℕ}
 use mathlib.Core.Path.{_≡_}
 use mathlib.Core.List.{List, [], _∷_, _++_, map}
 use lib.ListN.{replicate}
-use Rattle.rules.specs.Model.{State, Call, link, admit, offer, notice, tick}
+use Rattle.rules.specs.Model.{State, Call, link, admit, offer, notice, tick, Short, no-short}
 use Rattle.rules.specs.Admission.{reservation, level-sum}
 use Rattle.rules.specs.Calls.{answer}
 use Rattle.rules.specs.Runs.{Departure, run}
 
--- what is seen of a call: its verdict, its number, and for an admission the level sums with the newcomer counted and its reservation;
+-- what is seen of a call: its verdict, its number, which level was short and by how many units, and for an admission the level sums with the newcomer counted and its reservation;
 -- and the finishes once so many ticks have followed
 pub record Seen : Type 0 where
   pub verdict : ℕ
   pub number : ℕ
+  pub short : Short
   pub sums : List ℕ
   pub reservations : List ℕ
   pub finishes : List ℕ
@@ -44,6 +45,7 @@ seen x =
     record {
       verdict = answer (x .call) s .verdict;
       number = answer (x .call) s .number;
+      short = answer (x .call) s .short;
       sums = sums-at s (x .call);
       reservations = reservations-at s (x .call);
       finishes = map (λ (d : Departure). d .finish) (run (x .before ++ x .call ∷ replicate (x .ticks) tick) .departed);
@@ -57,12 +59,15 @@ link-a = link (record { levels = 2; largest = 4; bounds = 10 ∷ 20 ∷ 0 ∷ 0 
 abbrev pub line : ℕ → ℕ → ℕ → Call
 line level gap size = admit (record { level = level; gap = gap; size = size })
 
-abbrev pub admission : List Call → Call → ℕ → ℕ → List ℕ → ℕ → Case
-admission before call verdict number sums reserve = record {
+abbrev pub over : ℕ → ℕ → Short
+over level units = record { level = level; units = units }
+
+abbrev pub admission : List Call → Call → ℕ → ℕ → Short → List ℕ → ℕ → Case
+admission before call verdict number short sums reserve = record {
   before = before;
   call = call;
   ticks = 0;
-  expected = record { verdict = verdict; number = number; sums = sums; reservations = reserve ∷ []; finishes = [] };
+  expected = record { verdict = verdict; number = number; short = short; sums = sums; reservations = reserve ∷ []; finishes = [] };
 }
 
 abbrev pub service : List Call → Call → ℕ → ℕ → ℕ → List ℕ → Case
@@ -70,7 +75,7 @@ service before call ticks verdict number finishes = record {
   before = before;
   call = call;
   ticks = ticks;
-  expected = record { verdict = verdict; number = number; sums = []; reservations = []; finishes = finishes };
+  expected = record { verdict = verdict; number = number; short = no-short; sums = []; reservations = []; finishes = finishes };
 }
 
 abbrev pub after-p1 : List Call
@@ -91,16 +96,16 @@ after-p8 = after-p2 ++ offer 1 4 71 ∷ tick ∷ offer 0 4 72 ∷ []
 abbrev pub table : List Case
 table =
     -- P1, P2, P3
-    admission (link-a ∷ []) (line 1 10 4) 0 0 (8 ∷ 12 ∷ []) 1
-    ∷ admission after-p1 (line 2 20 4) 0 1 (8 ∷ 16 ∷ []) 1
-    ∷ admission after-p2 (line 1 9 1) 0 2 (10 ∷ 19 ∷ []) 2
-    -- P4 instead of P3: 12 at level 1
-    ∷ admission after-p2 (line 1 9 2) 8 255 (12 ∷ 22 ∷ []) 2
-    -- P5, and P6 the same again: 20 and 21 at level 2
-    ∷ admission after-p3 (line 2 20 1) 0 3 (10 ∷ 20 ∷ []) 1
-    ∷ admission after-p5 (line 2 20 1) 8 255 (10 ∷ 21 ∷ []) 1
-    -- P7: passes level 1 with 8, fails level 2 with 24
-    ∷ admission (link-a ∷ line 2 20 4 ∷ line 2 20 4 ∷ line 2 20 4 ∷ []) (line 1 10 4) 8 255 (8 ∷ 24 ∷ []) 1
+    admission (link-a ∷ []) (line 1 10 4) 0 0 no-short (8 ∷ 12 ∷ []) 1
+    ∷ admission after-p1 (line 2 20 4) 0 1 no-short (8 ∷ 16 ∷ []) 1
+    ∷ admission after-p2 (line 1 9 1) 0 2 no-short (10 ∷ 19 ∷ []) 2
+    -- P4 instead of P3: 12 at level 1, 2 units over
+    ∷ admission after-p2 (line 1 9 2) 8 255 (over 1 2) (12 ∷ 22 ∷ []) 2
+    -- P5, and P6 the same again: 20 and 21 at level 2, 1 unit over
+    ∷ admission after-p3 (line 2 20 1) 0 3 no-short (10 ∷ 20 ∷ []) 1
+    ∷ admission after-p5 (line 2 20 1) 8 255 (over 2 1) (10 ∷ 21 ∷ []) 1
+    -- P7: passes level 1 with 8, fails level 2 with 24, 4 units over
+    ∷ admission (link-a ∷ line 2 20 4 ∷ line 2 20 4 ∷ line 2 20 4 ∷ []) (line 1 10 4) 8 255 (over 2 4) (8 ∷ 24 ∷ []) 1
     -- P8: offer 1 at 0, one tick, offer 0 at 1: eligible at 1, finishes 4 and 8
     ∷ service (after-p2 ++ offer 1 4 71 ∷ tick ∷ []) (offer 0 4 72) 7 0 1 (4 ∷ 8 ∷ [])
     -- P9: a second such offer on 0 at clock 1
@@ -108,6 +113,20 @@ table =
     -- P10: offer 0, length 1, at clock 8: eligible 11, finish 12
     ∷ service (after-p8 ++ replicate 7 tick) (offer 0 1 74) 4 0 11 (4 ∷ 8 ∷ 12 ∷ [])
     ∷ []
+
+-- document 02, R-2: a bound that is longer by the units lengthens the window too, so a level can fail again. A line of gap 1 and size 1 on a link with S 1:
+-- with bound 4 one unit is missing, and with bound 5 one is missing again
+abbrev pub one-level : ℕ → Call
+one-level d = link (record { levels = 1; largest = 1; bounds = d ∷ 0 ∷ 0 ∷ 0 ∷ 0 ∷ 0 ∷ 0 ∷ 0 ∷ [] })
+
+abbrev pub longer-bound : List Case
+longer-bound =
+    admission (one-level 4 ∷ []) (line 1 1 1) 8 255 (over 1 1) (5 ∷ 1 ∷ []) 4
+    ∷ admission (one-level 5 ∷ []) (line 1 1 1) 8 255 (over 1 1) (6 ∷ 1 ∷ []) 5
+    ∷ []
+
+abbrev pub A-longer-bound-can-fail-too : Type 0
+A-longer-bound-can-fail-too = map seen longer-bound ≡ map (λ (x : Case). x .expected) longer-bound
 
 abbrev pub Worked-examples : Type 0
 Worked-examples = map seen table ≡ map (λ (x : Case). x .expected) table

@@ -1,5 +1,5 @@
--- What the rules speak of: the state of a hub, the calls on it and their answers. Document 01, "Link, connections, places"; document 02, R-1.
--- Assumes nothing.
+-- What the rules speak of: the state of a hub, the calls on it and their answers. Document 01, "Link, connections, places"; document 02, R-1 and
+-- R-2. Assumes nothing.
 use Prim.Native.Nat.{ℕ}
 use mathlib.Core.Bool.{false}
 use mathlib.Core.List.{List, [], _∷_}
@@ -33,10 +33,20 @@ pub data Call : Type 0 where
   notice : ℕ → ℕ → Call
   tick : Call
 
--- `number`: the connection that an admission gives, the eligibility that an offer or a notice gives, else 0. `departed`: the packet that a tick sends off, if it does
+-- what a level test says: the lowest level that is short, and the units by which it is over; both 0 where none is
+pub record Short : Type 0 where
+  pub level : ℕ
+  pub units : ℕ
+
+abbrev pub no-short : Short
+no-short = record { level = 0; units = 0 }
+
+-- `number`: the connection that an admission gives, the eligibility that an offer or a notice gives, else 0. `short`: what the level test said of an
+-- admission that is refused for it. `departed`: the packet that a tick sends off, if it does
 pub record Answer : Type 0 where
   pub verdict : ℕ
   pub number : ℕ
+  pub short : Short
   pub departed : Option Packet
   pub next : State
 

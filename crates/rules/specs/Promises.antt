@@ -1,5 +1,5 @@
 -- THE STATEMENTS, apart from their proofs: each is proved in proofs/Results under the same name in small letters. Assumes nothing.
-use Prim.Native.Nat.{ℕ, _+_, _≤_, _<_}
+use Prim.Native.Nat.{ℕ, _+_, _*_, _-_, _≤_, _<_}
 use mathlib.Core.Path.{_≡_}
 use mathlib.Core.Bool.{true}
 use mathlib.Core.Logic.{_↔_}
@@ -7,8 +7,9 @@ use mathlib.Core.List.{List, [], _∷_, _++_, map}
 use mathlib.Core.Option.{none, some}
 use lib.ListN.{length, getElem?}
 use Rattle.rules.specs.Words.{All}
-use Rattle.rules.specs.Limits.{max-reserved, clock-end, beyond-32-bits, max-notices, notice-number}
-use Rattle.rules.specs.Model.{Packet, State, Call, link, admit, offer, notice, tick, Answer, fresh, past}
+use Rattle.rules.specs.Limits.{max-largest, max-bound, max-reserved, clock-end, beyond-32-bits, max-notices, notice-number}
+use Rattle.rules.specs.Model.{Link, Connection, Packet, State, Call, link, admit, offer, notice, tick, Short, no-short, Answer, fresh, past}
+use Rattle.rules.specs.Admission.{bound, count, cost, level-sum, level-test}
 use Rattle.rules.specs.Service.{of, started}
 use Rattle.rules.specs.SoundState.{Sound}
 use Rattle.rules.specs.SoundTest.{sound}
@@ -68,8 +69,57 @@ Eligibilities-fit =
     → All (λ p. p .eligibility < beyond-32-bits) (s .held)
     × ((c : ℕ) → (past s c .last < beyond-32-bits) × (eligibility-now s c < beyond-32-bits))
 
--- an answer's numbers fit the fields of its record (document 01, "Trace and answer records"), whatever the call: one byte of verdict, one of a connection's
--- number, four of an eligibility, of an arrival and of a finish, which is the clock then. A departed packet's tag is as it was offered (`Conservation`)
+-- ---- which level was short (document 02, R-2)
+
+-- level t .level of link l fails with connections cs, every lower-numbered one holds, and the units are exactly sum plus S less d there
+pub record Names-the-lowest (l : Link) (cs : List Connection) (t : Short) : Type 0 where
+  pub is-level : (1 ≤ t .level) × (t .level ≤ l .levels)
+  pub fails : bound l (t .level) < level-sum l cs (t .level)
+  pub lower-hold : (m : ℕ) → 1 ≤ m → m < t .level → level-sum l cs m ≤ bound l m
+  pub units-are : t .units ≡ level-sum l cs (t .level) - bound l (t .level)
+
+-- every level holds
+abbrev pub No-level-fails : Link → List Connection → Type 0
+No-level-fails l cs = (m : ℕ) → 1 ≤ m → m ≤ l .levels → level-sum l cs m ≤ bound l m
+
+-- the level test names the lowest failing level; level and units are 0 exactly where none fails
+abbrev pub Level-test-tells : Type 0
+Level-test-tells =
+    (l : Link) (cs : List Connection)
+    → (level-test l cs .level ≡ 0 ↔ No-level-fails l cs)
+    × (level-test l cs .units ≡ 0 ↔ No-level-fails l cs)
+    × ((level-test l cs .level ≡ 0 → ⊥) → Names-the-lowest l cs (level-test l cs))
+
+-- an admission that is refused with 8 says what the level test says with the newcomer counted; every other answer says 0 and 0
+abbrev pub Short-is-told : Type 0
+Short-is-told =
+    (k : Call) (s : State)
+    → ((answer k s .verdict ≡ 8 → ⊥) → answer k s .short ≡ no-short)
+    × ((x : Connection) → k ≡ admit x → answer k s .verdict ≡ 8
+    → (answer k s .short ≡ level-test (s .link) (s .connections ++ x ∷ [])) × Names-the-lowest (s .link) (s .connections ++ x ∷ []) (answer k s .short))
+
+-- the units are what the technician is short of: that level's sum stays within its bound and v units more exactly if v is at least the units.
+-- (A larger bound would lengthen the window too: `Examples`, `longer-bound`)
+abbrev pub Units-are-missing : Type 0
+Units-are-missing =
+    (x : Connection) (s : State) (v : ℕ)
+    → answer (admit x) s .verdict ≡ 8
+    → level-sum (s .link) (s .connections ++ x ∷ []) (answer (admit x) s .short .level) ≤ bound (s .link) (answer (admit x) s .short .level) + v
+    ↔ answer (admit x) s .short .units ≤ v
+
+-- the units are at most the newcomer's own term in that level's sum, and so at most 67,108,864: four bytes hold them
+abbrev pub own-term : Link → Connection → ℕ → ℕ
+own-term l x m = count x (bound l m) * cost l (x .size)
+
+abbrev pub Units-fit : Type 0
+Units-fit =
+    (x : Connection) (s : State)
+    → answer (admit x) s .verdict ≡ 8
+    → (answer (admit x) s .short .units ≤ own-term (s .link) x (answer (admit x) s .short .level))
+    × (answer (admit x) s .short .units ≤ max-bound * max-largest)
+
+-- an answer's numbers fit the fields of its record (document 01, "Trace and answer records"), whatever the call: one byte of verdict and of level, one of a connection's
+-- number, four of units, of an eligibility, of an arrival and of a finish, which is the clock then. A departed packet's tag is as it was offered (`Conservation`)
 abbrev pub number-limit : Call → ℕ
 number-limit (link l) = beyond-32-bits
 number-limit (admit x) = 256
@@ -85,6 +135,8 @@ pub record Packet-fits (p : Packet) : Type 0 where
 pub record Answer-fits (k : Call) (a : Answer) : Type 0 where
   pub verdict : a .verdict < 256
   pub number : a .number < number-limit k
+  pub level : a .short .level < 256
+  pub units : a .short .units < beyond-32-bits
   pub departed : (p : Packet) → a .departed ≡ some p → Packet-fits p
   pub finish : a .next .clock < beyond-32-bits
 

@@ -6,7 +6,7 @@ use mathlib.Core.Option.{Option, none, some}
 use lib.Dec.{leb, ltb, eqb}
 use Rattle.rules.specs.Words.{Pairs}
 use Rattle.rules.specs.Limits.{notice-number}
-use Rattle.rules.specs.Model.{Connection, Past, Packet, Notice, State, Answer, figures, notice-packet}
+use Rattle.rules.specs.Model.{Connection, Past, Packet, Notice, State, Answer, no-short, figures, notice-packet}
 
 -- ---- "Eligibility"
 
@@ -91,19 +91,22 @@ line-after-start s (suc u) = (s .serving, suc u)
 abbrev pub started : State → State
 started s = let l = line-after-start s (s .to-go) in with-line s (l .0) (l .1)
 
+-- the answer to a tick: the packet that departs, if one does, and the state then
+abbrev pub tick-answer : Option Packet → State → Answer
+tick-answer o s = record { verdict = 0; number = 0; short = no-short; departed = o; next = s }
+
 -- 2. a unit of what is in service goes; with its last unit it departs, its row is removed and the line is idle. 3. the clock moves on
 abbrev pub packet-departs : State → Answer
-packet-departs s =
-    record { verdict = 0; number = 0; departed = first (s .serving) (s .held); next = later s (without (s .serving) (s .held)) (s .notices) 0 0 }
+packet-departs s = tick-answer (first (s .serving) (s .held)) (later s (without (s .serving) (s .held)) (s .notices) 0 0)
 
 abbrev pub notice-departs : State → List Notice → Answer
-notice-departs s [] = record { verdict = 0; number = 0; departed = none; next = later s (s .held) [] 0 0 }
-notice-departs s (n ∷ ns) = record { verdict = 0; number = 0; departed = some (notice-packet n); next = later s (s .held) ns 0 0 }
+notice-departs s [] = tick-answer none (later s (s .held) [] 0 0)
+notice-departs s (n ∷ ns) = tick-answer (some (notice-packet n)) (later s (s .held) ns 0 0)
 
 abbrev pub after-unit : State → ℕ → Answer
-after-unit s zero = record { verdict = 0; number = 0; departed = none; next = later s (s .held) (s .notices) 0 0 }
+after-unit s zero = tick-answer none (later s (s .held) (s .notices) 0 0)
 after-unit s (suc zero) = cond (eqb (s .serving) notice-number) (notice-departs s (s .notices)) (packet-departs s)
-after-unit s (suc (suc u)) = record { verdict = 0; number = 0; departed = none; next = later s (s .held) (s .notices) (s .serving) (suc u) }
+after-unit s (suc (suc u)) = tick-answer none (later s (s .held) (s .notices) (s .serving) (suc u))
 
 abbrev pub ticked : State → Answer
 ticked s = after-unit (started s) (started s .to-go)

@@ -13,6 +13,7 @@ ghost use Rattle.service.specs.Candidates.{option, best-of, candidate, a
 ghost use Rattle.service.specs.View.{view, hub-of, passed-on, Gives};
 ghost use Rattle.service.specs.Ready.{In-place, Ready};
 ghost use Rattle.tables.specs.Notices.{notices-formed};
+use lines::Shortage;
 use rules::Link;
 use rules::Packet;
 use tables::NOTICE_NUMBER;
@@ -25,10 +26,12 @@ pub struct Hub {
     pub units: u32,
 }
 
-// The answer of a call, and the hub after it. `packet` is the departed one where `gone` says so, else an unused row.
+// The answer of a call, and the hub after it. `short` is what the level test said of an admission refused for it, else zeros. `packet` is the departed one
+// where `gone` says so, else an unused row.
 pub struct Told {
     pub verdict: u32,
     pub number: u32,
+    pub short: Shortage,
     pub gone: bool,
     pub packet: Packet,
     pub hub: Hub,
@@ -125,6 +128,7 @@ fn pass(g: Hub, gone: bool, packet: Packet) -> Told
     Told {
         verdict: 0,
         number: 0,
+        short: lines::no_shortage(),
         gone: gone,
         packet: packet,
         hub: later,

@@ -47,7 +47,7 @@ waits-facts at q q′ h len last r k w g m =
 
 record-short : (r : Record) (k at : ℕ) (s : State) → length (record-next r k at s .bytes) ≤ longest-answer
 record-short (LinkRecord n m d1 d2 d3 d4 d5 d6 d7 d8) k at s = answer-short (Linked _)
-record-short (Admit a b d) k at s = answer-short (Admitted _ _)
+record-short (Admit a b d) k at s = answer-short (Admitted _ _ _ _)
 record-short (Offer a b d) k at s = answer-short (Offered _ _)
 record-short (Notice a b) k at s = answer-short (Noticed _ _)
 record-short (Ticks n) k at s = omega arith

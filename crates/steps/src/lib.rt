@@ -87,9 +87,12 @@ fn admit_step(
     ensures { λ r. ⌜ Did (admit-next x used at (view h (now (cs .entry)) (now (t .entry)) (now (q .entry)))) r (now (cs .exit)) (now (t .entry)) (now (q .entry)) (now (out .entry)) (now (out .exit)) ⌝ }
 {
     let told = calls::admit_tested(h, cs, t, q, x);
+    let short = told.short;
     let reply = Reply::Admitted {
         verdict: ticks::low(told.verdict),
         connection: ticks::low(told.number),
+        level: ticks::low(short.level),
+        units: short.units as u32,
     };
     ticks::answered(at, told.hub, used, reply, out)
 }

@@ -33,9 +33,9 @@ pub linked-low : (v x : ℕ) → v ≡ x % 256 → answer-bytes (Linked v) ≡ a
 unfolding laid bytes put-fields little
 linked-low v x e = rw (e, low-twice x)
 
-pub admitted-low : (v n x y : ℕ) → v ≡ x % 256 → n ≡ y % 256 → answer-bytes (Admitted v n) ≡ answer-bytes (Admitted x y)
+pub admitted-low : (v n l u x y z w : ℕ) → v ≡ x % 256 → n ≡ y % 256 → l ≡ z % 256 → u ≡ w → answer-bytes (Admitted v n l u) ≡ answer-bytes (Admitted x y z w)
 unfolding laid bytes put-fields little
-admitted-low v n x y e f = rw (e, f, low-twice x, low-twice y)
+admitted-low v n l u x y z w e f g h = rw (e, f, g, h, low-twice x, low-twice y, low-twice z)
 
 pub offered-low : (v n x y : ℕ) → v ≡ x % 256 → n ≡ y → answer-bytes (Offered v n) ≡ answer-bytes (Offered x y)
 unfolding laid bytes put-fields little

@@ -9,7 +9,8 @@ use sim::stats::Stats;
 const USAGE: &str = "\
 gen KIND SEED [SIZE]   the trace of a kind and a seed; SIZE counts steps, not bytes
 gen --kinds            the kinds
-gen --stats [SEEDS]    verdicts, departures and ticks per kind over seeds 0 to SEEDS - 1";
+gen --stats [SEEDS]    verdicts, departures and ticks per kind over seeds 0 to SEEDS - 1, then
+                       which levels were short and how many bytes their units need";
 
 fn main() -> ExitCode {
     let arguments: Vec<String> = std::env::args_os()
@@ -67,12 +68,17 @@ fn print_stats(seeds: u64) -> io::Result<()> {
         "{} departures notices          ticks",
         Stats::head("kind")
     )?;
+    let mut shortages = Vec::new();
     for kind in &KINDS {
         let mut total = Stats::default();
         for seed in 0..seeds {
             total += &Stats::of(kind.trace(seed, None).as_slice())?;
         }
         writeln!(out, "{}", total.line(kind.name))?;
+        shortages.push(total.short_line(kind.name));
     }
-    Ok(())
+    writeln!(out, "\n{}", Stats::short_head("kind"))?;
+    shortages
+        .iter()
+        .try_for_each(|line| writeln!(out, "{line}"))
 }

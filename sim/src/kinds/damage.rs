@@ -7,7 +7,7 @@ use crate::random::Random;
 /// Answer marks and how many bytes follow them.
 const ANSWERS: [(&[u8; 2], usize); 6] = [
     (b"LA", 1),
-    (b"CA", 2),
+    (b"CA", 7),
     (b"PA", 5),
     (b"DP", 17),
     (b"TA", 3),

@@ -94,7 +94,7 @@ fn one_refusal(script: &mut Script) {
     }
 }
 
-fn bad_admission(script: &mut Script) {
+pub fn bad_admission(script: &mut Script) {
     let link = match script.link_set() {
         Some(link) => link,
         _ => return,
@@ -213,7 +213,7 @@ fn tight_admission(script: &mut Script) {
 }
 
 /// The largest size that a newcomer of this level and gap may have; 0 if none.
-fn largest_passing(link: &Link, connections: &[Connection], level: u8, gap: u16) -> u16 {
+pub fn largest_passing(link: &Link, connections: &[Connection], level: u8, gap: u16) -> u16 {
     (level..=link.levels())
         .map(|one| {
             let bound = link.bound(one);

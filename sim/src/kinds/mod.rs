@@ -4,6 +4,7 @@ mod damage;
 mod edges;
 mod notices;
 mod script;
+mod short;
 mod traffic;
 
 use crate::random::Random;
@@ -24,7 +25,7 @@ pub struct Kind {
 }
 
 #[rustfmt::skip] // One line for each kind.
-pub const KINDS: [Kind; 21] = [
+pub const KINDS: [Kind; 22] = [
     Kind { name: "quiet", size: 60, maker: Maker::Scripted(traffic::quiet) },
     Kind { name: "flooded", size: 60, maker: Maker::Scripted(traffic::flooded) },
     Kind { name: "wild", size: 60, maker: Maker::Scripted(traffic::wild) },
@@ -46,6 +47,7 @@ pub const KINDS: [Kind; 21] = [
     Kind { name: "badnotice", size: 20, maker: Maker::Bytes(damage::bad_notice) },
     Kind { name: "noticeend", size: 40, maker: Maker::Scripted(notices::notice_end) },
     Kind { name: "noticelimit", size: 40, maker: Maker::Scripted(notices::notice_limit) },
+    Kind { name: "short", size: 80, maker: Maker::Scripted(short::short) },
 ];
 
 impl Kind {

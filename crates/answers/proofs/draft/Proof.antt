@@ -24,14 +24,20 @@ headed-requires-2 c κs = search needs
 one-requires : tie.Need-one-requires
 one-requires c κs = search needs
 
+one-requires-2 : tie.Need-one-requires-2
+one-requires-2 c κs = search needs
+
+four-requires : tie.Need-four-requires
+four-requires c κs = search needs
+
 enum-known-r-3 : tie.Need-enum-known-r-3
 enum-known-r-3 c = search needs
 
 headed-requires-3 : tie.Need-headed-requires-3
 headed-requires-3 c κs = search needs
 
-four-requires : tie.Need-four-requires
-four-requires c κs = search needs
+four-requires-2 : tie.Need-four-requires-2
+four-requires-2 c κs = search needs
 
 enum-known-r-4 : tie.Need-enum-known-r-4
 enum-known-r-4 c = search needs
@@ -39,8 +45,8 @@ enum-known-r-4 c = search needs
 headed-requires-4 : tie.Need-headed-requires-4
 headed-requires-4 c κs = search needs
 
-four-requires-2 : tie.Need-four-requires-2
-four-requires-2 c κs = search needs
+four-requires-3 : tie.Need-four-requires-3
+four-requires-3 c κs = search needs
 
 enum-known-r-5 : tie.Need-enum-known-r-5
 enum-known-r-5 c = search needs
@@ -63,8 +69,8 @@ enum-known-r-7 c = search needs
 headed-requires-6 : tie.Need-headed-requires-6
 headed-requires-6 c κs = search needs
 
-four-requires-3 : tie.Need-four-requires-3
-four-requires-3 c κs = search needs
+four-requires-4 : tie.Need-four-requires-4
+four-requires-4 c κs = search needs
 
 enum-told : tie.Need-enum-told
 enum-told c = search needs
@@ -78,15 +84,18 @@ returns c = rw (c .before .before .r .given .1) (drafted-behind LA _ _ (search n
 
 returns-2 : tie.Need-returns-2
 unfolding laid sum
-returns-2 c = rw (c .before .before .before .r2 .given .1) (drafted-behind CA _ _ (search needs) refl (c .before .headed2 .ensures) (before (c .one .ensures) done) (omega arith))
+returns-2 c =
+    rw (c .before .before .before .before .before .r2 .given .1)
+    (drafted-behind CA _ _ (search needs) refl (c .before .before .before .headed2 .ensures)
+    (before (c .before .before .one .ensures) (before (c .before .one2 .ensures) (before (c .four .ensures) done))) (omega arith))
 
 returns-3 : tie.Need-returns-3
 unfolding laid sum
-returns-3 c = rw (c .before .before .before .r3 .given .1) (drafted-behind PA _ _ (search needs) refl (c .before .headed3 .ensures) (before (c .four .ensures) done) (omega arith))
+returns-3 c = rw (c .before .before .before .r3 .given .1) (drafted-behind PA _ _ (search needs) refl (c .before .headed3 .ensures) (before (c .four2 .ensures) done) (omega arith))
 
 returns-4 : tie.Need-returns-4
 unfolding laid sum
-returns-4 c = rw (c .before .before .before .r4 .given .1) (drafted-behind NA _ _ (search needs) refl (c .before .headed4 .ensures) (before (c .four2 .ensures) done) (omega arith))
+returns-4 c = rw (c .before .before .before .r4 .given .1) (drafted-behind NA _ _ (search needs) refl (c .before .headed4 .ensures) (before (c .four3 .ensures) done) (omega arith))
 
 returns-5 : tie.Need-returns-5
 returns-5 c = rw (c .before .before .r5 .given .1) (c .draft-departed .ensures)
@@ -97,7 +106,7 @@ returns-6 c = rw (c .before .before .before .r6 .given .1) (drafted-behind TA _ 
 
 returns-7 : tie.Need-returns-7
 unfolding laid sum
-returns-7 c = rw (c .before .before .before .r7 .given .1) (drafted-behind ER _ _ (search needs) refl (c .before .headed6 .ensures) (before (c .four3 .ensures) done) (omega arith))
+returns-7 c = rw (c .before .before .before .r7 .given .1) (drafted-behind ER _ _ (search needs) refl (c .before .headed6 .ensures) (before (c .four4 .ensures) done) (omega arith))
 
 returns-8 : tie.Need-returns-8
 unfolding laid
@@ -112,12 +121,14 @@ draft-spec =
     enum-known-r-2
     headed-requires-2
     one-requires
+    one-requires-2
+    four-requires
     enum-known-r-3
     headed-requires-3
-    four-requires
+    four-requires-2
     enum-known-r-4
     headed-requires-4
-    four-requires-2
+    four-requires-3
     enum-known-r-5
     draft-departed-requires
     enum-known-r-6
@@ -125,7 +136,7 @@ draft-spec =
     two-requires
     enum-known-r-7
     headed-requires-6
-    four-requires-3
+    four-requires-4
     enum-told
     empty-requires
     returns

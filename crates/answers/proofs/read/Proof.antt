@@ -19,23 +19,20 @@ one-requires c κs = search needs
 whole-of-requires : tie.Need-whole-of-requires
 whole-of-requires c κs = search needs
 
-one-requires-2 : tie.Need-one-requires-2
-one-requires-2 c κs = search needs
-
-whole-of-requires-2 : tie.Need-whole-of-requires-2
-whole-of-requires-2 c κs = search needs
+read-admitted-requires : tie.Need-read-admitted-requires
+read-admitted-requires c κs = search needs
 
 four-requires : tie.Need-four-requires
 four-requires c κs = search needs
 
-whole-of-requires-3 : tie.Need-whole-of-requires-3
-whole-of-requires-3 c κs = search needs
+whole-of-requires-2 : tie.Need-whole-of-requires-2
+whole-of-requires-2 c κs = search needs
 
 four-requires-2 : tie.Need-four-requires-2
 four-requires-2 c κs = search needs
 
-whole-of-requires-4 : tie.Need-whole-of-requires-4
-whole-of-requires-4 c κs = search needs
+whole-of-requires-3 : tie.Need-whole-of-requires-3
+whole-of-requires-3 c κs = search needs
 
 read-departed-requires : tie.Need-read-departed-requires
 read-departed-requires c κs = search needs
@@ -43,8 +40,8 @@ read-departed-requires c κs = search needs
 two-requires : tie.Need-two-requires
 two-requires c κs = search needs
 
-whole-of-requires-5 : tie.Need-whole-of-requires-5
-whole-of-requires-5 c κs = search needs
+whole-of-requires-4 : tie.Need-whole-of-requires-4
+whole-of-requires-4 c κs = search needs
 
 read-broken-requires : tie.Need-read-broken-requires
 read-broken-requires c κs = search needs
@@ -60,25 +57,25 @@ returns c =
     (rw (c .whole-of .ensures, c .before .before .one .ensures))
 
 returns-2 : tie.Need-returns-2
-unfolding read-numbered number read-row get-fields sum
+unfolding read-numbered number
 returns-2 c =
-    let m = c .before .before .before .before .mark-of in
-    rw (numbered (answers .rows) (c .before .before .before .before .before .before .args .s .now) (m .result) 0x4143 answer-marks (m .ensures) (search needs))
-    (rw (c .whole-of2 .ensures, c .before .before .before .one .ensures, c .before .one2 .ensures))
+    let m = c .before .before .before .mark-of in
+    rw (numbered (answers .rows) (c .before .before .before .before .before .args .s .now) (m .result) 0x4143 answer-marks (m .ensures) (search needs))
+    (c .read-admitted .ensures)
 
 returns-3 : tie.Need-returns-3
 unfolding read-numbered number read-row get-fields sum
 returns-3 c =
     let m = c .before .before .before .before .mark-of in
     rw (numbered (answers .rows) (c .before .before .before .before .before .before .args .s .now) (m .result) 0x4150 answer-marks (m .ensures) (search needs))
-    (rw (c .whole-of3 .ensures, c .before .before .before .one .ensures, c .before .four .ensures))
+    (rw (c .whole-of2 .ensures, c .before .before .before .one .ensures, c .before .four .ensures))
 
 returns-4 : tie.Need-returns-4
 unfolding read-numbered number read-row get-fields sum
 returns-4 c =
     let m = c .before .before .before .before .mark-of in
     rw (numbered (answers .rows) (c .before .before .before .before .before .before .args .s .now) (m .result) 0x414E answer-marks (m .ensures) (search needs))
-    (rw (c .whole-of4 .ensures, c .before .before .before .one .ensures, c .before .four2 .ensures))
+    (rw (c .whole-of3 .ensures, c .before .before .before .one .ensures, c .before .four2 .ensures))
 
 returns-5 : tie.Need-returns-5
 unfolding read-numbered number
@@ -92,7 +89,7 @@ unfolding read-numbered number read-row get-fields sum
 returns-6 c =
     let m = c .before .before .before .before .mark-of in
     rw (numbered (answers .rows) (c .before .before .before .before .before .before .args .s .now) (m .result) 0x4154 answer-marks (m .ensures) (search needs))
-    (rw (c .whole-of5 .ensures, c .before .before .before .one .ensures, c .before .two .ensures))
+    (rw (c .whole-of4 .ensures, c .before .before .before .one .ensures, c .before .two .ensures))
 
 returns-7 : tie.Need-returns-7
 unfolding read-numbered number
@@ -124,15 +121,14 @@ read-spec =
     mark-of-requires
     one-requires
     whole-of-requires
-    one-requires-2
-    whole-of-requires-2
+    read-admitted-requires
     four-requires
-    whole-of-requires-3
+    whole-of-requires-2
     four-requires-2
-    whole-of-requires-4
+    whole-of-requires-3
     read-departed-requires
     two-requires
-    whole-of-requires-5
+    whole-of-requires-4
     read-broken-requires
     nothing-requires
     returns

@@ -1,12 +1,8 @@
 use Rattle.firmware.proofs.AskedLaws as A
 use Rattle.firmware.proofs.LaidLaws as L
-use native.Mathlib.Omega.{arith}
 use mathlib.Core.Path.{sym, ap, _∙_, subst}
-use mathlib.Core.List.{List}
-use Rattle.rules.specs.declared.Connection.{Connection}
-use Rattle.rules.specs.Admission.{Short, level-test}
+use Rattle.rules.specs.Admission.{level-test}
 use Rattle.lines.specs.Within.{Within}
-use Rattle.firmware.specs.Questions.{first-rows}
 use borrow.Author.Needs.{needs}
 use Rattle.firmware.proofs.short_over.Statement.{statement}
 use Rattle.firmware.proofs.short_over.Tie as tie
@@ -39,28 +35,15 @@ standing-test-requires c κs =
       subst (Within l) (sym (L.connections-laid rows n (s .pre .1) sized _ laid)) (A.all-within l rows n (s .pre .3) (s .pre .0)),
     )
 
-cast-result : tie.Need-cast-result
-cast-result c =
-    let s = c .before .before .before .before .before .before .before in
-    let l = s .args .l in
-    let rows = s .args .rows .now in
-    let n = s .args .n in
-    let sized = A.sized l rows n (s .pre .3) in
-    let laid = c .before .before .before .before .lay-out .ensures in
-    let e = L.connections-laid rows n (s .pre .1) sized _ laid in
-    let r = ap (λ (t : Short). t .level) (c .before .standing-test .ensures) ∙ ap (λ (xs : List Connection). level-test l xs .level) e in
-    omega (arith, r, A.level-le l (first-rows n rows) (s .pre .0))
-
 returns : tie.Need-returns
 returns c =
-    let s = c .before .before .before .before .before .before .before in
+    let s = c .before .before .before .before .before .before in
     let l = s .args .l in
     let rows = s .args .rows .now in
     let n = s .args .n in
     let sized = A.sized l rows n (s .pre .3) in
-    let laid = c .before .before .before .before .lay-out .ensures in
-    let e = L.connections-laid rows n (s .pre .1) sized _ laid in
-    ap (λ (t : Short). t .level) (c .before .standing-test .ensures) ∙ ap (λ (xs : List Connection). level-test l xs .level) e
+    let laid = c .before .before .before .lay-out .ensures in
+    c .standing-test .ensures ∙ ap (level-test l) (L.connections-laid rows n (s .pre .1) sized _ laid)
 
 pub short-over-spec : {M : Type 1} → statement M
 short-over-spec =
@@ -70,5 +53,4 @@ short-over-spec =
     lay-out-requires
     slice-aggregate-standing-test
     standing-test-requires
-    cast-result
     returns)

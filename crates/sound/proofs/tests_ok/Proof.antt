@@ -1,6 +1,6 @@
 use mathlib.Core.Path.{ap}
 use lib.Dec.{eqb}
-use Rattle.rules.specs.Admission.{Short}
+use Rattle.rules.specs.Model.{Short}
 use borrow.Author.Needs.{needs}
 use Rattle.sound.proofs.tests_ok.Statement.{statement}
 use Rattle.sound.proofs.tests_ok.Tie as tie

@@ -1,0 +1,101 @@
+-- Which level was short, and by how many units: what the level test tells, and how much a newcomer can add. Assumes nothing.
+use Prim.Native.Nat.{ℕ, zero, suc, _+_, _*_, _-_, _/_, _≤_, _<_}
+use native.Mathlib.Omega.{arith}
+use native.Mathlib.Nat.{le-trans, mul-le-mul-left, mul-le-mul-right, div-lt-iff-lt-mul}
+use mathlib.Core.Path.{_≡_, refl, ap, _∙_}
+use mathlib.Core.Bool.{true}
+use mathlib.Core.Logic.{_⊎_, _↔_, ⊎-elim}
+use mathlib.Core.List.{List, [], _∷_, _++_}
+use lib.Dec.{leb}
+use lib.ListN.{length}
+use lib.Seq.{getD-append-seam}
+use borrow.Author.Tests.{eqb-true, eq-eqb}
+use Rattle.rules.specs.Words.{upto, sum}
+use Rattle.rules.specs.Limits.{max-largest, max-bound}
+use Rattle.rules.specs.Model.{Link, Connection, Short, no-connection, nth}
+use Rattle.rules.specs.Admission.{link-within, figures-within, bound, count, cost, load, level-sum, short-from, level-test}
+use Rattle.rules.specs.Promises.{Names-the-lowest, No-level-fails, own-term}
+use Rattle.rules.proofs.Sums.{same, cond-ind, sum-eq, upto-le}
+use Rattle.rules.proofs.Standing.{nth-old, length-snoc}
+use Rattle.rules.proofs.LevelTest.{test-holds, holds-test, names-lowest}
+use Rattle.rules.proofs.Figures.{link-facts, figures-gap, sum-is}
+
+-- ---- what the test tells
+
+module _ (l : Link) (cs : List Connection) where
+  -- the units beside a level: those of its sum above its bound
+  abbrev Beside : Short → Type 0
+  Beside t = (t .level ≡ 0 → t .units ≡ 0) × ((t .level ≡ 0 → ⊥) → t .units ≡ level-sum l cs (t .level) - bound l (t .level))
+
+  beside-from : (m k : ℕ) → 1 ≤ m → Beside (short-from l cs m k)
+  beside-from m zero p = (λ _. refl, λ n. absurd (n refl))
+  beside-from m (suc k) p =
+      cond-ind Beside (leb (level-sum l cs m) (bound l m)) (λ _. beside-from (suc m) k (omega arith)) (λ _. (λ z. absurd (omega arith), λ _. refl))
+
+  beside : Beside (level-test l cs)
+  unfolding level-test
+  beside = beside-from 1 (l .levels) (omega arith)
+
+  pub names : (level-test l cs .level ≡ 0 → ⊥) → Names-the-lowest l cs (level-test l cs)
+  names n =
+      let k = names-lowest l cs n in
+      record { is-level = (k .0, omega (arith, k .1)); fails = k .2; lower-hold = k .3; units-are = beside .1 n }
+
+  none-fails : level-test l cs .level ≡ 0 → No-level-fails l cs
+  none-fails z = test-holds l cs (eq-eqb (level-test l cs .level) 0 z)
+
+  level-zero : No-level-fails l cs → level-test l cs .level ≡ 0
+  level-zero h = eqb-true (level-test l cs .level) 0 (holds-test l cs h)
+
+  -- units there are exactly where a level is named
+  units-zero : level-test l cs .units ≡ 0 → level-test l cs .level ≡ 0
+  units-zero u = ⊎-elim (λ z. z) (λ n. let k = names n in absurd (omega (arith, k .fails, k .units-are))) (same (level-test l cs .level) 0)
+
+  pub tells : (level-test l cs .level ≡ 0 ↔ No-level-fails l cs) × (level-test l cs .units ≡ 0 ↔ No-level-fails l cs)
+      × ((level-test l cs .level ≡ 0 → ⊥) → Names-the-lowest l cs (level-test l cs))
+  tells = ((none-fails, level-zero), (λ u. none-fails (units-zero u), λ h. beside .0 (level-zero h)), names)
+
+-- ---- what a newcomer adds
+
+-- a quotient rounded up is no more than what is divided, so a window holds no more packets than ticks
+quotient-le : (w g : ℕ) → 1 ≤ g → (w + (g - 1)) / g ≤ w
+quotient-le w g h = let k : (w + (g - 1)) / g < suc w = div-lt-iff-lt-mul h .1 (omega (arith, mul-le-mul-left w h)) in omega arith
+
+pub count-le : (x : Connection) (w : ℕ) → 1 ≤ x .gap → count x w ≤ w
+unfolding count
+count-le x w g = quotient-le w (x .gap) g
+
+module _ (l : Link) (cs : List Connection) (x : Connection) where
+  -- what a connection adds to the sum of level m, with the bound d
+  share : ℕ → ℕ → Connection → ℕ
+  share m d c = upto (c .level) m (count c d * cost l (c .size))
+
+  pub load-newcomer : (m d : ℕ) → load l (cs ++ x ∷ []) m d ≡ load l cs m d + upto (x .level) m (count x d * cost l (x .size))
+  unfolding share
+  load-newcomer m d = ap (λ (n : ℕ). sum n (λ c. share m d (nth (cs ++ x ∷ []) c))) (length-snoc cs x ∙ more) ∙ split
+    where
+      more : length cs + 1 ≡ suc (length cs)
+      more = omega arith
+
+      split : sum (suc (length cs)) (λ c. share m d (nth (cs ++ x ∷ []) c)) ≡ sum (length cs) (λ c. share m d (nth cs c)) + share m d x
+      split = omega (arith, sum-eq (length cs) (λ c k. ap (share m d) (nth-old cs x c k)), ap (share m d) (getD-append-seam cs x [] no-connection))
+
+  -- where the others hold, the excess is no more than the newcomer's own term
+  pub excess-le : (m : ℕ) → level-sum l cs m ≤ bound l m → level-sum l (cs ++ x ∷ []) m - bound l m ≤ own-term l x m
+  excess-le m h =
+      omega (
+        arith,
+        sum-is l cs m,
+        sum-is l (cs ++ x ∷ []) m,
+        load-newcomer m (bound l m),
+        upto-le (x .level) m (count x (bound l m) * cost l (x .size)),
+      )
+
+-- an own term is within 2^26: no more packets than ticks of the longest bound, none longer than the largest
+pub term-le : (l : Link) (x : Connection) (m : ℕ) → link-within l ≡ true → figures-within l x ≡ true → 1 ≤ m → m ≤ l .levels → own-term l x m ≤ max-bound * max-largest
+unfolding cost
+term-le l x m e f p q =
+    let F = link-facts l e in
+    let g = figures-gap l x f in
+    let k : x .size ≤ max-largest = omega (arith, g .1, F .largest-max) in
+    le-trans (mul-le-mul-right (x .size) (le-trans (count-le x (bound l m) (g .0)) (F .bound-le m p q))) (mul-le-mul-left max-bound k)
