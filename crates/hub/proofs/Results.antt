@@ -2,21 +2,23 @@
 use Prim.Native.Nat.{ℕ, zero, suc, _+_, _≤_, _<_}
 use native.Mathlib.Omega.{arith}
 use mathlib.Core.Path.{_≡_, refl, sym, ap, _∙_, subst}
-use mathlib.Core.Bool.{Bool, true, false, cond}
+use mathlib.Core.Bool.{Bool, true, false, cond, _&&_}
 use mathlib.Core.List.{List, [], _∷_, _++_, map}
 use mathlib.Core.Option.{Option, none, some}
 use lib.Dec.{eqb}
 use lib.ListN.{length, getElem?}
 use Rattle.rules.specs.declared.Packet.{Packet}
-use Rattle.rules.specs.Words.{push}
+use Rattle.rules.specs.declared.Connection.{Connection}
+use Rattle.rules.specs.Words.{All, push}
 use Rattle.rules.specs.Limits.{clock-end, notice-number}
 use Rattle.rules.specs.declared.Notice.{Notice}
-use Rattle.rules.specs.Model.{State, Call, link, admit, offer, notice, tick, Answer}
+use Rattle.rules.specs.Model.{State, Call, link, admit, offer, notice, tick, Answer, figures}
+use Rattle.rules.specs.Admission.{stands}
 use Rattle.rules.specs.Service.{of, first, notice-departs, packet-departs, after-unit, started}
 use Rattle.rules.specs.SoundState.{Sound}
 use Rattle.rules.specs.SoundTest.{sound}
 use Rattle.rules.specs.Calls.{verdict, done, refused-number, answer}
-use Rattle.rules.specs.Runs.{Departure, History, taken, leaving, after, run-from, nothing-yet, run, departures, in-hub, bound-of, allowed, Keeps-its-gap}
+use Rattle.rules.specs.Runs.{Departure, History, taken, leaving, after, run-from, nothing-yet, run, departures, in-hub, bound-of, allowed, Keeps-its-gap, Exchange, exchange, exchanges-from, exchanges, own-answer}
 use Rattle.rules.specs.Promises.{Kept-promise}
 use Rattle.rules.proofs.Sums.{cond-is}
 use Rattle.rules.proofs.Tests.{and-intro}
@@ -24,7 +26,8 @@ use Rattle.rules.proofs.Verdicts.{settled}
 use Rattle.rules.proofs.SoundExact.{exact}
 use Rattle.rules.proofs.SoundKept.{kept}
 use Rattle.rules.proofs.Every.{fresh-invariant}
-use Rattle.rules.proofs.Results.{demand-1-refusals, verdict-1-exactly, runs-are-sound, conservation, demand-3-first, demand-3-second}
+use Rattle.rules.proofs.Alone.{asks}
+use Rattle.rules.proofs.Results.{demand-1-refusals, verdict-1-exactly, runs-are-sound, conservation, demand-3-first, demand-3-second, told-by-its-own, bed-nine-and-bed-ten, counted}
 use Rattle.tables.specs.Table.{formed}
 use Rattle.tables.specs.Places.{places, places-length, packet-of, table-of}
 use Rattle.tables.specs.Notices.{notices-formed}
@@ -38,8 +41,8 @@ use Rattle.service.specs.View.{view, hub-of, told-of, refusal}
 use Rattle.calls.specs.Acts.{sound-hub, members-of, places-of, notices-of}
 use Rattle.calls.proofs.ActLaws.{is-sound, members-kept, places-kept, notices-kept}
 use Rattle.hub.specs.Does.{tells, leaves-members, leaves-places, leaves-notices, Does}
-use Rattle.hub.specs.Sequence.{Notes, brought, went, call, calls-from, blank, calls, state-of, notes-of}
-use Rattle.hub.specs.Promises.{One-outcome, Written-reads-back, Sound-is-written, Demand-1-of-the-code, Verdict-1-of-the-code, Sound-is-kept-by-the-code, Follows-the-rules, Conservation-of-the-code, Noted-by, Demand-3-first-of-the-code, Kept-by-the-code, Demand-3-second-of-the-code}
+use Rattle.hub.specs.Sequence.{Notes, brought, went, call, calls-from, blank, calls, state-of, notes-of, heard, heard-from, all-heard}
+use Rattle.hub.specs.Promises.{One-outcome, Written-reads-back, Sound-is-written, Demand-1-of-the-code, Verdict-1-of-the-code, Sound-is-kept-by-the-code, Follows-the-rules, Conservation-of-the-code, Noted-by, Demand-3-first-of-the-code, Kept-by-the-code, Demand-3-second-of-the-code, Told-by-its-own-of-the-code, Bed-nine-and-bed-ten-of-the-code, Counted-of-the-code}
 
 -- ---- one outcome
 
@@ -246,3 +249,55 @@ module _ (earlier later : List Call) (c len tag : ℕ) (word : Keeps-its-gap c (
 
 pub demand-3-second-of-the-code : Demand-3-second-of-the-code
 demand-3-second-of-the-code earlier later c len tag word good = kept-by-the-code earlier later c len tag word good
+
+-- ---- bed nine and bed ten
+
+-- what is heard of a state of the rules as it is written
+heard-one : (c : ℕ) (h : History) (k : Call) → Sound (h .now) → heard c (notes-of h) k ≡ exchange c (h .now) k
+heard-one c h (link l) S = refl
+heard-one c h (admit x) S = refl
+heard-one c h (offer d len tag) S =
+    ap (λ (r : Told). listen (state-of (notes-of h)) r) (same-tells (h .now) S (offer d len tag))
+    ∙ ap (λ (s : State). listen s (told-of (answer (offer d len tag) (h .now)))) (back (h .now) S)
+  where
+    listen : State → Told → Option Exchange
+    listen s r =
+        cond (eqb d c && stands (s .connections) c) (some (record { asked = record { at = h .now .clock; len = len; tag = tag }; verdict = r .verdict; eligibility = r .number })) none
+heard-one c h (notice len tag) S = refl
+heard-one c h tick S = refl
+
+heard-all : (c : ℕ) (ks : List Call) (h : History) (es : List Exchange) → Sound (h .now) → heard-from c (notes-of h) es ks ≡ exchanges-from c h es ks
+heard-all c [] h es S = refl
+heard-all c (k ∷ ks) h es S =
+    ap (λ (o : Option Exchange). heard-from c (call (notes-of h) k) (push es o) ks) (heard-one c h k S)
+    ∙ ap (λ (g : Notes). heard-from c g (push es (exchange c (h .now) k)) ks) (follows-one h k S)
+    ∙ heard-all c ks (after h k) (push es (exchange c (h .now) k)) (kept k (h .now) S)
+
+-- so what is heard is what the rules say
+heard-is : (c : ℕ) (ks : List Call) → all-heard c ks ≡ exchanges c ks
+heard-is c ks = ap (λ (g : Notes). heard-from c g [] ks) blank-is ∙ heard-all c ks nothing-yet [] (fresh-invariant .sound)
+
+-- and what the caller keeps stands for the state of the rules
+state-is : (ks : List Call) → state-of (calls ks) ≡ run ks .now
+state-is ks = ap state-of (follows-the-rules ks) ∙ back (run ks .now) (runs-are-sound ks)
+
+same-figures : (ks : List Call) (c : ℕ) → figures (state-of (calls ks)) c ≡ figures (run ks .now) c
+same-figures ks c = ap (λ (s : State). figures s c) (state-is ks)
+
+pub told-by-its-own-of-the-code : Told-by-its-own-of-the-code
+told-by-its-own-of-the-code ks c word =
+    subst (λ (x : Connection). All (λ (e : Exchange). e ≡ own-answer x (e .asked)) (all-heard c ks)) (sym (same-figures ks c))
+    (subst (All (λ (e : Exchange). e ≡ own-answer (figures (run ks .now) c) (e .asked))) (sym (heard-is c ks)) (told-by-its-own ks c word))
+
+pub bed-nine-and-bed-ten-of-the-code : Bed-nine-and-bed-ten-of-the-code
+bed-nine-and-bed-ten-of-the-code ks ms c d alike asked word =
+    heard-is c ks
+    ∙ bed-nine-and-bed-ten ks ms c d (sym (same-figures ks c) ∙ alike ∙ same-figures ms d)
+    (ap asks (sym (heard-is c ks)) ∙ asked ∙ ap asks (heard-is d ms)) word
+    ∙ sym (heard-is d ms)
+
+pub counted-of-the-code : Counted-of-the-code
+counted-of-the-code ks c =
+    subst (λ (g : Notes). length (of c (g .accepted)) ≡ length (departures c (g .departed)) + length (of c (in-hub (state-of g))))
+    (sym (follows-the-rules ks))
+    (counted ks c ∙ ap (λ (s : State). length (departures c (run ks .departed)) + length (of c (in-hub s))) (sym (back (run ks .now) (runs-are-sound ks))))

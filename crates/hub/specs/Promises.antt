@@ -7,17 +7,18 @@ use mathlib.Core.Option.{some}
 use lib.ListN.{length, getElem?}
 use Rattle.rules.specs.declared.Packet.{Packet}
 use Rattle.rules.specs.Limits.{clock-end, notice-number}
-use Rattle.rules.specs.Model.{State, Call, offer}
+use Rattle.rules.specs.Words.{All}
+use Rattle.rules.specs.Model.{State, Call, offer, figures}
 use Rattle.rules.specs.Service.{of}
 use Rattle.rules.specs.SoundState.{Sound}
 use Rattle.rules.specs.Calls.{refused-number}
-use Rattle.rules.specs.Runs.{Departure, run, departures, in-hub, bound-of, allowed, Keeps-its-gap}
+use Rattle.rules.specs.Runs.{Departure, run, departures, in-hub, bound-of, allowed, Keeps-its-gap, Exchange, own-answer}
 use Rattle.service.specs.declared.Hub.{Hub}
 use Rattle.service.specs.declared.Told.{Told}
 use Rattle.service.specs.View.{view, hub-of}
 use Rattle.calls.specs.Acts.{sound-hub, members-of, places-of, notices-of}
 use Rattle.hub.specs.Does.{Does}
-use Rattle.hub.specs.Sequence.{Notes, calls, state-of, notes-of}
+use Rattle.hub.specs.Sequence.{Notes, calls, state-of, notes-of, all-heard}
 
 -- document 01, "What the hub's answers must settle": any two answers and tables that a contract allows are equal
 pub record Same-outcome (r r′ : Told) (cs cs′ t t′ q q′ : List ℕ) : Type 0 where
@@ -116,3 +117,27 @@ Demand-3-second-of-the-code =
     → Keeps-its-gap c (earlier ++ offer c len tag ∷ [])
     → allowed (run earlier .now) c len ≡ true
     → Kept-by-the-code earlier later c len tag
+
+-- ---- bed nine and bed ten, of the code (document 02, R-3)
+
+-- whatever the other lines call, each answer to a line that keeps its gap is the one that its own figures and its own offer decide
+abbrev pub Told-by-its-own-of-the-code : Type 0
+Told-by-its-own-of-the-code =
+    (ks : List Call) (c : ℕ)
+    → Keeps-its-gap c ks
+    → All (λ (e : Exchange). e ≡ own-answer (figures (state-of (calls ks)) c) (e .asked)) (all-heard c ks)
+
+-- so through any two sequences of calls a line with the same figures and the same offers at the same ticks gets the same answers, whatever its number in each
+abbrev pub Bed-nine-and-bed-ten-of-the-code : Type 0
+Bed-nine-and-bed-ten-of-the-code =
+    (ks ms : List Call) (c d : ℕ)
+    → figures (state-of (calls ks)) c ≡ figures (state-of (calls ms)) d
+    → map (λ (e : Exchange). e .asked) (all-heard c ks) ≡ map (λ (e : Exchange). e .asked) (all-heard d ms)
+    → Keeps-its-gap c ks
+    → all-heard c ks ≡ all-heard d ms
+
+-- for every connection, counted in the caller's notes: accepted since the hub was fresh = departed plus held
+abbrev pub Counted-of-the-code : Type 0
+Counted-of-the-code =
+    (ks : List Call) (c : ℕ)
+    → length (of c (calls ks .accepted)) ≡ length (departures c (calls ks .departed)) + length (of c (in-hub (state-of (calls ks))))

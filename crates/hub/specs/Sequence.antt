@@ -1,14 +1,16 @@
 -- A sequence of public calls, each given what the last one left, and what a caller reads off the answers. Assumes nothing.
 use Prim.Native.Nat.{ℕ}
-use mathlib.Core.Bool.{cond}
+use mathlib.Core.Bool.{cond, _&&_}
 use mathlib.Core.List.{List, [], _∷_}
 use mathlib.Core.Option.{Option, none, some}
+use lib.Dec.{eqb}
 use lib.ListN.{replicate}
 use Rattle.rules.specs.declared.Packet.{Packet}
 use Rattle.rules.specs.Words.{push}
 use Rattle.rules.specs.Limits.{notice-number}
 use Rattle.rules.specs.Model.{State, Call, link, admit, offer, notice, tick, fresh}
-use Rattle.rules.specs.Runs.{Departure, History, if-done}
+use Rattle.rules.specs.Admission.{stands}
+use Rattle.rules.specs.Runs.{Departure, History, if-done, Exchange}
 use Rattle.tables.specs.Places.{places-length}
 use Rattle.tables.specs.Notices.{notices-length}
 use Rattle.lines.specs.Members.{members-length}
@@ -84,3 +86,24 @@ notes-of h = record {
   places = places-of (h .now);
   notices = notices-of (h .now);
 }
+
+-- ---- what a connection asks and is told, read off the answers (document 02, R-3)
+
+abbrev pub heard : ℕ → Notes → Call → Option Exchange
+heard c g (link l) = none
+heard c g (admit x) = none
+heard c g (offer d len tag) =
+    let r = tells (offer d len tag) (g .hub) (g .members) (g .places) (g .notices) in
+    cond (eqb d c && stands (state-of g .connections) c)
+    (some (record { asked = record { at = g .hub .clock; len = len; tag = tag }; verdict = r .verdict; eligibility = r .number }))
+    none
+heard c g (notice len tag) = none
+heard c g tick = none
+
+abbrev pub heard-from : ℕ → Notes → List Exchange → List Call → List Exchange
+heard-from c g es [] = es
+heard-from c g es (k ∷ ks) = heard-from c (call g k) (push es (heard c g k)) ks
+
+-- all offers to connection c while it stands, in order, each with its answer
+abbrev pub all-heard : ℕ → List Call → List Exchange
+all-heard c ks = heard-from c blank [] ks

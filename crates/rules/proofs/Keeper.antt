@@ -166,7 +166,7 @@ module _ (c : ℕ) (level : c ≡ notice-number → ⊥) where
             let k = and-true (eqb d c) (allowed s c len) e in
             subst (λ (j : ℕ). All-taken (after h (offer j len tag)) (ts ++ s .clock ∷ [])) (sym (eqb-true d c (k .0))) (own-offer len tag (k .1) (w refl))
 
-    any-call : (k : Call) → ((t : ℕ) → offer-tick c s k ≡ some t → Spaced (figures s c) (ts ++ t ∷ [])) → All-taken (after h k) (push ts (offer-tick c s k))
+    pub any-call : (k : Call) → ((t : ℕ) → offer-tick c s k ≡ some t → Spaced (figures s c) (ts ++ t ∷ [])) → All-taken (after h k) (push ts (offer-tick c s k))
     any-call (link l) word =
         settled (λ a. All-taken (logged h (link l) a) ts) (link l) s (verdict (link l) s) (λ _. untouched (done (link l) s .next) acc (h .departed) refl (λ z. z)) (refused-taken (link l))
     any-call (admit x) word =
@@ -197,11 +197,13 @@ module _ (c : ℕ) (level : c ≡ notice-number → ⊥) where
       go none f = f ts
       go (some t) f = let r = f (ts ++ t ∷ []) in (t ∷ r .0, r .1 ∙ append-assoc ts (t ∷ []) (r .0))
 
-  pub all-taken : (ks : List Call) (h : History) (ts : List ℕ) → Invariant h → All-taken h ts
-      → Spaced (figures (run-from h ks .now) c) (offer-ticks-from c h ts ks) → All-taken (run-from h ks) (offer-ticks-from c h ts ks)
-  all-taken [] h ts I A word = A
-  all-taken (k ∷ ks) h ts I A word =
-      all-taken ks (after h k) (push ts (offer-tick c (h .now) k)) (keeps h k I) (any-call h I ts A k now-word) word
+  -- a call that a run begins with keeps the spacing as it stands now, if the run keeps it to its end
+  pub word-now : (k : Call) (ks : List Call) (h : History) (ts : List ℕ) → Invariant h
+      → Spaced (figures (run-from h (k ∷ ks) .now) c) (offer-ticks-from c h ts (k ∷ ks))
+      → (t : ℕ) → offer-tick c (h .now) k ≡ some t → Spaced (figures (h .now) c) (ts ++ t ∷ [])
+  word-now k ks h ts I word t e =
+      subst (λ (x : Connection). Spaced x (ts ++ t ∷ [])) (stays c (k ∷ ks) h I (offer-stands k t e) .alike)
+      (subst (λ (o : Option ℕ). Spaced (figures (run-from h (k ∷ ks) .now) c) (push ts o)) e so-far)
     where
       so-far : Spaced (figures (run-from h (k ∷ ks) .now) c) (push ts (offer-tick c (h .now) k))
       so-far =
@@ -209,20 +211,21 @@ module _ (c : ℕ) (level : c ≡ notice-number → ⊥) where
           spaced-front (figures (run-from h (k ∷ ks) .now) c) (push ts (offer-tick c (h .now) k)) (g .0)
           (subst (Spaced (figures (run-from h (k ∷ ks) .now) c)) (g .1) word)
 
-      now-word : (t : ℕ) → offer-tick c (h .now) k ≡ some t → Spaced (figures (h .now) c) (ts ++ t ∷ [])
-      now-word t e =
-          subst (λ (x : Connection). Spaced x (ts ++ t ∷ [])) (stays c (k ∷ ks) h I (offer-stands k t e) .alike)
-          (subst (λ (o : Option ℕ). Spaced (figures (run-from h (k ∷ ks) .now) c) (push ts o)) e so-far)
+      offer-stands : (k : Call) (t : ℕ) → offer-tick c (h .now) k ≡ some t → c < length (h .now .connections)
+      offer-stands (link l) t e = absurd (none-some e)
+      offer-stands (admit x) t e = absurd (none-some e)
+      offer-stands (offer d len tag) t e = go (eqb d c && allowed (h .now) c len) refl e
         where
-          offer-stands : (k : Call) (t : ℕ) → offer-tick c (h .now) k ≡ some t → c < length (h .now .connections)
-          offer-stands (link l) t e = absurd (none-some e)
-          offer-stands (admit x) t e = absurd (none-some e)
-          offer-stands (offer d len tag) t e = go (eqb d c && allowed (h .now) c len) refl e
-            where
-              go : (b : Bool) → (eqb d c && allowed (h .now) c len) ≡ b → cond b (some (h .now .clock)) none ≡ some t → c < length (h .now .connections)
-              go false q e = absurd (none-some e)
-              go true q e =
-                  stands-below (h .now .connections) c
-                  (and-true (stands (h .now .connections) c) (within 1 (figures (h .now) c .size) len) (and-true (eqb d c) (allowed (h .now) c len) q .1) .0)
-          offer-stands (notice len tag) t e = absurd (none-some e)
-          offer-stands tick t e = absurd (none-some e)
+          go : (b : Bool) → (eqb d c && allowed (h .now) c len) ≡ b → cond b (some (h .now .clock)) none ≡ some t → c < length (h .now .connections)
+          go false q e = absurd (none-some e)
+          go true q e =
+              stands-below (h .now .connections) c
+              (and-true (stands (h .now .connections) c) (within 1 (figures (h .now) c .size) len) (and-true (eqb d c) (allowed (h .now) c len) q .1) .0)
+      offer-stands (notice len tag) t e = absurd (none-some e)
+      offer-stands tick t e = absurd (none-some e)
+
+  pub all-taken : (ks : List Call) (h : History) (ts : List ℕ) → Invariant h → All-taken h ts
+      → Spaced (figures (run-from h ks .now) c) (offer-ticks-from c h ts ks) → All-taken (run-from h ks) (offer-ticks-from c h ts ks)
+  all-taken [] h ts I A word = A
+  all-taken (k ∷ ks) h ts I A word =
+      all-taken ks (after h k) (push ts (offer-tick c (h .now) k)) (keeps h k I) (any-call h I ts A k (word-now k ks h ts I word)) word

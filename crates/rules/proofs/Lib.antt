@@ -30,6 +30,7 @@ pub mod InTime
 pub mod Bounds
 pub mod Room
 pub mod Keeper
+pub mod Alone
 pub mod NoticesLast
 pub mod Fields
 pub mod Results

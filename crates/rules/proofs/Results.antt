@@ -3,11 +3,11 @@ use Prim.Native.Nat.{ℕ, zero, suc, _+_, _≤_, _<_}
 use native.Mathlib.Omega.{arith}
 use mathlib.Core.Path.{_≡_, refl, sym, ap, _∙_, subst}
 use mathlib.Core.Bool.{Bool, true, false, cond, not}
-use mathlib.Core.Logic.{inl}
-use mathlib.Core.List.{List, [], _∷_, _++_, append-assoc, append-nil}
+use mathlib.Core.Logic.{_⊎_, inl, inr}
+use mathlib.Core.List.{List, [], _∷_, _++_, map, append-assoc, append-nil}
 use mathlib.Core.Option.{Option, none, some}
 use lib.Dec.{leb, eqb}
-use lib.ListN.{length, getElem?}
+use lib.ListN.{length, getElem?, length-append}
 use borrow.Author.Tests.{eq-eqb, ne-eqb, eqb-false, leb-false}
 use Rattle.rules.specs.Words.{push, within}
 use Rattle.rules.specs.Limits.{clock-end, max-notices, notice-number}
@@ -17,11 +17,12 @@ use Rattle.rules.specs.Service.{Spaced, of, started}
 use Rattle.rules.specs.SoundState.{Sound}
 use Rattle.rules.specs.SoundTest.{sound}
 use Rattle.rules.specs.Calls.{verdicts, verdict, eligibility-now, done, refused-number, settle, answer}
-use Rattle.rules.specs.Runs.{History, taken, logged, after, run-from, nothing-yet, run, bound-of, allowed, offer-tick, offer-ticks-from, offer-ticks, Keeps-its-gap}
-use Rattle.rules.specs.Promises.{Demand-1-refusals, Test-is-exact, Verdict-1-exactly, No-link-means-zero, Sound-is-kept, Runs-are-sound, Rows-fit, Notices-fit, Notices-come-last, Fifteen-after-thirteen, Names-the-lowest, Level-test-tells, Short-is-told, Units-are-missing, Units-fit, Eligibilities-fit, Answers-fit, Conservation, Left-by, Demand-3-first, Demand-3-second}
-use Rattle.rules.proofs.Sums.{cond-is}
+use Rattle.rules.specs.Runs.{Departure, History, taken, logged, after, run-from, nothing-yet, run, departures, in-hub, bound-of, allowed, offer-tick, offer-ticks-from, offer-ticks, Keeps-its-gap, Exchange, exchanges, own-answer}
+use Rattle.rules.specs.Promises.{Demand-1-refusals, Test-is-exact, Verdict-1-exactly, No-link-means-zero, Sound-is-kept, Runs-are-sound, Rows-fit, Notices-fit, Notices-come-last, Fifteen-after-thirteen, Names-the-lowest, Level-test-tells, Short-is-told, Units-are-missing, Units-fit, Eligibilities-fit, Answers-fit, Conservation, Left-by, Demand-3-first, Demand-3-second, Told-by-its-own, Bed-nine-and-bed-ten, Counted}
+use Rattle.rules.proofs.Sums.{same, cond-is}
 use Rattle.rules.proofs.Tests.{and-true, and-intro, not-true-false, never-number}
-use Rattle.rules.proofs.Rows.{of-append}
+use Rattle.rules.proofs.Lists.{All}
+use Rattle.rules.proofs.Rows.{of-append, length-map}
 use Rattle.rules.proofs.Spacing.{spaced-front}
 use Rattle.rules.proofs.Standing.{stands-below}
 use Rattle.rules.proofs.Verdicts.{settled, refused-leaves, short-refused}
@@ -36,6 +37,7 @@ use Rattle.rules.proofs.Fields.{unit-done, unit-short, short-fits, answ
 use Rattle.rules.proofs.Shortage.{tells, names}
 use Rattle.rules.proofs.Room.{not-for-room, welcome}
 use Rattle.rules.proofs.Keeper.{stays, All-taken, all-taken, on-arrival, has-room}
+use Rattle.rules.proofs.Alone.{Own, own-ticks, told-by-own, ticks-are-own, no-connection-asks, own-answers}
 
 -- ---- demand 1
 
@@ -284,3 +286,36 @@ demand-3-second earlier later c len tag word ok = record {
       ap (λ (v : ℕ). settle (offer c len tag) (run earlier .now) v .number) (welcomed earlier c len tag word ok running) ∙ arrival earlier c len tag word ok;
   in-time = λ running over. leaves earlier c len tag word ok running later over;
 }
+
+-- ---- bed nine and bed ten
+
+pub told-by-its-own : Told-by-its-own
+told-by-its-own ks c word = go (same c notice-number)
+  where
+    go : (c ≡ notice-number) ⊎ (c ≡ notice-number → ⊥) → All (Own (figures (run ks .now) c)) (exchanges c ks)
+    go (inl n) = subst (All (Own (figures (run ks .now) c))) (sym (no-connection-asks c n ks nothing-yet [] fresh-invariant)) tt
+    go (inr level) = told-by-own c level ks nothing-yet [] [] fresh-invariant (inl refl) word tt
+
+pub bed-nine-and-bed-ten : Bed-nine-and-bed-ten
+bed-nine-and-bed-ten ks ms c d alike asked word =
+    own-answers x (exchanges c ks) (told-by-its-own ks c word)
+    ∙ ap (map (own-answer x)) asked
+    ∙ ap (λ (y : Connection). map (own-answer y) (map (λ (e : Exchange). e .asked) (exchanges d ms))) alike
+    ∙ sym (own-answers (figures (run ms .now) d) (exchanges d ms) (told-by-its-own ms d word-there))
+  where
+    x : Connection
+    x = figures (run ks .now) c
+
+    -- it keeps its gap there because it asks the same
+    word-there : Keeps-its-gap d ms
+    word-there =
+        subst (Spaced (figures (run ms .now) d)) (sym (ticks-are-own d ms nothing-yet [] fresh-invariant))
+        (subst (λ (y : Connection). Spaced y (own-ticks y (map (λ (e : Exchange). e .asked) (exchanges d ms)))) alike
+        (subst (λ qs. Spaced x (own-ticks x qs)) asked
+        (subst (Spaced x) (ticks-are-own c ks nothing-yet [] fresh-invariant) word)))
+
+pub counted : Counted
+counted ks c =
+    ap length (conservation ks c)
+    ∙ length-append (map (λ (d : Departure). d .what) (departures c (run ks .departed))) (of c (in-hub (run ks .now)))
+    ∙ ap (λ (n : ℕ). n + length (of c (in-hub (run ks .now)))) (length-map (λ (d : Departure). d .what) (departures c (run ks .departed)))

@@ -1,9 +1,10 @@
 -- Room for a line that keeps its gap: its packets held and the new one lie within one bound, so they are no more than its reservation. Assumes nothing.
 use Prim.Native.Nat.{ℕ, _+_, _-_, _≤_, _<_}
 use native.Mathlib.Omega.{arith}
-use mathlib.Core.Path.{_≡_, refl, ap, _∙_, subst}
-use mathlib.Core.Bool.{true, not}
+use mathlib.Core.Path.{_≡_, refl, sym, ap, _∙_, subst}
+use mathlib.Core.Bool.{Bool, true, false, cond, not}
 use mathlib.Core.List.{List, [], _∷_, _++_, map, append-assoc}
+use lib.Dec.{leb, eqb}
 use lib.ListN.{length}
 use borrow.Author.Tests.{ne-eqb, lt-leb}
 use Rattle.rules.specs.Words.{within, upto}
@@ -11,11 +12,12 @@ use Rattle.rules.specs.Limits.{clock-end, notice-number}
 use Rattle.rules.specs.Model.{Packet, offer, figures}
 use Rattle.rules.specs.Admission.{stands, reservation}
 use Rattle.rules.specs.Service.{Spaced, of, eligibilities, level-of}
+use Rattle.rules.specs.SoundTest.{sound}
 use Rattle.rules.specs.Calls.{verdicts, verdict}
 use Rattle.rules.specs.Runs.{History, bound-of, allowed}
 use Rattle.rules.proofs.Lists.{All, all-map, all-zip, total-snoc}
-use Rattle.rules.proofs.Sums.{upto-yes}
-use Rattle.rules.proofs.Tests.{and-true, all-false, never-number}
+use Rattle.rules.proofs.Sums.{upto-yes, cond-is}
+use Rattle.rules.proofs.Tests.{never, and-true}
 use Rattle.rules.proofs.Rows.{to-of, map-append, length-map, all-map-of}
 use Rattle.rules.proofs.Spacing.{among, inside, spaced-back, spaced-before, window-law}
 use Rattle.rules.proofs.Standing.{stands-below}
@@ -80,55 +82,48 @@ module _ (h : History) (I : Invariant h) (c : ℕ) (standing : stands (h .now .c
             (facts-of s (I .sound) .each c below .some-gap) held-spaced (omega (arith, some-d)),
       )
 
--- ---- so it is never refused for room, and accepted while the clock runs
+-- ---- an offer to a connection that stands and has room
+
+module _ (h : History) (I : Invariant h) (c len tag : ℕ) (standing : stands (h .now .connections) c ≡ true) where
+  open History h using (now as s)
+
+  F : Connection-facts (s .link) (figures s c)
+  F = facts-of s (I .sound) .each c (stands-below (s .connections) c standing)
+
+  -- its verdict is 11, 13 or 0
+  pub decided : (within 1 (figures s c .size) len ≡ true → length (of c (s .held)) < reservation (s .link) (figures s c))
+      → verdict (offer c len tag) s ≡ cond (within 1 (figures s c .size) len) (cond (leb clock-end (s .clock)) 13 0) 11
+  unfolding verdicts
+  decided room =
+      go (not (sound s)) (eqb (s .link .levels) 0) (not (stands (s .connections) c)) (within 1 (figures s c .size) len)
+      (leb (reservation (s .link) (figures s c)) (length (of c (s .held)))) (leb clock-end (s .clock))
+      (ap not (exact s .1 (I .sound))) (ne-eqb (s .link .levels) 0 (λ z. omega (arith, F .low-level, F .high-level))) (ap not standing) (λ w. lt-leb _ _ (room w))
+    where
+      go : (unsound unset gone right full ended : Bool) → unsound ≡ false → unset ≡ false → gone ≡ false → (right ≡ true → full ≡ false)
+          → _≡_ {A = ℕ} (cond unsound 1 (cond unset 2 (cond gone 10 (cond (not right) 11 (cond full 12 (cond ended 13 0)))))) (cond right (cond ended 13 0) 11)
+      go true b c d e f i j k l = never (sym i)
+      go false true c d e f i j k l = never (sym j)
+      go false false true d e f i j k l = never (sym k)
+      go false false false false e f i j k l = refl
+      go false false false true true f i j k l = never (sym (l refl))
+      go false false false true false f i j k l = refl
+
+-- ---- so a line that keeps its gap is never refused for room, and accepted while the clock runs
 
 module _ (h : History) (I : Invariant h) (c len tag : ℕ) (ok : allowed (h .now) c len ≡ true) (room : length (of c (h .now .held)) < reservation (h .now .link) (figures (h .now) c)) where
   open History h using (now as s)
 
-  ok-parts : (stands (s .connections) c ≡ true) × (within 1 (figures s c .size) len ≡ true)
-  ok-parts = and-true (stands (s .connections) c) (within 1 (figures s c .size) len) ok
+  by-clock : verdict (offer c len tag) s ≡ cond (leb clock-end (s .clock)) 13 0
+  by-clock =
+      let p = and-true (stands (s .connections) c) (within 1 (figures s c .size) len) ok in
+      decided h I c len tag (p .0) (λ _. room) ∙ cond-is (cond (leb clock-end (s .clock)) 13 0) 11 (p .1)
 
   pub not-for-room : verdict (offer c len tag) s ≡ 12 → ⊥
-  unfolding verdicts
-  not-for-room e =
-      never-number 12 (verdicts (offer c len tag) s)
-      (λ i. absurd (omega arith), (λ i. absurd (omega arith), (λ i. absurd (omega arith), (λ i. absurd (omega arith), (λ i. absurd (omega arith), (λ i. absurd (omega arith), (λ i. absurd (omega arith), (λ i. absurd (omega arith), (λ i. absurd (omega arith), (λ i. absurd (omega arith), (λ i. absurd (omega arith), (λ i. lt-leb _ _ room, (λ i. absurd (omega arith), (λ i. absurd (omega arith), tt))))))))))))))
-      (omega arith) e
+  not-for-room e = go (leb clock-end (s .clock)) (sym by-clock ∙ e)
+    where
+      go : (ended : Bool) → _≡_ {A = ℕ} (cond ended 13 0) 12 → ⊥
+      go true i = omega arith
+      go false i = omega arith
 
   pub welcome : s .clock < clock-end → verdict (offer c len tag) s ≡ 0
-  unfolding verdicts
-  welcome running =
-      all-false (verdicts (offer c len tag) s) (
-        ap not (exact s .1 (I .sound)),
-        (
-          ne-eqb (s .link .levels) 0 (λ z. omega (arith, F .low-level, F .high-level)),
-          (
-            refl,
-            (
-              refl,
-              (
-                refl,
-                (
-                  refl,
-                  (
-                    refl,
-                    (
-                      refl,
-                      (
-                        refl,
-                        (
-                          ap not (ok-parts .0),
-                          (ap not (ok-parts .1), (lt-leb _ _ room, (lt-leb clock-end (s .clock) running, (refl, tt)))),
-                        ),
-                      ),
-                    ),
-                  ),
-                ),
-              ),
-            ),
-          ),
-        ),
-      )
-    where
-      F : Connection-facts (s .link) (figures s c)
-      F = facts-of s (I .sound) .each c (stands-below (s .connections) c (ok-parts .0))
+  welcome running = by-clock ∙ cond-is 13 0 (lt-leb clock-end (s .clock) running)

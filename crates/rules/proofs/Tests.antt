@@ -9,7 +9,7 @@ use lib.Dec.{leb}
 use borrow.Author.Tests.{leb-true, le-leb}
 use Rattle.rules.specs.Words.{within, every, each, first-number}
 use Rattle.rules.proofs.Lists.{All}
-use Rattle.rules.proofs.Sums.{same, cond-is}
+use Rattle.rules.proofs.Sums.{same}
 
 pub never : {P : Type 0} → false ≡ true → P
 never e = let z : _≡_ {A = ℕ} 0 1 = cc e in absurd (omega arith)
@@ -91,11 +91,6 @@ passed (r ∷ rs) h e = go (r .1) refl e (passed rs (h .1))
         → (r .1 ≡ false) × All (λ r. r .1 ≡ false) rs
     go true q e k = absurd (omega (arith, h .0))
     go false q e k = (q, k e)
-
--- no test holds: number 0
-pub all-false : (rs : List (ℕ × Bool)) → All (λ r. r .1 ≡ false) rs → first-number rs ≡ 0
-all-false [] h = refl
-all-false (r ∷ rs) h = cond-is (r .0) (first-number rs) (h .0) ∙ all-false rs (h .1)
 
 -- a number whose tests do not hold is not given
 pub never-number : (v : ℕ) (rs : List (ℕ × Bool)) → All (λ r. r .0 ≡ v → r .1 ≡ false) rs → 0 < v → first-number rs ≡ v → ⊥

@@ -6,7 +6,7 @@ use lib.ListN.{replicate}
 use Rattle.rules.specs.Model.{State, Call, link, admit, offer, notice, tick, Short, no-short}
 use Rattle.rules.specs.Admission.{reservation, level-sum}
 use Rattle.rules.specs.Calls.{answer}
-use Rattle.rules.specs.Runs.{Departure, run}
+use Rattle.rules.specs.Runs.{Departure, run, Exchange, exchanges}
 
 -- what is seen of a call: its verdict, its number, which level was short and by how many units, and for an admission the level sums with the newcomer counted and its reservation;
 -- and the finishes once so many ticks have followed
@@ -130,3 +130,15 @@ A-longer-bound-can-fail-too = map seen longer-bound ≡ map (λ (x : Case). x .e
 
 abbrev pub Worked-examples : Type 0
 Worked-examples = map seen table ≡ map (λ (x : Case). x .expected) table
+
+-- document 02, R-3, speaks of lines that keep their gap; of others it is false. A line of gap 10 offers at 1 and at 2, one unit each: alone on the wire it is
+-- accepted twice; beside a line that sent four units at 0 its first packet still waits at 2, and the second is refused for room
+abbrev pub gap-broken : List Call → List Exchange
+gap-broken others = exchanges 0 (after-p2 ++ others ++ tick ∷ offer 0 1 72 ∷ tick ∷ offer 0 1 73 ∷ [])
+
+abbrev pub said : ℕ → ℕ → ℕ → ℕ → Exchange
+said at tag verdict eligibility = record { asked = record { at = at; len = 1; tag = tag }; verdict = verdict; eligibility = eligibility }
+
+abbrev pub A-broken-gap-can-be-told-apart : Type 0
+A-broken-gap-can-be-told-apart =
+    (gap-broken [] ≡ said 1 72 0 1 ∷ said 2 73 0 11 ∷ []) × (gap-broken (offer 1 4 71 ∷ []) ≡ said 1 72 0 1 ∷ said 2 73 12 0 ∷ [])

@@ -8,13 +8,13 @@ use mathlib.Core.Option.{none, some}
 use lib.ListN.{length, getElem?}
 use Rattle.rules.specs.Words.{All}
 use Rattle.rules.specs.Limits.{max-largest, max-bound, max-reserved, clock-end, beyond-32-bits, max-notices, notice-number}
-use Rattle.rules.specs.Model.{Link, Connection, Packet, State, Call, link, admit, offer, notice, tick, Short, no-short, Answer, fresh, past}
+use Rattle.rules.specs.Model.{Link, Connection, Packet, State, Call, link, admit, offer, notice, tick, Short, no-short, Answer, fresh, past, figures}
 use Rattle.rules.specs.Admission.{bound, count, cost, level-sum, level-test}
 use Rattle.rules.specs.Service.{of, started}
 use Rattle.rules.specs.SoundState.{Sound}
 use Rattle.rules.specs.SoundTest.{sound}
 use Rattle.rules.specs.Calls.{answer, refused-number, eligibility-now}
-use Rattle.rules.specs.Runs.{History, run, departures, in-hub, bound-of, allowed, Keeps-its-gap}
+use Rattle.rules.specs.Runs.{History, run, departures, in-hub, bound-of, allowed, Keeps-its-gap, Exchange, exchanges, own-answer}
 
 -- ---- demand 1: any call on any state ends with an answer or a numbered refusal (`answer` is a function); a refused call changes nothing
 
@@ -186,3 +186,28 @@ Demand-3-second =
     → Keeps-its-gap c (earlier ++ offer c len tag ∷ [])
     → allowed (run earlier .now) c len ≡ true
     → Kept-promise earlier later c len tag
+
+-- ---- bed nine and bed ten (document 02, R-3): nothing that another line does changes what a line that keeps its gap is told
+
+-- in any run, each answer to a line that keeps its gap is the one that its own figures and its own offer decide
+abbrev pub Told-by-its-own : Type 0
+Told-by-its-own =
+    (ks : List Call) (c : ℕ)
+    → Keeps-its-gap c ks
+    → All (λ (e : Exchange). e ≡ own-answer (figures (run ks .now) c) (e .asked)) (exchanges c ks)
+
+-- so in any two runs a line with the same figures and the same offers at the same ticks is told the same, whatever its number in each. That the links are
+-- the same and that it was accepted at the same tick need not even be asked
+abbrev pub Bed-nine-and-bed-ten : Type 0
+Bed-nine-and-bed-ten =
+    (ks ms : List Call) (c d : ℕ)
+    → figures (run ks .now) c ≡ figures (run ms .now) d
+    → map (λ e. e .asked) (exchanges c ks) ≡ map (λ e. e .asked) (exchanges d ms)
+    → Keeps-its-gap c ks
+    → exchanges c ks ≡ exchanges d ms
+
+-- for every connection, counted from the answers: accepted since the hub was fresh = departed plus held
+abbrev pub Counted : Type 0
+Counted =
+    (ks : List Call) (c : ℕ)
+    → length (of c (run ks .accepted)) ≡ length (departures c (run ks .departed)) + length (of c (in-hub (run ks .now)))

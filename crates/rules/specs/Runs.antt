@@ -3,10 +3,10 @@ use Prim.Native.Nat.{ℕ, zero, suc, _+_}
 use mathlib.Core.Bool.{Bool, cond, _&&_}
 use mathlib.Core.List.{List, [], _∷_, _++_, map}
 use mathlib.Core.Option.{Option, none, some}
-use lib.Dec.{eqb}
+use lib.Dec.{leb, eqb}
 use Rattle.rules.specs.Words.{within, push}
-use Rattle.rules.specs.Limits.{notice-number}
-use Rattle.rules.specs.Model.{Packet, State, Call, link, admit, offer, notice, tick, Answer, fresh, figures, notice-packet}
+use Rattle.rules.specs.Limits.{clock-end, notice-number}
+use Rattle.rules.specs.Model.{Connection, Packet, State, Call, link, admit, offer, notice, tick, Answer, fresh, figures, notice-packet}
 use Rattle.rules.specs.Admission.{stands, bound}
 use Rattle.rules.specs.Service.{Spaced}
 use Rattle.rules.specs.Calls.{answer}
@@ -98,3 +98,47 @@ offer-ticks c ks = offer-ticks-from c nothing-yet [] ks
 -- they are never closer than the spacing of c asks
 abbrev pub Keeps-its-gap : ℕ → List Call → Type 0
 Keeps-its-gap c ks = Spaced (figures (run ks .now) c) (offer-ticks c ks)
+
+-- ---- what a connection asks and is told (document 02, R-3)
+
+-- an offer to connection c while it stands: the tick, the length, the tag
+pub record Asked : Type 0 where
+  pub at : ℕ
+  pub len : ℕ
+  pub tag : ℕ
+
+-- .. and what it is told
+pub record Exchange : Type 0 where
+  pub asked : Asked
+  pub verdict : ℕ
+  pub eligibility : ℕ
+
+abbrev pub exchange : ℕ → State → Call → Option Exchange
+exchange c s (link l) = none
+exchange c s (admit x) = none
+exchange c s (offer d len tag) =
+    cond (eqb d c && stands (s .connections) c)
+    (some (record {
+      asked = record { at = s .clock; len = len; tag = tag };
+      verdict = answer (offer d len tag) s .verdict;
+      eligibility = answer (offer d len tag) s .number;
+    }))
+    none
+exchange c s (notice len tag) = none
+exchange c s tick = none
+
+abbrev pub exchanges-from : ℕ → History → List Exchange → List Call → List Exchange
+exchanges-from c h es [] = es
+exchanges-from c h es (k ∷ ks) = exchanges-from c (after h k) (push es (exchange c (h .now) k)) ks
+
+-- all of them in a run, in order
+abbrev pub exchanges : ℕ → List Call → List Exchange
+exchanges c ks = exchanges-from c nothing-yet [] ks
+
+-- what a line that keeps its gap is told: its own figures and its own offer decide. A wrong length: 11; at the clock's end: 13; else accepted, eligible on arrival
+abbrev pub own-answer : Connection → Asked → Exchange
+own-answer x a = record {
+  asked = a;
+  verdict = cond (within 1 (x .size) (a .len)) (cond (leb clock-end (a .at)) 13 0) 11;
+  eligibility = cond (within 1 (x .size) (a .len)) (cond (leb clock-end (a .at)) 0 (a .at)) 0;
+}

@@ -1,0 +1,174 @@
+"""Pairs of traces that differ in everything but one line (R-3).
+
+One line keeps its gap and makes the same offers at the same ticks in both; the other lines,
+the notices and the calls around it are drawn anew for each. The line's number may differ.
+"""
+
+import random
+import struct
+from collections import namedtuple
+
+CLOCK_END = 4_000_000_000
+LAST_TICK = 240
+
+ANSWER_LENGTHS = {b"LA": 3, b"CA": 9, b"PA": 7, b"NA": 7, b"TA": 5, b"DP": 19, b"ER": 7}
+
+
+# What the shared line is told in one trace, and what it must be told.
+Twin = namedtuple("Twin", "told expected number")
+
+
+class CannotRead(Exception):
+    """Answers that are no list of answer records, or too few."""
+
+
+def link(bounds, largest):
+    return b"LK" + struct.pack(f"<BH{len(bounds)}H", len(bounds), largest, *bounds)
+
+
+def admission(level, gap, size):
+    return b"CN" + struct.pack("<BHH", level, gap, size)
+
+
+def offer(connection, length, tag):
+    return b"PK" + struct.pack("<BHI", connection, length, tag)
+
+
+def notice(length, tag):
+    return b"NQ" + struct.pack("<HI", length, tag)
+
+
+def ticks(count):
+    return b"TK" + struct.pack("<H", count)
+
+
+def answers(output):
+    """The answers in order, one for each record of the trace: departures are left out."""
+    found, at = [], 0
+    while at < len(output):
+        mark = output[at:at + 2]
+        length = ANSWER_LENGTHS.get(mark)
+        if length is None or at + length > len(output):
+            raise CannotRead(f"no answer record at offset {at}")
+        if mark != b"DP":
+            found.append(output[at:at + length])
+        at += length
+    return found
+
+
+class Line:
+    """The line that both traces share: its figures, the tick of its admission, its offers."""
+
+    def __init__(self, numbers, bounds, largest):
+        self.level = numbers.randint(1, len(bounds))
+        self.gap = numbers.randint(1, 40)
+        self.size = numbers.randint(1, largest)
+        self.admitted = numbers.randint(0, 20)
+        self.offers = {}
+        due = self.admitted + numbers.randint(0, 10)
+        for tick in range(self.admitted, LAST_TICK):
+            if tick >= due and numbers.random() < 0.8:
+                self.add(tick, numbers.randint(1, self.size), numbers)
+                due = tick + self.gap
+            if numbers.random() < 0.05:
+                self.add(tick, numbers.choice((0, self.size + 1, 65_535)), numbers)
+        self.at_end = numbers.randint(1, self.size) if numbers.random() < 0.05 else None
+
+    def add(self, tick, length, numbers):
+        self.offers.setdefault(tick, []).append((length, numbers.getrandbits(32)))
+
+    def told(self, tick, length):
+        """Its own figures and its own offer decide (R-3)."""
+        if not 1 <= length <= self.size:
+            verdict, eligibility = 11, 0
+        elif tick == CLOCK_END:
+            verdict, eligibility = 13, 0
+        else:
+            verdict, eligibility = 0, tick
+        return b"PA" + struct.pack("<BI", verdict, eligibility)
+
+
+class Ward:
+    """One of the two traces: the shared line among others that are drawn at random."""
+
+    def __init__(self, numbers, bounds, largest, line, busy):
+        self.numbers, self.line, self.busy = numbers, line, busy
+        self.bounds, self.largest = bounds, largest
+        self.records = [link(bounds, largest)]
+        self.own = None
+        self.expected = {}
+
+    def others(self):
+        """A call of somebody else, never an offer under the shared line's number."""
+        numbers = self.numbers
+        choice = numbers.random()
+        if choice < 0.15:
+            level = numbers.randint(0, len(self.bounds) + 1)
+            return admission(level, numbers.randint(1, 300), numbers.randint(1, self.largest))
+        if choice < 0.3:
+            return notice(numbers.randint(0, self.largest + 1), numbers.getrandbits(32))
+        if choice < 0.33:
+            return link(self.bounds, self.largest)
+        connection = numbers.choice([c for c in (*range(8), 64, 254, 255) if c != self.own])
+        return offer(connection, numbers.randint(0, self.largest + 1), numbers.getrandbits(32))
+
+    def crowd(self):
+        for _ in range(self.numbers.randint(0, self.busy)):
+            self.records.append(self.others())
+
+    def until_admitted(self):
+        """Up to the admission of the shared line; before it nobody is sure of a number."""
+        for _ in range(self.line.admitted):
+            self.crowd()
+            self.records.append(ticks(1))
+        self.crowd()
+        self.records.append(admission(self.line.level, self.line.gap, self.line.size))
+        return b"".join(self.records)
+
+    def ask(self, tick, length, tag):
+        self.expected[len(self.records)] = self.line.told(tick, length)
+        self.records.append(offer(self.own, length, tag))
+
+    def after_admitted(self, own):
+        self.own = own
+        for tick in range(self.line.admitted, LAST_TICK):
+            self.crowd()
+            for length, tag in self.line.offers.get(tick, ()):
+                self.ask(tick, length, tag)
+                self.crowd()
+            self.records.append(ticks(1))
+        if self.line.at_end is not None:
+            self.to_the_end(LAST_TICK)
+            self.ask(CLOCK_END, self.line.at_end, 0)
+        return b"".join(self.records)
+
+    def to_the_end(self, tick):
+        longest = self.numbers.randint(60_000, 65_535)
+        while tick < CLOCK_END:
+            step = min(longest, CLOCK_END - tick)
+            self.records.append(ticks(step))
+            tick += step
+
+
+def answers_of(ward, trace, run):
+    given = answers(run(trace))
+    if len(given) != len(ward.records):
+        raise CannotRead(f"{len(ward.records)} records, {len(given)} answers")
+    return given
+
+
+def twin(seed, which, run):
+    """One trace of a pair, run; nothing if the shared line is refused even where it is alone."""
+    shared = random.Random(seed)
+    largest = shared.randint(1, 8)
+    first = largest + shared.randint(4, 60)
+    bounds = sorted([first, *(first + shared.randint(0, 200) for _ in range(shared.randint(0, 3)))])
+    line = Line(shared, bounds, largest)
+    for busy in (4, 3, 2, 1, 0):
+        ward = Ward(random.Random(f"{seed} {which} {busy}"), bounds, largest, line, busy)
+        admitted = answers_of(ward, ward.until_admitted(), run)[-1]
+        if admitted[2] == 0:
+            given = answers_of(ward, ward.after_admitted(admitted[3]), run)
+            told = b"".join(given[at] for at in ward.expected)
+            return Twin(told, b"".join(ward.expected.values()), admitted[3])
+    return None
