@@ -1,4 +1,4 @@
-/* The questions that the hub's firmware asks (document 01, "Two questions from C firmware"; document 02, R-2), answered by the same rules as
+/* The questions that the hub's firmware asks (document 01, "Two questions from C firmware"; document 02, R-2 and R-4), answered by the same rules as
    the hub's own calls: the archive's functions are proved equal to the rules' definitions.
 
    Link with the archive that `rt staticlib firmware` writes, target/staticlib/libfirmware.a, for x86-64. It needs `memset` of the C library
@@ -23,7 +23,8 @@ extern "C" {
 uint64_t mtredovim_next_eligibility(uint32_t flag, uint32_t last, uint32_t gap, uint32_t now);
 
 /* Which level would be short, were the connections of all these rows admitted to the link.
-     lk    one whole `LK` record: 4C 4B, n (1 byte), S (2, units), n delay bounds (2 each, ticks); numbers low byte first; lk_len is 5 + 2n
+     lk    one whole `LK` record: 4C 4B, n (1 byte), S (2, units), silence (1, ticks), n delay bounds (2 each, ticks); numbers low byte first;
+           lk_len is 6 + 2n
      rows  a connection to each 5 bytes, in any order: level (1), gap (2, ticks), size (2, units); rows_len is 5 times their number, at most 64
    Answer: 0 if the level test holds at every level, else the lowest level 1 to 8 at which it fails. 255 if the question is not well asked: a
    length doesn't fit, the bytes are no `LK`, a limit of the link or of a connection is broken, or there are more than 64 rows. A bad row gives
@@ -33,9 +34,10 @@ uint64_t mtredovim_next_eligibility(uint32_t flag, uint32_t last, uint32_t gap, 
    pointer will do that is not null: nothing is read there. Null is never allowed. */
 uint8_t mtredovim_short_level(const uint8_t *lk, size_t lk_len, const uint8_t *rows, size_t rows_len);
 
-/* By how many units that level is over, asked with the same bytes and under the same conditions: the level's sum with S, less its delay bound.
+/* By how many units that level is over, asked with the same bytes and under the same conditions: the level's sum with S, less its delay bound,
+   where the silence is added to every size and to S.
    Answer, in units: 0 exactly where mtredovim_short_level answers 0 or 255. Where an admission is refused with 8, the two answers for the hub's
-   connections and the newcomer are level and units of its `CA`. A sum can pass 32 bits, so the answer has 64. */
+   connections and the newcomer are level and units of its `CA`. A sum can pass 32 bits, and the units too, so the answer has 64. */
 uint64_t mtredovim_short_units(const uint8_t *lk, size_t lk_len, const uint8_t *rows, size_t rows_len);
 
 #ifdef __cplusplus

@@ -22,8 +22,8 @@ class CannotRead(Exception):
     """Answers that are no list of answer records, or too few."""
 
 
-def link(bounds, largest):
-    return b"LK" + struct.pack(f"<BH{len(bounds)}H", len(bounds), largest, *bounds)
+def link(bounds, largest, silence):
+    return b"LK" + struct.pack(f"<BHB{len(bounds)}H", len(bounds), largest, silence, *bounds)
 
 
 def admission(level, gap, size):
@@ -59,9 +59,9 @@ def answers(output):
 class Line:
     """The line that both traces share: its figures, the tick of its admission, its offers."""
 
-    def __init__(self, numbers, bounds, largest):
+    def __init__(self, numbers, bounds, largest, silence):
         self.level = numbers.randint(1, len(bounds))
-        self.gap = numbers.randint(1, 40)
+        self.gap = numbers.randint(1, 40 + 2 * silence)
         self.size = numbers.randint(1, largest)
         self.admitted = numbers.randint(0, 20)
         self.offers = {}
@@ -91,10 +91,11 @@ class Line:
 class Ward:
     """One of the two traces: the shared line among others that are drawn at random."""
 
-    def __init__(self, numbers, bounds, largest, line, busy):
+    def __init__(self, numbers, limits, line, busy):
         self.numbers, self.line, self.busy = numbers, line, busy
-        self.bounds, self.largest = bounds, largest
-        self.records = [link(bounds, largest)]
+        self.bounds, self.largest, _ = limits
+        self.link = link(*limits)
+        self.records = [self.link]
         self.own = None
         self.expected = {}
 
@@ -108,7 +109,7 @@ class Ward:
         if choice < 0.3:
             return notice(numbers.randint(0, self.largest + 1), numbers.getrandbits(32))
         if choice < 0.33:
-            return link(self.bounds, self.largest)
+            return self.link
         connection = numbers.choice([c for c in (*range(8), 64, 254, 255) if c != self.own])
         return offer(connection, numbers.randint(0, self.largest + 1), numbers.getrandbits(32))
 
@@ -161,11 +162,13 @@ def twin(seed, which, run):
     """One trace of a pair, run; nothing if the shared line is refused even where it is alone."""
     shared = random.Random(seed)
     largest = shared.randint(1, 8)
-    first = largest + shared.randint(4, 60)
+    silence = shared.choice((0, 0, 1, 2, shared.randint(1, 64)))
+    first = largest + silence + shared.randint(4, 60 + 6 * silence)
     bounds = sorted([first, *(first + shared.randint(0, 200) for _ in range(shared.randint(0, 3)))])
-    line = Line(shared, bounds, largest)
+    line = Line(shared, bounds, largest, silence)
     for busy in (4, 3, 2, 1, 0):
-        ward = Ward(random.Random(f"{seed} {which} {busy}"), bounds, largest, line, busy)
+        numbers = random.Random(f"{seed} {which} {busy}")
+        ward = Ward(numbers, (bounds, largest, silence), line, busy)
         admitted = answers_of(ward, ward.until_admitted(), run)[-1]
         if admitted[2] == 0:
             given = answers_of(ward, ward.after_admitted(admitted[3]), run)

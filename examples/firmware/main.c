@@ -1,11 +1,14 @@
-/* How firmware asks the hub's questions: the admissions P1 to P7 and the offers of P8 and P10 of document 01, "Table of proved examples". */
+/* How firmware asks the hub's questions: the admissions P1 to P7 and the offers of P8 and P10 of document 01, "Table of proved examples"; P1 to P3
+   once more on a line that needs a tick of silence after each packet (document 02, R-4). */
 #include <inttypes.h>
 #include <stdio.h>
 
 #include "mtredovim.h"
 
-/* Link A: two levels, S 4, bounds 10 and 20. */
-static const uint8_t link_a[] = {0x4C, 0x4B, 2, 4, 0, 10, 0, 20, 0};
+/* Link A: two levels, S 4, no silence, bounds 10 and 20. The same with a silence of 1. */
+enum { LINK = 10 };
+static const uint8_t link_a[LINK] = {0x4C, 0x4B, 2, 4, 0, 0, 10, 0, 20, 0};
+static const uint8_t silent_a[LINK] = {0x4C, 0x4B, 2, 4, 0, 1, 10, 0, 20, 0};
 
 /* Rows of level, gap and size. */
 enum { ROW = 5 };
@@ -35,16 +38,16 @@ static const uint8_t behind_three[] = {
 };
 
 /* Would the last of these rows be let in beside the others? */
-static void may_join(const char *name, const uint8_t *rows, size_t count)
+static void may_join(const char *name, const uint8_t *lk, const uint8_t *rows, size_t count)
 {
-    unsigned answer = mtredovim_short_level(link_a, sizeof link_a, rows, ROW * count);
+    unsigned answer = mtredovim_short_level(lk, LINK, rows, ROW * count);
 
     if (answer == 0)
         printf("%s: every level holds\n", name);
     else if (answer == 255)
         printf("%s: not well asked\n", name);
     else
-        printf("%s: level %u is short by %" PRIu64 "\n", name, answer, mtredovim_short_units(link_a, sizeof link_a, rows, ROW * count));
+        printf("%s: level %u is short by %" PRIu64 "\n", name, answer, mtredovim_short_units(lk, LINK, rows, ROW * count));
 }
 
 /* When would a packet that is offered now be eligible? */
@@ -55,14 +58,17 @@ static void when(const char *name, uint32_t flag, uint32_t last, uint32_t gap, u
 
 int main(void)
 {
-    may_join("no rows", in_turn, 0);
-    may_join("P1", in_turn, 1);
-    may_join("P2", in_turn, 2);
-    may_join("P3", in_turn, 3);
-    may_join("P4", instead, 3);
-    may_join("P5", in_turn, 4);
-    may_join("P6", in_turn, 5);
-    may_join("P7", behind_three, 4);
+    may_join("no rows", link_a, in_turn, 0);
+    may_join("P1", link_a, in_turn, 1);
+    may_join("P2", link_a, in_turn, 2);
+    may_join("P3", link_a, in_turn, 3);
+    may_join("P4", link_a, instead, 3);
+    may_join("P5", link_a, in_turn, 4);
+    may_join("P6", link_a, in_turn, 5);
+    may_join("P7", link_a, behind_three, 4);
+    may_join("P1 with a silence of 1", silent_a, in_turn, 1);
+    may_join("P2 with a silence of 1", silent_a, in_turn, 2);
+    may_join("P3 with a silence of 1", silent_a, in_turn, 3);
     when("P8, connection 1 at 0", 0, 0, 20, 0);
     when("P8, connection 0 at 1", 0, 0, 10, 1);
     when("P10, connection 0 at 8", 1, 1, 10, 8);

@@ -1,4 +1,5 @@
-//! The questions of the firmware (section "Two questions from C firmware"; units by R-2).
+//! The questions of the firmware (section "Two questions from C firmware"; units by R-2,
+//! the silence in `LK` by R-4).
 
 use crate::hub;
 use crate::level_test::lowest_shortage;
@@ -46,10 +47,11 @@ fn whole_link(bytes: &[u8]) -> Option<Link> {
             Record::Link {
                 levels,
                 largest,
+                silence,
                 bounds,
             },
             length,
-        ) if length == bytes.len() => Link::new(levels, largest, bounds),
+        ) if length == bytes.len() => Link::new(levels, largest, silence, bounds),
         _ => None,
     }
 }

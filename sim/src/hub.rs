@@ -39,11 +39,22 @@ struct Standing {
     last_eligibility: Option<Tick>,
 }
 
-/// What the output line is doing.
+/// What the output line is doing. A silence with no tick to go is an idle line.
 #[derive(Clone, Copy, Debug, PartialEq, Eq)]
 enum Line {
     Idle,
     Serving { sent: Sent, units_to_go: u16 },
+    Silent { ticks_to_go: u8 },
+}
+
+impl Line {
+    /// The line when so many ticks of silence are still to run.
+    fn silent_for(ticks_to_go: u8) -> Line {
+        match ticks_to_go {
+            0 => Line::Idle,
+            _ => Line::Silent { ticks_to_go },
+        }
+    }
 }
 
 /// What is in service: a held packet, named by its row, or the first notice.
@@ -107,6 +118,14 @@ impl Hub {
     /// How many notices wait; one in service counts until its last unit has gone.
     pub fn notices_waiting(&self) -> usize {
         self.notices.count()
+    }
+
+    /// How many ticks of silence are still to run; 0 while something is in service.
+    pub fn silence_left(&self) -> u8 {
+        match self.line {
+            Line::Silent { ticks_to_go } => ticks_to_go,
+            _ => 0,
+        }
     }
 
     /// Sets the link: verdicts 3 and 4.
@@ -199,19 +218,20 @@ impl Hub {
 
     /// One tick (section "One tick"): verdicts 2 and 13.
     pub fn tick(&mut self) -> Result<Option<Departure>, Refusal> {
-        self.link()?;
+        let silence = self.link()?.silence();
         if self.clock >= CLOCK_END {
             return Err(Refusal::ClockEnded);
         }
         if self.line == Line::Idle {
             self.start_chosen();
         }
-        let departure = self.send_one_unit();
+        let departure = self.send_or_be_silent(silence);
         self.clock += 1;
         Ok(departure)
     }
 
-    /// Step 1: the chosen packet starts; only where none is eligible the first notice.
+    /// Step 1, on an idle line: the chosen packet starts; only where none is eligible the first
+    /// notice.
     fn start_chosen(&mut self) {
         let (sent, units_to_go) = match (self.chosen_row(), self.notices.first()) {
             (Some(row), _) => (Sent::Row(row), self.places[row].length),
@@ -232,12 +252,21 @@ impl Hub {
             .map(|(row, _)| row)
     }
 
-    /// Step 2: one unit goes; with the last one the packet or the notice departs.
-    fn send_one_unit(&mut self) -> Option<Departure> {
-        let (sent, units_to_go) = match self.line {
-            Line::Serving { sent, units_to_go } => (sent, units_to_go),
-            _ => return None,
-        };
+    /// Step 2: one unit goes; without one to go a tick of the silence runs.
+    fn send_or_be_silent(&mut self, silence: u8) -> Option<Departure> {
+        match self.line {
+            Line::Idle => None,
+            Line::Serving { sent, units_to_go } => self.send_one_unit(sent, units_to_go, silence),
+            Line::Silent { ticks_to_go } => {
+                self.line = Line::silent_for(ticks_to_go - 1);
+                None
+            }
+        }
+    }
+
+    /// Step 2: with its last unit the packet or the notice departs, and the whole silence is still
+    /// to run.
+    fn send_one_unit(&mut self, sent: Sent, units_to_go: u16, silence: u8) -> Option<Departure> {
         if units_to_go > 1 {
             self.line = Line::Serving {
                 sent,
@@ -245,7 +274,7 @@ impl Hub {
             };
             return None;
         }
-        self.line = Line::Idle;
+        self.line = Line::silent_for(silence);
         let finish = self.clock + 1;
         match sent {
             Sent::Row(row) => Some(self.depart_row(row, finish)),
@@ -266,8 +295,8 @@ impl Hub {
     }
 
     /// How many ticks from now on are sure to be quiet: in each of them the line either sends
-    /// a unit that is not the last, or stays idle because no held packet is eligible yet and no
-    /// notice waits.
+    /// a unit that is not the last, or is silent, or stays idle because no held packet is eligible
+    /// yet and no notice waits.
     pub fn quiet_ticks(&self) -> Tick {
         if self.link.is_none() {
             return 0;
@@ -275,6 +304,7 @@ impl Hub {
         let to_the_end = CLOCK_END - self.clock;
         let quiet = match self.line {
             Line::Serving { units_to_go, .. } => Tick::from(units_to_go) - 1,
+            Line::Silent { ticks_to_go } => Tick::from(ticks_to_go),
             Line::Idle if self.notices.count() > 0 => 0,
             Line::Idle => self.ticks_until_one_is_eligible().unwrap_or(to_the_end),
         };
@@ -289,8 +319,12 @@ impl Hub {
     /// Passes over ticks at once, never more than are quiet; gives how many it passed.
     pub fn pass_over(&mut self, at_most: Tick) -> Tick {
         let passed = at_most.min(self.quiet_ticks());
-        if let Line::Serving { units_to_go, .. } = &mut self.line {
-            *units_to_go -= passed as u16;
+        match &mut self.line {
+            Line::Idle => {}
+            Line::Serving { units_to_go, .. } => *units_to_go -= passed as u16,
+            Line::Silent { ticks_to_go } => {
+                self.line = Line::silent_for(*ticks_to_go - passed as u8);
+            }
         }
         self.clock += passed;
         passed

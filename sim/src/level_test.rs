@@ -1,17 +1,18 @@
-//! The level test (section "The level test"; which level was short by R-2).
+//! The level test (section "The level test"; which level was short by R-2, the silence by R-4).
 
 use crate::link::{Connection, Link};
 
 /// The sum for one level with bound d: over all connections of levels 1 to that level,
-/// (d divided by X, rounded up) times size; and S. It can pass 32 bits.
+/// (d divided by X, rounded up) times size; and S; each size and S with the silence behind it.
+/// It can pass 32 bits.
 pub fn level_sum(link: &Link, connections: &[Connection], level: u8) -> u64 {
     let bound = link.bound(level);
     let packets: u64 = connections
         .iter()
         .filter(|connection| connection.level() <= level)
-        .map(|connection| connection.packets_within(bound) * u64::from(connection.size()))
+        .map(|connection| connection.packets_within(bound) * link.cost(connection.size()))
         .sum();
-    packets + u64::from(link.largest())
+    packets + link.cost(link.largest())
 }
 
 /// A level that fails and by how many units: its sum, in which S is counted, less its bound.

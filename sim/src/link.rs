@@ -1,35 +1,41 @@
-//! Link and connection with their limits (section "Link, connections, places").
+//! Link and connection with their limits (section "Link, connections, places"; the silence by
+//!
 
 use crate::verdict::Refusal;
 
 pub const MOST_LEVELS: usize = 8;
 pub const MOST_UNITS: u16 = 2_048;
+pub const MOST_SILENCE: u8 = 64;
 pub const HIGHEST_BOUND: u16 = 32_768;
 pub const MOST_CONNECTIONS: usize = 64;
 pub const MOST_RESERVED: u64 = 512;
 
-/// A link within its limits: n levels, the largest packet S, a delay bound per level.
+/// A link within its limits: n levels, the largest packet S, the silence after each packet, a
+/// delay bound per level.
 #[derive(Clone, Copy, Debug, PartialEq, Eq)]
 pub struct Link {
     levels: u8,
     largest: u16,
+    silence: u8,
     bounds: [u16; MOST_LEVELS],
 }
 
 impl Link {
     /// The link, or nothing if one of its limits is broken.
-    pub fn new(levels: u8, largest: u16, bounds: [u16; MOST_LEVELS]) -> Option<Link> {
+    pub fn new(levels: u8, largest: u16, silence: u8, bounds: [u16; MOST_LEVELS]) -> Option<Link> {
         let used = bounds.get(..usize::from(levels))?;
         let unused = bounds.get(usize::from(levels)..)?;
         let (first, last) = (*used.first()?, *used.last()?);
         let within = (1..=MOST_UNITS).contains(&largest)
+            && silence <= MOST_SILENCE
             && used.windows(2).all(|pair| pair[0] < pair[1])
-            && first >= largest
+            && first >= largest + u16::from(silence)
             && last <= HIGHEST_BOUND
             && unused.iter().all(|&bound| bound == 0);
         within.then_some(Link {
             levels,
             largest,
+            silence,
             bounds,
         })
     }
@@ -42,6 +48,16 @@ impl Link {
     /// S, the largest packet, in units.
     pub fn largest(&self) -> u16 {
         self.largest
+    }
+
+    /// The ticks of silence after each packet.
+    pub fn silence(&self) -> u8 {
+        self.silence
+    }
+
+    /// How many ticks a packet of a length occupies the line: its units, then the silence.
+    pub fn cost(&self, length: u16) -> u64 {
+        u64::from(length) + u64::from(self.silence)
     }
 
     /// d of each level, level 1 first.

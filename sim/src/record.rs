@@ -1,5 +1,5 @@
 //! Trace and answer records (section "Trace and answer records"; `NQ` and `NA` by R-1,
-//! level and units in `CA` by R-2).
+//! level and units in `CA` by R-2, the silence in `LK` by R-4).
 
 use crate::hub::{Departure, Tick};
 use crate::level_test::Shortage;
@@ -7,7 +7,7 @@ use crate::link::MOST_LEVELS;
 use crate::verdict::Refusal;
 
 /// The longest trace record: an `LK` with 8 bounds.
-pub const LONGEST_RECORD: usize = 5 + 2 * MOST_LEVELS;
+pub const LONGEST_RECORD: usize = 6 + 2 * MOST_LEVELS;
 
 /// The connection number that a refused admission gives.
 pub const NO_CONNECTION: u8 = 255;
@@ -18,6 +18,7 @@ pub enum Record {
     Link {
         levels: u8,
         largest: u16,
+        silence: u8,
         bounds: [u16; MOST_LEVELS],
     },
     Connection {
@@ -73,8 +74,9 @@ impl Record {
             Record::Link {
                 levels,
                 largest,
+                silence,
                 bounds,
-            } => append_link(out, levels, largest, &bounds),
+            } => append_link(out, levels, largest, silence, &bounds),
             Record::Connection { level, gap, size } => {
                 out.extend_from_slice(b"CN");
                 out.push(level);
@@ -104,22 +106,31 @@ impl Record {
     }
 }
 
-fn append_link(out: &mut Vec<u8>, levels: u8, largest: u16, bounds: &[u16; MOST_LEVELS]) {
+fn append_link(
+    out: &mut Vec<u8>,
+    levels: u8,
+    largest: u16,
+    silence: u8,
+    bounds: &[u16; MOST_LEVELS],
+) {
     out.extend_from_slice(b"LK");
     out.push(levels);
     out.extend_from_slice(&largest.to_le_bytes());
+    out.push(silence);
     for bound in bounds.iter().take(usize::from(levels)) {
         out.extend_from_slice(&bound.to_le_bytes());
     }
 }
 
-/// An `LK` with n outside 1 to 8 is malformed; bounds past n are read as 0.
+/// An `LK` with n outside 1 to 8 is malformed, with any silence it is not; bounds past n are read
+/// as 0.
 fn read_link(fields: &mut Fields) -> Option<Record> {
     let levels = fields.one()?;
     if !(1..=MOST_LEVELS).contains(&usize::from(levels)) {
         return None;
     }
     let largest = fields.two()?;
+    let silence = fields.one()?;
     let mut bounds = [0; MOST_LEVELS];
     for bound in bounds.iter_mut().take(usize::from(levels)) {
         *bound = fields.two()?;
@@ -127,6 +138,7 @@ fn read_link(fields: &mut Fields) -> Option<Record> {
     Some(Record::Link {
         levels,
         largest,
+        silence,
         bounds,
     })
 }
@@ -239,7 +251,7 @@ impl Answer {
 }
 
 /// Level and units, both 0 where no level was short. Four bytes hold the units: on a sound
-/// state they are at most what the newcomer adds, 32,768 packets of 2,048 units.
+/// state they are at most what the newcomer adds, 32,768 packets of 2,048 units and 64 ticks.
 fn append_shortage(out: &mut Vec<u8>, short: Option<Shortage>) {
     let (level, units) = short.map_or((0, 0), |short| (short.level, short.units));
     out.push(level);

@@ -50,8 +50,9 @@ impl Job {
             Record::Link {
                 levels,
                 largest,
+                silence,
                 bounds,
-            } => self.set_link(Link::new(levels, largest, bounds)),
+            } => self.set_link(Link::new(levels, largest, silence, bounds)),
             Record::Connection { level, gap, size } => self.admit(level, gap, size),
             Record::Packet {
                 connection,

@@ -8,7 +8,7 @@ use sim::replay::{answers, Pace};
 use sim::verdict::Refusal;
 
 fn link_a() -> Link {
-    Link::new(2, 4, [10, 20, 0, 0, 0, 0, 0, 0]).expect("link A is within its limits")
+    Link::new(2, 4, 0, [10, 20, 0, 0, 0, 0, 0, 0]).expect("link A is within its limits")
 }
 
 fn hub_a() -> Hub {
@@ -139,7 +139,7 @@ fn p10_spaced_from_the_last_eligibility() {
 #[test]
 fn whole_run_on_link_b() {
     let trace = [
-        &b"LK\x01\x04\x00\x0A\x00"[..],
+        &b"LK\x01\x04\x00\x00\x0A\x00"[..],
         b"CN\x01\x0A\x00\x04\x00",
         b"PK\x00\x02\x00\x07\x00\x00\x00",
         b"TK\x02\x00",

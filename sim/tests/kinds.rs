@@ -26,7 +26,13 @@ fn the_same_seed_gives_the_same_trace() {
 
 #[test]
 fn both_paces_agree() {
-    let slow = ["limit", "clockend", "noticelimit", "noticeend"];
+    let slow = [
+        "limit",
+        "clockend",
+        "noticelimit",
+        "noticeend",
+        "silenceend",
+    ];
     for kind in KINDS.iter().filter(|kind| !slow.contains(&kind.name)) {
         for seed in 0..SEEDS {
             let trace = kind.trace(seed, None);
@@ -89,6 +95,18 @@ fn notices_wait_depart_and_are_refused() {
     let end = total("noticeend");
     assert!(end.notices > 100);
     assert!(end.verdict(11) > 20 && end.verdict(13) > 100 && end.verdict(15) > 0);
+}
+
+#[test]
+fn silences_are_met() {
+    for name in ["silence", "silencesplit"] {
+        assert!(total(name).departures > 500, "{name}");
+        assert!(total(name).notices > 200, "{name}");
+    }
+    let links = total("silencelinks");
+    assert!(links.verdict(4) > 20 && links.verdict(8) > 200 && links.departures > 100);
+    assert!(total("silenceend").verdict(13) > 100);
+    assert!(total("refusals").verdict(4) > 10);
 }
 
 #[test]

@@ -7,7 +7,7 @@ use sim::notices::{MOST_NOTICES, NOTICE_NUMBER};
 use sim::record::{Answer, Record};
 use sim::replay::{answers, Job, Pace};
 
-const LINK: &[u8] = b"LK\x01\x04\x00\x0A\x00";
+const LINK: &[u8] = b"LK\x01\x04\x00\x00\x0A\x00";
 const NOTICE: &[u8] = b"NQ\x02\x00\x07\x01\x00\x80";
 
 fn answered(trace: &[u8]) -> Vec<u8> {
@@ -46,7 +46,7 @@ fn the_bytes_of_refusals() {
 fn a_notice_cut_at_every_byte_is_malformed_at_its_start() {
     for length in 1..NOTICE.len() {
         let trace = [LINK, NOTICE, &NOTICE[..length]].concat();
-        let expected = b"LA\x00NA\x00\x00\x00\x00\x00ER\x0E\x0F\x00\x00\x00";
+        let expected = b"LA\x00NA\x00\x00\x00\x00\x00ER\x0E\x10\x00\x00\x00";
         assert_eq!(answered(&trace), expected, "{length} bytes");
     }
 }
@@ -55,7 +55,7 @@ fn a_notice_cut_at_every_byte_is_malformed_at_its_start() {
 fn the_answers_mark_is_no_trace_record() {
     for mark in ["NA", "nq", "QN", "N\0", "NR"] {
         let trace = [LINK, mark.as_bytes(), &[1; 30]].concat();
-        assert_eq!(answered(&trace), b"LA\x00ER\x0E\x07\x00\x00\x00", "{mark}");
+        assert_eq!(answered(&trace), b"LA\x00ER\x0E\x08\x00\x00\x00", "{mark}");
     }
 }
 

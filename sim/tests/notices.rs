@@ -11,7 +11,7 @@ const S: u16 = 4;
 
 fn hub() -> Hub {
     let mut hub = Hub::new();
-    let link = Link::new(2, S, [10, 20, 0, 0, 0, 0, 0, 0]);
+    let link = Link::new(2, S, 0, [10, 20, 0, 0, 0, 0, 0, 0]);
     assert_eq!(hub.set_link(link), Ok(()));
     assert_eq!(hub.admit(1, 10, 4), Ok(0));
     assert_eq!(hub.admit(2, 20, 4), Ok(1));

@@ -71,16 +71,16 @@ fn units_answers() {
 
 #[test]
 fn no_rows() {
-    assert_eq!(level_answer(b"LK\x01\x04\x00\x0A\x00", &[]), 0);
-    assert_eq!(level_answer(b"LK\x01\x00\x00\x0A\x00", &[]), 255);
-    assert_eq!(level_answer(b"LK\x01\x04\x00\x0A\x00\x00", &[]), 255);
-    assert_eq!(level_answer(b"LK\x01\x04\x00\x0A", &[]), 255);
+    assert_eq!(level_answer(b"LK\x01\x04\x00\x00\x0A\x00", &[]), 0);
+    assert_eq!(level_answer(b"LK\x01\x00\x00\x00\x0A\x00", &[]), 255);
+    assert_eq!(level_answer(b"LK\x01\x04\x00\x00\x0A\x00\x00", &[]), 255);
+    assert_eq!(level_answer(b"LK\x01\x04\x00\x00\x0A", &[]), 255);
     assert_eq!(level_answer(b"", &[]), 255);
 }
 
 #[test]
 fn a_bad_row_wins_over_a_failing_level() {
-    let link = b"LK\x01\x04\x00\x0A\x00";
+    let link = b"LK\x01\x04\x00\x00\x0A\x00";
     let failing = [1, 1, 0, 4, 0];
     let bad = [1, 0, 0, 4, 0];
     assert_eq!(level_answer(link, &failing), 1);
@@ -92,7 +92,7 @@ fn a_bad_row_wins_over_a_failing_level() {
 #[test]
 fn reservations_are_not_asked_about() {
     // One row of 32,768 packets of one unit, S 1: 32,769 is one too many; gap 2 holds.
-    let link = b"LK\x01\x01\x00\x00\x80";
+    let link = b"LK\x01\x01\x00\x00\x00\x80";
     assert_eq!(level_answer(link, &[1, 1, 0, 1, 0]), 1);
     assert_eq!(level_answer(link, &[1, 2, 0, 1, 0]), 0);
 }

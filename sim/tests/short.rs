@@ -10,13 +10,13 @@ use sim::record::{Answer, Record};
 use sim::replay::{answers, Job, Pace};
 use sim::verdict::Refusal;
 
-const LINK_A: &[u8] = b"LK\x02\x04\x00\x0A\x00\x14\x00";
+const LINK_A: &[u8] = b"LK\x02\x04\x00\x00\x0A\x00\x14\x00";
 
 fn hub(largest: u16, used: &[u16]) -> Hub {
     let mut bounds = [0; 8];
     bounds[..used.len()].copy_from_slice(used);
     let mut hub = Hub::new();
-    let link = Link::new(used.len() as u8, largest, bounds);
+    let link = Link::new(used.len() as u8, largest, 0, bounds);
     assert_eq!(hub.set_link(link), Ok(()));
     hub
 }
@@ -83,7 +83,7 @@ fn any_other_verdict_gives_0_and_0_also_behind_an_8() {
 #[test]
 fn reservations_past_512_and_a_65th_connection_give_0_and_0() {
     // Bound 1,000, S 1. A gap of 1 is one unit over. A gap of 2 reserves 500, one of 50 another 20.
-    let link = b"LK\x01\x01\x00\xE8\x03";
+    let link = b"LK\x01\x01\x00\x00\xE8\x03";
     let [one_over, half, some] = [1, 2, 50].map(|gap| admission(1, gap, 1));
     let given = answered(&[link, &one_over, &half, &some, &one_over]);
     let expected = [
@@ -140,8 +140,9 @@ fn every_level_of_eight() {
 
 #[test]
 fn the_most_units_that_an_admission_can_be_over() {
-    // 15 * 2,048 and S fill the bound of 32,768; the newcomer adds 32,768 packets of 2,048.
-    let link = b"LK\x01\x00\x08\x00\x80";
+    // 15 * 2,048 and S fill the bound of 32,768; the newcomer adds 32,768 packets of 2,048. With
+    // a silence it is more: `tests/silence.rs`.
+    let link = b"LK\x01\x00\x08\x00\x00\x80";
     let fill = admission(1, 32_768, 2_048).repeat(15);
     let most = admission(1, 1, 2_048);
     let given = tail(&[link, &fill, &most], 9);
@@ -200,11 +201,12 @@ fn counted(met: &Met) -> (u8, u64) {
     lines.push(met.record);
     for (index, &bound) in met.link.bounds().iter().enumerate() {
         let level = index as u8 + 1;
-        let mut room = i64::from(bound) - i64::from(met.link.largest());
+        let silence = i64::from(met.link.silence());
+        let mut room = i64::from(bound) - i64::from(met.link.largest()) - silence;
         for &(of, gap, size) in &lines {
             let packets = (0..i64::from(bound)).step_by(usize::from(gap)).count();
             if of <= level {
-                room -= packets as i64 * i64::from(size);
+                room -= packets as i64 * (i64::from(size) + silence);
             }
         }
         if room < 0 {
@@ -229,7 +231,7 @@ fn level_and_units_of_every_refused_admission() {
                 assert_eq!(told, expected, "{} {seed}", kind.name);
                 assert_eq!(met.verdict == 8, told != (0, 0));
                 // Before the newcomer every level held, so the units are at most what it adds.
-                assert!(told.1 <= 67_108_864);
+                assert!(told.1 <= 69_206_016);
                 refused += usize::from(met.verdict == 8);
             }
         }

@@ -9,7 +9,7 @@ use sim::verdict::Refusal;
 fn hub(largest: u16, bounds: [u16; 2]) -> Hub {
     let [first, second] = bounds;
     let mut hub = Hub::new();
-    let link = Link::new(2, largest, [first, second, 0, 0, 0, 0, 0, 0]);
+    let link = Link::new(2, largest, 0, [first, second, 0, 0, 0, 0, 0, 0]);
     assert_eq!(hub.set_link(link), Ok(()));
     hub
 }
@@ -76,7 +76,7 @@ fn gap_and_bound_in_each_others_place() {
 #[test]
 fn summing_in_32_bits() {
     // 64 rows of 32,768 packets of 2,048 units: 4,294,967,296, which is 0 in 32 bits.
-    let link = b"LK\x01\x00\x08\x00\x80";
+    let link = b"LK\x01\x00\x08\x00\x00\x80";
     let row = [1, 1, 0, 0x00, 0x08];
     assert_eq!(level_answer(link, &row.repeat(64)), 1);
     assert_eq!(level_answer(link, &row.repeat(65)), 255);

@@ -8,7 +8,7 @@ use sim::notices::NOTICE_NUMBER;
 use sim::record::{Answer, Record};
 use sim::replay::{answers, replay, Job, Pace, SIZE_LIMIT};
 
-const LINK: &[u8] = b"LK\x02\x04\x00\x0A\x00\x14\x00";
+const LINK: &[u8] = b"LK\x02\x04\x00\x00\x0A\x00\x14\x00";
 const CONNECTION: &[u8] = b"CN\x01\x0A\x00\x04\x00";
 const PACKET: &[u8] = b"PK\x00\x02\x00\x07\x00\x00\x00";
 const TICKS: &[u8] = b"TK\x02\x00";
@@ -74,7 +74,7 @@ fn a_link_with_n_out_of_range_is_malformed_even_after_a_link() {
 
 #[test]
 fn a_second_link_is_3_also_with_broken_limits() {
-    let trace = [LINK, LINK, b"LK\x01\x00\x00\x00\x00"].concat();
+    let trace = [LINK, LINK, b"LK\x01\x00\x00\x00\x00\x00"].concat();
     assert_eq!(answered(&trace), b"LA\x00LA\x03LA\x03");
 }
 

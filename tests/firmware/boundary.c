@@ -3,7 +3,7 @@
 
 #include "questions.h"
 
-enum { REFUSED = 255, LAST_BOUND = 32768, MOST_LARGEST = 2048, MOST_GAP = 65535 };
+enum { REFUSED = 255, LAST_BOUND = 32768, MOST_LARGEST = 2048, MOST_SILENCE = 64, MOST_GAP = 65535 };
 
 /* n bounds that end at `last`, one apart. */
 static void bounds_up_to(unsigned last, unsigned n, unsigned *bounds)
@@ -12,14 +12,14 @@ static void bounds_up_to(unsigned last, unsigned n, unsigned *bounds)
         bounds[m] = last - (n - 1 - m);
 }
 
-/* A link that nothing breaks: S 4, bounds 16 apart from 16 on. */
+/* A link that nothing breaks: S 4, no silence, bounds 16 apart from 16 on. */
 static void plain_link(struct question *q, unsigned n)
 {
     unsigned bounds[BOUNDS];
 
     for (unsigned m = 0; m < n; m++)
         bounds[m] = 16 * (m + 1);
-    put_link(q, n, 4, bounds);
+    put_link(q, n, 4, 0, bounds);
 }
 
 static void next_numbers(void)
@@ -64,7 +64,7 @@ static void link_lengths(void)
             plain_link(&q, BOUNDS);
             q.lk[2] = (uint8_t)n;
             q.lk_len = len;
-            expect(&q, n >= 1 && n <= MOST_LEVELS && len == 5 + 2 * (size_t)n ? 0 : REFUSED, "length of LK");
+            expect(&q, n >= 1 && n <= MOST_LEVELS && len == 6 + 2 * (size_t)n ? 0 : REFUSED, "length of LK");
         }
 }
 
@@ -103,12 +103,12 @@ static void link_limits(void)
         for (unsigned s = 0; s < sizeof largest / sizeof largest[0]; s++)
             for (unsigned away = 0; away < 3; away++) {
                 bounds_up_to(largest[s] + away + n - 2, n, bounds);
-                put_link(&q, n, largest[s], bounds);
+                put_link(&q, n, largest[s], 0, bounds);
                 ask(&q);
             }
         for (unsigned last = LAST_BOUND - 1; last <= LAST_BOUND + 1; last++) {
             bounds_up_to(last, n, bounds);
-            put_link(&q, n, 4, bounds);
+            put_link(&q, n, 4, 0, bounds);
             expect(&q, last <= LAST_BOUND ? 0 : REFUSED, "last bound");
         }
         for (unsigned m = 1; m < n; m++)
@@ -117,10 +117,27 @@ static void link_limits(void)
                 for (unsigned k = m; k < n; k++)
                     bounds[k] += away;
                 bounds[m - 1] += 1;
-                put_link(&q, n, 4, bounds);
+                put_link(&q, n, 4, 0, bounds);
                 expect(&q, away >= 1 ? 0 : REFUSED, "bounds that rise");
             }
     }
+}
+
+/* Every silence, with the first bound one below S plus the silence, at it and one above it. */
+static void silences(void)
+{
+    static const unsigned largest[] = {1, 4, 2047, 2048};
+    struct question q;
+    unsigned bounds[MOST_LEVELS];
+
+    for (unsigned n = 1; n <= MOST_LEVELS; n++)
+        for (unsigned s = 0; s < sizeof largest / sizeof largest[0]; s++)
+            for (unsigned silence = 0; silence < 256; silence++)
+                for (unsigned away = 0; away < 3; away++) {
+                    bounds_up_to(largest[s] + silence + away + n - 2, n, bounds);
+                    put_link(&q, n, largest[s], silence, bounds);
+                    expect(&q, silence <= MOST_SILENCE && away >= 1 ? 0 : REFUSED, "a silence");
+                }
 }
 
 /* Each number of a row at its limits, in each of seven places; a bad row wins over a level that fails. */
@@ -165,6 +182,25 @@ static void sums_about_the_bound(void)
             }
 }
 
+/* The same with a silence: S and three rows of size 4, and one of size 1, 2 and 3, each with the silence behind it, where 2 just fits. */
+static void sums_with_silence(void)
+{
+    struct question q;
+    unsigned bounds[MOST_LEVELS];
+
+    for (unsigned n = 1; n <= MOST_LEVELS; n++)
+        for (unsigned m = 1; m <= n; m++)
+            for (unsigned silence = 0; silence <= MOST_SILENCE; silence++)
+                for (unsigned size = 1; size <= 3; size++) {
+                    bounds_up_to(4 * (4 + silence) + 2 + silence + (n - m), n, bounds);
+                    put_link(&q, n, 4, silence, bounds);
+                    for (unsigned i = 0; i < 3; i++)
+                        put_row(&q, m, MOST_GAP, 4);
+                    put_row(&q, m, MOST_GAP, size);
+                    expect_over(&q, size < 3 ? 0 : m, size < 3 ? 0 : 1, "a sum with its silences");
+                }
+}
+
 /* Rounding up: a gap one below, at and one above each divisor of the bound. */
 static void gaps_about_divisors(void)
 {
@@ -177,7 +213,7 @@ static void gaps_about_divisors(void)
                 unsigned gap = LAST_BOUND / packets + away - 1;
 
                 for (unsigned rows = 1; rows <= MOST_ROWS; rows += 21) {
-                    put_link(&q, 1, LAST_BOUND / 64, bound);
+                    put_link(&q, 1, LAST_BOUND / 64, packets % 4, bound);
                     for (unsigned i = 0; i < rows; i++)
                         put_row(&q, 1, gap, size * 32);
                     ask(&q);
@@ -185,11 +221,12 @@ static void gaps_about_divisors(void)
             }
 }
 
-/* 64 rows of the most that a row can add, 2^26: their sum is 2^32, and S comes on top. A row of size 2,047 takes 2^15 off; nothing between the two
-   can be reached. In 32 bits 2^32 + 2,048 would pass for 2,048. The units, the bound taken off, stay 30,720 below 2^32 at most. */
-static void sums_about_32_bits(void)
+/* 64 rows that each add 2^26, S and the silence being 2,048 together: their sum is 2^32, and S comes on top. A row one smaller takes 2^15 off;
+   nothing between the two can be reached. In 32 bits 2^32 + 2,048 would pass for 2,048. The units, the bound taken off, stay 30,720 below 2^32;
+   with the largest S and the longest silence they pass it. */
+static void sums_about_32_bits(unsigned largest, unsigned silence)
 {
-    const uint64_t taken_off = LAST_BOUND, added = LAST_BOUND * (uint64_t)MOST_LARGEST;
+    const uint64_t taken_off = LAST_BOUND, cost = largest + silence, added = LAST_BOUND * cost;
     struct question q;
     unsigned bounds[MOST_LEVELS];
 
@@ -197,10 +234,10 @@ static void sums_about_32_bits(void)
         for (unsigned rows = MOST_ROWS - 1; rows <= MOST_ROWS; rows++)
             for (unsigned smaller = 0; smaller <= rows; smaller++) {
                 bounds_up_to(LAST_BOUND, n, bounds);
-                put_link(&q, n, MOST_LARGEST, bounds);
+                put_link(&q, n, largest, silence, bounds);
                 for (unsigned i = 0; i < rows; i++)
-                    put_row(&q, n, 1, i < smaller ? MOST_LARGEST - 1 : MOST_LARGEST);
-                expect_over(&q, n, rows * added - smaller * taken_off + MOST_LARGEST - LAST_BOUND, "a sum about 2^32");
+                    put_row(&q, n, 1, i < smaller ? largest - 1 : largest);
+                expect_over(&q, n, rows * added - smaller * taken_off + cost - LAST_BOUND, "a sum about 2^32");
             }
 }
 
@@ -256,9 +293,13 @@ void boundary_questions(void)
     link_lengths();
     row_lengths();
     link_limits();
+    silences();
     row_limits();
     sums_about_the_bound();
+    sums_with_silence();
     gaps_about_divisors();
-    sums_about_32_bits();
+    sums_about_32_bits(MOST_LARGEST, 0);
+    sums_about_32_bits(MOST_LARGEST - MOST_SILENCE, MOST_SILENCE);
+    sums_about_32_bits(MOST_LARGEST, MOST_SILENCE);
     orders();
 }

@@ -8,16 +8,17 @@ static void put_two(uint8_t *at, unsigned value)
     at[1] = (uint8_t)(value / 256 % 256);
 }
 
-void put_link(struct question *q, unsigned n, unsigned largest, const unsigned *bounds)
+void put_link(struct question *q, unsigned n, unsigned largest, unsigned silence, const unsigned *bounds)
 {
     memset(q, 0, sizeof *q);
     q->lk[0] = 'L';
     q->lk[1] = 'K';
     q->lk[2] = (uint8_t)n;
     put_two(q->lk + 3, largest);
+    q->lk[5] = (uint8_t)silence;
     for (unsigned m = 0; m < n && m < BOUNDS; m++)
-        put_two(q->lk + 5 + 2 * m, bounds[m]);
-    q->lk_len = 5 + 2 * (size_t)n;
+        put_two(q->lk + 6 + 2 * m, bounds[m]);
+    q->lk_len = 6 + 2 * (size_t)n;
 }
 
 void put_row(struct question *q, unsigned level, unsigned gap, unsigned size)

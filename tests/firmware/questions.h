@@ -11,14 +11,14 @@ enum { ROW = 5, MOST_ROWS = 64, MOST_LEVELS = 8, BOUNDS = 10 };
 
 /* A level question while it is put together, with room for two levels too many. */
 struct question {
-    uint8_t lk[5 + 2 * BOUNDS];
+    uint8_t lk[6 + 2 * BOUNDS];
     size_t lk_len;
     uint8_t rows[ROW * (MOST_ROWS + 8)];
     size_t rows_len;
 };
 
-/* An LK with S and n bounds, at most BOUNDS. */
-void put_link(struct question *q, unsigned n, unsigned largest, const unsigned *bounds);
+/* An LK with S, a silence and n bounds, at most BOUNDS. */
+void put_link(struct question *q, unsigned n, unsigned largest, unsigned silence, const unsigned *bounds);
 
 /* A row more. */
 void put_row(struct question *q, unsigned level, unsigned gap, unsigned size);

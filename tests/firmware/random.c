@@ -41,13 +41,24 @@ static void random_next(void)
     ask_next(between(0, 2) == 0 ? 0 : any_number(), last, gap, now);
 }
 
-/* Bounds that rise from S on, with some room between them. */
+/* No silence, one that is allowed, or now and then one that is not. */
+static unsigned random_silence(void)
+{
+    unsigned choice = between(0, 40);
+
+    if (choice == 0)
+        return between(65, 255);
+    return choice < 16 ? 0 : between(1, choice < 30 ? 6 : 64);
+}
+
+/* Bounds that rise from S plus the silence on, with some room between them. */
 static void random_link(struct question *q, unsigned n)
 {
     unsigned bounds[MOST_LEVELS];
     unsigned largest = between(1, between(0, 2) == 0 ? 2048 : 40);
-    unsigned most = largest + n + between(0, between(0, 1) == 0 ? 2000 : 30000);
-    unsigned below = largest;
+    unsigned silence = random_silence();
+    unsigned most = largest + silence + n + between(0, between(0, 1) == 0 ? 2000 : 30000);
+    unsigned below = largest + silence;
 
     if (most > 32768)
         most = 32768;
@@ -58,11 +69,11 @@ static void random_link(struct question *q, unsigned n)
         bounds[m] = below + between(0, share < room ? share : room);
         below = bounds[m] + 1;
     }
-    put_link(q, n, largest, bounds);
+    put_link(q, n, largest, silence, bounds);
 }
 
-/* Rows whose packets together fill about the line: a gap of rows times size. Most are of one level or above it, so that each level comes to be
-   the lowest that fails. */
+/* Rows whose packets together fill about the line: a gap of rows times size and silence. Most are of one level or above it, so that each level
+   comes to be the lowest that fails. */
 static void random_rows(struct question *q, unsigned n, unsigned count)
 {
     unsigned largest = q->lk[3] + 256u * q->lk[4];
@@ -70,7 +81,7 @@ static void random_rows(struct question *q, unsigned n, unsigned count)
 
     for (unsigned i = 0; i < count; i++) {
         unsigned size = between(1, largest);
-        unsigned fair = size * count * between(1, 4) / 2 + 1;
+        unsigned fair = (size + q->lk[5]) * count * between(1, 4) / 2 + 1;
         unsigned gap = between(0, 9) == 0 ? between(1, 65535) : between(fair / 2 + 1, 2 * fair);
 
         put_row(q, between(0, 3) == 0 ? between(1, n) : between(low, n), gap > 65535 ? 65535 : gap, size);

@@ -1,4 +1,5 @@
-/* Document 01, "Eligibility", "Link, connections, places", "The level test" and "Two questions from C firmware"; docs/RULES-AFTER-BASE.md, R-2. */
+/* Document 01, "Eligibility", "Link, connections, places", "The level test" and "Two questions from C firmware"; docs/RULES-AFTER-BASE.md, R-2
+   and R-4. */
 #include <stdbool.h>
 
 #include "reference.h"
@@ -6,6 +7,7 @@
 enum {
     MOST_LEVELS = 8,
     MOST_LARGEST = 2048,
+    MOST_SILENCE = 64,
     LAST_BOUND = 32768,
     MOST_ROWS = 64,
     ROW = 5,
@@ -15,6 +17,7 @@ enum {
 struct link {
     unsigned levels;
     unsigned largest;
+    unsigned silence;
     unsigned bound[MOST_LEVELS + 1]; /* by level, from 1 */
 };
 
@@ -30,24 +33,27 @@ static unsigned two_bytes(const uint8_t *at)
     return at[0] | (unsigned)at[1] << 8;
 }
 
-/* One whole LK record: its mark, n from 1 to 8, S, n bounds, and no byte more. */
+/* One whole LK record: its mark, n from 1 to 8, S, the silence, n bounds, and no byte more. */
 static bool read_link(const uint8_t *lk, size_t lk_len, struct link *link)
 {
-    if (lk_len < 5 || lk[0] != 'L' || lk[1] != 'K')
+    if (lk_len < 6 || lk[0] != 'L' || lk[1] != 'K')
         return false;
     link->levels = lk[2];
-    if (link->levels < 1 || link->levels > MOST_LEVELS || lk_len != 5 + 2 * (size_t)link->levels)
+    if (link->levels < 1 || link->levels > MOST_LEVELS || lk_len != 6 + 2 * (size_t)link->levels)
         return false;
     link->largest = two_bytes(lk + 3);
+    link->silence = lk[5];
     for (unsigned m = 1; m <= link->levels; m++)
-        link->bound[m] = two_bytes(lk + 3 + 2 * m);
+        link->bound[m] = two_bytes(lk + 4 + 2 * m);
     return true;
 }
 
-/* S from 1 to 2,048; the bounds rise strictly, the first is at least S, the last at most 32,768. */
+/* S from 1 to 2,048; a silence up to 64; the bounds rise strictly, the first is at least S plus the silence, the last at most 32,768. */
 static bool link_allowed(const struct link *link)
 {
-    if (link->largest < 1 || link->largest > MOST_LARGEST || link->bound[1] < link->largest)
+    if (link->largest < 1 || link->largest > MOST_LARGEST || link->silence > MOST_SILENCE)
+        return false;
+    if (link->bound[1] < link->largest + link->silence)
         return false;
     for (unsigned m = 2; m <= link->levels; m++)
         if (link->bound[m] <= link->bound[m - 1])
@@ -63,10 +69,10 @@ static bool row_allowed(const struct link *link, const uint8_t *row)
     return row[0] >= 1 && row[0] <= link->levels && two_bytes(row + 1) >= 1 && size >= 1 && size <= link->largest;
 }
 
-/* Over all rows of levels 1 to m: bound divided by gap, rounded up, times size; and S. */
+/* Over all rows of levels 1 to m: bound divided by gap, rounded up, times size; and S; the silence is added to each size and to S. */
 static uint64_t level_sum(const struct link *link, unsigned m, const uint8_t *rows, size_t count)
 {
-    uint64_t sum = link->largest;
+    uint64_t sum = link->largest + link->silence;
 
     for (size_t i = 0; i < count; i++) {
         const uint8_t *row = rows + ROW * i;
@@ -74,7 +80,7 @@ static uint64_t level_sum(const struct link *link, unsigned m, const uint8_t *ro
         uint64_t packets = link->bound[m] / gap + (link->bound[m] % gap != 0);
 
         if (row[0] <= m)
-            sum += packets * two_bytes(row + 3);
+            sum += packets * (two_bytes(row + 3) + link->silence);
     }
     return sum;
 }

@@ -17,7 +17,7 @@ use Rattle.service.specs.View.{view, told-of}
 
 -- document 01, "A sound state", of the hub and its tables as they are handed in
 unfoldable pub sound-hub : Hub → List ℕ → List ℕ → List ℕ → Bool
-sound-hub h cs t q = sound-tables (h .link) cs t q (h .clock) (h .serving) (h .units)
+sound-hub h cs t q = sound-tables (h .link) cs t q (h .clock) (h .serving) (h .units) (h .silent)
 
 -- a state written back: the table of connections, the places table, the table of notices
 abbrev pub members-of : State → List ℕ

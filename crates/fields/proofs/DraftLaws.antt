@@ -74,7 +74,7 @@ before {d} {e} {r} {w} {v} {ws} {xs} f g =
     }
 
 pub drafted : {d r : Draft} (k : Kind) (xs : List ℕ) → Holds d (k .mark) → Adds-all d r (k .widths (getD xs 0 0)) xs
-    → length (k .mark) + sum (k .widths (getD xs 0 0)) ≤ 21
+    → length (k .mark) + sum (k .widths (getD xs 0 0)) ≤ 22
     → Holds r (bytes k xs)
 unfolding bytes
 drafted {d} {r} k xs h f l =
@@ -96,7 +96,7 @@ head-held {d} {r} a b v h f =
 
 pub drafted-behind : {d r : Draft} {ws : List ℕ} (k : Kind) (v : ℕ) (xs : List ℕ) → v < 256 → k .widths v ≡ 1 ∷ ws → Holds d (k .mark ++ v ∷ [])
     → Adds-all d r ws xs
-    → length (k .mark) + (1 + sum ws) ≤ 21
+    → length (k .mark) + (1 + sum ws) ≤ 22
     → Holds r (bytes k (v ∷ xs))
 unfolding bytes put-fields sum
 drafted-behind {d} {r} {ws} k v xs small e h f l =

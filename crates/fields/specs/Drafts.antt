@@ -14,7 +14,7 @@ held d = take (d .len) (d .bytes)
 pub record Holds (d : Draft) (bs : List ℕ) : Type 0 where
   pub bytes : held d ≡ bs
   pub count : d .len ≡ length bs
-  pub within : d .len ≤ 21
+  pub within : d .len ≤ 22
 
 -- The draft r holds what d holds, and behind it the number v in w bytes, which it fits.
 pub record Adds (d r : Draft) (w v : ℕ) : Type 0 where

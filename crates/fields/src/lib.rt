@@ -9,9 +9,9 @@ ghost use lib.ListN.{getD, take, replicate};
 ghost use Rattle.fields.specs.Formats.{length-after, room-after};
 ghost use Rattle.fields.specs.Drafts.{held, Holds, Adds, Adds-all};
 
-// The first `len` of `bytes`. The longest record, a link of eight levels, has 21.
+// The first `len` of `bytes`. The longest record, a link of eight levels, has 22.
 pub struct Draft {
-    pub bytes: [u8; 21],
+    pub bytes: [u8; 22],
     pub len: usize,
 }
 
@@ -21,7 +21,7 @@ impl Draft {
         ensures { λ r. ⌜ Holds r [] ⌝ }
     {
         Draft {
-            bytes: [0u8; 21],
+            bytes: [0u8; 22],
             len: 0,
         }
     }
@@ -42,7 +42,7 @@ impl Draft {
 
     // One byte more.
     pub fn one(mut self, v: u8) -> Draft
-        requires { ⌜ self .len < 21 ⌝ }
+        requires { ⌜ self .len < 22 ⌝ }
         ensures { λ r. ⌜ Adds self r 1 v ⌝ }
     {
         let at = self.len;
@@ -53,7 +53,7 @@ impl Draft {
 
     // A number in two bytes more, the low one first.
     pub fn two(self, v: u16) -> Draft
-        requires { ⌜ self .len < 20 ⌝ }
+        requires { ⌜ self .len < 21 ⌝ }
         ensures { λ r. ⌜ Adds self r 2 v ⌝ }
     {
         self.one((v % 256) as u8).one((v / 256) as u8)
@@ -61,7 +61,7 @@ impl Draft {
 
     // A number in four bytes more: two pairs, the low pair first.
     pub fn four(self, v: u32) -> Draft
-        requires { ⌜ self .len < 18 ⌝ }
+        requires { ⌜ self .len < 19 ⌝ }
         ensures { λ r. ⌜ Adds self r 4 v ⌝ }
     {
         self.two((v % 65536) as u16).two((v / 65536) as u16)
@@ -69,7 +69,7 @@ impl Draft {
 
     // The first n of eight numbers, in two bytes each.
     pub fn pairs(self, n: usize, numbers: [u16; 8]) -> Draft
-        requires { ⌜ (n ≤ 8) × (self .len ≤ 5) ⌝ }
+        requires { ⌜ (n ≤ 8) × (self .len ≤ 6) ⌝ }
         ensures { λ r. ⌜ Adds-all self r (replicate n 2) (take n numbers) ⌝ }
     {
         let mut draft = self;
@@ -83,7 +83,7 @@ impl Draft {
 
     // The bytes into the room lent, if they fit; their number, or 0.
     pub fn into_room(self, room: &mut [u8]) -> usize
-        requires { ⌜ self .len ≤ 21 ⌝ }
+        requires { ⌜ self .len ≤ 22 ⌝ }
         ensures { λ r. ⌜ (r ≡ length-after (held self) (now (room .entry))) × (now (room .exit) ≡ room-after (held self) (now (room .entry))) ⌝ }
     {
         let n = self.len;

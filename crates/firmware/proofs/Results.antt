@@ -81,7 +81,7 @@ no-units-exactly lk rows = (λ u e. tells lk rows e .1 .0 u, go (well-asked lk r
 pub names-the-lowest : Names-the-lowest
 names-the-lowest lk rows e n = tells lk rows e .2 n
 
--- without rows a sum is S alone, and no bound is below it
+-- without rows a sum is what S costs the line, and no bound is below that
 none-short : (l : Link) → link-within l ≡ true → No-level-fails l []
 unfolding level-sum cost
 none-short l e m p q = omega (arith, link-facts l e .largest-le m p q)

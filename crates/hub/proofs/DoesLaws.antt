@@ -15,7 +15,7 @@ use Rattle.hub.specs.Does.{tells, leaves-members, leaves-places, leaves-
 
 module _ (k : Call) (h : Hub) (cs t q : List ℕ) where
   -- what the test says of the values handed to it
-  pub tested : (b r : Bool) → b ≡ sound-tables (h .link) cs t q (h .clock) (h .serving) (h .units) → b ≡ r → sound-hub h cs t q ≡ r
+  pub tested : (b r : Bool) → b ≡ sound-tables (h .link) cs t q (h .clock) (h .serving) (h .units) (h .silent) → b ≡ r → sound-hub h cs t q ≡ r
   unfolding sound-hub
   tested b r e f = sym e ∙ f
 

@@ -18,20 +18,22 @@ pub fn fresh_hub() -> Hub
         link: Link {
             levels: 0,
             largest: 0,
+            silence: 0,
             bounds: [0; 8],
         },
         clock: 0,
         serving: 0,
         units: 0,
+        silent: 0,
     }
 }
 
-// Set the link: levels, the largest packet, a delay bound for each level. Verdicts 0, 1, 3, 4.
+// Set the link: levels, the largest packet, the silence after each packet, a delay bound for each level. Verdicts 0, 1, 3, 4.
 pub fn link(h: Hub, cs: &[u32], t: &[u32], q: &[u32], l: Link) -> Told
     ensures { λ r. ⌜ Does (link l) h (now (cs .entry)) (now (t .entry)) (now (q .entry)) r (now (cs .entry)) (now (t .entry)) (now (q .entry)) ⌝ }
 {
     let set = h.link;
-    if !sound::is_sound(set, cs, t, q, h.clock, h.serving, h.units) {
+    if !sound::is_sound(set, cs, t, q, h.clock, h.serving, h.units, h.silent) {
         return calls::say(h, 1, 0);
     }
     calls::link_tested(h, cs, t, q, l)
@@ -42,7 +44,7 @@ pub fn admit(h: Hub, cs: &mut [u32], t: &[u32], q: &[u32], x: Connection) -> Tol
     ensures { λ r. ⌜ Does (admit x) h (now (cs .entry)) (now (t .entry)) (now (q .entry)) r (now (cs .exit)) (now (t .entry)) (now (q .entry)) ⌝ }
 {
     let set = h.link;
-    if !sound::is_sound(set, cs, t, q, h.clock, h.serving, h.units) {
+    if !sound::is_sound(set, cs, t, q, h.clock, h.serving, h.units, h.silent) {
         return calls::say(h, 1, 255);
     }
     calls::admit_tested(h, cs, t, q, x)
@@ -53,7 +55,7 @@ pub fn offer(h: Hub, cs: &mut [u32], t: &mut [u32], q: &[u32], c: u32, len: u32,
     ensures { λ r. ⌜ Does (offer c len tag) h (now (cs .entry)) (now (t .entry)) (now (q .entry)) r (now (cs .exit)) (now (t .exit)) (now (q .entry)) ⌝ }
 {
     let set = h.link;
-    if !sound::is_sound(set, cs, t, q, h.clock, h.serving, h.units) {
+    if !sound::is_sound(set, cs, t, q, h.clock, h.serving, h.units, h.silent) {
         return calls::say(h, 1, 0);
     }
     calls::offer_tested(h, cs, t, q, c, len, tag)
@@ -64,7 +66,7 @@ pub fn notice(h: Hub, cs: &[u32], t: &[u32], q: &mut [u32], len: u32, tag: u32) 
     ensures { λ r. ⌜ Does (notice len tag) h (now (cs .entry)) (now (t .entry)) (now (q .entry)) r (now (cs .entry)) (now (t .entry)) (now (q .exit)) ⌝ }
 {
     let set = h.link;
-    if !sound::is_sound(set, cs, t, q, h.clock, h.serving, h.units) {
+    if !sound::is_sound(set, cs, t, q, h.clock, h.serving, h.units, h.silent) {
         return calls::say(h, 1, 0);
     }
     calls::notice_tested(h, cs, t, q, len, tag)
@@ -75,7 +77,7 @@ pub fn tick(h: Hub, cs: &[u32], t: &mut [u32], q: &mut [u32]) -> Told
     ensures { λ r. ⌜ Does tick h (now (cs .entry)) (now (t .entry)) (now (q .entry)) r (now (cs .entry)) (now (t .exit)) (now (q .exit)) ⌝ }
 {
     let set = h.link;
-    if !sound::is_sound(set, cs, t, q, h.clock, h.serving, h.units) {
+    if !sound::is_sound(set, cs, t, q, h.clock, h.serving, h.units, h.silent) {
         return calls::say(h, 1, 0);
     }
     calls::tick_tested(h, cs, t, q)

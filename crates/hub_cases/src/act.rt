@@ -12,6 +12,7 @@ use crate::world::NOTICES;
 use crate::world::NOWHERE;
 use crate::world::PLACES;
 use crate::world::READ;
+use crate::world::SILENCE;
 use crate::world::VALUE;
 use crate::world::World;
 use crate::world::bound;
@@ -27,20 +28,20 @@ use std::num::wrapping_add_u32;
 use std::num::wrapping_add_usize;
 use std::num::wrapping_sub_u32;
 
-// Which form it is: 0 to 8 calls; 9 more; 10 to 12 looks; 13 to 18 acts; 19 to 40 numbers changed by hand; then end, group, recipe, and nothing at all.
+// Which form it is: 0 to 11 calls; 12 more; 13 to 16 looks; 17 to 22 acts; 23 to 46 numbers changed by hand; then end, group, recipe, and nothing at all.
 pub fn number_of(f: Form) -> u32 {
     let forms =
-        b":link##########=#:admit###=##:offer###=##:refusedtick=#:tick=##:ticks#=##:gone######:notice##=##:gonenotice###:more######:clockis#:rowsare#\
-        :noticesare#:fresh:undo:lengths##:connectionsall#:placesall#:noticesall#:clock#:serving#:units#:levels#:largest#:bound##:level##:size##:gap##\
-        :sent##:last##:connection##:length##:tag##:arrival##:eligibility##:noticeconnection##:noticelength##:noticetag##:noticearrival##\
-        :noticeeligibility##:noticeslent#:end:group:recipe::";
+        b":link##########=#:admit###=##:offer###=##:refusedtick=#:tick=##:ticks#=##:gone######:notice##=##:gonenotice###:link##########silence#=#\
+        :tick=##silent#:ticks#=##silent#:more######:clockis#:rowsare#:noticesare#:silentis#:fresh:undo:lengths##:connectionsall#:placesall#:noticesall#\
+        :clock#:serving#:units#:silent#:levels#:largest#:bound##:level##:size##:gap##:sent##:last##:connection##:length##:tag##:arrival##:eligibility##\
+        :noticeconnection##:noticelength##:noticetag##:noticearrival##:noticeeligibility##:noticeslent#:silence#:end:group:recipe::";
     let text = f.text;
     wrapping_sub_u32(count(forms, find(forms, text, f.bytes), b':'), 2)
 }
 
 // The fresh hub, tables of zeros, lent in their lengths.
 pub fn fresh() -> World {
-    let zeros = World { n: [0; 3857] };
+    let zeros = World { n: [0; 3859] };
     let none = Packet {
         connection: 0,
         len: 0,
@@ -63,12 +64,13 @@ pub fn fresh() -> World {
 // Where the number stands that a form changes by hand, in the row n where there are rows.
 pub fn changed(k: u32, n: u32) -> usize {
     match k {
-        19..=23 => CLOCK + (k - 19) as usize,
-        24 => bound(n),
-        25..=29 => connection(n) + (k - 25) as usize,
-        30..=34 => place(n) + (k - 30) as usize,
-        35..=39 => notice(n) + (k - 35) as usize,
-        40 => LENT_NOTICES,
+        23..=28 => CLOCK + (k - 23) as usize,
+        29 => bound(n),
+        30..=34 => connection(n) + (k - 30) as usize,
+        35..=39 => place(n) + (k - 35) as usize,
+        40..=44 => notice(n) + (k - 40) as usize,
+        45 => LENT_NOTICES,
+        46 => SILENCE,
         _ => NOWHERE,
     }
 }
@@ -77,20 +79,20 @@ pub fn changed(k: u32, n: u32) -> usize {
 pub fn acted(w: World, k: u32) -> World {
     let v = get(w, VALUE);
     match k {
-        15 => copy(w, LENT, READ, 2),
+        19 => copy(w, LENT, READ, 2),
         // a number that goes to the next place, and on from there, fills them all
-        16 => copy(put(w, 0, v), 1, 0, 319),
-        18 => copy(put(w, NOTICES, v), NOTICES + 1, NOTICES, 319),
+        20 => copy(put(w, 0, v), 1, 0, 319),
+        22 => copy(put(w, NOTICES, v), NOTICES + 1, NOTICES, 319),
         _ => copy(put(w, PLACES, v), PLACES + 1, PLACES, 2559),
     }
 }
 
 // How often a call is made: many ticks are one call.
 fn times(w: World) -> u32 {
-    if get(w, CALL) == 5 {
-        return get(w, ASKED);
+    match get(w, CALL) {
+        5 | 11 => get(w, ASKED),
+        _ => 1,
     }
-    1
 }
 
 // The world after the call.

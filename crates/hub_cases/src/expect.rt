@@ -3,18 +3,20 @@ use crate::world::ASKED;
 use crate::world::CALL;
 use crate::world::CLOCK;
 use crate::world::GONE;
-use crate::world::LEVELS;
 use crate::world::NONE;
 use crate::world::NOTICES;
 use crate::world::NUMBER;
 use crate::world::PACKET;
 use crate::world::PLACES;
 use crate::world::SERVING;
+use crate::world::SILENCE;
+use crate::world::SILENT;
 use crate::world::VERDICT;
 use crate::world::World;
 use crate::world::connection;
 use crate::world::copy;
 use crate::world::get;
+use crate::world::link_asked;
 use crate::world::notice;
 use crate::world::place;
 use crate::world::put;
@@ -69,23 +71,28 @@ fn noted(w: World) -> World {
     copy(y, at + 4, NUMBER, 1)
 }
 
-// Ticks with no departure: the line after them stands at a place.
+// Ticks with no departure: the line after them, and the silence to run, stand at a place.
 fn quiet(w: World, n: u32, line: usize) -> World {
     let x = put(w, CLOCK, wrapping_add_u32(get(w, CLOCK), n));
-    copy(x, SERVING, line, 2)
+    copy(x, SERVING, line, 3)
 }
 
-// The packet of a row has gone: the later rows move up, the line is idle.
-fn gone(w: World) -> World {
+// A tick with a departure: the line is idle, and the link's silence is to run.
+fn departed(w: World) -> World {
     let x = put(quiet(w, 1, NONE), GONE, 1);
-    let y = copy(x, PACKET, ASKED + 1, 5);
+    copy(x, SILENT, SILENCE, 1)
+}
+
+// The packet of a row has gone: the later rows move up.
+fn gone(w: World) -> World {
+    let y = copy(departed(w), PACKET, ASKED + 1, 5);
     let at = place(get(w, ASKED));
     copy(y, at, at + 5, 3000)
 }
 
-// The first notice has gone, eligible on arrival: the others move up, the line is idle.
+// The first notice has gone, eligible on arrival: the others move up.
 fn notice_gone(w: World) -> World {
-    let x = put(put(quiet(w, 1, NONE), GONE, 1), PACKET, 254);
+    let x = put(departed(w), PACKET, 254);
     let y = copy(x, PACKET + 1, ASKED, 3);
     let z = copy(y, PACKET + 4, ASKED + 2, 1);
     copy(z, NOTICES, NOTICES + 5, 395)
@@ -96,6 +103,7 @@ pub fn expect(w: World) -> World {
     let call = get(w, CALL);
     let at = match call {
         0 => ASKED + 10,
+        9 => ASKED + 11,
         1 | 2 => ASKED + 3,
         3 => ASKED,
         7 => ASKED + 2,
@@ -107,12 +115,12 @@ pub fn expect(w: World) -> World {
         return y;
     }
     match call {
-        0 => copy(y, LEVELS, ASKED, 10),
+        0 | 9 => link_asked(y),
         1 => admitted(y),
         2 => offered(y),
         3 => y,
-        4 => quiet(y, 1, ASKED),
-        5 => quiet(y, get(y, ASKED), ASKED + 1),
+        4 | 10 => quiet(y, 1, ASKED),
+        5 | 11 => quiet(y, get(y, ASKED), ASKED + 1),
         6 => gone(y),
         7 => noted(y),
         _ => notice_gone(y),

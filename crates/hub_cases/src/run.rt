@@ -8,6 +8,7 @@ use crate::world::CALL;
 use crate::world::CLOCK;
 use crate::world::NOWHERE;
 use crate::world::READ;
+use crate::world::SILENT;
 use crate::world::VALUE;
 use crate::world::World;
 use crate::world::copy;
@@ -171,36 +172,37 @@ fn obey(text: &[u8], f: Form, s: State, k: u32) -> State {
     let w = s.now;
     let mut x = s;
     match k {
-        0..=8 => case(s, put(copy(w, ASKED, READ, 15), CALL, k)),
-        9 => repeated(s),
-        10 => counted(s, w, get(w, CLOCK) == get(w, READ)),
-        11 => counted(s, w, expect::rows(w) == get(w, READ)),
-        12 => counted(s, w, expect::notices(w) == get(w, READ)),
-        13 => {
+        0..=11 => case(s, put(copy(w, ASKED, READ, 15), CALL, k)),
+        12 => repeated(s),
+        13 => counted(s, w, get(w, CLOCK) == get(w, READ)),
+        14 => counted(s, w, expect::rows(w) == get(w, READ)),
+        15 => counted(s, w, expect::notices(w) == get(w, READ)),
+        16 => counted(s, w, get(w, SILENT) == get(w, READ)),
+        17 => {
             let y = act::fresh();
             x.now = y;
             x.kept = y;
             x
         }
-        14 => {
+        18 => {
             let y = s.kept;
             x.now = y;
             x
         }
-        15..=18 => {
+        19..=22 => {
             let y = act::acted(w, k);
             x.now = y;
             x
         }
-        19..=40 => changed(text, s, k),
-        41 => ended(text, s),
-        42 => opened(text, s),
+        23..=46 => changed(text, s, k),
+        47 => ended(text, s),
+        48 => opened(text, s),
         // the script ends where the recipes begin
-        43 => {
+        49 => {
             x.next = text.len();
             x
         }
-        44 => s,
+        50 => s,
         _ => called(text, f, s),
     }
 }

@@ -7,7 +7,7 @@ use service::Told;
 use std::num::wrapping_add_usize;
 
 pub struct World {
-    pub n: [u32; 3857],
+    pub n: [u32; 3859],
 }
 
 // Rows of connections stand from 0 on: 80, of which 64 are lent as a rule; then as many of notices.
@@ -22,35 +22,39 @@ pub const GONE: usize = 802;
 
 pub const PACKET: usize = 803;
 
-// The hub: clock, serving, units, levels, largest packet, eight bounds.
+// The hub: clock, serving, units, silence to run, levels, largest packet, eight bounds, the link's silence.
 pub const CLOCK: usize = 808;
 
 pub const SERVING: usize = 809;
 
-pub const LEVELS: usize = 811;
+pub const SILENT: usize = 811;
 
-pub const BOUNDS: usize = 813;
+pub const LEVELS: usize = 812;
+
+pub const BOUNDS: usize = 814;
+
+pub const SILENCE: usize = 822;
 
 // How many numbers are lent as connections, as places, and as notices.
-pub const LENT: usize = 821;
+pub const LENT: usize = 823;
 
-pub const LENT_NOTICES: usize = 823;
+pub const LENT_NOTICES: usize = 825;
 
-// The last number that was read, then all numbers that were; those of the last call, which are at most 12, so that two zeros end them; which call it was.
-pub const VALUE: usize = 824;
+// The last number that was read, then all numbers that were; those of the last call, which are at most 12, so that three zeros end them; which call it was.
+pub const VALUE: usize = 826;
 
-pub const READ: usize = 825;
+pub const READ: usize = 827;
 
-pub const ASKED: usize = 841;
+pub const ASKED: usize = 843;
 
-pub const NONE: usize = 854;
+pub const NONE: usize = 855;
 
-pub const CALL: usize = 856;
+pub const CALL: usize = 858;
 
-pub const PLACES: usize = 857;
+pub const PLACES: usize = 859;
 
 // No place: what is put there makes the world differ from every other.
-pub const NOWHERE: usize = 3857;
+pub const NOWHERE: usize = 3859;
 
 pub fn get(w: World, at: usize) -> u32 {
     if NOWHERE <= at {
@@ -112,7 +116,7 @@ pub fn same(a: World, b: World) -> bool {
 
 // Where a row of the connections begins.
 pub fn connection(k: u32) -> usize
-    ensures { λ r. ⌜ r ≤ 3857 ⌝ }
+    ensures { λ r. ⌜ r ≤ 3859 ⌝ }
 {
     if 80 <= k {
         return NOWHERE;
@@ -122,7 +126,7 @@ pub fn connection(k: u32) -> usize
 
 // Where a row of the notices begins.
 pub fn notice(k: u32) -> usize
-    ensures { λ r. ⌜ r ≤ 3857 ⌝ }
+    ensures { λ r. ⌜ r ≤ 3859 ⌝ }
 {
     if 80 <= k {
         return NOWHERE;
@@ -132,7 +136,7 @@ pub fn notice(k: u32) -> usize
 
 // Where a row of the places begins.
 pub fn place(k: u32) -> usize
-    ensures { λ r. ⌜ r ≤ 3857 ⌝ }
+    ensures { λ r. ⌜ r ≤ 3859 ⌝ }
 {
     if 600 <= k {
         return NOWHERE;
@@ -151,10 +155,10 @@ pub fn bound(k: u32) -> usize {
 fn hub_of(w: World) -> Hub {
     Hub {
         link: Link {
-            levels: get(w, 811),
-            largest: get(w, 812),
+            levels: get(w, 812),
+            largest: get(w, 813),
+            silence: get(w, 822),
             bounds: [
-                get(w, 813),
                 get(w, 814),
                 get(w, 815),
                 get(w, 816),
@@ -162,11 +166,13 @@ fn hub_of(w: World) -> Hub {
                 get(w, 818),
                 get(w, 819),
                 get(w, 820),
+                get(w, 821),
             ],
         },
         clock: get(w, 808),
         serving: get(w, 809),
         units: get(w, 810),
+        silent: get(w, 811),
     }
 }
 
@@ -188,8 +194,18 @@ pub fn told(w: World, r: Told) -> World {
     let x = put(x, 808, h.clock);
     let x = put(x, 809, h.serving);
     let x = put(x, 810, h.units);
-    let x = put(x, 811, l.levels);
-    put(x, 812, l.largest)
+    let x = put(x, 811, h.silent);
+    let x = put(x, 812, l.levels);
+    let x = put(x, 813, l.largest);
+    put(x, 822, l.silence)
+}
+
+// The link that a call asks for: levels, largest packet, eight bounds, and its silence where one is given.
+pub fn link_asked(w: World) -> World {
+    if get(w, CALL) == 9 {
+        return copy(w, LEVELS, ASKED, 11);
+    }
+    copy(w, LEVELS, ASKED, 10)
 }
 
 // The call with its numbers on the hub with these tables.
@@ -199,8 +215,8 @@ fn ask(w: World, cs: &mut [u32], t: &mut [u32], q: &mut [u32]) -> Told {
     let b = get(w, ASKED + 1);
     let c = get(w, ASKED + 2);
     match get(w, CALL) {
-        0 => {
-            let g = hub_of(copy(w, LEVELS, ASKED, 10));
+        0 | 9 => {
+            let g = hub_of(link_asked(w));
             let l = g.link;
             hub::link(h, cs, t, q, l)
         }
@@ -230,7 +246,7 @@ fn lent(w: World, at: usize, most: usize) -> usize
 }
 
 // The numbers of a world, and from a place on those of another.
-fn joined(w: World, behind: [u32; 3857], from: usize) -> World {
+fn joined(w: World, behind: [u32; 3859], from: usize) -> World {
     let mut x = w;
     let mut i: usize = from;
     while i < NOWHERE {
@@ -241,7 +257,7 @@ fn joined(w: World, behind: [u32; 3857], from: usize) -> World {
 }
 
 // The world after the call: each table is lent of a copy of its numbers.
-pub fn call(w: World, lines: [u32; 3857], notices: [u32; 3857], places: [u32; 3857]) -> World {
+pub fn call(w: World, lines: [u32; 3859], notices: [u32; 3859], places: [u32; 3859]) -> World {
     let mut x = lines;
     let mut y = notices;
     let mut z = places;

@@ -12,7 +12,7 @@ use lib.ListN.{length, getD, List·getD-eq-default}
 use Rattle.rules.specs.declared.Link.{Link}
 use Rattle.rules.specs.declared.Connection.{Connection}
 use Rattle.rules.specs.Words.{within, sum}
-use Rattle.rules.specs.Limits.{max-levels, max-largest, max-bound, max-gap}
+use Rattle.rules.specs.Limits.{max-levels, max-largest, max-silence, max-bound, max-gap}
 use Rattle.rules.specs.Model.{nth}
 use Rattle.rules.specs.Admission.{rising, link-within, figures-within, bound, count, cost, load, level-sum, short-from, level-test}
 use Rattle.rules.specs.Service.{next-eligibility}
@@ -45,22 +45,26 @@ rising-high low (suc n) (d ∷ ds) e (suc k) l =
 pub record Link-limits (l : Link) : Type 0 where
   pub levels-le : l .levels ≤ max-levels
   pub largest-le : l .largest ≤ max-largest
+  pub silence-le : l .silence ≤ max-silence
   pub bounds-le : (m : ℕ) → m ≤ l .levels → bound l m ≤ max-bound
 
 pub link-limits : (l : Link) → link-within l ≡ true → Link-limits l
 unfolding link-within
 link-limits l e =
-    let a = and-true (within 1 max-levels (l .levels)) (within 1 max-largest (l .largest) && rising (l .largest) (l .levels) (l .bounds)) e in
-    let b = and-true (within 1 max-largest (l .largest)) (rising (l .largest) (l .levels) (l .bounds)) (a .1) in
+    let first = cost l (l .largest) in
+    let a = and-true (within 1 max-levels (l .levels)) (within 1 max-largest (l .largest) && (leb (l .silence) max-silence && rising first (l .levels) (l .bounds))) e in
+    let b = and-true (within 1 max-largest (l .largest)) (leb (l .silence) max-silence && rising first (l .levels) (l .bounds)) (a .1) in
+    let k = and-true (leb (l .silence) max-silence) (rising first (l .levels) (l .bounds)) (b .1) in
     record {
       levels-le = within-true 1 max-levels (l .levels) (a .0) .1;
       largest-le = within-true 1 max-largest (l .largest) (b .0) .1;
-      bounds-le = below (b .1);
+      silence-le = leb-true (l .silence) max-silence (k .0);
+      bounds-le = below (k .1);
     }
   where
-    below : rising (l .largest) (l .levels) (l .bounds) ≡ true → (m : ℕ) → m ≤ l .levels → bound l m ≤ max-bound
+    below : rising (cost l (l .largest)) (l .levels) (l .bounds) ≡ true → (m : ℕ) → m ≤ l .levels → bound l m ≤ max-bound
     below r zero h = omega arith
-    below r (suc m) h = rising-high (l .largest) (l .levels) (l .bounds) r m h
+    below r (suc m) h = rising-high (cost l (l .largest)) (l .levels) (l .bounds) r m h
 
 pub record Figure-limits (l : Link) (x : Connection) : Type 0 where
   pub some-gap : 1 ≤ x .gap
@@ -81,25 +85,25 @@ pub counted : (x : Connection) (w a b c : ℕ) → a ≡ w → b ≡ x .gap → 
 unfolding count
 counted x w a b c e f g h = rw (e, f, g) (refl, count-le x w h)
 
-pub share-is : (l : Link) (m d : ℕ) (x : Connection) → x .level ≤ m → count x d * x .size ≡ share-of l m d x
+pub share-is : (l : Link) (m d : ℕ) (x : Connection) → x .level ≤ m → count x d * (x .size + l .silence) ≡ share-of l m d x
 unfolding cost
-share-is l m d x h = sym (upto-yes (x .level) m (count x d * x .size) h)
+share-is l m d x h = sym (upto-yes (x .level) m (count x d * (x .size + l .silence)) h)
 
 pub share-none : (l : Link) (m d : ℕ) (x : Connection) → m < x .level → 0 ≡ share-of l m d x
 share-none l m d x h = sym (upto-no (x .level) m (count x d * cost l (x .size)) h)
 
 -- a share within the limits
-pub share-fits : (n k : ℕ) → n ≤ max-bound → k ≤ max-largest → n * k ≤ most-share
+pub share-fits : (n k : ℕ) → n ≤ max-bound → k ≤ max-largest + max-silence → n * k ≤ most-share
 share-fits n k a b = le-trans (mul-le-mul-right k a) (mul-le-mul-left max-bound b)
 
 -- ---- sums
 
 -- the figures of an entry within the limits
-pub figure-at : (l : Link) (cs : List Connection) → Within l cs → (c : ℕ) (x : Connection) → c < length cs → x ≡ nth cs c → (1 ≤ x .gap) × (x .size ≤ max-largest)
+pub figure-at : (l : Link) (cs : List Connection) → Within l cs → (c : ℕ) (x : Connection) → c < length cs → x ≡ nth cs c → (1 ≤ x .gap) × (x .size ≤ max-largest) × (l .silence ≤ max-silence)
 figure-at l cs W c x h e =
     let f = figure-limits l (nth cs c) (W .figures-in c h) in
     let k = link-limits l (W .link-in) in
-    (subst (λ (y : Connection). 1 ≤ y .gap) (sym e) (f .some-gap), subst (λ (y : Connection). y .size ≤ max-largest) (sym e) (omega (arith, f .size-le, k .largest-le)))
+    (subst (λ (y : Connection). 1 ≤ y .gap) (sym e) (f .some-gap), subst (λ (y : Connection). y .size ≤ max-largest) (sym e) (omega (arith, f .size-le, k .largest-le)), k .silence-le)
 
 -- a running sum, one entry further
 pub sum-more : (i s r : ℕ) (f : ℕ → ℕ) → s ≡ sum i f → r ≡ f i → s + r ≡ sum (i + 1) f
@@ -143,9 +147,9 @@ module _ (l : Link) (cs : List Connection) where
 
 -- a newcomer adds its share
 module _ (l : Link) (cs : List Connection) (x : Connection) where
-  pub sum-newcomer : (m d a b c : ℕ) → d ≡ bound l m → a ≡ load l cs m d → b ≡ share-of l m d x → c ≡ l .largest → a + b + c ≡ level-sum l (cs ++ x ∷ []) m
+  pub sum-newcomer : (m d a b c : ℕ) → d ≡ bound l m → a ≡ load l cs m d → b ≡ share-of l m d x → c ≡ l .largest + l .silence → a + b + c ≡ level-sum l (cs ++ x ∷ []) m
   unfolding level-sum cost
-  sum-newcomer m d a b c e f g h = rw (f, g, h, e) (ap (λ (k : ℕ). k + l .largest) (sym (load-newcomer l cs x m (bound l m))))
+  sum-newcomer m d a b c e f g h = rw (f, g, h, e) (ap (λ (k : ℕ). k + (l .largest + l .silence)) (sym (load-newcomer l cs x m (bound l m))))
 
 -- a connection of a level above all others adds to no sum, so the test is the same with and without it
 module _ (l : Link) (cs : List Connection) (x : Connection) (above : l .levels < x .level) where

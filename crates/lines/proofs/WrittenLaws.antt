@@ -146,7 +146,7 @@ module _ (s : State) (W : Writable s) where
   places-formed-back = formed-back packet-of five-of (λ p. refl) (s .held) places-length (W .sent) (omega (arith, W .fit))
 
   -- READING WHAT IS WRITTEN gives the state back
-  pub read-written : state-read (s .link) (written-members (s .connections) (s .pasts)) (places (s .held)) (written-notices (s .notices)) (s .clock) (s .serving) (s .to-go) ≡ s
+  pub read-written : state-read (s .link) (written-members (s .connections) (s .pasts)) (places (s .held)) (written-notices (s .notices)) (s .clock) (s .serving) (s .to-go) (s .silent) ≡ s
   read-written =
       rw
       (connections-back (s .connections) (s .pasts) (W .each-past) (W .used) (W .few), pasts-back (s .connections) (s .pasts) (W .each-past) (W .used) (W .few), rows-back, notices-again (s .notices) (W .said) (W .few-said))

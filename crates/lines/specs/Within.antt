@@ -1,12 +1,12 @@
 -- What the sums over connections rely on: every figure within its limits, so that nothing is lost in 64 bits. Assumes nothing.
-use Prim.Native.Nat.{ℕ, _*_, _<_}
+use Prim.Native.Nat.{ℕ, _+_, _*_, _<_}
 use mathlib.Core.Path.{_≡_}
 use mathlib.Core.Bool.{true}
 use mathlib.Core.List.{List}
 use lib.ListN.{length}
 use Rattle.rules.specs.declared.Link.{Link}
 use Rattle.rules.specs.declared.Connection.{Connection}
-use Rattle.rules.specs.Limits.{max-largest, max-bound}
+use Rattle.rules.specs.Limits.{max-largest, max-silence, max-bound}
 use Rattle.rules.specs.Model.{Short, nth}
 use Rattle.rules.specs.Words.{upto}
 use Rattle.lines.specs.declared.Shortage.{Shortage}
@@ -21,7 +21,7 @@ abbrev pub share-of : Link → ℕ → ℕ → Connection → ℕ
 share-of l m d x = upto (x .level) m (count x d * cost l (x .size))
 
 abbrev pub most-share : ℕ
-most-share = max-bound * max-largest
+most-share = max-bound * (max-largest + max-silence)
 
 -- an answer of the code, as the rules give it
 abbrev pub short-of : Shortage → Short

@@ -5,7 +5,7 @@ ghost use mathlib.Core.Bool.{true, not};
 ghost use Prim.Native.Nat.{ℕ, _+_, _*_, _-_, _/_, _<_, _≤_};
 ghost use lib.Dec.{eqb};
 ghost use lib.ListN.{length, set};
-ghost use Rattle.rules.specs.Limits.{max-largest, max-bound, max-connections, beyond-32-bits};
+ghost use Rattle.rules.specs.Limits.{max-largest, max-silence, max-bound, max-connections, beyond-32-bits};
 ghost use Rattle.rules.specs.Model.{no-short, nth, no-past};
 ghost use Rattle.rules.specs.Admission.{bound, count, reservation, reserved, load, level-sum, level-test};
 ghost use Rattle.rules.specs.Service.{next-eligibility};
@@ -123,15 +123,23 @@ pub fn reserve(l: Link, x: Connection) -> u64
     count_in(x, d)
 }
 
+// What a packet costs the line, in ticks: a tick for each unit, and then the silence.
+fn cost_of(len: u32, silence: u32) -> u64
+    requires { ⌜ (len ≤ max-largest) × (silence ≤ max-silence) ⌝ }
+    ensures { λ r. ⌜ (r ≡ len + silence) × (r ≤ max-largest + max-silence) ⌝ }
+{
+    wide(len) + wide(silence)
+}
+
 // What a connection adds to the sum of level m with bound d.
 fn share(l: Link, x: Connection, m: u32, d: u32) -> u64
-    requires { ⌜ (1 ≤ x .gap) × (d ≤ max-bound) × (x .size ≤ max-largest) ⌝ }
+    requires { ⌜ (1 ≤ x .gap) × (d ≤ max-bound) × (x .size ≤ max-largest) × (l .silence ≤ max-silence) ⌝ }
     ensures { λ r. ⌜ (r ≡ share-of l m d x) × (r ≤ most-share) ⌝ }
 {
     if m < x.level {
         return 0;
     }
-    count_in(x, d) * wide(x.size)
+    count_in(x, d) * cost_of(x.size, l.silence)
 }
 
 // The connection in row i.
@@ -168,7 +176,7 @@ fn sum_at(l: Link, cs: &[u32], n: usize, x: Connection, m: u32) -> u64
     ensures { λ r. ⌜ r ≡ level-sum l (connections (now (cs .entry)) ++ x ∷ []) m ⌝ }
 {
     let d = bound_of(l, m);
-    load_of(l, cs, n, m, d) + share(l, x, m, d) + wide(l.largest)
+    load_of(l, cs, n, m, d) + share(l, x, m, d) + cost_of(l.largest, l.silence)
 }
 
 // The lowest level that is short, and by how many units; 0 and 0 where none is.

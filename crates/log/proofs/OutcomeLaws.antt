@@ -44,7 +44,7 @@ module _ (w : List ℕ) (n : Next) (S : Sound (n .point .state)) where
 
 module _ (s : State) (S : Sound s) where
   record-ends : (w : List ℕ) (r : Record) (k at : ℕ) → Ends-well w (record-next r k at s)
-  record-ends w (LinkRecord a b d1 d2 d3 d4 d5 d6 d7 d8) k at = goes-well w _ (kept (link (link-named a b d1 d2 d3 d4 d5 d6 d7 d8)) s S) refl
+  record-ends w (LinkRecord a b silence d1 d2 d3 d4 d5 d6 d7 d8) k at = goes-well w _ (kept (link (link-named a b silence d1 d2 d3 d4 d5 d6 d7 d8)) s S) refl
   record-ends w (Admit a b d) k at = goes-well w _ (kept (admit (connection-named a b d)) s S) refl
   record-ends w (Offer a b d) k at = goes-well w _ (kept (offer a b d) s S) refl
   record-ends w (Notice a b) k at = goes-well w _ (kept (notice a b) s S) refl

@@ -29,9 +29,9 @@ use Rattle.log.specs.Steps.{passed, earliest, quiet-for, quiet-ticks}
 abbrev None-before : ℕ → List Packet → Type 0
 None-before t ps = All (λ p. t ≤ p .eligibility) ps
 
--- for k ticks the line is idle, no packet is eligible and no notice waits, or something is in service and keeps a unit to go
+-- for k ticks the line is idle, no packet is eligible and no notice waits, or the line is silent, or something is in service and keeps a unit to go
 abbrev Still : State → ℕ → Type 0
-Still s k = ((s .to-go ≡ 0) × None-before (s .clock + k) (s .held) × (s .notices ≡ [])) ⊎ (k < s .to-go)
+Still s k = ((s .to-go ≡ 0) × (s .silent ≡ 0) × None-before (s .clock + k) (s .held) × (s .notices ≡ [])) ⊎ (((s .to-go ≡ 0) × (k ≤ s .silent)) ⊎ (k < s .to-go))
 
 -- a sound hub with a link of which that holds, up to the clock's end
 pub record Quiet (s : State) (k : ℕ) : Type 0 where
@@ -66,23 +66,35 @@ module _ (s : State) (k : ℕ) (Q : Quiet s (suc k)) where
       go (inr (inr v)) = absurd (omega (arith, v .some-to-go))
 
   line-quiet : Still s (suc k) → ticked s ≡ quiet-answer s
-  line-quiet (inl (z, h, n)) =
+  line-quiet (inl (z, y, h, n)) =
       let e : 0 - 1 ≡ 0 = omega arith in
       let f = none-chosen (level-of s) (s .clock) (s .held) (all-map (λ p b. omega arith) (s .held) h) in
-      rw (z, not-serving z, f, n, e)
-  line-quiet (inr l) = go (s .to-go) refl
+      rw (z, y, not-serving z, f, n, e)
+  line-quiet (inr (inl (z, l))) = go (s .silent) refl
     where
+      go : (q : ℕ) → s .silent ≡ q → ticked s ≡ quiet-answer s
+      go zero e = absurd (omega arith)
+      go (suc q) e = let f : 0 - 1 ≡ 0 = omega arith in rw (z, e, not-serving z, f)
+  line-quiet (inr (inr l)) = go (s .to-go) refl
+    where
+      none-silent : s .silent ≡ 0
+      none-silent = Q .sound-state .with-one (Q .set) .silent-alone (omega arith)
+
       go : (u : ℕ) → s .to-go ≡ u → ticked s ≡ quiet-answer s
       go zero e = absurd (omega arith)
       go (suc zero) e = absurd (omega arith)
-      go (suc (suc u)) e = let f : suc (suc u) - 1 ≡ suc u = omega arith in rw (e, f)
+      go (suc (suc u)) e =
+          let f : suc (suc u) - 1 ≡ suc u = omega arith in
+          let g : 0 - 1 ≡ 0 = omega arith in
+          rw (e, f, none-silent, g)
 
   pub one-quiet-tick : answer tick s ≡ quiet-answer s
   one-quiet-tick = ap (settle tick s) tick-good ∙ line-quiet (Q .still)
 
   still-then : Still s (suc k) → Still (passed s 1) k
-  still-then (inl (z, h, n)) = inl (omega arith, all-map (λ p b. omega arith) (s .held) h, n)
-  still-then (inr l) = inr (omega arith)
+  still-then (inl (z, y, h, n)) = inl (omega arith, omega arith, all-map (λ p b. omega arith) (s .held) h, n)
+  still-then (inr (inl (z, l))) = inr (inl (omega arith, omega arith))
+  still-then (inr (inr l)) = inr (inr (omega arith))
 
   pub quiet-then : Quiet (passed s 1) k
   quiet-then = record {
@@ -98,13 +110,15 @@ pass-none : (s : State) → passed s 0 ≡ s
 pass-none s =
     let e : s .clock + 0 ≡ s .clock = omega arith in
     let f : s .to-go - 0 ≡ s .to-go = omega arith in
-    rw (e, f)
+    let g : s .silent - 0 ≡ s .silent = omega arith in
+    rw (e, f, g)
 
 pass-one-more : (s : State) (k : ℕ) → passed (passed s 1) k ≡ passed s (suc k)
 pass-one-more s k =
     let e : s .clock + 1 + k ≡ s .clock + suc k = omega arith in
     let f : s .to-go - 1 - k ≡ s .to-go - suc k = omega arith in
-    rw (e, f)
+    let g : s .silent - 1 - k ≡ s .silent - suc k = omega arith in
+    rw (e, f, g)
 
 -- `left` ticks from the state s on are m ticks from the state z on, in what they write and where they end
 pub record Passes (asked left m : ℕ) (s z : State) : Type 0 where
@@ -142,13 +156,14 @@ all-later : (t : ℕ) (ps : List Packet) → t ≤ earliest ps → None-before t
 all-later t [] h = tt
 all-later t (p ∷ ps) h = (omega arith, all-later t ps (omega arith))
 
-still-for : (s : State) (k : ℕ) → 0 < k → k ≤ quiet-for (s .to-go) (s .held) (s .notices) (s .clock) → Still s k
-still-for s k p h = go (s .to-go) refl (s .notices) refl h
+still-for : (s : State) (k : ℕ) → 0 < k → k ≤ quiet-for (s .to-go) (s .silent) (s .held) (s .notices) (s .clock) → Still s k
+still-for s k p h = go (s .to-go) refl (s .silent) refl (s .notices) refl h
   where
-    go : (u : ℕ) → s .to-go ≡ u → (ns : List Notice) → s .notices ≡ ns → k ≤ quiet-for u (s .held) ns (s .clock) → Still s k
-    go zero e [] i l = inl (e, all-later (s .clock + k) (s .held) (omega arith), i)
-    go zero e (n ∷ ns) i l = absurd (omega arith)
-    go (suc u) e ns i l = inr (omega arith)
+    go : (u : ℕ) → s .to-go ≡ u → (q : ℕ) → s .silent ≡ q → (ns : List Notice) → s .notices ≡ ns → k ≤ quiet-for u q (s .held) ns (s .clock) → Still s k
+    go zero e zero f [] i l = inl (e, f, all-later (s .clock + k) (s .held) (omega arith), i)
+    go zero e zero f (n ∷ ns) i l = absurd (omega arith)
+    go zero e (suc q) f ns i l = inr (inl (e, omega arith))
+    go (suc u) e q f ns i l = inr (inr (omega arith))
 
 -- they are no more than are left, and nothing happens in them
 pub record Quiets (left : ℕ) (s : State) (k : ℕ) : Type 0 where
@@ -160,7 +175,7 @@ unfolding quiet-ticks
 quiets left s n = go (sound s && not (eqb (s .link .levels) 0)) refl n
   where
     k : ℕ
-    k = min (min (quiet-for (s .to-go) (s .held) (s .notices) (s .clock)) (clock-end - s .clock)) left
+    k = min (min (quiet-for (s .to-go) (s .silent) (s .held) (s .notices) (s .clock)) (clock-end - s .clock)) left
 
     go : (b : Bool) → (sound s && not (eqb (s .link .levels) 0)) ≡ b → (pick b k 0 ≡ 0 → ⊥) → Quiets left s (pick b k 0)
     go true e z =

@@ -29,8 +29,8 @@ record-same : (m n : ℕ → State → List ℕ → List ℕ) (r : Record) (k at
     → ((a : ℕ) (z : State) → 0 < k → m a z (drop k bs) ≡ n a z (drop k bs))
     → record-log m r k at s bs ≡ record-log n r k at s bs
 record-same m n r zero at s bs none f = rw (none refl)
-record-same m n (LinkRecord a b d1 d2 d3 d4 d5 d6 d7 d8) (suc k) at s bs none f =
-    let q = answer (link (link-named a b d1 d2 d3 d4 d5 d6 d7 d8)) s in
+record-same m n (LinkRecord a b silence d1 d2 d3 d4 d5 d6 d7 d8) (suc k) at s bs none f =
+    let q = answer (link (link-named a b silence d1 d2 d3 d4 d5 d6 d7 d8)) s in
     ap (λ l. answer-bytes (Linked (q .verdict)) ++ l) (f (at + suc k) (q .next) (omega arith))
 record-same m n (Admit a b d) (suc k) at s bs none f =
     let q = answer (admit (connection-named a b d)) s in
@@ -78,7 +78,7 @@ Keeps p w u n = to-come p (w ++ u) ≡ n .bytes ++ to-come (n .point) (drop (n .
 record-keeps : (r : Record) (k at : ℕ) (s : State) (w u : List ℕ) → k ≤ length w
     → record-log log-from r k at s (w ++ u)
     ≡ record-next r k at s .bytes ++ to-come (record-next r k at s .point) (drop (record-next r k at s .used) w ++ u)
-record-keeps (LinkRecord a b d1 d2 d3 d4 d5 d6 d7 d8) k at s w u e = rw (drop-append-le k w u e)
+record-keeps (LinkRecord a b silence d1 d2 d3 d4 d5 d6 d7 d8) k at s w u e = rw (drop-append-le k w u e)
 record-keeps (Admit a b d) k at s w u e = rw (drop-append-le k w u e)
 record-keeps (Offer a b d) k at s w u e = rw (drop-append-le k w u e)
 record-keeps (Notice a b) k at s w u e = rw (drop-append-le k w u e)

@@ -65,8 +65,8 @@ ticks-end (suc left) s = pick (eqb (answer tick s .verdict) 0) (ticks-end left (
 -- a record of k bytes at the start of bs, which starts at offset `at`: its answer from the state s, and then the rest by `more`, from the offset, the
 -- state and the bytes behind it. Of a malformed one `ER` with its offset, and nothing more
 abbrev pub record-log : (ℕ → State → List ℕ → List ℕ) → Record → ℕ → ℕ → State → List ℕ → List ℕ
-record-log more (LinkRecord n m d1 d2 d3 d4 d5 d6 d7 d8) k at s bs =
-    let a = answer (link (link-named n m d1 d2 d3 d4 d5 d6 d7 d8)) s in
+record-log more (LinkRecord n m silence d1 d2 d3 d4 d5 d6 d7 d8) k at s bs =
+    let a = answer (link (link-named n m silence d1 d2 d3 d4 d5 d6 d7 d8)) s in
     answer-bytes (Linked (a .verdict)) ++ more (at + k) (a .next) (drop k bs)
 record-log more (Admit level gap size) k at s bs =
     let a = answer (admit (connection-named level gap size)) s in

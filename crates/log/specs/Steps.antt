@@ -27,7 +27,7 @@ use Rattle.log.specs.Log.{trace-limit, read-at, tick-log, all-done-verdi
 
 -- bytes of the longest trace record and of the longest answer record
 abbrev pub longest-record : ℕ
-longest-record = 21
+longest-record = 22
 
 abbrev pub longest-answer : ℕ
 longest-answer = 19
@@ -82,7 +82,7 @@ notice-next len tag k to s =
 
 -- a step with a record of k bytes at offset `at`: a `TK` begins, a malformed record ends the log
 abbrev pub record-next : Record → ℕ → ℕ → State → Next
-record-next (LinkRecord n m d1 d2 d3 d4 d5 d6 d7 d8) k at s = link-next (link-named n m d1 d2 d3 d4 d5 d6 d7 d8) k (at + k) s
+record-next (LinkRecord n m silence d1 d2 d3 d4 d5 d6 d7 d8) k at s = link-next (link-named n m silence d1 d2 d3 d4 d5 d6 d7 d8) k (at + k) s
 record-next (Admit level gap size) k at s = admit-next (connection-named level gap size) k (at + k) s
 record-next (Offer c len tag) k at s = offer-next c len tag k (at + k) s
 record-next (NoticeRecord len tag) k at s = notice-next len tag k (at + k) s
@@ -108,7 +108,7 @@ one-tick at asked left s =
     (goes at (Ticking asked (left - 1)) (answer tick s .next) 0 (tick-log (answer tick s)))
     (goes at Reading (answer tick s .next) 0 (answer-bytes (Ticked (answer tick s .verdict) (asked - left))))
 
--- the state k ticks on, where nothing starts and nothing departs in them: what is in service, if anything is, has k units fewer to go
+-- the state k ticks on, where nothing starts and nothing departs in them: what is in service, if anything is, has k units fewer to go, and a silence k ticks
 abbrev pub passed : State → ℕ → State
 passed s k = record {
   link = s .link;
@@ -119,6 +119,7 @@ passed s k = record {
   notices = s .notices;
   serving = s .serving;
   to-go = s .to-go - k;
+  silent = s .silent - k;
 }
 
 -- the first tick at which one of some packets is eligible; the clock's end where that is earlier
@@ -126,16 +127,18 @@ abbrev pub earliest : List Packet → ℕ
 earliest [] = clock-end
 earliest (p ∷ ps) = min (p .eligibility) (earliest ps)
 
--- the ticks in which nothing starts and nothing departs: until a packet is eligible, if no notice waits, or all but the last unit of what is in service
-abbrev pub quiet-for : ℕ → List Packet → List Notice → ℕ → ℕ
-quiet-for zero held [] clock = earliest held - clock
-quiet-for zero held (n ∷ ns) clock = 0
-quiet-for (suc to-go) held ns clock = to-go
+-- the ticks in which nothing starts and nothing departs: until a packet is eligible, if no notice waits, or the rest of a silence, or all but the last unit
+-- of what is in service
+abbrev pub quiet-for : ℕ → ℕ → List Packet → List Notice → ℕ → ℕ
+quiet-for zero zero held [] clock = earliest held - clock
+quiet-for zero zero held (n ∷ ns) clock = 0
+quiet-for zero (suc silent) held ns clock = suc silent
+quiet-for (suc to-go) silent held ns clock = to-go
 
 -- of `left` ticks those that are passed over at once: none without a link, and none beyond the clock's end
 unfoldable pub quiet-ticks : ℕ → State → ℕ
 quiet-ticks left s =
-    pick (sound s && not (eqb (s .link .levels) 0)) (min (min (quiet-for (s .to-go) (s .held) (s .notices) (s .clock)) (clock-end - s .clock)) left) 0
+    pick (sound s && not (eqb (s .link .levels) 0)) (min (min (quiet-for (s .to-go) (s .silent) (s .held) (s .notices) (s .clock)) (clock-end - s .clock)) left) 0
 
 -- quiet ticks, or one tick, or the `TA`
 unfoldable pub tick-next : ℕ → ℕ → ℕ → State → Next

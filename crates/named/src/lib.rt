@@ -10,6 +10,7 @@ use traces::Record;
 pub fn link_named(
     levels: u8,
     largest: u16,
+    silence: u8,
     d1: u16,
     d2: u16,
     d3: u16,
@@ -19,11 +20,12 @@ pub fn link_named(
     d7: u16,
     d8: u16,
 ) -> Link
-    ensures { λ r. ⌜ r ≡ link-named levels largest d1 d2 d3 d4 d5 d6 d7 d8 ⌝ }
+    ensures { λ r. ⌜ r ≡ link-named levels largest silence d1 d2 d3 d4 d5 d6 d7 d8 ⌝ }
 {
     Link {
         levels: levels as u32,
         largest: largest as u32,
+        silence: silence as u32,
         bounds: [
             d1 as u32,
             d2 as u32,
@@ -55,6 +57,7 @@ pub fn no_link() -> Link
     Link {
         levels: 0,
         largest: 0,
+        silence: 0,
         bounds: [0; 8],
     }
 }
@@ -77,6 +80,7 @@ pub fn link_of(what: Record) -> Link
         Record::Link {
             levels,
             largest,
+            silence,
             d1,
             d2,
             d3,
@@ -85,7 +89,7 @@ pub fn link_of(what: Record) -> Link
             d6,
             d7,
             d8,
-        } => link_named(levels, largest, d1, d2, d3, d4, d5, d6, d7, d8),
+        } => link_named(levels, largest, silence, d1, d2, d3, d4, d5, d6, d7, d8),
         Record::Admit { .. } => no_link(),
         Record::Offer { .. } => no_link(),
         Record::Notice { .. } => no_link(),

@@ -166,12 +166,12 @@ module _ (l : Link) (cs : List ℕ) (clock c n a : ℕ) {x : Connection} {r : �
 
 -- by the tally of all rows, what fits is what the rules ask
 pub queues-sound : (l : Link) (cs t : List ℕ) (clock n : ℕ) (seen prev : List ℕ) → n ≡ length (members cs) → Known cs t → Tally seen prev (rows t)
-    → every n (tally-fits l cs clock seen prev) ≡ every (length (connections cs)) (queue-sound (state-read l cs t [] clock 0 0))
+    → every n (tally-fits l cs clock seen prev) ≡ every (length (connections cs)) (queue-sound (state-read l cs t [] clock 0 0 0))
 queues-sound l cs t clock n seen prev e K T =
-    every-same n (tally-fits l cs clock seen prev) (queue-sound (state-read l cs t [] clock 0 0)) one
-    ∙ ap (λ (k : ℕ). every k (queue-sound (state-read l cs t [] clock 0 0))) (e ∙ sym (connections-length cs))
+    every-same n (tally-fits l cs clock seen prev) (queue-sound (state-read l cs t [] clock 0 0 0)) one
+    ∙ ap (λ (k : ℕ). every k (queue-sound (state-read l cs t [] clock 0 0 0))) (e ∙ sym (connections-length cs))
   where
-    one : (c : ℕ) → c < n → tally-fits l cs clock seen prev c ≡ queue-sound (state-read l cs t [] clock 0 0) c
+    one : (c : ℕ) → c < n → tally-fits l cs clock seen prev c ≡ queue-sound (state-read l cs t [] clock 0 0 0) c
     one c k =
         let m : c < max-connections = omega (arith, K .few-connections) in
         ap (λ (o : Option ℕ). leb (getD seen c 0) (reservation l (nth (connections cs) c)) && remembered clock (getD (pasts cs) c no-past) o) (T .lasts c m)

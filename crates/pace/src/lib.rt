@@ -146,7 +146,7 @@ fn each_queue_ok(l: Link, cs: &[u32], n: usize, clock: u32, seen: &[u32], prev: 
 // Whether each connection's rows keep their pace, none holds more than its reservation, and what is remembered fits its last row.
 pub fn queues_ok(l: Link, cs: &[u32], n: usize, t: &[u32], held: usize, clock: u32) -> bool
     requires { ⌜ (n ≡ length (members (now cs))) × (held ≡ length (rows (now t))) × Within l (connections (now cs)) × Known (now cs) (now t) ⌝ }
-    ensures { λ r. ⌜ r ≡ (paced (connections (now (cs .entry))) clock [] (rows (now (t .entry))) && every (length (connections (now (cs .entry)))) (queue-sound (state-read l (now (cs .entry)) (now (t .entry)) [] clock 0 0))) ⌝ }
+    ensures { λ r. ⌜ r ≡ (paced (connections (now (cs .entry))) clock [] (rows (now (t .entry))) && every (length (connections (now (cs .entry)))) (queue-sound (state-read l (now (cs .entry)) (now (t .entry)) [] clock 0 0 0))) ⌝ }
 {
     let mut seen = [0u32; MAX_CONNECTIONS];
     let mut prev = [0u32; MAX_CONNECTIONS];

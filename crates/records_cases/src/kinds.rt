@@ -1,4 +1,4 @@
-// What is read, as the twelve numbers that a line has behind its place: how many bytes it takes, its kind, its fields,
+// What is read, as the thirteen numbers that a line has behind its place: how many bytes it takes, its kind, its fields,
 // and 0 for those that it does not have.
 use answers::Reply;
 use traces::Record;
@@ -30,11 +30,12 @@ const ER: u64 = 167;
 
 pub const NONE: u64 = 25644;
 
-fn trace_numbers(taken: u64, r: Record) -> [u64; 12] {
+fn trace_numbers(taken: u64, r: Record) -> [u64; 13] {
     match r {
         Record::Link {
             levels,
             largest,
+            silence,
             d1,
             d2,
             d3,
@@ -48,6 +49,7 @@ fn trace_numbers(taken: u64, r: Record) -> [u64; 12] {
             LK,
             levels as u64,
             largest as u64,
+            silence as u64,
             d1 as u64,
             d2 as u64,
             d3 as u64,
@@ -63,6 +65,7 @@ fn trace_numbers(taken: u64, r: Record) -> [u64; 12] {
             level as u64,
             gap as u64,
             size as u64,
+            0,
             0,
             0,
             0,
@@ -88,16 +91,31 @@ fn trace_numbers(taken: u64, r: Record) -> [u64; 12] {
             0,
             0,
             0,
+            0,
         ],
-        Record::Notice { len, tag } => [taken, NQ, len as u64, tag as u64, 0, 0, 0, 0, 0, 0, 0, 0],
-        Record::Ticks { ticks } => [taken, TK, ticks as u64, 0, 0, 0, 0, 0, 0, 0, 0, 0],
-        Record::Malformed => [taken, NONE, 0, 0, 0, 0, 0, 0, 0, 0, 0, 0],
+        Record::Notice { len, tag } => [
+            taken,
+            NQ,
+            len as u64,
+            tag as u64,
+            0,
+            0,
+            0,
+            0,
+            0,
+            0,
+            0,
+            0,
+            0,
+        ],
+        Record::Ticks { ticks } => [taken, TK, ticks as u64, 0, 0, 0, 0, 0, 0, 0, 0, 0, 0],
+        Record::Malformed => [taken, NONE, 0, 0, 0, 0, 0, 0, 0, 0, 0, 0, 0],
     }
 }
 
-fn answer_numbers(taken: u64, r: Reply) -> [u64; 12] {
+fn answer_numbers(taken: u64, r: Reply) -> [u64; 13] {
     match r {
-        Reply::Linked { verdict } => [taken, LA, verdict as u64, 0, 0, 0, 0, 0, 0, 0, 0, 0],
+        Reply::Linked { verdict } => [taken, LA, verdict as u64, 0, 0, 0, 0, 0, 0, 0, 0, 0, 0],
         Reply::Admitted {
             verdict,
             connection,
@@ -110,6 +128,7 @@ fn answer_numbers(taken: u64, r: Reply) -> [u64; 12] {
             connection as u64,
             level as u64,
             units as u64,
+            0,
             0,
             0,
             0,
@@ -133,6 +152,7 @@ fn answer_numbers(taken: u64, r: Reply) -> [u64; 12] {
             0,
             0,
             0,
+            0,
         ],
         Reply::Noticed {
             verdict,
@@ -142,6 +162,7 @@ fn answer_numbers(taken: u64, r: Reply) -> [u64; 12] {
             NA,
             verdict as u64,
             eligibility as u64,
+            0,
             0,
             0,
             0,
@@ -170,6 +191,7 @@ fn answer_numbers(taken: u64, r: Reply) -> [u64; 12] {
             0,
             0,
             0,
+            0,
         ],
         Reply::Ticked { verdict, ticks } => [
             taken,
@@ -184,21 +206,22 @@ fn answer_numbers(taken: u64, r: Reply) -> [u64; 12] {
             0,
             0,
             0,
+            0,
         ],
-        Reply::Broken { offset } => [taken, ER, offset as u64, 0, 0, 0, 0, 0, 0, 0, 0, 0],
-        Reply::Malformed => [taken, NONE, 0, 0, 0, 0, 0, 0, 0, 0, 0, 0],
+        Reply::Broken { offset } => [taken, ER, offset as u64, 0, 0, 0, 0, 0, 0, 0, 0, 0, 0],
+        Reply::Malformed => [taken, NONE, 0, 0, 0, 0, 0, 0, 0, 0, 0, 0, 0],
     }
 }
 
 // The trace record at a place of the bytes.
-pub fn seen_at(s: &[u8], at: usize) -> [u64; 12] {
+pub fn seen_at(s: &[u8], at: usize) -> [u64; 13] {
     let found = traces::read_at(s, at);
     let what = found.what;
     trace_numbers(found.taken as u64, what)
 }
 
 // The trace record or the answer that the bytes start with.
-pub fn seen(traced: bool, s: &[u8]) -> [u64; 12] {
+pub fn seen(traced: bool, s: &[u8]) -> [u64; 13] {
     if traced {
         let found = traces::read(s);
         let what = found.what;

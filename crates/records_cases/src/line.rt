@@ -15,7 +15,7 @@ fn lost(line: &[u8], t: u64) -> u64 {
 }
 
 // Tries what a line says, by its first character.
-fn act(line: &[u8], numbers: &[u64; 13], buffer: &[u8], end: usize, t: u64) -> u64
+fn act(line: &[u8], numbers: &[u64; 14], buffer: &[u8], end: usize, t: u64) -> u64
     requires { ⌜ (length (now buffer) ≡ 64) × (end ≤ 53) ⌝ }
 {
     if end < START {
@@ -36,7 +36,7 @@ fn act(line: &[u8], numbers: &[u64; 13], buffer: &[u8], end: usize, t: u64) -> u
 
 // A line that is no comment and no end of a group.
 fn trial(line: &[u8], t: u64) -> u64 {
-    let mut numbers = [0u64; 13];
+    let mut numbers = [0u64; 14];
     let mut buffer = case::fresh();
     let end = words::parse(line, &mut numbers, &mut buffer);
     act(line, &numbers, &buffer, end, t)

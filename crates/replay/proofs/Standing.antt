@@ -52,15 +52,15 @@ stands-then n a cs t q o o′ S D =
 -- ---- a call of `step` or `pump`, which tests first
 
 module _ (c : Cursor) (cs t q : List ℕ) (r : ℕ) where
-  pub not-sound : (b : Bool) → b ≡ sound-tables (c .hub .link) cs t q (c .hub .clock) (c .hub .serving) (c .hub .units) → b ≡ false → NotSound ≡ readiness c cs t q r
+  pub not-sound : (b : Bool) → b ≡ sound-tables (c .hub .link) cs t q (c .hub .clock) (c .hub .serving) (c .hub .units) (c .hub .silent) → b ≡ false → NotSound ≡ readiness c cs t q r
   unfolding readiness sound-hub
   not-sound b e f = rw (sym e ∙ f)
 
-  pub no-room : (b : Bool) → b ≡ sound-tables (c .hub .link) cs t q (c .hub .clock) (c .hub .serving) (c .hub .units) → b ≡ true → r < longest-answer → MoreRoom ≡ readiness c cs t q r
+  pub no-room : (b : Bool) → b ≡ sound-tables (c .hub .link) cs t q (c .hub .clock) (c .hub .serving) (c .hub .units) (c .hub .silent) → b ≡ true → r < longest-answer → MoreRoom ≡ readiness c cs t q r
   unfolding readiness sound-hub
   no-room b e f l = rw (sym e ∙ f, lt-ltb r longest-answer l)
 
-  pub is-ready : (b : Bool) → b ≡ sound-tables (c .hub .link) cs t q (c .hub .clock) (c .hub .serving) (c .hub .units) → b ≡ true → longest-answer ≤ r → GoOn ≡ readiness c cs t q r
+  pub is-ready : (b : Bool) → b ≡ sound-tables (c .hub .link) cs t q (c .hub .clock) (c .hub .serving) (c .hub .units) (c .hub .silent) → b ≡ true → longest-answer ≤ r → GoOn ≡ readiness c cs t q r
   unfolding readiness sound-hub
   is-ready b e f l = rw (sym e ∙ f, le-ltb r longest-answer l)
 

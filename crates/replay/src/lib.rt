@@ -108,7 +108,7 @@ fn ready(c: Cursor, cs: &[u32], t: &[u32], q: &[u32], room: usize) -> Status
 {
     let h = c.hub;
     let l = h.link;
-    if !sound::is_sound(l, cs, t, q, h.clock, h.serving, h.units) {
+    if !sound::is_sound(l, cs, t, q, h.clock, h.serving, h.units, h.silent) {
         return Status::NotSound;
     }
     if room < LONGEST_ANSWER {

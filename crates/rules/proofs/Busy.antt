@@ -45,14 +45,18 @@ pub record Notice-on-line (s : State) (k : ℕ) : Type 0 where
   pub short : in-service .it .len ≤ s .link .largest
   pub alone : first (s .serving) (s .held) ≡ none
 
--- an idle line, or something in service that has sent at least k units
+-- nothing in service: no more silence is left than the link's
+abbrev pub Free : State → Type 0
+Free s = (s .to-go ≡ 0) × (s .silent ≤ s .link .silence)
+
+-- a free line, or something in service that has sent at least k units
 abbrev pub Line : State → ℕ → Type 0
-Line s k = (s .to-go ≡ 0) ⊎ (In-service s k ⊎ Notice-on-line s k)
+Line s k = Free s ⊎ (In-service s k ⊎ Notice-on-line s k)
 
 -- of the link and the connections
 pub record Facts (l : Link) (cs : List Connection) : Type 0 where
   pub each : (c : ℕ) → c < length cs → Connection-facts l (nth cs c)
-  pub some-largest : 1 ≤ l .levels → 1 ≤ cost l (l .largest)
+  pub some-largest : 1 ≤ l .levels → l .silence < cost l (l .largest)
   pub tested : (m : ℕ) → 1 ≤ m → m ≤ l .levels → load l cs m (bound l m) + cost l (l .largest) ≤ bound l m
 
 -- of the packets accepted so far, of which the held ones are a part in the same order
@@ -123,7 +127,7 @@ module _ (s : State) (m : ℕ) where
 
   -- while something is due, at least one tick of work is left besides what is served
   owed : (k : ℕ) → Line s k → 0 < demand s m (s .clock) → served s m + 1 ≤ demand s m (s .clock) + line-left s
-  owed k (inl z) h = omega (arith, served-idle z)
+  owed k (inl z) h = omega (arith, served-idle (z .0))
   owed k (inr (inr n)) h = omega (arith, served-notice (n .alone))
   owed k (inr (inl r)) h =
       omega (

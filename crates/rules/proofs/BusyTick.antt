@@ -15,7 +15,7 @@ use Rattle.rules.proofs.Lists.{All, all-map, all-zip, all-sub, all-ever
 use Rattle.rules.proofs.Sums.{split, upto-yes, upto-no, upto-le, upto-mono, upto-add}
 use Rattle.rules.proofs.Rows.{first-all, total-without, sub-without}
 use Rattle.rules.proofs.Notices.{first-notice-is, first-none}
-use Rattle.rules.proofs.Line.{last-of-packet, last-of-notice, left-idle, left-taken, left-unit, left-last}
+use Rattle.rules.proofs.Line.{last-of-packet, last-of-notice, left-silent, left-some, left-taken, left-unit, left-last, left-in-silence}
 use Rattle.rules.proofs.Choice.{Chosen}
 use Rattle.rules.proofs.SoundTick.{taken-serves, notice-serves}
 use Rattle.rules.proofs.Window.{between, weight}
@@ -26,26 +26,31 @@ use Rattle.rules.proofs.Busy.{due, demand, cost-of, Line, Regular, fit-
 module _ (s : State) (acc : List Packet) (R : Regular s acc) where
   pub taken-line : (o : Option Packet) → Chosen (level-of s) (s .clock) (s .held) o
       → (ns : List Notice) → s .notices ≡ ns → All (Notice-fits (s .link) (s .clock)) ns → All (λ p. p .connection ≡ notice-number → ⊥) (s .held)
-      → Line (with-line s (takes o ns .0) (takes o ns .1)) 0
+      → s .silent ≤ s .link .silence
+      → Line (with-line s (takes o ns .0) (takes o ns .1) (s .silent)) 0
   unfolding notice-serves
-  taken-line (some p) k ns i f a = inr (inl (taken-serves s (fit-held s acc R) p k))
-  taken-line none k [] i f a = inl refl
-  taken-line none k (n ∷ ns) i f a =
+  taken-line (some p) k ns i f a q = inr (inl (taken-serves s (fit-held s acc R) p k))
+  taken-line none k [] i f a q = inl (refl, q)
+  taken-line none k (n ∷ ns) i f a q =
       inr (inr (record { in-service = notice-serves s n ns i f; short = f .0 .len-le; alone = first-none notice-number (s .held) a }))
 
-  pub taken-busy : (m : ℕ) (o : Option Packet) (ns : List Notice) → Chosen (level-of s) (s .clock) (s .held) o → s .to-go ≡ 0
+  -- busy, with something on the line
+  abbrev Taken-busy : ℕ → ℕ → ℕ → Type 0
+  Taken-busy w u m = Busy (with-line s w u (s .silent)) acc m (s .clock) × (0 < line-left (with-line s w u (s .silent)))
+
+  pub taken-busy : (m : ℕ) (o : Option Packet) (ns : List Notice) → Chosen (level-of s) (s .clock) (s .held) o → s .to-go ≡ 0 → s .silent ≡ 0
       → Busy s acc m (s .clock) → 0 < demand s m (s .clock)
-      → Busy (with-line s (takes o ns .0) (takes o ns .1)) acc m (s .clock) × (0 < takes o ns .1)
+      → Taken-busy (takes o ns .0) (takes o ns .1) m
   unfolding taken-serves
-  taken-busy m none ns k z B h =
+  taken-busy m none ns k z y B h =
       absurd
       (omega (arith, total-none (due (s .link) (s .connections) m (s .clock)) (s .held) (all-map (λ q lt. due-off (s .link) (s .connections) m (s .clock) q (λ le. absurd (omega arith))) (s .held) k)))
-  taken-busy m (some p) ns k z B h = go (split (level-of s (p .connection)) m)
+  taken-busy m (some p) ns k z y B h = go (split (level-of s (p .connection)) m)
     where
       f : Fits (s .connections) p
       f = first-all (p .connection) (Fits (s .connections)) (s .held) p (k .2) (fit-held s acc R)
 
-      go : (level-of s (p .connection) ≤ m) ⊎ (m < level-of s (p .connection)) → Busy (with-line s (p .connection) (p .len)) acc m (s .clock) × (0 < p .len)
+      go : (level-of s (p .connection) ≤ m) ⊎ (m < level-of s (p .connection)) → Taken-busy (p .connection) (p .len) m
       go (inl lv) = (
         record {
           from = B .from;
@@ -56,14 +61,14 @@ module _ (s : State) (acc : List Packet) (R : Regular s acc) where
                 arith,
                 B .work,
                 served-idle s m z,
-                left-idle s z,
-                left-taken s (p .connection) (p .len),
-                served-is (with-line s (p .connection) (p .len)) m 0 (taken-serves s (fit-held s acc R) p k),
+                left-silent s z,
+                left-taken s (p .connection) (p .len) (s .silent) (f .some-len),
+                served-is (with-line s (p .connection) (p .len) (s .silent)) m 0 (taken-serves s (fit-held s acc R) p k),
                 due-full (s .link) (s .connections) m (s .clock) p lv (k .0),
               );
           in-time = B .in-time;
         },
-        f .some-len,
+        left-some (with-line s (p .connection) (p .len) (s .silent)) (f .some-len),
       )
       -- the least urgent due packet has a level up to m, and the chosen one none above it
       go (inr lv) =
@@ -84,7 +89,7 @@ module _ (s : State) (acc : List Packet) (m : ℕ) where
   Left-busy r = Busy r acc m (s .clock)
 
   packet-leaves : s .to-go ≡ 1 → In-service s 0 → (B : Busy s acc m (s .clock)) → s .clock + 2 ≤ B .from + bound (s .link) m
-      → Left-busy (later s (without (s .serving) (s .held)) (s .notices) 0 0)
+      → Left-busy (later s (without (s .serving) (s .held)) (s .notices) 0 0 (s .link .silence))
   packet-leaves e r B h = record {
     from = B .from;
     started = omega (arith, B .started);
@@ -94,15 +99,15 @@ module _ (s : State) (acc : List Packet) (m : ℕ) where
           arith,
           B .work,
           served-is s m 0 r,
-          left-last s (without (s .serving) (s .held)) (s .notices) (s .serving),
-          ap (λ (v : ℕ). line-left (with-line s (s .serving) v)) e,
+          left-last s (without (s .serving) (s .held)) (s .notices) (s .serving) (s .silent),
+          ap (λ (v : ℕ). line-left (with-line s (s .serving) v (s .silent))) e,
           total-without (s .serving) (due (s .link) (s .connections) m (s .clock)) (s .held) (r .it) (r .is-first),
         );
     in-time = omega arith;
   }
 
   notice-leaves : (ns : List Notice) → s .to-go ≡ 1 → first (s .serving) (s .held) ≡ none → (B : Busy s acc m (s .clock)) → s .clock + 2 ≤ B .from + bound (s .link) m
-      → Left-busy (later s (s .held) ns 0 0)
+      → Left-busy (later s (s .held) ns 0 0 (s .link .silence))
   notice-leaves ns e a B h = record {
     from = B .from;
     started = omega (arith, B .started);
@@ -112,19 +117,25 @@ module _ (s : State) (acc : List Packet) (m : ℕ) where
           arith,
           B .work,
           served-notice s m a,
-          left-last s (s .held) ns (s .serving),
-          ap (λ (v : ℕ). line-left (with-line s (s .serving) v)) e,
+          left-last s (s .held) ns (s .serving) (s .silent),
+          ap (λ (v : ℕ). line-left (with-line s (s .serving) v (s .silent))) e,
         );
     in-time = omega arith;
   }
 
   -- `away`: a packet in service bears no notice's number
-  pub unit-busy : (u : ℕ) → s .to-go ≡ u → 0 < u → Line s 0 → (In-service s 0 → s .serving ≡ notice-number → ⊥)
+  pub unit-busy : (u : ℕ) → s .to-go ≡ u → 0 < line-left s → Line s 0 → (In-service s 0 → s .serving ≡ notice-number → ⊥)
       → (B : Busy s acc m (s .clock)) → s .clock + 2 ≤ B .from + bound (s .link) m
       → Left-busy (after-unit s u .next)
   unfolding going
-  unit-busy u e pos (inl z) away B h = absurd (omega arith)
-  unit-busy zero e pos (inr r) away B h = absurd (omega arith)
+  unit-busy zero e pos l away B h = record {
+    from = B .from;
+    started = omega (arith, B .started);
+    since = B .since;
+    work = omega (arith, B .work, left-in-silence s (s .held) (s .notices) e pos, served-idle s m e);
+    in-time = omega arith;
+  }
+  unit-busy (suc u) e pos (inl z) away B h = absurd (omega (arith, z .0))
   unit-busy (suc zero) e pos (inr (inl r)) away B h = subst (λ (a : Answer). Left-busy (a .next)) (sym (last-of-packet s (away r))) (packet-leaves e r B h)
   unit-busy (suc zero) e pos (inr (inr n)) away B h =
       let k = first-notice-is (s .notices) (n .in-service .it) (n .in-service .is-first) in
@@ -137,8 +148,8 @@ module _ (s : State) (acc : List Packet) (m : ℕ) where
         omega (
           arith,
           B .work,
-          left-unit s (s .held) (s .notices) (s .serving) u,
-          ap (λ (v : ℕ). line-left (with-line s (s .serving) v)) e,
+          left-unit s (s .held) (s .notices) (s .serving) u (s .silent),
+          ap (λ (v : ℕ). line-left (with-line s (s .serving) v (s .silent))) e,
           upto-yes 1 (suc u) going (omega arith),
           upto-yes 1 (s .to-go) going (omega arith),
         );

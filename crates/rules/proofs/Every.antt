@@ -52,7 +52,7 @@ pub fresh-invariant : Invariant nothing-yet
 fresh-invariant = record {
   sound = fresh-sound;
   regular = record { fit = tt; spaced = λ c l. absurd (omega arith); remembered = λ c l. absurd (omega arith); part = nil };
-  line = inl refl;
+  line = inl (refl, omega arith);
   busy = λ m low high. absurd (omega arith);
   conserved = λ c. refl;
   on-time = tt;

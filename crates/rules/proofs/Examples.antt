@@ -5,7 +5,7 @@ use Rattle.rules.specs.Admission.{link-within, level-within, figures-wit
 use Rattle.rules.specs.Service.{next-eligibility, remember}
 use Rattle.rules.specs.SoundTest.{nothing-used, admissions-sound, rows-sound, notices-sound, line-sound, sound}
 use Rattle.rules.specs.Calls.{verdicts}
-use Rattle.rules.specs.Examples.{seen, A-longer-bound-can-fail-too, A-broken-gap-can-be-told-apart, Worked-examples}
+use Rattle.rules.specs.Examples.{seen, A-longer-bound-can-fail-too, A-broken-gap-can-be-told-apart, Worked-examples, Worked-silences}
 
 pub worked-examples : Worked-examples
 unfolding upto link-within level-within figures-within stands count reservation cost level-sum level-test next-eligibility remember nothing-used admissions-sound rows-sound notices-sound line-sound sound verdicts seen
@@ -14,6 +14,10 @@ worked-examples = refl
 pub a-longer-bound-can-fail-too : A-longer-bound-can-fail-too
 unfolding upto link-within level-within figures-within stands count reservation cost level-sum level-test next-eligibility remember nothing-used admissions-sound rows-sound notices-sound line-sound sound verdicts seen
 a-longer-bound-can-fail-too = refl
+
+pub worked-silences : Worked-silences
+unfolding upto link-within level-within figures-within stands count reservation cost level-sum level-test next-eligibility remember nothing-used admissions-sound rows-sound notices-sound line-sound sound verdicts seen
+worked-silences = refl
 
 pub a-broken-gap-can-be-told-apart : A-broken-gap-can-be-told-apart
 unfolding upto link-within level-within figures-within stands count reservation cost level-sum level-test next-eligibility remember nothing-used admissions-sound rows-sound notices-sound line-sound sound verdicts

@@ -1,5 +1,5 @@
 -- Every number of an answer fits its field. Assumes nothing.
-use Prim.Native.Nat.{ℕ, zero, suc, _*_, _≤_, _<_}
+use Prim.Native.Nat.{ℕ, zero, suc, _+_, _*_, _≤_, _<_}
 use native.Mathlib.Omega.{arith}
 use mathlib.Core.Path.{_≡_, refl, ap, _∙_, subst}
 use mathlib.Core.Bool.{Bool, true, false, cond}
@@ -8,7 +8,7 @@ use mathlib.Core.Option.{none, some}
 use mathlib.Core.Logic.{_⊎_, inl, inr, ⊎-elim}
 use lib.Dec.{eqb}
 use Rattle.rules.specs.Words.{first-number}
-use Rattle.rules.specs.Limits.{max-largest, max-bound, clock-end, beyond-32-bits, notice-number}
+use Rattle.rules.specs.Limits.{max-largest, max-silence, max-bound, clock-end, beyond-32-bits, notice-number}
 use Rattle.rules.specs.Model.{Connection, Packet, Notice, State, Call, link, admit, offer, notice, tick, Short, no-short, Answer, notice-packet, first-notice}
 use Rattle.rules.specs.Admission.{level-test}
 use Rattle.rules.specs.Service.{first, started, tick-answer, packet-departs, notice-departs, after-unit, ticked}
@@ -68,7 +68,7 @@ unit-short s u = unit-says s u .nothing-short
 
 -- the units of an admission that is refused with 8 are no more than the newcomer's term, since without it every level holds
 pub short-fits : (x : Connection) (s : State) → Short-refused s x → (t : Short) → Names-the-lowest (s .link) (s .connections ++ x ∷ []) t
-    → (t .units ≤ own-term (s .link) x (t .level)) × (t .units ≤ max-bound * max-largest)
+    → (t .units ≤ own-term (s .link) x (t .level)) × (t .units ≤ max-bound * (max-largest + max-silence))
 short-fits x s R t N =
     let S = exact s .0 (R .sound-state) .with-one (R .set) in
     let a = N .is-level in

@@ -8,7 +8,7 @@ use lib.Dec.{leb}
 use lib.ListN.{getD}
 use borrow.Author.Tests.{leb-true}
 use Rattle.rules.specs.Words.{within}
-use Rattle.rules.specs.Limits.{max-levels, max-largest, max-bound, max-gap}
+use Rattle.rules.specs.Limits.{max-levels, max-largest, max-silence, max-bound, max-gap}
 use Rattle.rules.specs.Model.{Link, Connection}
 use Rattle.rules.specs.Admission.{rising, link-within, level-within, figures-within, bound, count, reservation, cost, load, level-sum}
 use Rattle.rules.proofs.Tests.{never, and-true, within-true}
@@ -37,30 +37,34 @@ pub record Link-facts (l : Link) : Type 0 where
   pub few-levels : l .levels ≤ max-levels
   pub some-largest : 1 ≤ l .largest
   pub largest-max : l .largest ≤ max-largest
+  pub silence-max : l .silence ≤ max-silence
   pub bound-le : (m : ℕ) → 1 ≤ m → m ≤ l .levels → bound l m ≤ max-bound
-  pub largest-le : (m : ℕ) → 1 ≤ m → m ≤ l .levels → l .largest ≤ bound l m
+  pub largest-le : (m : ℕ) → 1 ≤ m → m ≤ l .levels → cost l (l .largest) ≤ bound l m
 
 pub link-facts : (l : Link) → link-within l ≡ true → Link-facts l
 unfolding link-within
 link-facts l e =
-    let a = and-true (within 1 max-levels (l .levels)) (within 1 max-largest (l .largest) && rising (l .largest) (l .levels) (l .bounds)) e in
-    let b = and-true (within 1 max-largest (l .largest)) (rising (l .largest) (l .levels) (l .bounds)) (a .1) in
+    let rises = rising (cost l (l .largest)) (l .levels) (l .bounds) in
+    let a = and-true (within 1 max-levels (l .levels)) (within 1 max-largest (l .largest) && (leb (l .silence) max-silence && rises)) e in
+    let b = and-true (within 1 max-largest (l .largest)) (leb (l .silence) max-silence && rises) (a .1) in
+    let c = and-true (leb (l .silence) max-silence) rises (b .1) in
     record {
       some-level = within-true 1 max-levels (l .levels) (a .0) .0;
       few-levels = within-true 1 max-levels (l .levels) (a .0) .1;
       some-largest = within-true 1 max-largest (l .largest) (b .0) .0;
       largest-max = within-true 1 max-largest (l .largest) (b .0) .1;
-      bound-le = high (b .1);
-      largest-le = low (b .1);
+      silence-max = leb-true (l .silence) max-silence (c .0);
+      bound-le = high (c .1);
+      largest-le = low (c .1);
     }
   where
-    high : rising (l .largest) (l .levels) (l .bounds) ≡ true → (m : ℕ) → 1 ≤ m → m ≤ l .levels → bound l m ≤ max-bound
+    high : rising (cost l (l .largest)) (l .levels) (l .bounds) ≡ true → (m : ℕ) → 1 ≤ m → m ≤ l .levels → bound l m ≤ max-bound
     high r zero p q = absurd (omega arith)
-    high r (suc m) p q = rising-high (l .largest) (l .levels) (l .bounds) r m q
+    high r (suc m) p q = rising-high (cost l (l .largest)) (l .levels) (l .bounds) r m q
 
-    low : rising (l .largest) (l .levels) (l .bounds) ≡ true → (m : ℕ) → 1 ≤ m → m ≤ l .levels → l .largest ≤ bound l m
+    low : rising (cost l (l .largest)) (l .levels) (l .bounds) ≡ true → (m : ℕ) → 1 ≤ m → m ≤ l .levels → cost l (l .largest) ≤ bound l m
     low r zero p q = absurd (omega arith)
-    low r (suc m) p q = rising-low (l .largest) (l .levels) (l .bounds) r m q
+    low r (suc m) p q = rising-low (cost l (l .largest)) (l .levels) (l .bounds) r m q
 
 -- ---- a connection
 
@@ -92,14 +96,18 @@ pub reservation-is : (l : Link) (c : Connection) → reservation l c ≡ count c
 unfolding reservation
 reservation-is l c = refl
 
--- a packet takes something of the line, and a longer one no less
+-- what a packet takes of the line: something, more than the silence, and a longer one no less
 pub cost-pos : (l : Link) (len : ℕ) → 1 ≤ len → 1 ≤ cost l len
 unfolding cost
-cost-pos l len h = h
+cost-pos l len h = omega arith
+
+pub silence-below : (l : Link) (len : ℕ) → 1 ≤ len → l .silence < cost l len
+unfolding cost
+silence-below l len h = omega arith
 
 pub cost-mono : (l : Link) {a b : ℕ} → a ≤ b → cost l a ≤ cost l b
 unfolding cost
-cost-mono l h = h
+cost-mono l h = omega arith
 
 pub sum-is : (l : Link) (cs : List Connection) (m : ℕ) → level-sum l cs m ≡ load l cs m (bound l m) + cost l (l .largest)
 unfolding level-sum
@@ -107,5 +115,4 @@ sum-is l cs m = refl
 
 -- the largest packet alone fits every bound
 pub cost-largest : (l : Link) → link-within l ≡ true → (m : ℕ) → 1 ≤ m → m ≤ l .levels → cost l (l .largest) ≤ bound l m
-unfolding cost
 cost-largest l e m p q = link-facts l e .largest-le m p q

@@ -16,9 +16,9 @@ use Rattle.rules.proofs.Sums.{same}
 use Rattle.rules.proofs.Rows.{first-all}
 use Rattle.rules.proofs.Notices.{level-packets}
 use Rattle.rules.proofs.Standing.{stands-below}
-use Rattle.rules.proofs.Figures.{link-facts, cost-pos, cost-mono, sum-is}
+use Rattle.rules.proofs.Figures.{link-facts, silence-below, cost-mono, sum-is}
 use Rattle.rules.proofs.SoundTick.{facts}
-use Rattle.rules.proofs.Line.{left-idle, left-below, left-below-notice}
+use Rattle.rules.proofs.Line.{left-silent, left-below, left-below-notice}
 use Rattle.rules.proofs.Busy.{Line, Facts, Regular, fit-held, Busy}
 
 -- a departure is of a connection that was admitted, and in time
@@ -51,7 +51,7 @@ pub record Invariant (h : History) : Type 0 where
 linked-facts : (s : State) → Sound-with-link s → Facts (s .link) (s .connections)
 linked-facts s S = record {
   each = facts s S;
-  some-largest = λ n. cost-pos (s .link) (s .link .largest) (link-facts (s .link) (S .link-in) .some-largest);
+  some-largest = λ n. silence-below (s .link) (s .link .largest) (link-facts (s .link) (S .link-in) .some-largest);
   tested = λ m low high. omega (arith, S .tested m low high, sum-is (s .link) (s .connections) m);
 }
 
@@ -85,7 +85,7 @@ some-bound s S m low high =
 
 -- what is on the line between calls has used at least one tick: less is left than the largest packet takes
 pub left-below-largest : (s : State) (acc : List Packet) → Facts (s .link) (s .connections) → Regular s acc → Line s 1 → 1 ≤ s .link .levels → line-left s < cost (s .link) (s .link .largest)
-left-below-largest s acc F R (inl z) n = omega (arith, left-idle s z, F .some-largest n)
+left-below-largest s acc F R (inl z) n = omega (arith, left-silent s (z .0), z .1, F .some-largest n)
 left-below-largest s acc F R (inr (inr r)) n = omega (arith, left-below-notice s 1 (r .in-service), cost-mono (s .link) (r .short))
 left-below-largest s acc F R (inr (inl r)) n =
     let f : Fits (s .connections) (r .it) = first-all (s .serving) (Fits (s .connections)) (s .held) (r .it) (r .is-first) (fit-held s acc R) in

@@ -20,7 +20,7 @@ use Rattle.rules.proofs.Notices.{level-packets}
 use Rattle.rules.proofs.Standing.{stands-below, nth-old, length-snoc, nth-snoc, fits-old}
 use Rattle.rules.proofs.Line.{left-same}
 use Rattle.rules.proofs.Window.{weight, between}
-use Rattle.rules.proofs.Busy.{due, served, Line, Regular, fit-held, Busy, served-idle, served-is, served-notice}
+use Rattle.rules.proofs.Busy.{due, served, Free, Line, Regular, fit-held, Busy, served-idle, served-is, served-notice}
 use Rattle.rules.proofs.BusyTick.{restart}
 use Rattle.rules.proofs.Invariant.{Invariant, facts-of, some-bound, left-below-largest}
 
@@ -53,7 +53,7 @@ module _ (s : State) (acc : List Packet) (x : Connection) (one-past-each : lengt
   }
 
   joined-served : (m : ℕ) → Line s 1 → served (joined s x) m ≡ served s m
-  joined-served m (inl z) = served-idle (joined s x) m z ∙ sym (served-idle s m z)
+  joined-served m (inl z) = served-idle (joined s x) m (z .0) ∙ sym (served-idle s m (z .0))
   joined-served m (inr (inr n)) = served-notice (joined s x) m (n .alone) ∙ sym (served-notice s m (n .alone))
   joined-served m (inr (inl r)) =
       served-is (joined s x) m 1 r
@@ -76,7 +76,7 @@ module _ (s : State) (acc : List Packet) (x : Connection) (one-past-each : lengt
           total-eq (due (s .link) (s .connections ++ x ∷ []) m (s .clock)) (due (s .link) (s .connections) m (s .clock)) (s .held) (all-map (same-due m (s .clock)) (s .held) (fit-held s acc R)),
           total-eq (weight (s .link) (s .connections ++ x ∷ []) m (B .from) (s .clock)) (weight (s .link) (s .connections) m (B .from) (s .clock)) acc (all-map (same-weight m (B .from) (s .clock)) acc (R .fit)),
           joined-served m l,
-          left-same s (joined s x) refl,
+          left-same s (joined s x) refl refl refl,
         );
     in-time = B .in-time;
   }
@@ -117,16 +117,19 @@ module _ (h : History) (I : Invariant h) where
   linked-keeps l e T = record {
     sound = T;
     regular = R;
-    line = inl (ap (λ (r : State). r .to-go) e);
+    line = inl free;
     busy = λ m low high.
         restart new acc m (s .clock) (fit-held new acc R)
         (ap (λ (ps : List Packet). total (due l (s .connections) m (s .clock)) ps) (ap (λ (r : State). r .held) e))
-        (left-below-largest new acc (facts-of new T) R (inl (ap (λ (r : State). r .to-go) e)) (omega arith))
+        (left-below-largest new acc (facts-of new T) R (inl free) (omega arith))
         (some-bound new T m low high);
     conserved = I .conserved;
     on-time = all-map (λ d k n. absurd (nobody (d .what .connection) (k n .admitted))) gone (I .on-time);
   }
     where
+      free : Free (linked s l)
+      free = (ap (λ (r : State). r .to-go) e, omega (arith, ap (λ (r : State). r .silent) e))
+
       new : State
       new = linked s l
 

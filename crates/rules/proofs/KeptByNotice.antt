@@ -47,7 +47,7 @@ module _ (s : State) (len tag : ℕ) where
     from = B .from;
     started = B .started;
     since = B .since;
-    work = omega (arith, B .work, left-same s (noted s len tag) refl);
+    work = omega (arith, B .work, left-same s (noted s len tag) refl refl refl);
     in-time = B .in-time;
   }
 

@@ -41,6 +41,7 @@ module _ (s : State) (acc : List Packet) (p : Packet) (hs : List Past) (level : 
     notices = s .notices;
     serving = s .serving;
     to-go = s .to-go;
+    silent = s .silent;
   }
 
   behind-service : (k : ℕ) → In-service s k → In-service behind k
@@ -65,7 +66,7 @@ module _ (s : State) (acc : List Packet) (p : Packet) (hs : List Past) (level : 
 
   behind-served : (m : ℕ) → Line s 1 → served behind m ≡ served s m
   unfolding behind-service
-  behind-served m (inl z) = served-idle behind m z ∙ sym (served-idle s m z)
+  behind-served m (inl z) = served-idle behind m (z .0) ∙ sym (served-idle s m (z .0))
   behind-served m (inr (inr n)) = served-notice behind m (still-alone (n .in-service .is-notice) (n .alone)) ∙ sym (served-notice s m (n .alone))
   behind-served m (inr (inl r)) = served-is behind m 1 (behind-service 1 r) ∙ sym (served-is s m 1 r)
 
@@ -85,7 +86,7 @@ module _ (s : State) (acc : List Packet) (p : Packet) (hs : List Past) (level : 
           ap (λ (x : ℕ). upto (level-of s (p .connection)) m x)
               (upto-yes (B .from) (p .eligibility) (upto (p .eligibility) (s .clock) (cost (s .link) (p .len))) (omega (arith, B .started))),
           behind-served m l,
-          left-same s behind refl,
+          left-same s behind refl refl refl,
         );
     in-time = B .in-time;
   }

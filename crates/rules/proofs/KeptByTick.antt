@@ -1,5 +1,5 @@
 -- A tick keeps the invariant. Assumes nothing.
-use Prim.Native.Nat.{ℕ, zero, suc, _+_, _≤_, _<_}
+use Prim.Native.Nat.{ℕ, zero, suc, _+_, _-_, _≤_, _<_}
 use native.Mathlib.Omega.{arith}
 use native.Mathlib.Nat.{eq-zero-or-pos, le-refl}
 use mathlib.Core.Path.{_≡_, refl, sym, ap, _∙_, subst}
@@ -11,23 +11,23 @@ use Rattle.rules.specs.Words.{push}
 use Rattle.rules.specs.Limits.{notice-number}
 use Rattle.rules.specs.Model.{Packet, Notice, State, Answer, notice-packet}
 use Rattle.rules.specs.Admission.{bound}
-use Rattle.rules.specs.Service.{of, first, without, level-of, chosen, with-line, later, line-after-start, packet-departs, after-unit, ticked}
+use Rattle.rules.specs.Service.{of, first, without, level-of, chosen, with-line, later, line-after-start, packet-departs, after-unit, ticked, line-left}
 use Rattle.rules.specs.SoundState.{Fits, In-service, Sound-with-link, Sound}
 use Rattle.rules.specs.Runs.{Departure, History, leaving, in-hub}
 use Rattle.rules.proofs.Lists.{All, all-map, all-snoc, Sub, sub-refl, total-sub, total-zero}
 use Rattle.rules.proofs.Rows.{first-all, first-append, sub-without, moved, map-append}
 use Rattle.rules.proofs.Notices.{first-notice-is, level-packets, without-append, first-behind, without-behind}
 use Rattle.rules.proofs.Standing.{stands-below}
-use Rattle.rules.proofs.Line.{last-of-packet, last-of-notice}
+use Rattle.rules.proofs.Line.{last-of-packet, last-of-notice, left-silent, left-some}
 use Rattle.rules.proofs.SoundTick.{no-notice, choice-holds}
 use Rattle.rules.proofs.Busy.{due, demand, Notice-on-line, Line, Facts, Regular, fit-held, Busy, due-none, spare, held-spare}
 use Rattle.rules.proofs.BusyTick.{taken-line, taken-busy, unit-busy, restart, advance}
 use Rattle.rules.proofs.Invariant.{On-time, Level-on-time, whats, Invariant, facts-of, some-bound, left-below-largest}
 
--- after step 1: a level with something due is busy, and the line is
+-- after step 1: a level with something due is busy, and something is on the line
 record Midway (s : State) (acc : List Packet) : Type 0 where
   mid-line : Line s 0
-  mid-busy : (m : ℕ) → 1 ≤ m → m ≤ s .link .levels → (demand s m (s .clock) ≡ 0) ⊎ (Busy s acc m (s .clock) × (0 < s .to-go) × (0 < demand s m (s .clock)))
+  mid-busy : (m : ℕ) → 1 ≤ m → m ≤ s .link .levels → (demand s m (s .clock) ≡ 0) ⊎ (Busy s acc m (s .clock) × (0 < line-left s) × (0 < demand s m (s .clock)))
 
 module _ (h : History) (I : Invariant h) (S : Sound-with-link (h .now)) where
   open History h using (now as s, accepted as all, departed as gone)
@@ -44,21 +44,32 @@ module _ (h : History) (I : Invariant h) (S : Sound-with-link (h .now)) where
 
   -- ---- step 1
 
-  midway : (u : ℕ) → s .to-go ≡ u → Midway (with-line s (line-after-start s u .0) (line-after-start s u .1)) acc
-  midway zero e =
+  -- where nothing starts the line is as it was
+  same-line : {u : ℕ} → s .to-go ≡ u → (m : ℕ) → Busy s acc m (s .clock) → Busy (with-line s (s .serving) u (s .silent)) acc m (s .clock)
+  same-line e m B = subst (λ (v : ℕ). Busy (with-line s (s .serving) v (s .silent)) acc m (s .clock)) e B
+
+  midway : (u q : ℕ) → s .to-go ≡ u → s .silent ≡ q → Midway (with-line s (line-after-start s u q .0) (line-after-start s u q .1) (s .silent)) acc
+  midway zero zero e y =
       let k = choice-holds s S in
       record {
-        mid-line = taken-line s acc (I .regular) (chosen s) k (s .notices) refl (S .notices-fit) no-notices;
+        mid-line = taken-line s acc (I .regular) (chosen s) k (s .notices) refl (S .notices-fit) no-notices (S .silent-le);
         mid-busy = λ m low high.
             ⊎-elim (λ z. inl z)
             (λ pos.
-            let b = taken-busy s acc (I .regular) m (chosen s) (s .notices) k e (I .busy m low high) pos in
+            let b = taken-busy s acc (I .regular) m (chosen s) (s .notices) k e y (I .busy m low high) pos in
             inr (b .0, b .1, pos))
             (eq-zero-or-pos (demand s m (s .clock)));
       }
-  midway (suc u) e = record {
+  midway zero (suc q) e y = record {
+    mid-line = inl (refl, S .silent-le);
+    mid-busy = λ m low high.
+        ⊎-elim (λ z. inl z)
+        (λ pos. inr (same-line e m (I .busy m low high), omega (arith, left-silent (with-line s (s .serving) 0 (s .silent)) refl), pos))
+        (eq-zero-or-pos (demand s m (s .clock)));
+  }
+  midway (suc u) q e y = record {
     mid-line =
-        ⊎-elim (λ z. absurd (omega arith))
+        ⊎-elim (λ z. absurd (omega (arith, z .0)))
         (λ l.
         inr
         (⊎-elim
@@ -75,36 +86,36 @@ module _ (h : History) (I : Invariant h) (S : Sound-with-link (h .now)) where
         (I .line);
     mid-busy = λ m low high.
         ⊎-elim (λ z. inl z)
-        (λ pos. inr (subst (λ (v : ℕ). Busy (with-line s (s .serving) v) acc m (s .clock)) e (I .busy m low high), omega arith, pos))
+        (λ pos. inr (same-line e m (I .busy m low high), left-some (with-line s (s .serving) (suc u) (s .silent)) (omega arith), pos))
         (eq-zero-or-pos (demand s m (s .clock)));
   }
 
   -- ---- steps 2 and 3
 
   -- the packets `held`, a part of those before, the notices and the line as given, a tick later
-  next : (held : List Packet) (ns : List Notice) (serving to-go : ℕ) (ds : List Departure)
-      → Sound (later s held ns serving to-go)
+  next : (held : List Packet) (ns : List Notice) (serving to-go silent : ℕ) (ds : List Departure)
+      → Sound (later s held ns serving to-go silent)
       → Sub held (s .held)
       → Sub held acc
-      → Line (later s held ns serving to-go) 1
-      → ((m : ℕ) → 1 ≤ m → m ≤ s .link .levels → (demand s m (s .clock) ≡ 0) ⊎ Busy (later s held ns serving to-go) acc m (s .clock))
+      → Line (later s held ns serving to-go silent) 1
+      → ((m : ℕ) → 1 ≤ m → m ≤ s .link .levels → (demand s m (s .clock) ≡ 0) ⊎ Busy (later s held ns serving to-go silent) acc m (s .clock))
       → ((c : ℕ) → of c all ≡ of c (whats ds) ++ of c (held ++ map notice-packet ns))
       → All (Level-on-time s) ds
-      → Invariant (record { accepted = all; departed = ds; now = later s held ns serving to-go })
-  next held ns serving to-go ds sound sub part line busy cons time =
-      let R : Regular (later s held ns serving to-go) acc
+      → Invariant (record { accepted = all; departed = ds; now = later s held ns serving to-go silent })
+  next held ns serving to-go silent ds sound sub part line busy cons time =
+      let R : Regular (later s held ns serving to-go silent) acc
       = record { fit = I .regular .fit; spaced = I .regular .spaced; remembered = I .regular .remembered; part = part } in
       record {
         sound = sound;
         regular = R;
         line = line;
         busy = λ m low high.
-            advance (later s held ns serving to-go) acc m (s .clock) refl part
+            advance (later s held ns serving to-go silent) acc m (s .clock) refl part
             (⊎-elim
             (λ z.
-            restart (later s held ns serving to-go) acc m (s .clock) (fit-held (later s held ns serving to-go) acc R)
+            restart (later s held ns serving to-go silent) acc m (s .clock) (fit-held (later s held ns serving to-go silent) acc R)
             (omega (arith, total-sub (due (s .link) (s .connections) m (s .clock)) sub))
-            (left-below-largest (later s held ns serving to-go) acc F R line (omega arith))
+            (left-below-largest (later s held ns serving to-go silent) acc F R line (omega arith))
             (some-bound s (I .sound) m low high))
             (λ B. B)
             (busy m low high));
@@ -112,20 +123,20 @@ module _ (h : History) (I : Invariant h) (S : Sound-with-link (h .now)) where
         on-time = all-map (λ d k n. record { admitted = k n .admitted; in-time = k n .in-time }) ds time;
       }
 
-  module _ (w u : ℕ) (M : Midway (with-line s w u) acc) where
+  module _ (w u : ℕ) (M : Midway (with-line s w u (s .silent)) acc) where
     unit-level : (m : ℕ) → 1 ≤ m → m ≤ s .link .levels
-        → (demand s m (s .clock) ≡ 0) ⊎ Busy (after-unit (with-line s w u) u .next) acc m (s .clock)
+        → (demand s m (s .clock) ≡ 0) ⊎ Busy (after-unit (with-line s w u (s .silent)) u .next) acc m (s .clock)
     unit-level m low high =
         ⊎-elim
         (λ z. inl z)
         (λ B.
         inr
-        (unit-busy (with-line s w u) acc m u refl (B .1) (M .mid-line) (no-notice s S w u 0) (B .0)
-        (spare (with-line s w u) acc m low high F (I .regular) 0 (M .mid-line) (B .0) (B .2))))
+        (unit-busy (with-line s w u (s .silent)) acc m u refl (B .1) (M .mid-line) (no-notice s S w u (s .silent) 0) (B .0)
+        (spare (with-line s w u (s .silent)) acc m low high F (I .regular) 0 (M .mid-line) (B .0) (B .2))))
         (M .mid-busy m low high)
 
     -- the packet in service is in time if it leaves now
-    leaves : (r : In-service (with-line s w u) 0) → On-time s (record { what = r .it; finish = s .clock + 1 })
+    leaves : (r : In-service (with-line s w u (s .silent)) 0) → On-time s (record { what = r .it; finish = s .clock + 1 })
     leaves r = record {
       admitted = below;
       in-time =
@@ -140,7 +151,7 @@ module _ (h : History) (I : Invariant h) (S : Sound-with-link (h .now)) where
           omega (
             arith,
             first-all w (λ p. level-of s (p .connection) ≤ m → p .eligibility ≤ s .clock → s .clock + 2 ≤ p .eligibility + bound (s .link) m) (s .held) (r .it) (r .is-first)
-                (held-spare (with-line s w u) acc m low high F (I .regular) 0 (M .mid-line) (B .0))
+                (held-spare (with-line s w u (s .silent)) acc m low high F (I .regular) 0 (M .mid-line) (B .0))
                 (le-refl m) (r .eligible),
           ))
           (M .mid-busy m low high);
@@ -175,13 +186,13 @@ module _ (h : History) (I : Invariant h) (S : Sound-with-link (h .now)) where
       ∙ moved c w (whats gone) (in-hub s) p e
       ∙ ap (λ (l : List Packet). of c l ++ of c (without w (in-hub s))) (sym (map-append (λ (d : Departure). d .what) gone (left p ∷ [])))
 
-  packet-keeps : (w : ℕ) → Midway (with-line s w 1) acc → (r : In-service (with-line s w 1) 0) → Sound (after-unit (with-line s w 1) 1 .next)
-      → Kept-with (after-unit (with-line s w 1) 1)
+  packet-keeps : (w : ℕ) → Midway (with-line s w 1 (s .silent)) acc → (r : In-service (with-line s w 1 (s .silent)) 0) → Sound (after-unit (with-line s w 1 (s .silent)) 1 .next)
+      → Kept-with (after-unit (with-line s w 1 (s .silent)) 1)
   packet-keeps w M r T =
       subst Kept-with (sym is) (
-      subst (λ (o : Option Packet). Invariant (record { accepted = all; departed = push gone (leaving s o); now = later s (without w (s .held)) (s .notices) 0 0 })) (sym (r .is-first))
-      (next (without w (s .held)) (s .notices) 0 0 (gone ++ left (r .it) ∷ []) (subst (λ (a : Answer). Sound (a .next)) is T)
-      (sub-without w (sub-refl (s .held))) (sub-without w (I .regular .part)) (inl refl)
+      subst (λ (o : Option Packet). Invariant (record { accepted = all; departed = push gone (leaving s o); now = later s (without w (s .held)) (s .notices) 0 0 (s .link .silence) })) (sym (r .is-first))
+      (next (without w (s .held)) (s .notices) 0 0 (s .link .silence) (gone ++ left (r .it) ∷ []) (subst (λ (a : Answer). Sound (a .next)) is T)
+      (sub-without w (sub-refl (s .held))) (sub-without w (I .regular .part)) (inl (refl, le-refl (s .link .silence)))
       (λ m low high. subst (λ (a : Answer). (demand s m (s .clock) ≡ 0) ⊎ Busy (a .next) acc m (s .clock)) is (unit-level w 1 M m low high))
       (λ c.
       goes c w (r .it) (first-append w (s .held) (map notice-packet (s .notices)) (r .it) (r .is-first))
@@ -189,18 +200,18 @@ module _ (h : History) (I : Invariant h) (S : Sound-with-link (h .now)) where
       (all-snoc (Level-on-time s) gone (left (r .it)) (I .on-time) (λ _. leaves w 1 M r)))
       )
     where
-      is : after-unit (with-line s w 1) 1 ≡ packet-departs (with-line s w 1)
-      is = last-of-packet (with-line s w 1) (no-notice s S w 1 0 r)
+      is : after-unit (with-line s w 1 (s .silent)) 1 ≡ packet-departs (with-line s w 1 (s .silent))
+      is = last-of-packet (with-line s w 1 (s .silent)) (no-notice s S w 1 (s .silent) 0 r)
 
-  notice-keeps : (w : ℕ) → Midway (with-line s w 1) acc → Notice-on-line (with-line s w 1) 0 → Sound (after-unit (with-line s w 1) 1 .next)
-      → Kept-with (after-unit (with-line s w 1) 1)
+  notice-keeps : (w : ℕ) → Midway (with-line s w 1 (s .silent)) acc → Notice-on-line (with-line s w 1 (s .silent)) 0 → Sound (after-unit (with-line s w 1 (s .silent)) 1 .next)
+      → Kept-with (after-unit (with-line s w 1 (s .silent)) 1)
   notice-keeps w M n T =
       let r = n .in-service in
       let k = first-notice-is (s .notices) (r .it) (r .is-first) in
-      let is = last-of-notice (with-line s w 1) (r .it) (k .0) (r .is-notice) (k .1) in
+      let is = last-of-notice (with-line s w 1 (s .silent)) (r .it) (k .0) (r .is-notice) (k .1) in
       subst Kept-with (sym is)
-      (next (s .held) (k .0) 0 0 (gone ++ left (notice-packet (r .it)) ∷ []) (subst (λ (a : Answer). Sound (a .next)) is T)
-      (sub-refl (s .held)) (I .regular .part) (inl refl)
+      (next (s .held) (k .0) 0 0 (s .link .silence) (gone ++ left (notice-packet (r .it)) ∷ []) (subst (λ (a : Answer). Sound (a .next)) is T)
+      (sub-refl (s .held)) (I .regular .part) (inl (refl, le-refl (s .link .silence)))
       (λ m low high. subst (λ (a : Answer). (demand s m (s .clock) ≡ 0) ⊎ Busy (a .next) acc m (s .clock)) is (unit-level w 1 M m low high))
       (λ c. first-goes c (r .it) (k .0) (k .1) (subst (λ (v : ℕ). first v (s .held) ≡ none) (r .is-notice) (n .alone)))
       (all-snoc (Level-on-time s) gone (left (notice-packet (r .it))) (I .on-time) (λ away. absurd (away refl))))
@@ -216,15 +227,15 @@ module _ (h : History) (I : Invariant h) (S : Sound-with-link (h .now)) where
           here : first notice-number (in-hub s) ≡ first notice-number (map notice-packet (s .notices)) → first notice-number (in-hub s) ≡ some (notice-packet n)
           here i = i ∙ ap (λ (l : List Notice). first notice-number (map notice-packet l)) e
 
-  unit-keeps : (w u : ℕ) → Midway (with-line s w u) acc → Sound (after-unit (with-line s w u) u .next) → Kept-with (after-unit (with-line s w u) u)
+  unit-keeps : (w u : ℕ) → Midway (with-line s w u (s .silent)) acc → Sound (after-unit (with-line s w u (s .silent)) u .next) → Kept-with (after-unit (with-line s w u (s .silent)) u)
   unit-keeps w zero M T =
-      next (s .held) (s .notices) 0 0 gone T (sub-refl (s .held)) (I .regular .part) (inl refl) (unit-level w zero M) (I .conserved) (I .on-time)
+      next (s .held) (s .notices) 0 0 (s .silent - 1) gone T (sub-refl (s .held)) (I .regular .part) (inl (refl, omega (arith, S .silent-le))) (unit-level w zero M) (I .conserved) (I .on-time)
   unit-keeps w (suc zero) M T =
-      ⊎-elim (λ z. absurd (omega arith)) (λ l. ⊎-elim (λ r. packet-keeps w M r T) (λ n. notice-keeps w M n T) l) (M .mid-line)
+      ⊎-elim (λ z. absurd (omega (arith, z .0))) (λ l. ⊎-elim (λ r. packet-keeps w M r T) (λ n. notice-keeps w M n T) l) (M .mid-line)
   unit-keeps w (suc (suc u)) M T =
-      next (s .held) (s .notices) w (suc u) gone T (sub-refl (s .held)) (I .regular .part)
+      next (s .held) (s .notices) w (suc u) (s .silent) gone T (sub-refl (s .held)) (I .regular .part)
       (⊎-elim
-      (λ z. absurd (omega arith))
+      (λ z. absurd (omega (arith, z .0)))
       (λ l.
       inr
       (⊎-elim
@@ -242,4 +253,4 @@ module _ (h : History) (I : Invariant h) (S : Sound-with-link (h .now)) where
       (unit-level w (suc (suc u)) M) (I .conserved) (I .on-time)
 
   pub ticked-keeps : Sound (ticked s .next) → Kept-with (ticked s)
-  ticked-keeps T = unit-keeps (line-after-start s (s .to-go) .0) (line-after-start s (s .to-go) .1) (midway (s .to-go) refl) T
+  ticked-keeps T = unit-keeps (line-after-start s (s .to-go) (s .silent) .0) (line-after-start s (s .to-go) (s .silent) .1) (midway (s .to-go) (s .silent) refl refl) T

@@ -1,5 +1,5 @@
 -- The line: what a tick leaves alone, and the laws of what is still on the line. Nothing else opens `line-left`. Assumes nothing.
-use Prim.Native.Nat.{ℕ, zero, suc, _+_, _≤_}
+use Prim.Native.Nat.{ℕ, zero, suc, _+_, _-_, _≤_, _<_}
 use native.Mathlib.Omega.{arith}
 use mathlib.Core.Path.{_≡_, refl, sym, ap, _∙_, subst}
 use mathlib.Core.Bool.{Bool, true, false, cond}
@@ -13,28 +13,32 @@ use Rattle.rules.specs.Admission.{cost}
 use Rattle.rules.specs.Service.{chosen, takes, with-line, later, line-after-start, started, tick-answer, packet-departs, notice-departs, after-unit, ticked, line-left}
 use Rattle.rules.specs.SoundState.{In-service, Notice-in-service}
 use Rattle.rules.proofs.Sums.{cond-is}
+use Rattle.rules.proofs.Figures.{cost-pos}
 
 -- ---- what the three steps do
 
--- an idle line takes the chosen packet or the first notice; what is in service is not interrupted
-pub start-idle : (s : State) → line-after-start s 0 ≡ takes (chosen s) (s .notices)
+-- an idle line takes the chosen packet or the first notice; in a silence nothing starts; what is in service is not interrupted
+pub start-idle : (s : State) → line-after-start s 0 0 ≡ takes (chosen s) (s .notices)
 start-idle s = refl
 
-pub start-busy : (s : State) (u : ℕ) → line-after-start s (suc u) ≡ (s .serving, suc u)
-start-busy s u = refl
+pub start-silent : (s : State) (q : ℕ) → line-after-start s 0 (suc q) ≡ (s .serving, 0)
+start-silent s q = refl
 
--- on an idle line nothing goes; else a unit goes, and with the last one the packet or the notice departs and its row is removed
-pub nothing-goes : (s : State) → after-unit s 0 ≡ tick-answer none (later s (s .held) (s .notices) 0 0)
+pub start-busy : (s : State) (u q : ℕ) → line-after-start s (suc u) q ≡ (s .serving, suc u)
+start-busy s u q = refl
+
+-- with nothing in service a tick of the silence runs, if one is left; else a unit goes, and with the last one the packet or the notice departs and its row is removed
+pub nothing-goes : (s : State) → after-unit s 0 ≡ tick-answer none (later s (s .held) (s .notices) 0 0 (s .silent - 1))
 nothing-goes s = refl
 
 pub last-of-packet : (s : State) → (s .serving ≡ notice-number → ⊥) → after-unit s 1 ≡ packet-departs s
 last-of-packet s n = cond-is (notice-departs s (s .notices)) (packet-departs s) (ne-eqb (s .serving) notice-number n)
 
 pub last-of-notice : (s : State) (n : Notice) (ns : List Notice) → s .serving ≡ notice-number → s .notices ≡ n ∷ ns
-    → after-unit s 1 ≡ tick-answer (some (notice-packet n)) (later s (s .held) ns 0 0)
+    → after-unit s 1 ≡ tick-answer (some (notice-packet n)) (later s (s .held) ns 0 0 (s .link .silence))
 last-of-notice s n ns e f = cond-is (notice-departs s (s .notices)) (packet-departs s) (eq-eqb (s .serving) notice-number e) ∙ ap (notice-departs s) f
 
-pub unit-goes : (s : State) (u : ℕ) → after-unit s (suc (suc u)) ≡ tick-answer none (later s (s .held) (s .notices) (s .serving) (suc u))
+pub unit-goes : (s : State) (u : ℕ) → after-unit s (suc (suc u)) ≡ tick-answer none (later s (s .held) (s .notices) (s .serving) (suc u) (s .silent))
 unit-goes s u = refl
 
 -- ---- what a tick leaves alone
@@ -62,40 +66,48 @@ tick-leaves s =
 
 -- ---- what is still on the line
 
--- nothing, while the line is idle
-pub left-idle : (s : State) → s .to-go ≡ 0 → line-left s ≡ 0
+-- the silence still to run, while nothing is in service
+pub left-silent : (s : State) → s .to-go ≡ 0 → line-left s ≡ s .silent
 unfolding line-left
-left-idle s e = e
+left-silent s e = cond-is (s .silent) (cost (s .link) (s .to-go)) (eq-eqb (s .to-go) 0 e)
 
--- something, while a packet or a notice is in service
-pub left-some : (s : State) → 1 ≤ s .to-go → 1 ≤ line-left s
+-- the cost of what is in service, as far as it has not gone: something
+pub left-busy : (s : State) → 1 ≤ s .to-go → line-left s ≡ cost (s .link) (s .to-go)
 unfolding line-left
-left-some s h = h
+left-busy s h = cond-is (s .silent) (cost (s .link) (s .to-go)) (ne-eqb (s .to-go) 0 (λ e. omega arith))
+
+pub left-some : (s : State) → 1 ≤ s .to-go → 1 ≤ line-left s
+left-some s h = omega (arith, left-busy s h, cost-pos (s .link) (s .to-go) h)
 
 -- the cost of a packet that the line has just taken whole
-pub left-taken : (s : State) (w len : ℕ) → line-left (with-line s w len) ≡ cost (s .link) len
-unfolding line-left cost
-left-taken s w len = refl
+pub left-taken : (s : State) (w len q : ℕ) → 1 ≤ len → line-left (with-line s w len q) ≡ cost (s .link) len
+left-taken s w len q h = left-busy (with-line s w len q) h
 
 -- at most the cost of the packet in service, and less once a unit has gone
 pub left-below : (s : State) (k : ℕ) (r : In-service s k) → line-left s + k ≤ cost (s .link) (r .it .len)
-unfolding line-left cost
-left-below s k r = r .to-go-le
+unfolding cost
+left-below s k r = omega (arith, left-busy s (r .some-to-go), r .to-go-le)
 
 pub left-below-notice : (s : State) (k : ℕ) (r : Notice-in-service s k) → line-left s + k ≤ cost (s .link) (r .it .len)
-unfolding line-left cost
-left-below-notice s k r = r .to-go-le
+unfolding cost
+left-below-notice s k r = omega (arith, left-busy s (r .some-to-go), r .to-go-le)
 
--- a tick takes one: with a unit that is not the last, and with the last
-pub left-unit : (s : State) (held : List Packet) (ns : List Notice) (w u : ℕ) → line-left (later s held ns w (suc u)) + 1 ≡ line-left (with-line s w (suc (suc u)))
-unfolding line-left
-left-unit s held ns w u = omega arith
+-- a tick takes one: with a unit that is not the last, with the last, and in the silence
+pub left-unit : (s : State) (held : List Packet) (ns : List Notice) (w u q : ℕ)
+    → line-left (later s held ns w (suc u) q) + 1 ≡ line-left (with-line s w (suc (suc u)) q)
+unfolding cost
+left-unit s held ns w u q = omega (arith, left-busy (later s held ns w (suc u) q) (omega arith), left-busy (with-line s w (suc (suc u)) q) (omega arith))
 
-pub left-last : (s : State) (held : List Packet) (ns : List Notice) (w : ℕ) → line-left (later s held ns 0 0) + 1 ≡ line-left (with-line s w 1)
-unfolding line-left
-left-last s held ns w = refl
+pub left-last : (s : State) (held : List Packet) (ns : List Notice) (w q : ℕ)
+    → line-left (later s held ns 0 0 (s .link .silence)) + 1 ≡ line-left (with-line s w 1 q)
+unfolding cost
+left-last s held ns w q = omega (arith, left-silent (later s held ns 0 0 (s .link .silence)) refl, left-busy (with-line s w 1 q) (omega arith))
 
--- it hangs on the line alone: other packets, connections or a later clock change nothing
-pub left-same : (s r : State) → r .to-go ≡ s .to-go → line-left r ≡ line-left s
+pub left-in-silence : (s : State) (held : List Packet) (ns : List Notice) → s .to-go ≡ 0 → 0 < line-left s
+    → line-left (later s held ns 0 0 (s .silent - 1)) + 1 ≡ line-left s
+left-in-silence s held ns e h = omega (arith, left-silent (later s held ns 0 0 (s .silent - 1)) refl, left-silent s e)
+
+-- it hangs on the line and the link alone: other packets, connections or a later clock change nothing
+pub left-same : (s r : State) → r .to-go ≡ s .to-go → r .silent ≡ s .silent → r .link ≡ s .link → line-left r ≡ line-left s
 unfolding line-left
-left-same s r e = e
+left-same s r e f g = rw (e, f, g) refl

@@ -1,7 +1,7 @@
 -- A notice comes into service only where no held packet is eligible. Assumes nothing.
-use Prim.Native.Nat.{ℕ, _<_}
+use Prim.Native.Nat.{ℕ, zero, suc, _<_}
 use native.Mathlib.Omega.{arith}
-use mathlib.Core.Path.{_≡_, sym, ap, _∙_, subst}
+use mathlib.Core.Path.{_≡_, sym, ap, subst}
 use mathlib.Core.Logic.{⊎-elim}
 use mathlib.Core.List.{List}
 use mathlib.Core.Option.{Option, none, some}
@@ -33,6 +33,11 @@ none-eligible s S idle e =
     ⊎-elim
     (λ z. subst (λ (ps : List Packet). All (λ p. s .clock < p .eligibility) ps) (sym (ap (λ (r : State). r .held) (S .with-no-link z))) tt)
     (λ n.
-    let T = S .with-one n in
-    nothing-chosen s T (chosen s) (choice-holds s T) (sym (ap (λ (u : ℕ). line-after-start s u .0) idle) ∙ e))
+    by-line (S .with-one n) (s .to-go) (s .silent) idle e)
     (same (s .link .levels) 0)
+  where
+    -- in a silence nothing is in service
+    by-line : Sound-with-link s → (u q : ℕ) → u ≡ 0 → line-after-start s u q .0 ≡ notice-number → All (λ p. s .clock < p .eligibility) (s .held)
+    by-line T zero zero z e = nothing-chosen s T (chosen s) (choice-holds s T) e
+    by-line T zero (suc q) z e = absurd (omega (arith, ⊎-elim (λ i. i .1) (λ k. ⊎-elim (λ r. absurd (omega (arith, r .some-to-go))) (λ r. absurd (omega (arith, r .some-to-go))) k) (T .line)))
+    by-line T (suc u) q z e = absurd (omega arith)

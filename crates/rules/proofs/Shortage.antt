@@ -11,7 +11,7 @@ use lib.ListN.{length}
 use lib.Seq.{getD-append-seam}
 use borrow.Author.Tests.{eqb-true, eq-eqb}
 use Rattle.rules.specs.Words.{upto, sum}
-use Rattle.rules.specs.Limits.{max-largest, max-bound}
+use Rattle.rules.specs.Limits.{max-largest, max-silence, max-bound}
 use Rattle.rules.specs.Model.{Link, Connection, Short, no-connection, nth}
 use Rattle.rules.specs.Admission.{link-within, figures-within, bound, count, cost, load, level-sum, short-from, level-test}
 use Rattle.rules.specs.Promises.{Names-the-lowest, No-level-fails, own-term}
@@ -91,11 +91,11 @@ module _ (l : Link) (cs : List Connection) (x : Connection) where
         upto-le (x .level) m (count x (bound l m) * cost l (x .size)),
       )
 
--- an own term is within 2^26: no more packets than ticks of the longest bound, none longer than the largest
-pub term-le : (l : Link) (x : Connection) (m : ℕ) → link-within l ≡ true → figures-within l x ≡ true → 1 ≤ m → m ≤ l .levels → own-term l x m ≤ max-bound * max-largest
+-- an own term is within 69,206,016: no more packets than ticks of the longest bound, none that costs more than the largest and the longest silence
+pub term-le : (l : Link) (x : Connection) (m : ℕ) → link-within l ≡ true → figures-within l x ≡ true → 1 ≤ m → m ≤ l .levels → own-term l x m ≤ max-bound * (max-largest + max-silence)
 unfolding cost
 term-le l x m e f p q =
     let F = link-facts l e in
     let g = figures-gap l x f in
-    let k : x .size ≤ max-largest = omega (arith, g .1, F .largest-max) in
-    le-trans (mul-le-mul-right (x .size) (le-trans (count-le x (bound l m) (g .0)) (F .bound-le m p q))) (mul-le-mul-left max-bound k)
+    let k : x .size + l .silence ≤ max-largest + max-silence = omega (arith, g .1, F .largest-max, F .silence-max) in
+    le-trans (mul-le-mul-right (x .size + l .silence) (le-trans (count-le x (bound l m) (g .0)) (F .bound-le m p q))) (mul-le-mul-left max-bound k)

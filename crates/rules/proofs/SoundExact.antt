@@ -40,13 +40,14 @@ zeros-of (suc n) (d ∷ ds) e z =
     let r : ds ≡ replicate n 0 = zeros-of n ds (omega arith) (k .1) in
     cc
 
-blank-link : (n most : ℕ) (ds : List ℕ) → n ≡ 0 → most ≡ 0 → ds ≡ replicate max-levels 0 → _≡_ {A = Link} (record { levels = n; largest = most; bounds = ds }) no-link
-blank-link n most ds e f g = rw (e, f, g)
+blank-link : (n most q : ℕ) (ds : List ℕ) → n ≡ 0 → most ≡ 0 → q ≡ 0 → ds ≡ replicate max-levels 0
+    → _≡_ {A = Link} (record { levels = n; largest = most; silence = q; bounds = ds }) no-link
+blank-link n most q ds e f g h = rw (e, f, g, h)
 
-blank-state : (l : Link) (cs : List Connection) (hs : List Past) (t : ℕ) (ps : List Packet) (ns : List Notice) (w u : ℕ)
-    → l ≡ no-link → cs ≡ [] → hs ≡ [] → t ≡ 0 → ps ≡ [] → ns ≡ [] → w ≡ 0 → u ≡ 0
-    → _≡_ {A = State} (record { link = l; connections = cs; pasts = hs; clock = t; held = ps; notices = ns; serving = w; to-go = u }) fresh
-blank-state l cs hs t ps ns w u a b c d e f g h = rw (a, b, c, d, e, f, g, h)
+blank-state : (l : Link) (cs : List Connection) (hs : List Past) (t : ℕ) (ps : List Packet) (ns : List Notice) (w u q : ℕ)
+    → l ≡ no-link → cs ≡ [] → hs ≡ [] → t ≡ 0 → ps ≡ [] → ns ≡ [] → w ≡ 0 → u ≡ 0 → q ≡ 0
+    → _≡_ {A = State} (record { link = l; connections = cs; pasts = hs; clock = t; held = ps; notices = ns; serving = w; to-go = u; silent = q }) fresh
+blank-state l cs hs t ps ns w u q a b c d e f g h i = rw (a, b, c, d, e, f, g, h, i)
 
 module _ (s : State) where
   fresh-of : s .link .levels ≡ 0 → nothing-used s ≡ true → s ≡ fresh
@@ -54,13 +55,15 @@ module _ (s : State) where
   fresh-of z h =
       let a = and-true (all-zero (s .link)) _ h in
       let l = and-true (eqb (s .link .largest) 0) _ (a .0) in
-      let b = and-true (eqb (length (s .link .bounds)) max-levels) _ (l .1) in
+      let k = and-true (eqb (s .link .silence) 0) _ (l .1) in
+      let b = and-true (eqb (length (s .link .bounds)) max-levels) _ (k .1) in
       let c = and-true (eqb (length (s .connections)) 0) _ (a .1) in
       let d = and-true (eqb (length (s .pasts)) 0) _ (c .1) in
       let e = and-true (eqb (s .clock) 0) _ (d .1) in
       let f = and-true (eqb (length (s .held)) 0) _ (e .1) in
       let n = and-true (eqb (length (s .notices)) 0) _ (f .1) in
-      let g = and-true (eqb (s .serving) 0) (eqb (s .to-go) 0) (n .1) in
+      let g = and-true (eqb (s .serving) 0) _ (n .1) in
+      let u = and-true (eqb (s .to-go) 0) (eqb (s .silent) 0) (g .1) in
       let e1 : s .link .largest ≡ 0 = eqb-true _ 0 (l .0) in
       let e2 : s .link .bounds ≡ replicate max-levels 0 = zeros-of max-levels (s .link .bounds) (eqb-true _ max-levels (b .0)) (b .1) in
       let e3 : s .connections ≡ [] = nil-of (s .connections) (eqb-true _ 0 (c .0)) in
@@ -69,8 +72,11 @@ module _ (s : State) where
       let e6 : s .held ≡ [] = nil-of (s .held) (eqb-true _ 0 (f .0)) in
       let e9 : s .notices ≡ [] = nil-of (s .notices) (eqb-true _ 0 (n .0)) in
       let e7 : s .serving ≡ 0 = eqb-true _ 0 (g .0) in
-      let e8 : s .to-go ≡ 0 = eqb-true _ 0 (g .1) in
-      blank-state (s .link) (s .connections) (s .pasts) (s .clock) (s .held) (s .notices) (s .serving) (s .to-go) (blank-link (s .link .levels) (s .link .largest) (s .link .bounds) z e1 e2) e3 e4 e5 e6 e9 e7 e8
+      let e8 : s .to-go ≡ 0 = eqb-true _ 0 (u .0) in
+      let e10 : s .silent ≡ 0 = eqb-true _ 0 (u .1) in
+      let e11 : s .link .silence ≡ 0 = eqb-true _ 0 (k .0) in
+      blank-state (s .link) (s .connections) (s .pasts) (s .clock) (s .held) (s .notices) (s .serving) (s .to-go) (s .silent)
+      (blank-link (s .link .levels) (s .link .largest) (s .link .silence) (s .link .bounds) z e1 e11 e2) e3 e4 e5 e6 e9 e7 e8 e10
 
 nothing-of-fresh : nothing-used fresh ≡ true
 unfolding nothing-used
@@ -117,7 +123,11 @@ notice-intro l t n f =
 -- ---- the line
 
 module _ (s : State) where
-  line-true : line-sound s ≡ true → Idle s ⊎ Serves s 0
+  -- what the test says of the line: idle or serving, and silent only where nothing is in service
+  abbrev Line-holds : Type 0
+  Line-holds = (Idle s ⊎ Serves s 0) × (s .silent ≤ s .link .silence) × (1 ≤ s .to-go → s .silent ≡ 0)
+
+  line-true : line-sound s ≡ true → Line-holds
   unfolding line-sound
   line-true h = go (eqb (s .to-go) 0) refl h
     where
@@ -139,25 +149,33 @@ module _ (s : State) where
       busy true i e = inr (noticed (first-notice (s .notices)) refl (eqb-true _ _ i) e)
       busy false i e = inl (serving (first (s .serving) (s .held)) refl e)
 
-      go : (t : Bool) → eqb (s .to-go) 0 ≡ t → cond t (eqb (s .serving) 0) (busy-sound s) ≡ true → Idle s ⊎ Serves s 0
-      go true i e = inl (eqb-true _ 0 i, eqb-true _ 0 e)
-      go false i e = inr (busy (eqb (s .serving) notice-number) refl e)
+      go : (t : Bool) → eqb (s .to-go) 0 ≡ t → cond t (eqb (s .serving) 0 && leb (s .silent) (s .link .silence)) (eqb (s .silent) 0 && busy-sound s) ≡ true → Line-holds
+      go true i e =
+          let k = and-true (eqb (s .serving) 0) (leb (s .silent) (s .link .silence)) e in
+          (inl (eqb-true _ 0 i, eqb-true _ 0 (k .0)), leb-true _ _ (k .1), λ n. absurd (omega (arith, eqb-true (s .to-go) 0 i)))
+      go false i e =
+          let k = and-true (eqb (s .silent) 0) (busy-sound s) e in
+          (inr (busy (eqb (s .serving) notice-number) refl (k .1)), omega (arith, eqb-true (s .silent) 0 (k .0)), λ n. eqb-true (s .silent) 0 (k .0))
 
   -- the test of a line that is not idle is the one of what is in service
-  busy-line : 1 ≤ s .to-go → line-sound s ≡ busy-sound s
+  busy-line : (1 ≤ s .to-go → s .silent ≡ 0) → 1 ≤ s .to-go → line-sound s ≡ busy-sound s
   unfolding line-sound
-  busy-line l = cond-is (eqb (s .serving) 0) (busy-sound s) (ne-eqb (s .to-go) 0 (λ i. omega arith))
+  busy-line alone l =
+      cond-is (eqb (s .serving) 0 && leb (s .silent) (s .link .silence)) (eqb (s .silent) 0 && busy-sound s) (ne-eqb (s .to-go) 0 (λ i. omega arith))
+      ∙ ap (λ (b : Bool). b && busy-sound s) (eq-eqb (s .silent) 0 (alone l))
 
-  line-intro : (In-service s 0 → s .serving ≡ notice-number → ⊥) → Idle s ⊎ Serves s 0 → line-sound s ≡ true
+  line-intro : (In-service s 0 → s .serving ≡ notice-number → ⊥) → Line-holds → line-sound s ≡ true
   unfolding line-sound
-  line-intro away (inl z) = cond-is (eqb (s .serving) 0) (busy-sound s) (eq-eqb (s .to-go) 0 (z .0)) ∙ eq-eqb (s .serving) 0 (z .1)
-  line-intro away (inr (inr r)) =
-      busy-line (r .some-to-go)
+  line-intro away (inl z, quiet, alone) =
+      cond-is (eqb (s .serving) 0 && leb (s .silent) (s .link .silence)) (eqb (s .silent) 0 && busy-sound s) (eq-eqb (s .to-go) 0 (z .0))
+      ∙ and-intro (eqb (s .serving) 0) (leb (s .silent) (s .link .silence)) (eq-eqb (s .serving) 0 (z .1)) (le-leb _ _ quiet)
+  line-intro away (inr (inr r), quiet, alone) =
+      busy-line alone (r .some-to-go)
       ∙ cond-is (serves-notice (first-notice (s .notices)) (s .to-go)) _ (eq-eqb (s .serving) notice-number (r .is-notice))
       ∙ ap (λ (o : Option Notice). serves-notice o (s .to-go)) (r .is-first)
       ∙ within-intro 1 (r .it .len) (s .to-go) (r .some-to-go) (omega (arith, r .to-go-le))
-  line-intro away (inr (inl r)) =
-      busy-line (r .some-to-go)
+  line-intro away (inr (inl r), quiet, alone) =
+      busy-line alone (r .some-to-go)
       ∙ cond-is (serves-notice (first-notice (s .notices)) (s .to-go)) _ (ne-eqb (s .serving) notice-number (away r))
       ∙ ap (λ (o : Option Packet). serves o (s .to-go) (s .clock)) (r .is-first)
       ∙ and-intro (within 1 (r .it .len) (s .to-go)) (leb (r .it .eligibility) (s .clock)) (within-intro 1 (r .it .len) (s .to-go) (r .some-to-go) (omega (arith, r .to-go-le))) (le-leb _ _ (r .eligible))
@@ -202,7 +220,9 @@ module _ (s : State) where
             (record { chain = paced-chain (s .connections) (s .clock) [] (s .held) (i .0) j; kept = kept-true (s .clock) (past s j) (latest (eligibilities j (s .held))) (line j l .1) });
         few-notices = leb-true _ _ (r .0);
         notices-fit = all-map (λ n k. notice-true (s .link) (s .clock) n k) (s .notices) (each-true (notice-sound (s .link) (s .clock)) (s .notices) (r .1));
-        line = line-true s (q .1);
+        line = line-true s (q .1) .0;
+        silent-le = line-true s (q .1) .1;
+        silent-alone = line-true s (q .1) .2;
       }
 
   linked-intro : Sound-with-link s → (admissions-sound s && (rows-sound s && (notices-sound s && line-sound s))) ≡ true
@@ -226,7 +246,7 @@ module _ (s : State) where
       (and-intro (notices-sound s) (line-sound s)
       (and-intro (leb (length (s .notices)) max-notices) _ (le-leb _ _ (S .few-notices))
       (each-intro (notice-sound (s .link) (s .clock)) (s .notices) (all-map (λ n f. notice-intro (s .link) (s .clock) n f) (s .notices) (S .notices-fit))))
-      (line-intro s (no-notice s S (s .serving) (s .to-go) 0) (S .line))))
+      (line-intro s (no-notice s S (s .serving) (s .to-go) (s .silent) 0) (S .line, S .silent-le, S .silent-alone))))
     where
       chained : (j : ℕ) → j < length (s .connections) → Chained (figures s j .gap) (s .clock) (past s j) (eligibilities j (s .held))
       chained j l = queue-chained (figures s j) (s .clock) (past s j) (eligibilities j (s .held)) (S .queue j l)

@@ -59,6 +59,8 @@ module _ (s : State) (S : Sound-with-link s) (x : Connection) (D : Admit-done s 
     few-notices = S .few-notices;
     notices-fit = S .notices-fit;
     line = S .line;
+    silent-le = S .silent-le;
+    silent-alone = S .silent-alone;
   }
 
 -- ---- a notice
@@ -97,6 +99,8 @@ module _ (s : State) (S : Sound-with-link s) (len tag : ℕ) (D : Notice-done s 
     few-notices = omega (arith, D .room, length-append (s .notices) (new ∷ []));
     notices-fit = all-snoc (Notice-fits (s .link) (s .clock)) (s .notices) new (S .notices-fit) (record { some-len = D .some-len; len-le = D .len-le; arrived = omega arith });
     line = ⊎-elim (λ z. inl z) (λ k. inr (⊎-elim (λ r. inl r) (λ r. inr (still-first r)) k)) (S .line);
+    silent-le = S .silent-le;
+    silent-alone = S .silent-alone;
   }
 
 -- ---- a link
@@ -118,6 +122,8 @@ sound-first l ok = record {
   few-notices = omega arith;
   notices-fit = tt;
   line = inl (refl, refl);
+  silent-le = omega arith;
+  silent-alone = λ n. refl;
 }
 
 -- ---- every call

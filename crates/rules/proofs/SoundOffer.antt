@@ -74,4 +74,6 @@ module _ (s : State) (S : Sound-with-link s) (c len tag : ℕ) (D : Offer-done s
     few-notices = S .few-notices;
     notices-fit = S .notices-fit;
     line = ⊎-elim (λ z. inl z) (λ k. inr (⊎-elim (λ r. inl (behind r)) (λ r. inr r) k)) (S .line);
+    silent-le = S .silent-le;
+    silent-alone = S .silent-alone;
   }

@@ -1,5 +1,5 @@
 -- A tick on a sound state leaves a sound one. Assumes nothing.
-use Prim.Native.Nat.{ℕ, zero, suc, _+_, _≤_, _<_}
+use Prim.Native.Nat.{ℕ, zero, suc, _+_, _-_, _≤_, _<_}
 use native.Mathlib.Omega.{arith}
 use mathlib.Core.Path.{_≡_, refl, sym, ap, _∙_, subst}
 use mathlib.Core.Logic.{_⊎_, inl, inr, ⊎-elim}
@@ -17,26 +17,26 @@ use Rattle.rules.proofs.Notices.{first-notice-is}
 use Rattle.rules.proofs.Spacing.{spaced-rises}
 use Rattle.rules.proofs.Standing.{stands-below}
 use Rattle.rules.proofs.Figures.{Connection-facts, connection-facts}
-use Rattle.rules.proofs.Line.{start-idle, start-busy, last-of-packet, last-of-notice}
+use Rattle.rules.proofs.Line.{start-idle, start-silent, start-busy, last-of-packet, last-of-notice}
 use Rattle.rules.proofs.Queue.{queue-chained, chained-queue, chained-later, chained-tail}
 use Rattle.rules.proofs.Choice.{Rising, Chosen, chosen-law}
 
 -- the packet that is chosen comes into service whole
 unfoldable pub taken-serves : (s : State) → All (Fits (s .connections)) (s .held) → (p : Packet) → Chosen (level-of s) (s .clock) (s .held) (some p)
-    → In-service (with-line s (p .connection) (p .len)) 0
+    → In-service (with-line s (p .connection) (p .len) (s .silent)) 0
 taken-serves s F p k =
     let f : Fits (s .connections) p = first-all (p .connection) (Fits (s .connections)) (s .held) p (k .2) F in
     record { it = p; is-first = k .2; eligible = k .0; some-to-go = f .some-len; to-go-le = omega arith }
 
 -- .. or the first notice does
 unfoldable pub notice-serves : (s : State) (n : Notice) (ns : List Notice) → s .notices ≡ n ∷ ns → All (Notice-fits (s .link) (s .clock)) (n ∷ ns)
-    → Notice-in-service (with-line s notice-number (n .len)) 0
+    → Notice-in-service (with-line s notice-number (n .len) (s .silent)) 0
 notice-serves s n ns e f = record { it = n; is-first = ap first-notice e; is-notice = refl; some-to-go = f .0 .some-len; to-go-le = omega arith }
 
 module _ (s : State) (S : Sound-with-link s) where
   -- a packet in service bears no notice's number
-  pub no-notice : (w u k : ℕ) → In-service (with-line s w u) k → w ≡ notice-number → ⊥
-  no-notice w u k r e =
+  pub no-notice : (w u q k : ℕ) → In-service (with-line s w u q) k → w ≡ notice-number → ⊥
+  no-notice w u q k r e =
       omega (
         arith,
         S .few,
@@ -58,15 +58,17 @@ module _ (s : State) (S : Sound-with-link s) where
 
   module _ (running : s .clock < clock-end) where
     -- some of the rows and of the notices, a tick later
-    sound-later : (held : List Packet) (ns : List Notice) (serving to-go : ℕ)
+    sound-later : (held : List Packet) (ns : List Notice) (serving to-go silent : ℕ)
         → Sub held (s .held)
         → ((c : ℕ) → length (of c held) ≤ length (of c (s .held)))
         → ((c : ℕ) → c < length (s .connections) → Queue (figures s c) (s .clock) (past s c) (eligibilities c held))
         → length ns ≤ max-notices
         → All (Notice-fits (s .link) (s .clock)) ns
-        → Idle (later s held ns serving to-go) ⊎ Serves (later s held ns serving to-go) 0
-        → Sound-with-link (later s held ns serving to-go)
-    sound-later held ns serving to-go sub fewer queue few fit line = record {
+        → Idle (later s held ns serving to-go silent) ⊎ Serves (later s held ns serving to-go silent) 0
+        → silent ≤ s .link .silence
+        → (1 ≤ to-go → silent ≡ 0)
+        → Sound-with-link (later s held ns serving to-go silent)
+    sound-later held ns serving to-go silent sub fewer queue few fit line quiet alone = record {
       link-in = S .link-in;
       levels-in = S .levels-in;
       figures-in = S .figures-in;
@@ -84,13 +86,15 @@ module _ (s : State) (S : Sound-with-link s) where
       few-notices = few;
       notices-fit = all-map (λ n f. record { some-len = f .some-len; len-le = f .len-le; arrived = omega (arith, f .arrived) }) ns fit;
       line = line;
+      silent-le = quiet;
+      silent-alone = alone;
     }
 
     -- the packet in service has sent its last unit
-    sound-departed : (w : ℕ) → In-service (with-line s w 1) 0 → Sound-with-link (later s (without w (s .held)) (s .notices) 0 0)
+    sound-departed : (w : ℕ) → In-service (with-line s w 1 (s .silent)) 0 → Sound-with-link (later s (without w (s .held)) (s .notices) 0 0 (s .link .silence))
     sound-departed w r =
-        sound-later (without w (s .held)) (s .notices) 0 0 (sub-without w (sub-refl (s .held))) (λ c. fewer c (same w c)) (λ c l. shorter c l (same w c))
-        (S .few-notices) (S .notices-fit) (inl (refl, refl))
+        sound-later (without w (s .held)) (s .notices) 0 0 (s .link .silence) (sub-without w (sub-refl (s .held))) (λ c. fewer c (same w c)) (λ c l. shorter c l (same w c))
+        (S .few-notices) (S .notices-fit) (inl (refl, refl)) (omega arith) (λ n. absurd (omega arith))
       where
         shorter : (c : ℕ) → c < length (s .connections) → (w ≡ c) ⊎ (w ≡ c → ⊥) → Queue (figures s c) (s .clock) (past s c) (eligibilities c (without w (s .held)))
         shorter c l (inl e) =
@@ -109,55 +113,65 @@ module _ (s : State) (S : Sound-with-link s) where
         fewer c (inr e) = omega (arith, ap length (of-other w c (s .held) e))
 
     -- the first notice has
-    sound-notice-gone : (n : Notice) (ns : List Notice) → s .notices ≡ n ∷ ns → Sound-with-link (later s (s .held) ns 0 0)
+    sound-notice-gone : (n : Notice) (ns : List Notice) → s .notices ≡ n ∷ ns → Sound-with-link (later s (s .held) ns 0 0 (s .link .silence))
     sound-notice-gone n ns e =
-        sound-later (s .held) ns 0 0 (sub-refl (s .held)) (λ c. omega arith) (S .queue)
+        sound-later (s .held) ns 0 0 (s .link .silence) (sub-refl (s .held)) (λ c. omega arith) (S .queue)
         (omega (arith, S .few-notices, ap length e))
         (subst (All (Notice-fits (s .link) (s .clock))) e (S .notices-fit) .1)
-        (inl (refl, refl))
+        (inl (refl, refl)) (omega arith) (λ n. absurd (omega arith))
 
     -- something else than a last unit goes, or nothing
-    sound-on : (w u : ℕ) → Idle (later s (s .held) (s .notices) w u) ⊎ Serves (later s (s .held) (s .notices) w u) 0
-        → Sound-with-link (later s (s .held) (s .notices) w u)
-    sound-on w u line = sound-later (s .held) (s .notices) w u (sub-refl (s .held)) (λ c. omega arith) (S .queue) (S .few-notices) (S .notices-fit) line
+    sound-on : (w u q : ℕ) → Idle (later s (s .held) (s .notices) w u q) ⊎ Serves (later s (s .held) (s .notices) w u q) 0
+        → q ≤ s .link .silence → (1 ≤ u → q ≡ 0)
+        → Sound-with-link (later s (s .held) (s .notices) w u q)
+    sound-on w u q line quiet alone = sound-later (s .held) (s .notices) w u q (sub-refl (s .held)) (λ c. omega arith) (S .queue) (S .few-notices) (S .notices-fit) line quiet alone
 
-    sound-unit : (w u : ℕ) → Idle (with-line s w u) ⊎ Serves (with-line s w u) 0 → Sound-with-link (after-unit (with-line s w u) u .next)
-    sound-unit w zero k = sound-on 0 0 (inl (refl, refl))
-    sound-unit w (suc zero) (inl z) = absurd (omega (arith, z .0))
-    sound-unit w (suc zero) (inr (inl r)) =
-        subst (λ (a : Answer). Sound-with-link (a .next)) (sym (last-of-packet (with-line s w 1) (no-notice w 1 0 r))) (sound-departed w r)
-    sound-unit w (suc zero) (inr (inr r)) =
+    -- the line after step 1: idle or serving, and silent only where nothing is in service
+    abbrev Line-ready : ℕ → ℕ → Type 0
+    Line-ready w u = (Idle (with-line s w u (s .silent)) ⊎ Serves (with-line s w u (s .silent)) 0) × (1 ≤ u → s .silent ≡ 0)
+
+    sound-unit : (w u : ℕ) → Line-ready w u → Sound-with-link (after-unit (with-line s w u (s .silent)) u .next)
+    sound-unit w zero k = sound-on 0 0 (s .silent - 1) (inl (refl, refl)) (omega (arith, S .silent-le)) (λ n. absurd (omega arith))
+    sound-unit w (suc zero) (inl z, a) = absurd (omega (arith, z .0))
+    sound-unit w (suc zero) (inr (inl r), a) =
+        subst (λ (a : Answer). Sound-with-link (a .next)) (sym (last-of-packet (with-line s w 1 (s .silent)) (no-notice w 1 (s .silent) 0 r))) (sound-departed w r)
+    sound-unit w (suc zero) (inr (inr r), a) =
         let k = first-notice-is (s .notices) (r .it) (r .is-first) in
-        subst (λ (a : Answer). Sound-with-link (a .next)) (sym (last-of-notice (with-line s w 1) (r .it) (k .0) (r .is-notice) (k .1)))
+        subst (λ (a : Answer). Sound-with-link (a .next)) (sym (last-of-notice (with-line s w 1 (s .silent)) (r .it) (k .0) (r .is-notice) (k .1)))
         (sound-notice-gone (r .it) (k .0) (k .1))
-    sound-unit w (suc (suc u)) (inl z) = absurd (omega (arith, z .0))
-    sound-unit w (suc (suc u)) (inr (inl r)) =
-        sound-on w (suc u)
+    sound-unit w (suc (suc u)) (inl z, a) = absurd (omega (arith, z .0))
+    sound-unit w (suc (suc u)) (inr (inl r), a) =
+        sound-on w (suc u) (s .silent)
         (inr (inl (record { it = r .it; is-first = r .is-first; eligible = omega (arith, r .eligible); some-to-go = omega arith; to-go-le = omega (arith, r .to-go-le) })))
-    sound-unit w (suc (suc u)) (inr (inr r)) =
-        sound-on w (suc u)
+        (S .silent-le) (λ n. a (omega arith))
+    sound-unit w (suc (suc u)) (inr (inr r), a) =
+        sound-on w (suc u) (s .silent)
         (inr (inr (record { it = r .it; is-first = r .is-first; is-notice = r .is-notice; some-to-go = omega arith; to-go-le = omega (arith, r .to-go-le) })))
+        (S .silent-le) (λ n. a (omega arith))
 
-    sound-start : (u : ℕ) → s .to-go ≡ u
-        → Idle (with-line s (line-after-start s u .0) (line-after-start s u .1)) ⊎ Serves (with-line s (line-after-start s u .0) (line-after-start s u .1)) 0
-    sound-start zero e =
-        subst (λ (l : ℕ × ℕ). Idle (with-line s (l .0) (l .1)) ⊎ Serves (with-line s (l .0) (l .1)) 0) (sym (start-idle s)) (go (chosen s) choice-holds (s .notices) refl)
+    sound-start : (u q : ℕ) → s .to-go ≡ u → s .silent ≡ q → Line-ready (line-after-start s u q .0) (line-after-start s u q .1)
+    sound-start zero zero e f = subst (λ (l : ℕ × ℕ). Line-ready (l .0) (l .1)) (sym (start-idle s)) (go (chosen s) choice-holds (s .notices) refl, λ _. f)
       where
         go : (o : Option Packet) → Chosen (level-of s) (s .clock) (s .held) o → (ns : List Notice) → s .notices ≡ ns
-            → Idle (with-line s (takes o ns .0) (takes o ns .1)) ⊎ Serves (with-line s (takes o ns .0) (takes o ns .1)) 0
+            → Idle (with-line s (takes o ns .0) (takes o ns .1) (s .silent)) ⊎ Serves (with-line s (takes o ns .0) (takes o ns .1) (s .silent)) 0
         go (some p) k ns i = inr (inl (taken-serves s (S .fit) p k))
         go none k [] i = inl (refl, refl)
         go none k (n ∷ ns) i = inr (inr (notice-serves s n ns i (subst (All (Notice-fits (s .link) (s .clock))) i (S .notices-fit))))
-    sound-start (suc u) e =
-        subst (λ (l : ℕ × ℕ). Idle (with-line s (l .0) (l .1)) ⊎ Serves (with-line s (l .0) (l .1)) 0) (sym (start-busy s u))
-        (⊎-elim (λ z. absurd (omega (arith, z .0)))
-        (λ k.
-        inr
-        (⊎-elim
-        (λ r. inl (record { it = r .it; is-first = r .is-first; eligible = r .eligible; some-to-go = omega arith; to-go-le = omega (arith, r .to-go-le) }))
-        (λ r. inr (record { it = r .it; is-first = r .is-first; is-notice = r .is-notice; some-to-go = omega arith; to-go-le = omega (arith, r .to-go-le) }))
-        k))
-        (S .line))
+    sound-start zero (suc q) e f =
+        subst (λ (l : ℕ × ℕ). Line-ready (l .0) (l .1)) (sym (start-silent s q))
+        (inl (refl, ⊎-elim (λ z. z .1) (λ k. ⊎-elim (λ r. absurd (omega (arith, r .some-to-go))) (λ r. absurd (omega (arith, r .some-to-go))) k) (S .line)), λ n. absurd (omega arith))
+    sound-start (suc u) q e f =
+        subst (λ (l : ℕ × ℕ). Line-ready (l .0) (l .1)) (sym (start-busy s u q)) (
+          ⊎-elim (λ z. absurd (omega (arith, z .0)))
+              (λ k.
+              inr
+              (⊎-elim
+              (λ r. inl (record { it = r .it; is-first = r .is-first; eligible = r .eligible; some-to-go = omega arith; to-go-le = omega (arith, r .to-go-le) }))
+              (λ r. inr (record { it = r .it; is-first = r .is-first; is-notice = r .is-notice; some-to-go = omega arith; to-go-le = omega (arith, r .to-go-le) }))
+              k))
+              (S .line),
+          λ _. S .silent-alone (omega arith),
+        )
 
     pub sound-ticked : Sound-with-link (ticked s .next)
-    sound-ticked = sound-unit (line-after-start s (s .to-go) .0) (line-after-start s (s .to-go) .1) (sound-start (s .to-go) refl)
+    sound-ticked = sound-unit (line-after-start s (s .to-go) (s .silent) .0) (line-after-start s (s .to-go) (s .silent) .1) (sound-start (s .to-go) (s .silent) refl refl)

@@ -1,12 +1,12 @@
 -- Who may come in: the limits, the window count, the reservation and the level test.
--- Document 01, "Link, connections, places" and "The level test"; document 02, R-2. Assumes nothing.
+-- Document 01, "Link, connections, places" and "The level test"; document 02, R-2 and R-4. Assumes nothing.
 use Prim.Native.Nat.{ℕ, zero, suc, _+_, _*_, _-_, _/_}
 use mathlib.Core.Bool.{Bool, true, false, cond, _&&_}
 use mathlib.Core.List.{List, [], _∷_}
 use lib.Dec.{leb, ltb, eqb}
 use lib.ListN.{length, getD}
 use Rattle.rules.specs.Words.{within, upto, sum}
-use Rattle.rules.specs.Limits.{max-levels, max-largest, max-bound, max-gap}
+use Rattle.rules.specs.Limits.{max-levels, max-largest, max-silence, max-bound, max-gap}
 use Rattle.rules.specs.Model.{Link, Connection, Short, no-short, nth}
 
 -- ---- "Link, connections, places"
@@ -18,9 +18,15 @@ rising low zero (d ∷ ds) = eqb d 0 && rising low zero ds
 rising low (suc n) [] = false
 rising low (suc n) (d ∷ ds) = leb low d && (leb d max-bound && rising (suc d) n ds)
 
--- Link: 1 to 8 levels, S from 1 to its limit, the first bound at least S
+-- what a packet of a length takes of the line, in ticks: one unit goes in one tick, and then the silence follows (document 02, R-4)
+unfoldable pub cost : Link → ℕ → ℕ
+cost l len = len + l .silence
+
+-- Link: 1 to 8 levels, S from 1 to its limit, a silence up to its own, the first bound at least S plus the silence
 unfoldable pub link-within : Link → Bool
-link-within l = within 1 max-levels (l .levels) && (within 1 max-largest (l .largest) && rising (l .largest) (l .levels) (l .bounds))
+link-within l =
+    within 1 max-levels (l .levels)
+    && (within 1 max-largest (l .largest) && (leb (l .silence) max-silence && rising (cost l (l .largest)) (l .levels) (l .bounds)))
 
 -- Connection: level 1 to n
 unfoldable pub level-within : Link → Connection → Bool
@@ -56,15 +62,11 @@ reserved l cs = sum (length cs) (λ c. reservation l (nth cs c))
 
 -- ---- "The level test"
 
--- what a packet of a length takes of the line, in ticks: the line sends one unit in one tick
-unfoldable pub cost : Link → ℕ → ℕ
-cost l len = len
-
 -- over all connections of levels 1 to m, the count within d times size
 abbrev pub load : Link → List Connection → ℕ → ℕ → ℕ
 load l cs m d = sum (length cs) (λ c. upto (nth cs c .level) m (count (nth cs c) d * cost l (nth cs c .size)))
 
--- .. add S
+-- .. add S, which costs the line as any packet does
 unfoldable pub level-sum : Link → List Connection → ℕ → ℕ
 level-sum l cs m = load l cs m (bound l m) + cost l (l .largest)
 

@@ -105,7 +105,7 @@ verdict k s = first-number (verdicts k s)
 -- ---- what a call does
 
 abbrev pub linked : State → Link → State
-linked s l = record { link = l; connections = s .connections; pasts = s .pasts; clock = s .clock; held = s .held; notices = s .notices; serving = s .serving; to-go = s .to-go }
+linked s l = record { link = l; connections = s .connections; pasts = s .pasts; clock = s .clock; held = s .held; notices = s .notices; serving = s .serving; to-go = s .to-go; silent = s .silent }
 
 abbrev pub joined : State → Connection → State
 joined s x = record {
@@ -117,6 +117,7 @@ joined s x = record {
   notices = s .notices;
   serving = s .serving;
   to-go = s .to-go;
+  silent = s .silent;
 }
 
 -- the eligibility of an offer to connection c now
@@ -136,6 +137,7 @@ placed s c len tag = record {
   notices = s .notices;
   serving = s .serving;
   to-go = s .to-go;
+  silent = s .silent;
 }
 
 -- a notice behind the others
@@ -149,6 +151,7 @@ noted s len tag = record {
   notices = s .notices ++ record { len = len; tag = tag; arrival = s .clock } ∷ [];
   serving = s .serving;
   to-go = s .to-go;
+  silent = s .silent;
 }
 
 -- no packet leaves but in a tick

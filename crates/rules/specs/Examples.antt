@@ -1,5 +1,5 @@
 -- Document 01, "Table of proved examples", P1 to P10, as one table under one statement. Assumes nothing.
-use Prim.Native.Nat.{ℕ}
+use Prim.Native.Nat.{ℕ, _+_}
 use mathlib.Core.Path.{_≡_}
 use mathlib.Core.List.{List, [], _∷_, _++_, map}
 use lib.ListN.{replicate}
@@ -53,7 +53,7 @@ seen x =
 
 -- Link A: S 4, bounds 10, 20
 abbrev pub link-a : Call
-link-a = link (record { levels = 2; largest = 4; bounds = 10 ∷ 20 ∷ 0 ∷ 0 ∷ 0 ∷ 0 ∷ 0 ∷ 0 ∷ [] })
+link-a = link (record { levels = 2; largest = 4; silence = 0; bounds = 10 ∷ 20 ∷ 0 ∷ 0 ∷ 0 ∷ 0 ∷ 0 ∷ 0 ∷ [] })
 
 -- an admission with level, gap and size
 abbrev pub line : ℕ → ℕ → ℕ → Call
@@ -117,7 +117,7 @@ table =
 -- document 02, R-2: a bound that is longer by the units lengthens the window too, so a level can fail again. A line of gap 1 and size 1 on a link with S 1:
 -- with bound 4 one unit is missing, and with bound 5 one is missing again
 abbrev pub one-level : ℕ → Call
-one-level d = link (record { levels = 1; largest = 1; bounds = d ∷ 0 ∷ 0 ∷ 0 ∷ 0 ∷ 0 ∷ 0 ∷ 0 ∷ [] })
+one-level d = link (record { levels = 1; largest = 1; silence = 0; bounds = d ∷ 0 ∷ 0 ∷ 0 ∷ 0 ∷ 0 ∷ 0 ∷ 0 ∷ [] })
 
 abbrev pub longer-bound : List Case
 longer-bound =
@@ -130,6 +130,35 @@ A-longer-bound-can-fail-too = map seen longer-bound ≡ map (λ (x : Case). x .e
 
 abbrev pub Worked-examples : Type 0
 Worked-examples = map seen table ≡ map (λ (x : Case). x .expected) table
+
+-- document 02, R-4: a link with S 4, a silence and two bounds, the second longer by 12. With a silence of 2 a packet of 4 units takes the line for 6 ticks
+abbrev pub link-with-silence : ℕ → ℕ → Call
+link-with-silence silence bound = link (record { levels = 2; largest = 4; silence = silence; bounds = bound ∷ (bound + 12) ∷ 0 ∷ 0 ∷ 0 ∷ 0 ∷ 0 ∷ 0 ∷ [] })
+
+abbrev pub two-lines : List Call
+two-lines = link-with-silence 2 12 ∷ line 1 12 4 ∷ line 2 24 4 ∷ []
+
+abbrev pub silences : List Case
+silences =
+    -- the first bound is at least S plus the silence, and the silence at most 64
+    service [] (link-with-silence 2 5) 0 4 0 []
+    ∷ service [] (link-with-silence 2 6) 0 0 0 []
+    ∷ service [] (link-with-silence 65 69) 0 4 0 []
+    ∷ service [] (link-with-silence 64 68) 0 0 0 []
+    -- each size and S grow by the silence: 6 + 6 at level 1, 2 times 6 + 6 at level 2; then 6 more; then 3 more, 3 units over
+    ∷ admission (link-with-silence 2 12 ∷ []) (line 1 12 4) 0 0 no-short (12 ∷ 18 ∷ []) 1
+    ∷ admission (link-with-silence 2 12 ∷ line 1 12 4 ∷ []) (line 2 24 4) 0 1 no-short (12 ∷ 24 ∷ []) 1
+    ∷ admission two-lines (line 2 24 1) 8 255 (over 2 3) (12 ∷ 27 ∷ []) 1
+    -- offer 1 at 0 departs at 4; the line is silent in ticks 4 and 5; offer 0, eligible at 1, starts at 6 and departs at 10
+    ∷ service (two-lines ++ offer 1 4 71 ∷ tick ∷ []) (offer 0 4 72) 9 0 1 (4 ∷ 10 ∷ [])
+    -- its place is free at 4, in the silence
+    ∷ service (two-lines ++ offer 1 4 71 ∷ replicate 4 tick) (offer 1 1 73) 21 0 24 (4 ∷ 25 ∷ [])
+    -- a notice needs the silence too: the packet that comes behind it at 1 starts at 3
+    ∷ service (two-lines ++ notice 1 74 ∷ tick ∷ []) (offer 0 1 75) 3 0 1 (1 ∷ 4 ∷ [])
+    ∷ []
+
+abbrev pub Worked-silences : Type 0
+Worked-silences = map seen silences ≡ map (λ (x : Case). x .expected) silences
 
 -- document 02, R-3, speaks of lines that keep their gap; of others it is false. A line of gap 10 offers at 1 and at 2, one unit each: alone on the wire it is
 -- accepted twice; beside a line that sent four units at 0 its first packet still waits at 2, and the second is refused for room

@@ -14,6 +14,10 @@ max-bound = 32_768
 abbrev pub max-gap : ℕ
 max-gap = 65_535
 
+-- document 02, R-4: ticks of silence after each packet
+abbrev pub max-silence : ℕ
+max-silence = 64
+
 -- connections; packets that all reservations together may reach, which is also the rows of the places table
 abbrev pub max-connections : ℕ
 max-connections = 64

@@ -1,5 +1,5 @@
--- What the rules speak of: the state of a hub, the calls on it and their answers. Document 01, "Link, connections, places"; document 02, R-1 and
--- R-2. Assumes nothing.
+-- What the rules speak of: the state of a hub, the calls on it and their answers. Document 01, "Link, connections, places"; document 02, R-1,
+-- R-2 and R-4. Assumes nothing.
 use Prim.Native.Nat.{ℕ}
 use mathlib.Core.Bool.{false}
 use mathlib.Core.List.{List, [], _∷_}
@@ -14,7 +14,7 @@ pub use Rattle.rules.specs.declared.Notice.{Notice}
 
 -- `link` has 0 levels while none is set. `connections` by number, `pasts` beside them. `held` in the order offered. The packet in service is the first
 -- held one of connection `serving`, with `to-go` units to go; `to-go` is 0 while the line is idle. `notices` are the housekeeping packets that wait, in the
--- order offered; the first of them is in service where `serving` is their number
+-- order offered; the first of them is in service where `serving` is their number. `silent` is the silence still to run, in ticks
 pub record State : Type 0 where
   pub link : Link
   pub connections : List Connection
@@ -24,6 +24,7 @@ pub record State : Type 0 where
   pub notices : List Notice
   pub serving : ℕ
   pub to-go : ℕ
+  pub silent : ℕ
 
 -- the five calls; an offer names its connection, its length and its tag, a notice its length and its tag
 pub data Call : Type 0 where
@@ -51,7 +52,7 @@ pub record Answer : Type 0 where
   pub next : State
 
 abbrev pub no-link : Link
-no-link = record { levels = 0; largest = 0; bounds = replicate max-levels 0 }
+no-link = record { levels = 0; largest = 0; silence = 0; bounds = replicate max-levels 0 }
 
 abbrev pub no-connection : Connection
 no-connection = record { level = 0; gap = 0; size = 0 }
@@ -61,7 +62,7 @@ no-past = record { sent = false; last = 0 }
 
 -- the fresh hub: everything is zero
 abbrev pub fresh : State
-fresh = record { link = no-link; connections = []; pasts = []; clock = 0; held = []; notices = []; serving = 0; to-go = 0 }
+fresh = record { link = no-link; connections = []; pasts = []; clock = 0; held = []; notices = []; serving = 0; to-go = 0; silent = 0 }
 
 -- connection c, and what is remembered of it
 abbrev pub nth : List Connection → ℕ → Connection

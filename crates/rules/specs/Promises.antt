@@ -7,13 +7,14 @@ use mathlib.Core.List.{List, [], _∷_, _++_, map}
 use mathlib.Core.Option.{none, some}
 use lib.ListN.{length, getElem?}
 use Rattle.rules.specs.Words.{All}
-use Rattle.rules.specs.Limits.{max-largest, max-bound, max-reserved, clock-end, beyond-32-bits, max-notices, notice-number}
+use Rattle.rules.specs.Limits.{max-largest, max-silence, max-bound, max-reserved, clock-end, beyond-32-bits, max-notices, notice-number}
 use Rattle.rules.specs.Model.{Link, Connection, Packet, State, Call, link, admit, offer, notice, tick, Short, no-short, Answer, fresh, past, figures}
 use Rattle.rules.specs.Admission.{bound, count, cost, level-sum, level-test}
 use Rattle.rules.specs.Service.{of, started}
 use Rattle.rules.specs.SoundState.{Sound}
 use Rattle.rules.specs.SoundTest.{sound}
 use Rattle.rules.specs.Calls.{answer, refused-number, eligibility-now}
+use Rattle.rules.specs.BeforeSilence.{old-answer, Asks-no-silence, told-by}
 use Rattle.rules.specs.Runs.{History, run, departures, in-hub, bound-of, allowed, Keeps-its-gap, Exchange, exchanges, own-answer}
 
 -- ---- demand 1: any call on any state ends with an answer or a numbered refusal (`answer` is a function); a refused call changes nothing
@@ -107,7 +108,7 @@ Units-are-missing =
     → level-sum (s .link) (s .connections ++ x ∷ []) (answer (admit x) s .short .level) ≤ bound (s .link) (answer (admit x) s .short .level) + v
     ↔ answer (admit x) s .short .units ≤ v
 
--- the units are at most the newcomer's own term in that level's sum, and so at most 67,108,864: four bytes hold them
+-- the units are at most the newcomer's own term in that level's sum, and so at most 69,206,016: four bytes hold them
 abbrev pub own-term : Link → Connection → ℕ → ℕ
 own-term l x m = count x (bound l m) * cost l (x .size)
 
@@ -116,7 +117,7 @@ Units-fit =
     (x : Connection) (s : State)
     → answer (admit x) s .verdict ≡ 8
     → (answer (admit x) s .short .units ≤ own-term (s .link) x (answer (admit x) s .short .level))
-    × (answer (admit x) s .short .units ≤ max-bound * max-largest)
+    × (answer (admit x) s .short .units ≤ max-bound * (max-largest + max-silence))
 
 -- an answer's numbers fit the fields of its record (document 01, "Trace and answer records"), whatever the call: one byte of verdict and of level, one of a connection's
 -- number, four of units, of an eligibility, of an arrival and of a finish, which is the clock then. A departed packet's tag is as it was offered (`Conservation`)
@@ -211,3 +212,8 @@ abbrev pub Counted : Type 0
 Counted =
     (ks : List Call) (c : ℕ)
     → length (of c (run ks .accepted)) ≡ length (departures c (run ks .departed)) + length (of c (in-hub (run ks .now)))
+
+-- ---- the silence (document 02, R-4): while no link asks for one, every call gets the answer that it got before, through any calls
+
+abbrev pub As-before-without-silence : Type 0
+As-before-without-silence = (ks : List Call) → All Asks-no-silence ks → told-by answer fresh ks ≡ told-by old-answer fresh ks

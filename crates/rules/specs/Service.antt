@@ -1,5 +1,6 @@
--- When a packet may go, which goes next, and one tick of the line. Document 01, "Eligibility" and "One tick"; document 02, R-1. Assumes nothing.
-use Prim.Native.Nat.{ℕ, zero, suc, _+_, _≤_, max}
+-- When a packet may go, which goes next, and one tick of the line. Document 01, "Eligibility" and "One tick"; document 02, R-1 and R-4.
+-- Assumes nothing.
+use Prim.Native.Nat.{ℕ, zero, suc, _+_, _-_, _≤_, max}
 use mathlib.Core.Bool.{Bool, true, cond, _&&_, _||_}
 use mathlib.Core.List.{List, [], _∷_, map}
 use mathlib.Core.Option.{Option, none, some}
@@ -7,6 +8,7 @@ use lib.Dec.{leb, ltb, eqb}
 use Rattle.rules.specs.Words.{Pairs}
 use Rattle.rules.specs.Limits.{notice-number}
 use Rattle.rules.specs.Model.{Connection, Past, Packet, Notice, State, Answer, no-short, figures, notice-packet}
+use Rattle.rules.specs.Admission.{cost}
 
 -- ---- "Eligibility"
 
@@ -69,13 +71,13 @@ chosen s = choice (level-of s) (s .clock) (s .held)
 
 -- ---- "One tick", the three steps
 
--- the state with the line given anew: the connection in service, and its units to go
-abbrev pub with-line : State → ℕ → ℕ → State
-with-line s serving to-go = record { link = s .link; connections = s .connections; pasts = s .pasts; clock = s .clock; held = s .held; notices = s .notices; serving = serving; to-go = to-go }
+-- the state with the line given anew: the connection in service, its units to go, and the silence still to run
+abbrev pub with-line : State → ℕ → ℕ → ℕ → State
+with-line s serving to-go silent = record { link = s .link; connections = s .connections; pasts = s .pasts; clock = s .clock; held = s .held; notices = s .notices; serving = serving; to-go = to-go; silent = silent }
 
 -- .. and with the packets held and the notices given anew, one tick later
-abbrev pub later : State → List Packet → List Notice → ℕ → ℕ → State
-later s held notices serving to-go = record { link = s .link; connections = s .connections; pasts = s .pasts; clock = s .clock + 1; held = held; notices = notices; serving = serving; to-go = to-go }
+abbrev pub later : State → List Packet → List Notice → ℕ → ℕ → ℕ → State
+later s held notices serving to-go silent = record { link = s .link; connections = s .connections; pasts = s .pasts; clock = s .clock + 1; held = held; notices = notices; serving = serving; to-go = to-go; silent = silent }
 
 -- the line takes a packet whole; where no held one is eligible the first notice, "in the order offered"; where there is none it stays idle
 abbrev pub takes : Option Packet → List Notice → ℕ × ℕ
@@ -83,34 +85,37 @@ takes (some p) ns = (p .connection, p .len)
 takes none [] = (0, 0)
 takes none (n ∷ ns) = (notice-number, n .len)
 
--- 1. an idle line takes the chosen packet; nothing interrupts one that is in service. Given the units to go: the line then
-abbrev pub line-after-start : State → ℕ → ℕ × ℕ
-line-after-start s zero = takes (chosen s) (s .notices)
-line-after-start s (suc u) = (s .serving, suc u)
+-- 1. an idle line takes the chosen packet; nothing interrupts one that is in service, and none starts before the silence has run. Given the units to go
+-- and the silence: the line then
+abbrev pub line-after-start : State → ℕ → ℕ → ℕ × ℕ
+line-after-start s zero zero = takes (chosen s) (s .notices)
+line-after-start s zero (suc q) = (s .serving, 0)
+line-after-start s (suc u) q = (s .serving, suc u)
 
 abbrev pub started : State → State
-started s = let l = line-after-start s (s .to-go) in with-line s (l .0) (l .1)
+started s = let l = line-after-start s (s .to-go) (s .silent) in with-line s (l .0) (l .1) (s .silent)
 
 -- the answer to a tick: the packet that departs, if one does, and the state then
 abbrev pub tick-answer : Option Packet → State → Answer
 tick-answer o s = record { verdict = 0; number = 0; short = no-short; departed = o; next = s }
 
--- 2. a unit of what is in service goes; with its last unit it departs, its row is removed and the line is idle. 3. the clock moves on
+-- 2. a unit of what is in service goes; with its last unit it departs, its row is removed, and the link's silence is still to run. Where nothing is in
+-- service a tick of the silence runs, if one is left. 3. the clock moves on
 abbrev pub packet-departs : State → Answer
-packet-departs s = tick-answer (first (s .serving) (s .held)) (later s (without (s .serving) (s .held)) (s .notices) 0 0)
+packet-departs s = tick-answer (first (s .serving) (s .held)) (later s (without (s .serving) (s .held)) (s .notices) 0 0 (s .link .silence))
 
 abbrev pub notice-departs : State → List Notice → Answer
-notice-departs s [] = tick-answer none (later s (s .held) [] 0 0)
-notice-departs s (n ∷ ns) = tick-answer (some (notice-packet n)) (later s (s .held) ns 0 0)
+notice-departs s [] = tick-answer none (later s (s .held) [] 0 0 (s .link .silence))
+notice-departs s (n ∷ ns) = tick-answer (some (notice-packet n)) (later s (s .held) ns 0 0 (s .link .silence))
 
 abbrev pub after-unit : State → ℕ → Answer
-after-unit s zero = tick-answer none (later s (s .held) (s .notices) 0 0)
+after-unit s zero = tick-answer none (later s (s .held) (s .notices) 0 0 (s .silent - 1))
 after-unit s (suc zero) = cond (eqb (s .serving) notice-number) (notice-departs s (s .notices)) (packet-departs s)
-after-unit s (suc (suc u)) = tick-answer none (later s (s .held) (s .notices) (s .serving) (suc u))
+after-unit s (suc (suc u)) = tick-answer none (later s (s .held) (s .notices) (s .serving) (suc u) (s .silent))
 
 abbrev pub ticked : State → Answer
 ticked s = after-unit (started s) (started s .to-go)
 
--- the ticks for which the line is still taken by what is on it
+-- the ticks for which the line is still taken: by what is in service and the silence after it, or by the rest of a silence
 unfoldable pub line-left : State → ℕ
-line-left s = s .to-go
+line-left s = cond (eqb (s .to-go) 0) (s .silent) (cost (s .link) (s .to-go))

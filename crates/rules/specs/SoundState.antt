@@ -1,5 +1,5 @@
 -- A sound state, clause by clause. Document 01, "A sound state"; its first clause, the length of the places table, is the table's own and stands with
--- the code. The clauses on notices: docs/RULES-AFTER-BASE.md, R-1. Assumes nothing.
+-- the code. The clauses on notices and on the silence: docs/RULES-AFTER-BASE.md, R-1 and R-4. Assumes nothing.
 use Prim.Native.Nat.{ℕ, _+_, _≤_, _<_}
 use mathlib.Core.Path.{_≡_}
 use mathlib.Core.Bool.{true, false}
@@ -120,6 +120,9 @@ pub record Sound-with-link (s : State) : Type 0 where
   pub notices-fit : All (Notice-fits (s .link) (s .clock)) (s .notices)
   -- the line
   pub line : Idle s ⊎ Serves s 0
+  -- the silence still to run: at most the link's, and none while something is in service
+  pub silent-le : s .silent ≤ s .link .silence
+  pub silent-alone : 1 ≤ s .to-go → s .silent ≡ 0
 
 pub record Sound (s : State) : Type 0 where
   pub with-no-link : s .link .levels ≡ 0 → s ≡ fresh

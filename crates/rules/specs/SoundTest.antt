@@ -15,7 +15,7 @@ use Rattle.rules.specs.Service.{of, eligibilities, first}
 -- ---- with no link set
 
 abbrev pub all-zero : Link → Bool
-all-zero l = eqb (l .largest) 0 && (eqb (length (l .bounds)) max-levels && each (λ d. eqb d 0) (l .bounds))
+all-zero l = eqb (l .largest) 0 && (eqb (l .silence) 0 && (eqb (length (l .bounds)) max-levels && each (λ d. eqb d 0) (l .bounds)))
 
 unfoldable pub nothing-used : State → Bool
 nothing-used s =
@@ -23,7 +23,7 @@ nothing-used s =
     && (eqb (length (s .connections)) 0
     && (eqb (length (s .pasts)) 0
     && (eqb (s .clock) 0
-    && (eqb (length (s .held)) 0 && (eqb (length (s .notices)) 0 && (eqb (s .serving) 0 && eqb (s .to-go) 0))))))
+    && (eqb (length (s .held)) 0 && (eqb (length (s .notices)) 0 && (eqb (s .serving) 0 && (eqb (s .to-go) 0 && eqb (s .silent) 0)))))))
 
 -- ---- with one: the link and the connections
 
@@ -102,7 +102,7 @@ busy-sound s =
     (serves (first (s .serving) (s .held)) (s .to-go) (s .clock))
 
 unfoldable pub line-sound : State → Bool
-line-sound s = cond (eqb (s .to-go) 0) (eqb (s .serving) 0) (busy-sound s)
+line-sound s = cond (eqb (s .to-go) 0) (eqb (s .serving) 0 && leb (s .silent) (s .link .silence)) (eqb (s .silent) 0 && busy-sound s)
 
 -- ---- the state
 

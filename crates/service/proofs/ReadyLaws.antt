@@ -2,10 +2,10 @@
 use Prim.Native.Nat.{ℕ, _<_}
 use native.Mathlib.Omega.{arith}
 use mathlib.Core.Path.{_≡_, refl, sym, _∙_}
-use mathlib.Core.Bool.{true}
+use mathlib.Core.Bool.{true, _&&_}
 use mathlib.Core.List.{List, [], _∷_, map}
 use mathlib.Core.Option.{Option, none, some}
-use lib.Dec.{eqb}
+use lib.Dec.{eqb, leb}
 use lib.ListN.{length}
 use borrow.Author.Tests.{eq-eqb, ne-eqb}
 use Rattle.rules.specs.declared.Packet.{Packet}
@@ -15,7 +15,7 @@ use Rattle.rules.specs.Model.{first-notice}
 use Rattle.rules.specs.Service.{first}
 use Rattle.rules.specs.SoundTest.{serves, serves-notice, busy-sound, line-sound}
 use Rattle.rules.proofs.Sums.{cond-is}
-use Rattle.rules.proofs.Tests.{never}
+use Rattle.rules.proofs.Tests.{never, and-true}
 use Rattle.tables.specs.Table.{formed}
 use Rattle.tables.specs.Places.{rows, place, packet-of, places-length}
 use Rattle.tables.specs.Notices.{notice-of, notices, notices-formed}
@@ -30,7 +30,10 @@ module _ (h : Hub) (cs t q : List ℕ) where
   -- the number in service has a row: of its connection in the places table, or of the first notice
   served : line-sound (view h cs t q) ≡ true → (h .units ≡ 0 → ⊥) → busy-sound (view h cs t q) ≡ true
   unfolding line-sound
-  served l n = sym (cond-is (eqb (h .serving) 0) (busy-sound (view h cs t q)) (ne-eqb (h .units) 0 n)) ∙ l
+  served l n =
+      let idle = eqb (h .serving) 0 && leb (h .silent) (h .link .silence) in
+      let busy = eqb (h .silent) 0 && busy-sound (view h cs t q) in
+      and-true (eqb (h .silent) 0) (busy-sound (view h cs t q)) (sym (cond-is idle busy (ne-eqb (h .units) 0 n)) ∙ l) .1
 
   served-held : line-sound (view h cs t q) ≡ true → (h .units ≡ 0 → ⊥) → (h .serving ≡ notice-number → ⊥) → place (h .serving) (rows t) < length (rows t)
   served-held l n away =

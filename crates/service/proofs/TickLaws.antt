@@ -28,9 +28,9 @@ use Rattle.service.specs.Candidates.{best-of, level-in}
 use Rattle.service.specs.View.{view, hub-of, passed-on, Gives}
 use Rattle.service.specs.Ready.{In-place}
 
--- the hub with the line given anew
-abbrev pub lined : Hub → ℕ × ℕ → Hub
-lined h l = hub-of (with-line (view h [] [] []) (l .0) (l .1))
+-- the hub with the line given anew: what is in service, and the silence
+abbrev pub lined : Hub → ℕ × ℕ → ℕ → Hub
+lined h l silent = hub-of (with-line (view h [] [] []) (l .0) (l .1) silent)
 
 -- ---- step 1
 
@@ -55,28 +55,37 @@ module _ (h : Hub) (cs t q : List ℕ) where
   pub busy : (h .units ≡ 0 → ⊥) → h ≡ hub-of (started (view h cs t q))
   busy n = go (h .units) refl
     where
-      go : (u : ℕ) → h .units ≡ u → h ≡ lined h (line-after-start (view h cs t q) u)
+      go : (u : ℕ) → h .units ≡ u → h ≡ lined h (line-after-start (view h cs t q) u (h .silent)) (h .silent)
       go zero e = absurd (n e)
       go (suc u) e = rw (← e)
 
-  module _ (b : Best) (z : h .units ≡ 0) (e : b ≡ best-of (choice (level-in cs) (h .clock) (rows t))) where
+  -- while the silence runs nothing starts
+  pub waits : h .units ≡ 0 → (h .silent ≡ 0 → ⊥) → h ≡ hub-of (started (view h cs t q))
+  waits z n = go (h .units) (h .silent) refl refl
+    where
+      go : (u d : ℕ) → h .units ≡ u → h .silent ≡ d → h ≡ lined h (line-after-start (view h cs t q) u d) (h .silent)
+      go zero zero i e = absurd (n e)
+      go zero (suc d) i e = ap (λ (u : ℕ). lined h (h .serving, u) (h .silent)) i
+      go (suc u) d i e = absurd (omega arith)
+
+  module _ (b : Best) (z : h .units ≡ 0) (y : h .silent ≡ 0) (e : b ≡ best-of (choice (level-in cs) (h .clock) (rows t))) where
     -- an idle line takes what was chosen
-    pub takes-packet : b .found ≡ true → lined h (b .packet .connection, b .packet .len) ≡ hub-of (started (view h cs t q))
+    pub takes-packet : b .found ≡ true → lined h (b .packet .connection, b .packet .len) 0 ≡ hub-of (started (view h cs t q))
     takes-packet f =
-        ap (λ (d : Best). lined h (d .packet .connection, d .packet .len)) e
-        ∙ rw z (go (choice (level-in cs) (h .clock) (rows t)) (sym (ap (λ (d : Best). d .found) e) ∙ f))
+        ap (λ (d : Best). lined h (d .packet .connection, d .packet .len) 0) e
+        ∙ rw (z, y) (go (choice (level-in cs) (h .clock) (rows t)) (sym (ap (λ (d : Best). d .found) e) ∙ f))
       where
-        go : (o : Option Packet) → best-of o .found ≡ true → lined h (best-of o .packet .connection, best-of o .packet .len) ≡ lined h (takes o (notices q))
+        go : (o : Option Packet) → best-of o .found ≡ true → lined h (best-of o .packet .connection, best-of o .packet .len) 0 ≡ lined h (takes o (notices q)) 0
         go none i = never i
         go (some p) i = refl
 
     -- where nothing was chosen, the first notice; an unused row is nothing
-    pub takes-notice : b .found ≡ false → notices-formed q ≡ true → lined h (row-at q 0 .connection, row-at q 0 .len) ≡ hub-of (started (view h cs t q))
+    pub takes-notice : b .found ≡ false → notices-formed q ≡ true → lined h (row-at q 0 .connection, row-at q 0 .len) 0 ≡ hub-of (started (view h cs t q))
     takes-notice f n =
-        ap (lined h) (sym (first-taken q n))
-        ∙ rw z (go (choice (level-in cs) (h .clock) (rows t)) (sym (ap (λ (d : Best). d .found) e) ∙ f))
+        ap (λ (l : ℕ × ℕ). lined h l 0) (sym (first-taken q n))
+        ∙ rw (z, y) (go (choice (level-in cs) (h .clock) (rows t)) (sym (ap (λ (d : Best). d .found) e) ∙ f))
       where
-        go : (o : Option Packet) → best-of o .found ≡ false → lined h (takes none (notices q)) ≡ lined h (takes o (notices q))
+        go : (o : Option Packet) → best-of o .found ≡ false → lined h (takes none (notices q)) 0 ≡ lined h (takes o (notices q)) 0
         go none i = refl
         go (some p) i = never (sym i)
 
@@ -107,17 +116,18 @@ module _ (level : ℕ → ℕ) (t : ℕ) where
       taken (some p) k = cond-ind (Held (q ∷ ps)) (goes-first level q p) {x = some q} {y = some p} (λ _. here) (λ _. behind (some p) k)
 
 module _ (h : Hub) (cs t q : List ℕ) (others : All (λ p. p .connection ≡ notice-number → ⊥) (rows t)) (f : In-place h t q) where
-  abbrev after : ℕ → ℕ × ℕ
-  after u = line-after-start (view h cs t q) u
+  abbrev after : ℕ → ℕ → ℕ × ℕ
+  after u silent = line-after-start (view h cs t q) u silent
 
   -- what is in service is the first row of its connection, or the first notice
   record Served (l : ℕ × ℕ) : Type 0 where
     packet : (l .1 ≡ 0 → ⊥) → (l .0 ≡ notice-number → ⊥) → place (l .0) (rows t) < length (rows t)
     notice : (l .1 ≡ 0 → ⊥) → l .0 ≡ notice-number → 0 < length (rows q)
 
-  served : (u : ℕ) → h .units ≡ u → Served (after u)
-  served (suc u) e = record { packet = λ n a. f .line (λ z. omega arith) a; notice = λ n i. f .notice-line (λ z. omega arith) i }
-  served zero e = go (choice (level-in cs) (h .clock) (rows t)) (choice-held (level-in cs) (h .clock) (rows t) others) (rows q) refl
+  served : (u silent : ℕ) → h .units ≡ u → Served (after u silent)
+  served (suc u) silent e = record { packet = λ n a. f .line (λ z. omega arith) a; notice = λ n i. f .notice-line (λ z. omega arith) i }
+  served zero (suc silent) e = record { packet = λ n a. absurd (n refl); notice = λ n i. absurd (n refl) }
+  served zero zero e = go (choice (level-in cs) (h .clock) (rows t)) (choice-held (level-in cs) (h .clock) (rows t) others) (rows q) refl
     where
       go : (o : Option Packet) → Held (rows t) o → (ps : List Packet) → rows q ≡ ps → Served (takes o (map notice-of ps))
       go (some p) k ps i = record { packet = λ n a. k .0; notice = λ n e. absurd (k .1 e) }
@@ -126,7 +136,7 @@ module _ (h : Hub) (cs t q : List ℕ) (others : All (λ p. p .connection ≡ no
 
   pub in-place-then : (g : Hub) → g ≡ hub-of (started (view h cs t q)) → In-place g t q
   in-place-then g e =
-      let s = served (h .units) refl in
+      let s = served (h .units) (h .silent) refl in
       subst (λ (k : Hub). In-place k t q) (sym e)
       (record { table = f .table; size = f .size; notices = f .notices; time = f .time; line = s .packet; notice-line = s .notice })
 
@@ -139,30 +149,30 @@ module _ (g : Hub) (t q : List ℕ) (e : t ≡ places (rows t)) (f : notices-for
   abbrev Sent : ℕ → Told → List ℕ → List ℕ → Type 0
   Sent u r s n = Gives (after-unit (view g [] t q) u) r s n
 
-  -- an idle line
-  pub still : g .units ≡ 0 → Sent (g .units) (passed-on (lined g (0, 0)) false no-packet) t q
+  -- nothing in service
+  pub still : g .units ≡ 0 → Sent (g .units) (passed-on (lined g (0, 0) (g .silent - 1)) false no-packet) t q
   still z = rw z (refl, e, notices-back q f)
 
   -- a unit that is not the last
-  pub goes-on : (g .units ≡ 0 → ⊥) → (g .units ≡ 1 → ⊥) → Sent (g .units) (passed-on (lined g (g .serving, g .units - 1)) false no-packet) t q
+  pub goes-on : (g .units ≡ 0 → ⊥) → (g .units ≡ 1 → ⊥) → Sent (g .units) (passed-on (lined g (g .serving, g .units - 1) (g .silent)) false no-packet) t q
   goes-on n m = go (g .units) refl
     where
-      go : (u : ℕ) → g .units ≡ u → Sent (g .units) (passed-on (lined g (g .serving, g .units - 1)) false no-packet) t q
+      go : (u : ℕ) → g .units ≡ u → Sent (g .units) (passed-on (lined g (g .serving, g .units - 1) (g .silent)) false no-packet) t q
       go zero i = absurd (n i)
       go (suc zero) i = absurd (m i)
       go (suc (suc u)) i = let k : g .units - 1 ≡ suc u = omega arith in rw (k, i) (refl, e, notices-back q f)
 
   -- the last unit of a packet: row i, the first of the connection in service, goes
   pub goes-off : (i : ℕ) → (g .serving ≡ notice-number → ⊥) → i ≡ place (g .serving) (rows t) → i < length (rows t)
-      → Sent 1 (passed-on (lined g (0, 0)) true (row-at t i)) (places (cut i (rows t))) q
+      → Sent 1 (passed-on (lined g (0, 0) (g .link .silence)) true (row-at t i)) (places (cut i (rows t))) q
   goes-off i away at l =
       let k : place (g .serving) (rows t) < length (rows t) = omega arith in
-      subst (λ (a : Answer). Gives a (passed-on (lined g (0, 0)) true (row-at t i)) (places (cut i (rows t))) q) (sym (last-of-packet (view g [] t q) away))
+      subst (λ (a : Answer). Gives a (passed-on (lined g (0, 0) (g .link .silence)) true (row-at t i)) (places (cut i (rows t))) q) (sym (last-of-packet (view g [] t q) away))
       (rw (first-place (g .serving) (rows t) k, row-is t (place (g .serving) (rows t)) k, without-cut (g .serving) (rows t), at) (refl, refl, notices-back q f))
 
   -- the last unit of a notice: the first row goes
   pub notice-goes-off : g .serving ≡ notice-number → 0 < length (rows q)
-      → Sent 1 (passed-on (lined g (0, 0)) true (row-at q 0)) t (table-of (length q) (cut 0 (rows q)))
+      → Sent 1 (passed-on (lined g (0, 0) (g .link .silence)) true (row-at q 0)) t (table-of (length q) (cut 0 (rows q)))
   notice-goes-off i l =
       let r = rows-from q 0 l in
       let m = and-true (marked (row-at q 0)) (each marked (drop 1 (rows q))) (ap (each marked) (sym r) ∙ rows-marked q f) in
@@ -170,7 +180,7 @@ module _ (g : Hub) (t q : List ℕ) (e : t ≡ places (rows t)) (f : notices-for
       let ns = map notice-of (drop 1 (rows q)) in
       let back : written-notices ns ≡ table-of (length q) (drop 1 (rows q))
       = ap (table-of notices-length) (marked-rows (drop 1 (rows q)) (m .1)) ∙ ap (λ (k : ℕ). table-of k (drop 1 (rows q))) (sym (notices-length-is q f)) in
-      subst (λ (a : Answer). Gives a (passed-on (lined g (0, 0)) true (row-at q 0)) t (table-of (length q) (cut 0 (rows q))))
+      subst (λ (a : Answer). Gives a (passed-on (lined g (0, 0) (g .link .silence)) true (row-at q 0)) t (table-of (length q) (cut 0 (rows q))))
       (sym (last-of-notice (view g [] t q) n ns i (first-row q l)))
       (rw (marked-row (row-at q 0) (m .0)) (refl, e, sym back))
 

@@ -1,5 +1,5 @@
 -- THE TIE: the state of the rules that a hub and three lent tables stand for, and an answer of the rules as the code gives it.
--- Document 01, "Link, connections, places" and "One tick". Assumes nothing.
+-- Document 01, "Link, connections, places" and "One tick"; document 02, R-4. Assumes nothing.
 use Prim.Native.Nat.{ℕ}
 use mathlib.Core.Path.{_≡_}
 use mathlib.Core.Bool.{Bool, false}
@@ -17,11 +17,11 @@ use Rattle.service.specs.Candidates.{is-some, packet-or-unused}
 
 -- the state that the hub, the table of connections, the places table and the table of notices stand for
 abbrev pub view : Hub → List ℕ → List ℕ → List ℕ → State
-view h cs t q = state-read (h .link) cs t q (h .clock) (h .serving) (h .units)
+view h cs t q = state-read (h .link) cs t q (h .clock) (h .serving) (h .units) (h .silent)
 
 -- the part of a state that no table holds
 abbrev pub hub-of : State → Hub
-hub-of s = record { link = s .link; clock = s .clock; serving = s .serving; units = s .to-go }
+hub-of s = record { link = s .link; clock = s .clock; serving = s .serving; units = s .to-go; silent = s .silent }
 
 -- an answer of the rules, as the code gives it
 abbrev pub told-of : Answer → Told
@@ -38,7 +38,7 @@ refusal h verdict number = refusal-short h verdict number no-short
 -- step 3: "the clock becomes t + 1. The answer is the departed packet or nothing"
 abbrev pub passed-on : Hub → Bool → Packet → Told
 passed-on h gone packet =
-    record { verdict = 0; number = 0; short = shortage-of no-short; gone = gone; packet = packet; hub = hub-of (later (view h [] [] []) [] [] (h .serving) (h .units)) }
+    record { verdict = 0; number = 0; short = shortage-of no-short; gone = gone; packet = packet; hub = hub-of (later (view h [] [] []) [] [] (h .serving) (h .units) (h .silent)) }
 
 -- what is told, and the places table and the table of notices then, are those of an answer of the rules
 abbrev pub Gives : Answer → Told → List ℕ → List ℕ → Type 0

@@ -1,8 +1,9 @@
-// One tick of the line: the choice of the next packet in one pass over the rows, and the three steps. Document 01, "One tick"; document 02, R-1.
+// One tick of the line: the choice of the next packet in one pass over the rows, and the three steps. Document 01, "One tick"; document 02, R-1
+// and R-4.
 ghost use mathlib.Core.Path.{_≡_};
 ghost use mathlib.Core.Bool.{true};
 ghost use mathlib.Core.List.{[]};
-ghost use Prim.Native.Nat.{_<_};
+ghost use Prim.Native.Nat.{_-_, _<_};
 ghost use Rattle.rules.specs.Limits.{clock-end, notice-number};
 ghost use Rattle.rules.specs.Service.{choice, with-line, started, after-unit, ticked};
 ghost use Rattle.tables.specs.Table.{formed};
@@ -18,12 +19,13 @@ use rules::Link;
 use rules::Packet;
 use tables::NOTICE_NUMBER;
 
-// The part of the state that no table holds. While `units` is 0 the line is idle, and `serving` is 0 too.
+// The part of the state that no table holds. While `units` is 0 nothing is in service, and `serving` is 0 too. `silent` is the silence still to run.
 pub struct Hub {
     pub link: Link,
     pub clock: u32,
     pub serving: u32,
     pub units: u32,
+    pub silent: u32,
 }
 
 // The answer of a call, and the hub after it. `short` is what the level test said of an admission refused for it, else zeros. `packet` is the departed one
@@ -92,16 +94,28 @@ pub fn choose(cs: &[u32], t: &[u32], clock: u32) -> Best
 }
 
 // The hub with the line given anew.
-fn with_line(h: Hub, serving: u32, units: u32) -> Hub
-    ensures { λ r. ⌜ r ≡ hub-of (with-line (view h [] [] []) serving units) ⌝ }
+fn with_line(h: Hub, serving: u32, units: u32, silent: u32) -> Hub
+    ensures { λ r. ⌜ r ≡ hub-of (with-line (view h [] [] []) serving units silent) ⌝ }
 {
     let mut g = h;
     g.serving = serving;
     g.units = units;
+    g.silent = silent;
     g
 }
 
-// Step 1: an idle line takes the chosen packet, else the first notice. While one is in service nothing interrupts it, so no row is looked at.
+// A tick of the silence runs, if one is left.
+fn one_less(silent: u32) -> u32
+    ensures { λ r. ⌜ r ≡ silent - 1 ⌝ }
+{
+    if silent == 0 {
+        return 0;
+    }
+    silent - 1
+}
+
+// Step 1: an idle line takes the chosen packet, else the first notice. Nothing interrupts what is in service, and nothing starts before the silence has
+// run, so no row is looked at then.
 fn start(h: Hub, cs: &[u32], t: &[u32], q: &[u32]) -> Hub
     requires { ⌜ (formed member-of members-length (now cs) ≡ true) × (now t ≡ places (rows (now t))) × (length (now t) ≡ places-length) × (notices-formed (now q) ≡ true) ⌝ }
     ensures { λ r. ⌜ r ≡ hub-of (started (view h (now (cs .entry)) (now (t .entry)) (now (q .entry)))) ⌝ }
@@ -109,13 +123,16 @@ fn start(h: Hub, cs: &[u32], t: &[u32], q: &[u32]) -> Hub
     if h.units != 0 {
         return h;
     }
+    if h.silent != 0 {
+        return h;
+    }
     let best = choose(cs, t, h.clock);
     if best.found {
-        return with_line(h, best.packet.connection, best.packet.len);
+        return with_line(h, best.packet.connection, best.packet.len, 0);
     }
     // where there is no notice its row is unused, and the zeros leave the line idle
     let first = tables::row(q, 0);
-    with_line(h, first.connection, first.len)
+    with_line(h, first.connection, first.len, 0)
 }
 
 // Step 3: the clock moves on. The answer is the departed packet or nothing.
@@ -135,7 +152,7 @@ fn pass(g: Hub, gone: bool, packet: Packet) -> Told
     }
 }
 
-// Step 2 at a last unit of a notice: it departs, its row is removed and the line is idle.
+// Step 2 at a last unit of a notice: it departs, its row is removed, and the link's silence is still to run.
 fn depart_notice(g: Hub, t: &[u32], q: &mut [u32]) -> Told
     requires { ⌜ In-place g (now t) (now q) × (g .units ≡ 1) × (g .serving ≡ notice-number) ⌝ }
     ensures { λ r. ⌜ Gives (after-unit (view g [] (now (t .entry)) (now (q .entry))) 1) r (now (t .entry)) (now (q .exit)) ⌝ }
@@ -143,7 +160,7 @@ fn depart_notice(g: Hub, t: &[u32], q: &mut [u32]) -> Told
     let waiting = tables::held(q);
     let p = tables::row(q, 0);
     tables::remove(q, waiting, 0);
-    let idle = with_line(g, 0, 0);
+    let idle = with_line(g, 0, 0, g.link.silence);
     pass(idle, true, p)
 }
 
@@ -156,17 +173,17 @@ fn depart(g: Hub, t: &mut [u32], q: &[u32]) -> Told
     let i = tables::find(t, held, g.serving);
     let p = tables::row(t, i);
     tables::remove(t, held, i);
-    let freed = with_line(g, 0, 0);
+    let freed = with_line(g, 0, 0, g.link.silence);
     pass(freed, true, p)
 }
 
-// Steps 2 and 3: a unit of what is in service goes, and the clock moves on.
+// Steps 2 and 3: a unit of what is in service goes, else a tick of the silence, and the clock moves on.
 fn send(g: Hub, t: &mut [u32], q: &mut [u32]) -> Told
     requires { ⌜ In-place g (now t) (now q) ⌝ }
     ensures { λ r. ⌜ Gives (after-unit (view g [] (now (t .entry)) (now (q .entry))) (g .units)) r (now (t .exit)) (now (q .exit)) ⌝ }
 {
     if g.units == 0 {
-        let idle = with_line(g, 0, 0);
+        let idle = with_line(g, 0, 0, one_less(g.silent));
         return pass(idle, false, tables::no_packet());
     }
     if g.units == 1 {
@@ -175,7 +192,7 @@ fn send(g: Hub, t: &mut [u32], q: &mut [u32]) -> Told
         }
         return depart(g, t, q);
     }
-    let sent = with_line(g, g.serving, g.units - 1);
+    let sent = with_line(g, g.serving, g.units - 1, g.silent);
     pass(sent, false, tables::no_packet())
 }
 

@@ -12,8 +12,8 @@ use borrow.Author.Tests.{le-leb, lt-leb}
 use Rattle.rules.specs.declared.Link.{Link}
 use Rattle.rules.specs.declared.Connection.{Connection}
 use Rattle.rules.specs.Words.{within}
-use Rattle.rules.specs.Limits.{max-levels, max-largest, max-bound, max-gap}
-use Rattle.rules.specs.Admission.{rising, link-within, level-within, figures-within}
+use Rattle.rules.specs.Limits.{max-levels, max-largest, max-silence, max-bound, max-gap}
+use Rattle.rules.specs.Admission.{rising, cost, link-within, level-within, figures-within}
 use Rattle.rules.proofs.Tests.{within-intro}
 use Rattle.tables.specs.Table.{zeros}
 use Rattle.sound.proofs.ChainLaws.{fails, goes-on, too-low, too-high}
@@ -59,9 +59,17 @@ module _ (l : Link) where
     unfolding link-within
     largest-out e = goes-on (within 1 max-levels (l .levels)) _ false n (fails (within 1 max-largest (l .largest)) _ e)
 
-    pub bounds-rest : within 1 max-largest (l .largest) ≡ true → (r : Bool) → r ≡ rising (l .largest) (l .levels) (l .bounds) → r ≡ link-within l
-    unfolding link-within
-    bounds-rest e r h = goes-on (within 1 max-levels (l .levels)) _ r n (goes-on (within 1 max-largest (l .largest)) _ r e h)
+    module _ (e : within 1 max-largest (l .largest) ≡ true) where
+      behind : (r : Bool) → r ≡ (leb (l .silence) max-silence && rising (cost l (l .largest)) (l .levels) (l .bounds)) → r ≡ link-within l
+      unfolding link-within
+      behind r h = goes-on (within 1 max-levels (l .levels)) _ r n (goes-on (within 1 max-largest (l .largest)) _ r e h)
+
+      pub silence-out : max-silence < l .silence → false ≡ link-within l
+      silence-out h = behind false (fails (leb (l .silence) max-silence) _ (lt-leb (l .silence) max-silence h))
+
+      pub bounds-rest : l .silence ≤ max-silence → (r : Bool) → r ≡ rising (l .largest + l .silence) (l .levels) (l .bounds) → r ≡ link-within l
+      unfolding cost
+      bounds-rest k r h = behind r (goes-on (leb (l .silence) max-silence) _ r (le-leb (l .silence) max-silence k) h)
 
 -- past the n-th bound: zeros, whatever came before
 rising-zeros : (low : ℕ) (ds : List ℕ) → rising low 0 ds ≡ zeros ds

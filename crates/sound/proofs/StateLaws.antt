@@ -116,7 +116,7 @@ module _ (l : Link) (t : ℕ) (p : Packet) where
     notice-rest h = goes-on (within 1 (l .largest) (p .len)) (leb (p .arrival) t) _ (within-intro 1 (l .largest) (p .len) one h) refl
 
 -- with few enough of them, the test of all is the test of each row
-pub notices-read : (l : Link) (q : List ℕ) (clock n : ℕ) → Waiting q n → each (row-notice l clock) (rows q) ≡ notices-sound (state-read l [] [] q clock 0 0)
+pub notices-read : (l : Link) (q : List ℕ) (clock n : ℕ) → Waiting q n → each (row-notice l clock) (rows q) ≡ notices-sound (state-read l [] [] q clock 0 0 0)
 unfolding notices-sound
 notices-read l q clock n k =
     goes-on (leb (length (notices q)) max-notices) _ _
@@ -127,59 +127,78 @@ notices-read l q clock n k =
     each-map [] = refl
     each-map (p ∷ ps) = ap (λ (b : Bool). row-notice l clock p && b) (each-map ps)
 
+-- ---- what is in service
+
+module _ (t q : List ℕ) (clock w u : ℕ) (busy : 1 ≤ u) where
+  abbrev in-service : Bool
+  in-service = busy-sound (state-read no-link [] t q clock w u 0)
+
+  -- a notice
+  module _ (e : w ≡ notice-number) where
+    noticed : in-service ≡ serves-notice (first-notice (notices q)) u
+    noticed = cond-is (serves-notice (first-notice (notices q)) u) (serves (first w (rows t)) u clock) (eq-eqb w notice-number e)
+
+    pub no-notice : length (rows q) ≡ 0 → false ≡ in-service
+    no-notice z = sym (noticed ∙ ap (λ (ns : List Notice). serves-notice (first-notice ns) u) (no-rows q z))
+
+    pub notice-units : 0 < length (rows q) → (n : Packet) → n ≡ row-at q 0 → leb u (n .len) ≡ in-service
+    notice-units h n is =
+        goes-on (leb 1 u) (leb u (n .len)) _ (le-leb 1 u busy) refl
+        ∙ ap (λ (p : Packet). within 1 (p .len) u) is
+        ∙ sym (noticed ∙ ap (λ (ns : List Notice). serves-notice (first-notice ns) u) (first-row q h))
+
+  -- a packet of a level
+  module _ (ne : w ≡ notice-number → ⊥) where
+    serving : in-service ≡ serves (first w (rows t)) u clock
+    serving = cond-is (serves-notice (first-notice (notices q)) u) (serves (first w (rows t)) u clock) (ne-eqb w notice-number ne)
+
+    pub no-row : length (rows t) ≤ place w (rows t) → false ≡ in-service
+    no-row h = sym (serving ∙ ap (λ (o : Option Packet). serves o u clock) (first-none w (rows t) h))
+
+    module _ (i : ℕ) (at : i ≡ place w (rows t)) (h : i < length (rows t)) (p : Packet) (is : p ≡ row-at t i) where
+      found : first w (rows t) ≡ some p
+      found =
+          first-place w (rows t) (omega arith)
+          ∙ ap (λ (j : ℕ). some (getD (rows t) j no-packet)) (sym at)
+          ∙ ap some (row-is t i h ∙ sym is)
+
+      pub row-units : p .len < u → false ≡ in-service
+      row-units l =
+          fails (within 1 (p .len) u) _ (too-high 1 (p .len) u busy l)
+          ∙ sym (serving ∙ ap (λ (o : Option Packet). serves o u clock) found)
+
+      pub row-eligible : u ≤ p .len → leb (p .eligibility) clock ≡ in-service
+      row-eligible l =
+          goes-on (within 1 (p .len) u) _ _ (within-intro 1 (p .len) u busy l) refl
+          ∙ sym (serving ∙ ap (λ (o : Option Packet). serves o u clock) found)
+
 -- ---- the line
 
-module _ (t q : List ℕ) (clock w u : ℕ) where
+module _ (l : Link) (t q : List ℕ) (clock w u z : ℕ) where
   abbrev line : State
-  line = state-read no-link [] t q clock w u
+  line = state-read l [] t q clock w u z
 
-  pub line-idle : u ≡ 0 → eqb w 0 ≡ line-sound line
-  unfolding line-sound
-  line-idle e = sym (cond-is (eqb w 0) (busy-sound line) (eq-eqb u 0 e))
+  module _ (e : u ≡ 0) where
+    idle : line-sound line ≡ (eqb w 0 && leb z (l .silence))
+    unfolding line-sound
+    idle = cond-is (eqb w 0 && leb z (l .silence)) (eqb z 0 && busy-sound line) (eq-eqb u 0 e)
+
+    pub line-serves : (w ≡ 0 → ⊥) → false ≡ line-sound line
+    line-serves n = fails (eqb w 0) (leb z (l .silence)) (ne-eqb w 0 n) ∙ sym idle
+
+    pub line-silent : w ≡ 0 → leb z (l .silence) ≡ line-sound line
+    line-silent n = goes-on (eqb w 0) (leb z (l .silence)) _ (eq-eqb w 0 n) refl ∙ sym idle
 
   module _ (busy : u ≡ 0 → ⊥) where
-    taken : line-sound line ≡ busy-sound line
+    taken : line-sound line ≡ (eqb z 0 && busy-sound line)
     unfolding line-sound
-    taken = cond-is (eqb w 0) (busy-sound line) (ne-eqb u 0 busy)
+    taken = cond-is (eqb w 0 && leb z (l .silence)) (eqb z 0 && busy-sound line) (ne-eqb u 0 busy)
 
-    -- by a notice
-    module _ (e : w ≡ notice-number) where
-      noticed : line-sound line ≡ serves-notice (first-notice (notices q)) u
-      noticed = taken ∙ cond-is (serves-notice (first-notice (notices q)) u) (serves (first w (rows t)) u clock) (eq-eqb w notice-number e)
+    pub line-not-alone : (z ≡ 0 → ⊥) → false ≡ line-sound line
+    line-not-alone n = fails (eqb z 0) (busy-sound line) (ne-eqb z 0 n) ∙ sym taken
 
-      pub line-no-notice : length (rows q) ≡ 0 → false ≡ line-sound line
-      line-no-notice z = sym (noticed ∙ ap (λ (ns : List Notice). serves-notice (first-notice ns) u) (no-rows q z))
-
-      pub line-notice : 0 < length (rows q) → (n : Packet) → n ≡ row-at q 0 → leb u (n .len) ≡ line-sound line
-      line-notice h n is =
-          goes-on (leb 1 u) (leb u (n .len)) _ (le-leb 1 u (omega (arith, busy))) refl
-          ∙ ap (λ (p : Packet). within 1 (p .len) u) is
-          ∙ sym (noticed ∙ ap (λ (ns : List Notice). serves-notice (first-notice ns) u) (first-row q h))
-
-    -- by a packet of a level
-    module _ (ne : w ≡ notice-number → ⊥) where
-      serving : line-sound line ≡ serves (first w (rows t)) u clock
-      serving = taken ∙ cond-is (serves-notice (first-notice (notices q)) u) (serves (first w (rows t)) u clock) (ne-eqb w notice-number ne)
-
-      pub line-none : length (rows t) ≤ place w (rows t) → false ≡ line-sound line
-      line-none h = sym (serving ∙ ap (λ (o : Option Packet). serves o u clock) (first-none w (rows t) h))
-
-      module _ (i : ℕ) (at : i ≡ place w (rows t)) (h : i < length (rows t)) (p : Packet) (is : p ≡ row-at t i) where
-        found : first w (rows t) ≡ some p
-        found =
-            first-place w (rows t) (omega arith)
-            ∙ ap (λ (j : ℕ). some (getD (rows t) j no-packet)) (sym at)
-            ∙ ap some (row-is t i h ∙ sym is)
-
-        pub line-short : p .len < u → false ≡ line-sound line
-        line-short l =
-            fails (within 1 (p .len) u) _ (too-high 1 (p .len) u (omega (arith, busy)) l)
-            ∙ sym (serving ∙ ap (λ (o : Option Packet). serves o u clock) found)
-
-        pub line-rest : u ≤ p .len → leb (p .eligibility) clock ≡ line-sound line
-        line-rest l =
-            goes-on (within 1 (p .len) u) _ _ (within-intro 1 (p .len) u (omega (arith, busy)) l) refl
-            ∙ sym (serving ∙ ap (λ (o : Option Packet). serves o u clock) found)
+    pub line-rest : z ≡ 0 → (r : Bool) → r ≡ busy-sound (state-read no-link [] t q clock w u 0) → r ≡ line-sound line
+    line-rest n r h = goes-on (eqb z 0) (busy-sound line) r (eq-eqb z 0 n) h ∙ sym taken
 
 -- ---- with no link set
 
@@ -193,7 +212,7 @@ module _ (l : Link) (cs : List ℕ) where
   abbrev all-figures : Bool
   all-figures = every (length (connections cs)) (λ c. connection-sound l (nth (connections cs) c))
 
-  pub admissions-read : admissions-sound (state-read l cs [] [] 0 0 0)
+  pub admissions-read : admissions-sound (state-read l cs [] [] 0 0 0 0)
       ≡ (link-within l && (leb (length (connections cs)) max-connections && (all-figures && (passes l (connections cs) && leb (reserved l (connections cs)) max-reserved))))
   unfolding admissions-sound
   admissions-read =
@@ -208,37 +227,36 @@ module _ (l : Link) (cs : List ℕ) where
 
 -- ---- the parts of a state that each clause looks at
 
-module _ (l : Link) (cs t q : List ℕ) (clock w u : ℕ) where
-  pub admissions-alone : admissions-sound (state-read l cs [] [] 0 0 0) ≡ admissions-sound (state-read l cs t q clock w u)
+module _ (l : Link) (cs t q : List ℕ) (clock w u z : ℕ) where
+  pub admissions-alone : admissions-sound (state-read l cs [] [] 0 0 0 0) ≡ admissions-sound (state-read l cs t q clock w u z)
   unfolding admissions-sound
   admissions-alone = refl
 
-  pub rows-alone : rows-sound (state-read l cs t [] clock 0 0) ≡ rows-sound (state-read l cs t q clock w u)
+  pub rows-alone : rows-sound (state-read l cs t [] clock 0 0 0) ≡ rows-sound (state-read l cs t q clock w u z)
   unfolding rows-sound
   rows-alone = refl
 
-  pub notices-alone : notices-sound (state-read l [] [] q clock 0 0) ≡ notices-sound (state-read l cs t q clock w u)
+  pub notices-alone : notices-sound (state-read l [] [] q clock 0 0 0) ≡ notices-sound (state-read l cs t q clock w u z)
   unfolding notices-sound
   notices-alone = refl
 
-  pub line-alone : line-sound (state-read no-link [] t q clock w u) ≡ line-sound (state-read l cs t q clock w u)
+  pub line-alone : line-sound (state-read l [] t q clock w u z) ≡ line-sound (state-read l cs t q clock w u z)
   unfolding line-sound
   line-alone = refl
 
   -- with no link set
   pub unused-read : (n held waiting : ℕ) → n ≡ length (members cs) → held ≡ length (rows t) → waiting ≡ length (rows q) → length (l .bounds) ≡ max-levels
-      → unused l n held waiting clock w u ≡ nothing-used (state-read l cs t q clock w u)
+      → unused l n held waiting clock w u z ≡ nothing-used (state-read l cs t q clock w u z)
   unfolding nothing-used
   unused-read n held waiting e f h g =
       rw (e, f, h, zeros-each (l .bounds), eq-eqb (length (l .bounds)) max-levels g)
       (rw (length-map (members cs) connection-of, length-map (members cs) past-of, length-map (rows q) notice-of)
-      (regroup (eqb (l .largest) 0) (each (λ d. eqb d 0) (l .bounds)) (eqb (length (members cs)) 0) _))
+      (twice (eqb (l .largest) 0 && (eqb (l .silence) 0 && each (λ d. eqb d 0) (l .bounds))) (eqb (length (members cs)) 0) _))
     where
-      regroup : (a b c d : Bool) → (a && (b && (c && d))) ≡ ((a && (true && b)) && (c && (c && d)))
-      regroup true true true d = refl
-      regroup true true false d = refl
-      regroup true false c d = refl
-      regroup false b c d = refl
+      twice : (a c d : Bool) → (a && (c && d)) ≡ (a && (c && (c && d)))
+      twice true true d = refl
+      twice true false d = refl
+      twice false c d = refl
 
 -- ---- the clock and the rows
 
@@ -247,9 +265,9 @@ module _ (l : Link) (cs t : List ℕ) (clock : ℕ) where
   by-row = each (row-sound (connections cs) clock) (rows t)
 
   abbrev by-connection : Bool
-  by-connection = paced (connections cs) clock [] (rows t) && every (length (connections cs)) (queue-sound (state-read l cs t [] clock 0 0))
+  by-connection = paced (connections cs) clock [] (rows t) && every (length (connections cs)) (queue-sound (state-read l cs t [] clock 0 0 0))
 
-  pub rows-read : rows-sound (state-read l cs t [] clock 0 0) ≡ (leb clock clock-end && (by-row && by-connection))
+  pub rows-read : rows-sound (state-read l cs t [] clock 0 0 0) ≡ (leb clock clock-end && (by-row && by-connection))
   unfolding rows-sound
   rows-read = refl
 
@@ -270,7 +288,7 @@ module _ (l : Link) (cs t : List ℕ) (clock : ℕ) where
 
 -- ---- the whole
 
-pub admissions-safe : (l : Link) (cs : List ℕ) → admissions-sound (state-read l cs [] [] 0 0 0) ≡ true → Within l (connections cs)
+pub admissions-safe : (l : Link) (cs : List ℕ) → admissions-sound (state-read l cs [] [] 0 0 0 0) ≡ true → Within l (connections cs)
 admissions-safe l cs h =
     let k = and-true (link-within l) _ (sym (admissions-read l cs) ∙ h) in
     let f = and-true (leb (length (connections cs)) max-connections) _ (k .1) in

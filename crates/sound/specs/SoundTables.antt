@@ -20,13 +20,16 @@ use Rattle.lines.specs.StateRead.{state-read}
 unfoldable pub places-formed : List ℕ → Bool
 places-formed t = formed packet-of places-length t
 
-unfoldable pub sound-tables : Link → List ℕ → List ℕ → List ℕ → ℕ → ℕ → ℕ → Bool
-sound-tables l cs t q clock serving to-go = places-formed t && (members-formed cs && (notices-formed q && sound (state-read l cs t q clock serving to-go)))
+unfoldable pub sound-tables : Link → List ℕ → List ℕ → List ℕ → ℕ → ℕ → ℕ → ℕ → Bool
+sound-tables l cs t q clock serving to-go silent = places-formed t && (members-formed cs && (notices-formed q && sound (state-read l cs t q clock serving to-go silent)))
 
 -- with no link set, everything is zero: the link, n connections, so many packets held and notices waiting, the clock and the line
-abbrev pub unused : Link → ℕ → ℕ → ℕ → ℕ → ℕ → ℕ → Bool
-unused l n held waiting clock serving to-go =
-    eqb (l .largest) 0 && (zeros (l .bounds) && (eqb n 0 && (eqb clock 0 && (eqb held 0 && (eqb waiting 0 && (eqb serving 0 && eqb to-go 0))))))
+abbrev pub blank : Link → Bool
+blank l = eqb (l .largest) 0 && (eqb (l .silence) 0 && zeros (l .bounds))
+
+abbrev pub unused : Link → ℕ → ℕ → ℕ → ℕ → ℕ → ℕ → ℕ → Bool
+unused l n held waiting clock serving to-go silent =
+    blank l && (eqb n 0 && (eqb clock 0 && (eqb held 0 && (eqb waiting 0 && (eqb serving 0 && (eqb to-go 0 && eqb silent 0))))))
 
 -- how many connections and rows two formed tables have
 pub record Counted (cs t : List ℕ) (n held : ℕ) : Type 0 where

@@ -9,13 +9,13 @@ ghost use Rattle.rules.specs.Words.{every, each};
 ghost use Rattle.rules.specs.Limits.{max-levels, max-connections};
 ghost use Rattle.rules.specs.Model.{nth, no-link};
 ghost use Rattle.rules.specs.Admission.{rising, link-within, level-within, figures-within, passes};
-ghost use Rattle.rules.specs.SoundTest.{connection-sound, admissions-sound, row-sound, rows-sound, notice-sound, notices-sound, line-sound};
+ghost use Rattle.rules.specs.SoundTest.{connection-sound, admissions-sound, row-sound, rows-sound, notice-sound, notices-sound, busy-sound, line-sound};
 ghost use Rattle.tables.specs.Places.{rows};
 ghost use Rattle.tables.specs.Notices.{notice-of, marked, notices-formed};
 ghost use Rattle.lines.specs.Members.{members, connections, members-formed};
 ghost use Rattle.lines.specs.Within.{Within};
 ghost use Rattle.lines.specs.StateRead.{state-read};
-ghost use Rattle.sound.specs.SoundTables.{places-formed, unused, Counted, Waiting, linked-sound, sound-tables};
+ghost use Rattle.sound.specs.SoundTables.{places-formed, blank, unused, Counted, Waiting, linked-sound, sound-tables};
 use lines::MAX_CONNECTIONS;
 use lines::MAX_LEVELS;
 use rules::Connection;
@@ -24,6 +24,8 @@ use rules::Packet;
 use tables::NOTICE_NUMBER;
 
 const MAX_LARGEST: u32 = 2048;
+
+const MAX_SILENCE: u32 = 64;
 
 const MAX_BOUND: u32 = 32768;
 
@@ -70,8 +72,11 @@ pub fn link_ok(l: Link) -> bool
     if MAX_LARGEST < l.largest {
         return false;
     }
+    if MAX_SILENCE < l.silence {
+        return false;
+    }
     let bounds = l.bounds;
-    bounds_ok(l.largest, l.levels as usize, bounds)
+    bounds_ok(l.largest + l.silence, l.levels as usize, bounds)
 }
 
 // Level 1 to n.
@@ -138,7 +143,7 @@ fn tests_ok(l: Link, cs: &[u32], n: usize) -> bool
 // Link, connections, tests and reservations within the rules.
 fn admissions_ok(l: Link, cs: &[u32], n: usize) -> bool
     requires { ⌜ n ≡ length (members (now cs)) ⌝ }
-    ensures { λ r. ⌜ r ≡ admissions-sound (state-read l (now (cs .entry)) [] [] 0 0 0) ⌝ }
+    ensures { λ r. ⌜ r ≡ admissions-sound (state-read l (now (cs .entry)) [] [] 0 0 0 0) ⌝ }
 {
     if !link_ok(l) {
         return false;
@@ -207,7 +212,7 @@ fn notice_ok(l: Link, clock: u32, p: Packet) -> bool
 
 fn notices_ok(l: Link, q: &[u32], waiting: usize, clock: u32) -> bool
     requires { ⌜ Waiting (now q) waiting ⌝ }
-    ensures { λ r. ⌜ r ≡ notices-sound (state-read l [] [] (now (q .entry)) clock 0 0) ⌝ }
+    ensures { λ r. ⌜ r ≡ notices-sound (state-read l [] [] (now (q .entry)) clock 0 0 0) ⌝ }
 {
     let mut i: usize = 0;
     while i < waiting {
@@ -220,8 +225,8 @@ fn notices_ok(l: Link, q: &[u32], waiting: usize, clock: u32) -> bool
     true
 }
 
-// An idle line serves nobody; else the first row of the connection in service is eligible and has so many units; or the first notice has.
-fn line_ok(
+// What is in service: the first row of its connection is eligible and has so many units; or the first notice has.
+fn service_ok(
     t: &[u32],
     held: usize,
     q: &[u32],
@@ -230,12 +235,9 @@ fn line_ok(
     serving: u32,
     units: u32,
 ) -> bool
-    requires { ⌜ (held ≡ length (rows (now t))) × (waiting ≡ length (rows (now q))) ⌝ }
-    ensures { λ r. ⌜ r ≡ line-sound (state-read no-link [] (now (t .entry)) (now (q .entry)) clock serving units) ⌝ }
+    requires { ⌜ (held ≡ length (rows (now t))) × (waiting ≡ length (rows (now q))) × (1 ≤ units) ⌝ }
+    ensures { λ r. ⌜ r ≡ busy-sound (state-read no-link [] (now (t .entry)) (now (q .entry)) clock serving units 0) ⌝ }
 {
-    if units == 0 {
-        return serving == 0;
-    }
     if serving == NOTICE_NUMBER {
         if waiting == 0 {
             return false;
@@ -254,6 +256,47 @@ fn line_ok(
     p.eligibility <= clock
 }
 
+// An idle line serves nobody, and has no more silence to run than the link's; a line that serves has none.
+fn line_ok(
+    l: Link,
+    t: &[u32],
+    held: usize,
+    q: &[u32],
+    waiting: usize,
+    clock: u32,
+    serving: u32,
+    units: u32,
+    silent: u32,
+) -> bool
+    requires { ⌜ (held ≡ length (rows (now t))) × (waiting ≡ length (rows (now q))) ⌝ }
+    ensures { λ r. ⌜ r ≡ line-sound (state-read l [] (now (t .entry)) (now (q .entry)) clock serving units silent) ⌝ }
+{
+    if units == 0 {
+        if serving != 0 {
+            return false;
+        }
+        return silent <= l.silence;
+    }
+    if silent != 0 {
+        return false;
+    }
+    service_ok(t, held, q, waiting, clock, serving, units)
+}
+
+// No link: its numbers are zero.
+fn blank_ok(l: Link) -> bool
+    ensures { λ r. ⌜ r ≡ blank l ⌝ }
+{
+    if l.largest != 0 {
+        return false;
+    }
+    if l.silence != 0 {
+        return false;
+    }
+    let bounds = l.bounds;
+    tables::zero_from(&bounds, 0)
+}
+
 // With no link set, everything is zero.
 fn unused_ok(
     l: Link,
@@ -263,14 +306,11 @@ fn unused_ok(
     clock: u32,
     serving: u32,
     units: u32,
+    silent: u32,
 ) -> bool
-    ensures { λ r. ⌜ r ≡ unused l n held waiting clock serving units ⌝ }
+    ensures { λ r. ⌜ r ≡ unused l n held waiting clock serving units silent ⌝ }
 {
-    if l.largest != 0 {
-        return false;
-    }
-    let bounds = l.bounds;
-    if !tables::zero_from(&bounds, 0) {
+    if !blank_ok(l) {
         return false;
     }
     if n != 0 {
@@ -288,7 +328,10 @@ fn unused_ok(
     if serving != 0 {
         return false;
     }
-    units == 0
+    if units != 0 {
+        return false;
+    }
+    silent == 0
 }
 
 // The places table has its length, and zeros behind its rows.
@@ -374,7 +417,7 @@ fn members_ok(cs: &[u32]) -> bool
 // The clock, the rows by themselves, and the rows of each connection among themselves.
 fn held_ok(l: Link, cs: &[u32], n: usize, t: &[u32], held: usize, clock: u32) -> bool
     requires { ⌜ Counted (now cs) (now t) n held × Within l (connections (now cs)) ⌝ }
-    ensures { λ r. ⌜ r ≡ rows-sound (state-read l (now (cs .entry)) (now (t .entry)) [] clock 0 0) ⌝ }
+    ensures { λ r. ⌜ r ≡ rows-sound (state-read l (now (cs .entry)) (now (t .entry)) [] clock 0 0 0) ⌝ }
 {
     if CLOCK_END < clock {
         return false;
@@ -397,9 +440,10 @@ fn linked_ok(
     clock: u32,
     serving: u32,
     units: u32,
+    silent: u32,
 ) -> bool
     requires { ⌜ Counted (now cs) (now t) n held × Waiting (now q) waiting ⌝ }
-    ensures { λ r. ⌜ r ≡ linked-sound (state-read l (now (cs .entry)) (now (t .entry)) (now (q .entry)) clock serving units) ⌝ }
+    ensures { λ r. ⌜ r ≡ linked-sound (state-read l (now (cs .entry)) (now (t .entry)) (now (q .entry)) clock serving units silent) ⌝ }
 {
     if !admissions_ok(l, cs, n) {
         return false;
@@ -410,7 +454,7 @@ fn linked_ok(
     if !notices_ok(l, q, waiting, clock) {
         return false;
     }
-    line_ok(t, held, q, waiting, clock, serving, units)
+    line_ok(l, t, held, q, waiting, clock, serving, units, silent)
 }
 
 // Whether the link, the table of connections, the places table, the table of notices, the clock and the line are a sound state.
@@ -422,8 +466,9 @@ pub fn is_sound(
     clock: u32,
     serving: u32,
     units: u32,
+    silent: u32,
 ) -> bool
-    ensures { λ r. ⌜ r ≡ sound-tables l (now (cs .entry)) (now (t .entry)) (now (q .entry)) clock serving units ⌝ }
+    ensures { λ r. ⌜ r ≡ sound-tables l (now (cs .entry)) (now (t .entry)) (now (q .entry)) clock serving units silent ⌝ }
 {
     if !places_ok(t) {
         return false;
@@ -438,7 +483,7 @@ pub fn is_sound(
     let held = tables::held(t);
     let waiting = tables::held(q);
     if l.levels == 0 {
-        return unused_ok(l, n, held, waiting, clock, serving, units);
+        return unused_ok(l, n, held, waiting, clock, serving, units, silent);
     }
-    linked_ok(l, cs, n, t, held, q, waiting, clock, serving, units)
+    linked_ok(l, cs, n, t, held, q, waiting, clock, serving, units, silent)
 }

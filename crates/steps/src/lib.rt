@@ -28,7 +28,7 @@ use traces::Record;
 pub const LIMIT: usize = 16777216;
 
 // The longest trace record.
-pub const LONGEST_RECORD: usize = 21;
+pub const LONGEST_RECORD: usize = 22;
 
 // The record that the bytes start with, at offset `at` of the trace: malformed where it would end beyond the limit.
 fn read_at(s: &[u8], at: u32) -> Found
@@ -218,6 +218,7 @@ fn record_step(
         Record::Link {
             levels,
             largest,
+            silence,
             d1,
             d2,
             d3,
@@ -227,7 +228,7 @@ fn record_step(
             d7,
             d8,
         } => {
-            let l = named::link_named(levels, largest, d1, d2, d3, d4, d5, d6, d7, d8);
+            let l = named::link_named(levels, largest, silence, d1, d2, d3, d4, d5, d6, d7, d8);
             link_step(h, cs, t, q, l, to, used, out)
         }
         Record::Admit { level, gap, size } => {

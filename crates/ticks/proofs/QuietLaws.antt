@@ -52,18 +52,36 @@ module _ (t : List ℕ) where
 
 -- ---- the line
 
-pub in-service-for : (u : ℕ) (held : List Packet) (ns : List Notice) (clock : ℕ) → (u ≡ 0 → ⊥) → u - 1 ≡ quiet-for u held ns clock
-in-service-for zero held ns clock n = absurd (n refl)
-in-service-for (suc u) held ns clock n = omega arith
+module _ (u silent : ℕ) (held : List Packet) (ns : List Notice) (clock : ℕ) where
+  pub in-service-for : (u ≡ 0 → ⊥) → u - 1 ≡ quiet-for u silent held ns clock
+  in-service-for n = go u n
+    where
+      go : (v : ℕ) → (v ≡ 0 → ⊥) → v - 1 ≡ quiet-for v silent held ns clock
+      go zero n = absurd (n refl)
+      go (suc v) n = omega arith
 
--- a notice that waits starts at once
-pub notice-waits : (u : ℕ) (held : List Packet) (ns : List Notice) (clock : ℕ) → u ≡ 0 → (length ns ≡ 0 → ⊥) → 0 ≡ quiet-for u held ns clock
-notice-waits u held [] clock z n = absurd (n refl)
-notice-waits u held (m ∷ ns) clock z n = rw z
+  -- the rest of a silence
+  pub silent-for : u ≡ 0 → (silent ≡ 0 → ⊥) → silent ≡ quiet-for u silent held ns clock
+  silent-for z n = rw z (go silent n)
+    where
+      go : (q : ℕ) → (q ≡ 0 → ⊥) → q ≡ quiet-for 0 q held ns clock
+      go zero n = absurd (n refl)
+      go (suc q) n = refl
 
-pub idle-for : (u : ℕ) (held : List Packet) (ns : List Notice) (clock : ℕ) → u ≡ 0 → length ns ≡ 0 → earliest held - clock ≡ quiet-for u held ns clock
-idle-for u held [] clock z n = rw z
-idle-for u held (m ∷ ns) clock z n = absurd (omega arith)
+  -- a notice that waits starts at once
+  pub notice-waits : u ≡ 0 → silent ≡ 0 → (length ns ≡ 0 → ⊥) → 0 ≡ quiet-for u silent held ns clock
+  notice-waits z y n = rw (z, y) (go ns n)
+    where
+      go : (ms : List Notice) → (length ms ≡ 0 → ⊥) → 0 ≡ quiet-for 0 0 held ms clock
+      go [] n = absurd (n refl)
+      go (m ∷ ms) n = refl
+
+  pub idle-for : u ≡ 0 → silent ≡ 0 → length ns ≡ 0 → earliest held - clock ≡ quiet-for u silent held ns clock
+  idle-for z y n = rw (z, y) (go ns n)
+    where
+      go : (ms : List Notice) → length ms ≡ 0 → earliest held - clock ≡ quiet-for 0 0 held ms clock
+      go [] n = refl
+      go (m ∷ ms) n = absurd (omega arith)
 
 -- ---- those that are passed over
 
@@ -76,7 +94,7 @@ module _ (h : Hub) (cs t q : List ℕ) (ok : sound-hub h cs t q ≡ true) (left 
     pub clock-in-time : h .clock ≤ clock-end
     clock-in-time = is-sound h cs t q ok .with-one n .clock-le
 
-    pub some-quiet : (k : ℕ) → k ≡ min (min (quiet-for (h .units) (rows t) (notices q) (h .clock)) (clock-end - h .clock)) left → k ≡ quiet-ticks left (view h cs t q)
+    pub some-quiet : (k : ℕ) → k ≡ min (min (quiet-for (h .units) (h .silent) (rows t) (notices q) (h .clock)) (clock-end - h .clock)) left → k ≡ quiet-ticks left (view h cs t q)
     unfolding quiet-ticks
     some-quiet k e = rw (tested h cs t q ok .state, ne-eqb (h .link .levels) 0 n) e
 

@@ -32,7 +32,7 @@ cursor-of p = cursor-at (p .at) (p .phase) (hub-of (p .state))
 
 -- the hub k ticks on, where nothing starts and nothing departs in them
 abbrev pub passed-hub : Hub → ℕ → Hub
-passed-hub h k = record { link = h .link; clock = h .clock + k; serving = h .serving; units = h .units - k }
+passed-hub h k = record { link = h .link; clock = h .clock + k; serving = h .serving; units = h .units - k; silent = h .silent - k }
 
 -- the room with bs written at its start: "bytes behind a written record stay"
 abbrev pub over : List ℕ → List ℕ → List ℕ

@@ -122,10 +122,14 @@ fn wait(t: &[u32], clock: u32) -> u32
 // The ticks in which nothing starts and nothing departs, by the line, the places and the notices alone.
 fn quiet_for(h: Hub, t: &[u32], q: &[u32]) -> u32
     requires { ⌜ (now t ≡ places (rows (now t))) × (length (now t) ≡ places-length) ⌝ }
-    ensures { λ r. ⌜ r ≡ quiet-for (h .units) (rows (now (t .entry))) (notices (now (q .entry))) (h .clock) ⌝ }
+    ensures { λ r. ⌜ r ≡ quiet-for (h .units) (h .silent) (rows (now (t .entry))) (notices (now (q .entry))) (h .clock) ⌝ }
 {
     if h.units != 0 {
         return h.units - 1;
+    }
+    // nothing starts before the silence has run
+    if h.silent != 0 {
+        return h.silent;
     }
     // a notice that waits starts at once
     if tables::held(q) != 0 {
@@ -157,6 +161,7 @@ fn pass_over(at: u32, h: Hub, asked: u16, left: u16, k: u16) -> Stepped
     let mut later = h;
     later.clock = h.clock + k as u32;
     later.units = without(h.units, k as u32);
+    later.silent = without(h.silent, k as u32);
     Stepped {
         cursor: Cursor {
             at: at,

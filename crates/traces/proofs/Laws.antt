@@ -18,5 +18,5 @@ trace-tells-apart = apart trace trace-back
 pub trace-has-lengths : Has-the-length-of trace trace-table
 trace-has-lengths = trace-length
 
-pub trace-looks-no-further : Looks-no-further-than 21 trace
-trace-looks-no-further bs rest h = rows-same 21 bs rest h (trace .rows) (omega arith) trace-within
+pub trace-looks-no-further : Looks-no-further-than 22 trace
+trace-looks-no-further bs rest h = rows-same 22 bs rest h (trace .rows) (omega arith) trace-within

@@ -18,7 +18,7 @@ use Rattle.fields.proofs.MarkLaws.{both, neither}
 use Rattle.fields.proofs.NumberLaws.{one-byte, sum-pairs}
 
 -- A link's length.
-pub sum-link : (n : ℕ) → 2 + sum (1 ∷ 2 ∷ replicate n 2) ≡ 5 + 2 * n
+pub sum-link : (n : ℕ) → 2 + sum (1 ∷ 2 ∷ 1 ∷ replicate n 2) ≡ 6 + 2 * n
 unfolding sum
 sum-link n = omega (arith, sum-pairs n)
 
@@ -36,7 +36,7 @@ unfolding read-row
 n-too-large bs n e h = rw (← one-byte bs 2, ← e, le-ltb n 1 (omega arith), lt-ltb 8 n h)
 
 pub n-in-range : (bs : List ℕ) (n : ℕ) → n ≡ number 1 bs 2 → 1 ≤ n → n ≤ 8
-    → whole (5 + 2 * n) (link-in bs n) bs ≡ read-row link-row (getD bs 2 0) bs
+    → whole (6 + 2 * n) (link-in bs n) bs ≡ read-row link-row (getD bs 2 0) bs
 unfolding read-row get-fields
 n-in-range bs n e h k = rw (← one-byte bs 2, ← e, le-ltb n 1 h, le-ltb 8 n k, sum-link n)
 
@@ -82,20 +82,20 @@ written-in-range n ds h =
     let r = allowed-range n (t .0) in
     (r .0, r .1, t .1)
 
-pub unwritten-as : (n s : ℕ) (ds : List ℕ) → link-written n ds ≡ false → link-layout n s ds ≡ none
+pub unwritten-as : (n s silence : ℕ) (ds : List ℕ) → link-written n ds ≡ false → link-layout n s silence ds ≡ none
 unfolding link-layout
-unwritten-as n s ds h = rw h
+unwritten-as n s silence ds h = rw h
 
-pub written-as : (n s : ℕ) (ds : List ℕ) → link-written n ds ≡ true → link-layout n s ds ≡ some (LK, n ∷ s ∷ take n ds)
+pub written-as : (n s silence : ℕ) (ds : List ℕ) → link-written n ds ≡ true → link-layout n s silence ds ≡ some (LK, n ∷ s ∷ silence ∷ take n ds)
 unfolding link-layout
-written-as n s ds h = rw h
+written-as n s silence ds h = rw h
 
 -- A link that has bytes is one that is written.
-pub has-bytes : (n s : ℕ) (ds : List ℕ) → 0 < length (laid (link-layout n s ds)) → link-written n ds ≡ true
+pub has-bytes : (n s silence : ℕ) (ds : List ℕ) → 0 < length (laid (link-layout n s silence ds)) → link-written n ds ≡ true
 unfolding link-layout laid
-has-bytes n s ds = go (link-written n ds)
+has-bytes n s silence ds = go (link-written n ds)
   where
-    go : (t : Bool) → 0 < length (laid (pick t (some (LK, n ∷ s ∷ take n ds)) none)) → t ≡ true
+    go : (t : Bool) → 0 < length (laid (pick t (some (LK, n ∷ s ∷ silence ∷ take n ds)) none)) → t ≡ true
     go true h = refl
     go false h = absurd (omega arith)
 
@@ -144,15 +144,15 @@ drop-spread (suc k) (x ∷ xs) h =
     ap (λ l. zeros (drop (length xs) l)) (spread-on k 0 x xs) ∙ drop-spread k xs (omega arith)
 
 -- The layout of a link with the bounds xs, of which there are n, and 0 past them.
-pub layout-of-link : (n s : ℕ) (xs : List ℕ) → length xs ≡ n → 1 ≤ n → n ≤ 8
-    → link-layout n s (getD xs 0 0 ∷ getD xs 1 0 ∷ getD xs 2 0 ∷ getD xs 3 0 ∷ getD xs 4 0 ∷ getD xs 5 0 ∷ getD xs 6 0 ∷ getD xs 7 0 ∷ [])
-    ≡ some (LK, n ∷ s ∷ xs)
+pub layout-of-link : (n s silence : ℕ) (xs : List ℕ) → length xs ≡ n → 1 ≤ n → n ≤ 8
+    → link-layout n s silence (getD xs 0 0 ∷ getD xs 1 0 ∷ getD xs 2 0 ∷ getD xs 3 0 ∷ getD xs 4 0 ∷ getD xs 5 0 ∷ getD xs 6 0 ∷ getD xs 7 0 ∷ [])
+    ≡ some (LK, n ∷ s ∷ silence ∷ xs)
 unfolding spread
-layout-of-link n s xs e h k =
+layout-of-link n s silence xs e h k =
     let few : length xs ≤ 8 = omega arith in
     let all = spread 8 0 xs in
-    written-as n s all (zeros-decide n all h k ∙ ap (λ m. zeros (drop m all)) (sym e) ∙ drop-spread 8 xs few)
-    ∙ ap (λ l. some (LK, n ∷ s ∷ l)) (ap (λ m. take m all) (sym e) ∙ take-spread 8 xs few)
+    written-as n s silence all (zeros-decide n all h k ∙ ap (λ m. zeros (drop m all)) (sym e) ∙ drop-spread 8 xs few)
+    ∙ ap (λ l. some (LK, n ∷ s ∷ silence ∷ l)) (ap (λ m. take m all) (sym e) ∙ take-spread 8 xs few)
 
 pub fit-pairs : (n : ℕ) (ds : List ℕ) → n ≤ length ds → Fit (replicate (length ds) 2) ds → Fit (replicate n 2) (take n ds)
 unfolding Fit

@@ -24,42 +24,42 @@ unfolding distinct absent number
 trace-marks = refl
 
 -- A link is read back from its numbers: the bounds past n are 0.
-link-same : (n s d1 d2 d3 d4 d5 d6 d7 d8 : ℕ)
+link-same : (n s silence d1 d2 d3 d4 d5 d6 d7 d8 : ℕ)
     → let ds = d1 ∷ d2 ∷ d3 ∷ d4 ∷ d5 ∷ d6 ∷ d7 ∷ d8 ∷ [] in
     zeros (drop n ds) ≡ true
-    → link-from (n ∷ s ∷ take n ds) ≡ Link n s d1 d2 d3 d4 d5 d6 d7 d8
-link-same n s d1 d2 d3 d4 d5 d6 d7 d8 z =
+    → link-from (n ∷ s ∷ silence ∷ take n ds) ≡ Link n s silence d1 d2 d3 d4 d5 d6 d7 d8
+link-same n s silence d1 d2 d3 d4 d5 d6 d7 d8 z =
     let ds = d1 ∷ d2 ∷ d3 ∷ d4 ∷ d5 ∷ d6 ∷ d7 ∷ d8 ∷ [] in
     rw (taken-all n ds 0 z, taken-all n ds 1 z, taken-all n ds 2 z, taken-all n ds 3 z, taken-all n ds 4 z, taken-all n ds 5 z, taken-all n ds 6 z, taken-all n ds 7 z)
 
 -- A link that is written is read back. `ds` are its eight bounds.
-link-back : (n s : ℕ) (ds rest : List ℕ) → 1 ≤ n → n ≤ 8 → Fit (1 ∷ 2 ∷ replicate n 2) (n ∷ s ∷ take n ds)
-    → read-rows (trace .rows) (bytes LK (n ∷ s ∷ take n ds) ++ rest) ≡ some (link-from (n ∷ s ∷ take n ds), length (bytes LK (n ∷ s ∷ take n ds)))
+link-back : (n s silence : ℕ) (ds rest : List ℕ) → 1 ≤ n → n ≤ 8 → Fit (1 ∷ 2 ∷ 1 ∷ replicate n 2) (n ∷ s ∷ silence ∷ take n ds)
+    → read-rows (trace .rows) (bytes LK (n ∷ s ∷ silence ∷ take n ds) ++ rest) ≡ some (link-from (n ∷ s ∷ silence ∷ take n ds), length (bytes LK (n ∷ s ∷ silence ∷ take n ds)))
 unfolding read-rows starts bytes put-fields little
-link-back n s ds rest h k fit =
+link-back n s silence ds rest h k fit =
     let e : n % 256 ≡ n = omega arith in
-    row-back link-row (n ∷ s ∷ take n ds) rest (n % 256) refl fit (ap (LK .allows) e ∙ range-allowed n h k) (ap (LK .widths) e)
+    row-back link-row (n ∷ s ∷ silence ∷ take n ds) rest (n % 256) refl fit (ap (LK .allows) e ∙ range-allowed n h k) (ap (LK .widths) e)
 
 -- The same of its layout.
-link-told : (n s d1 d2 d3 d4 d5 d6 d7 d8 : ℕ) (rest : List ℕ)
+link-told : (n s silence d1 d2 d3 d4 d5 d6 d7 d8 : ℕ) (rest : List ℕ)
     → let ds = d1 ∷ d2 ∷ d3 ∷ d4 ∷ d5 ∷ d6 ∷ d7 ∷ d8 ∷ [] in
-    0 < length (laid (link-layout n s ds))
-    → n < 256 → s < 65536 → Fit (replicate 8 2) ds
-    → read-rows (trace .rows) (laid (link-layout n s ds) ++ rest) ≡ some (Link n s d1 d2 d3 d4 d5 d6 d7 d8, length (laid (link-layout n s ds)))
+    0 < length (laid (link-layout n s silence ds))
+    → n < 256 → s < 65536 → silence < 256 → Fit (replicate 8 2) ds
+    → read-rows (trace .rows) (laid (link-layout n s silence ds) ++ rest) ≡ some (Link n s silence d1 d2 d3 d4 d5 d6 d7 d8, length (laid (link-layout n s silence ds)))
 unfolding laid Fit
-link-told n s d1 d2 d3 d4 d5 d6 d7 d8 rest w hn hs fit =
+link-told n s silence d1 d2 d3 d4 d5 d6 d7 d8 rest w hn hs hq fit =
     let ds = d1 ∷ d2 ∷ d3 ∷ d4 ∷ d5 ∷ d6 ∷ d7 ∷ d8 ∷ [] in
-    let there = has-bytes n s ds w in
+    let there = has-bytes n s silence ds w in
     let is = written-in-range n ds there in
-    rw (written-as n s ds there)
-    (link-back n s ds rest (is .0) (is .1) (hn, (hs, fit-pairs n ds (is .1) fit))
-    ∙ ap (λ r. some (r, length (bytes LK (n ∷ s ∷ take n ds)))) (link-same n s d1 d2 d3 d4 d5 d6 d7 d8 (is .2)))
+    rw (written-as n s silence ds there)
+    (link-back n s silence ds rest (is .0) (is .1) (hn, (hs, (hq, fit-pairs n ds (is .1) fit)))
+    ∙ ap (λ r. some (r, length (bytes LK (n ∷ s ∷ silence ∷ take n ds)))) (link-same n s silence d1 d2 d3 d4 d5 d6 d7 d8 (is .2)))
 
 pub trace-back : Reads-back-what-is-written trace
 unfolding read-rows starts laid bytes Fit
-trace-back (Link n s d1 d2 d3 d4 d5 d6 d7 d8) rest w =
+trace-back (Link n s silence d1 d2 d3 d4 d5 d6 d7 d8) rest w =
     let t = w .typed in
-    link-told n s d1 d2 d3 d4 d5 d6 d7 d8 rest (w .some-byte) (t .0) (t .1) (t .2, (t .3, (t .4, (t .5, (t .6, (t .7, (t .8, (t .9, tt))))))))
+    link-told n s silence d1 d2 d3 d4 d5 d6 d7 d8 rest (w .some-byte) (t .0) (t .1) (t .2) (t .3, (t .4, (t .5, (t .6, (t .7, (t .8, (t .9, (t .10, tt))))))))
 trace-back (Admit level gap size) rest w =
     let t = w .typed in row-back admit-row (level ∷ gap ∷ size ∷ []) rest _ refl (t .0, (t .1, (t .2, tt))) refl refl
 trace-back (Offer connection len tag) rest w =
@@ -75,9 +75,9 @@ unfolding get-fields
 link-layout-same bs a =
     let n = getD bs 2 0 in
     let r = allowed-range n a in
-    let ds = get-fields (replicate n 2) bs 5 in
+    let ds = get-fields (replicate n 2) bs 6 in
     let e : number 1 bs 2 ≡ n = one-byte bs 2 in
-    rw e (layout-of-link n (number 2 bs 3) ds (length-get (replicate n 2) bs 5 ∙ length-replicate n 2) (r .0) (r .1))
+    rw e (layout-of-link n (number 2 bs 3) (number 1 bs 5) ds (length-get (replicate n 2) bs 6 ∙ length-replicate n 2) (r .0) (r .1))
 
 link-fair : Fair trace-layout link-row
 unfolding get-fields
@@ -106,9 +106,9 @@ trace-fair = (
 
 pub trace-length : Has-the-length-of trace trace-table
 unfolding laid sum
-trace-length (Link n s d1 d2 d3 d4 d5 d6 d7 d8) h =
+trace-length (Link n s silence d1 d2 d3 d4 d5 d6 d7 d8) h =
     let ds = d1 ∷ d2 ∷ d3 ∷ d4 ∷ d5 ∷ d6 ∷ d7 ∷ d8 ∷ [] in
-    ap (λ l. length (laid l)) (written-as n s ds (has-bytes n s ds h)) ∙ length-bytes LK (n ∷ s ∷ take n ds) ∙ sum-link n
+    ap (λ l. length (laid l)) (written-as n s silence ds (has-bytes n s silence ds h)) ∙ length-bytes LK (n ∷ s ∷ silence ∷ take n ds) ∙ sum-link n
 trace-length (Admit level gap size) h = length-bytes CN (level ∷ gap ∷ size ∷ [])
 trace-length (Offer connection len tag) h = length-bytes PK (connection ∷ len ∷ tag ∷ [])
 trace-length (Notice len tag) h = length-bytes NQ (len ∷ tag ∷ [])
@@ -116,7 +116,7 @@ trace-length (Ticks ticks) h = length-bytes TK (ticks ∷ [])
 trace-length Malformed h = absurd (omega arith)
 
 -- The longest trace record is a link of eight levels.
-pub trace-within : All-within 21 (trace .rows)
+pub trace-within : All-within 22 (trace .rows)
 unfolding All-within sum
 trace-within = (
   λ b a. let r = allowed-range b a in let e = sum-link b in omega arith,

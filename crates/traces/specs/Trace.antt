@@ -1,4 +1,4 @@
--- Document 01, "Trace and answer records": the four trace kinds; and document 02, R-1: a fifth, the notice.
+-- Document 01, "Trace and answer records": the four trace kinds; and document 02, R-1: a fifth, the notice; R-4: the silence of a link.
 use mathlib.Core.Bool.{Bool, true, false}
 use mathlib.Core.List.{List, [], _∷_}
 use mathlib.Core.Option.{Option, some, none}
@@ -16,7 +16,7 @@ use Rattle.traces.specs.declared.Found.{Found}
 -- The records that the numbers of each kind make. "Bounds past n are read as 0": they are not among the numbers.
 abbrev pub link-from : List ℕ → Record
 link-from xs =
-    Link (getD xs 0 0) (getD xs 1 0) (getD xs 2 0) (getD xs 3 0) (getD xs 4 0) (getD xs 5 0) (getD xs 6 0) (getD xs 7 0) (getD xs 8 0) (getD xs 9 0)
+    Link (getD xs 0 0) (getD xs 1 0) (getD xs 2 0) (getD xs 3 0) (getD xs 4 0) (getD xs 5 0) (getD xs 6 0) (getD xs 7 0) (getD xs 8 0) (getD xs 9 0) (getD xs 10 0)
 
 abbrev pub admit-from : List ℕ → Record
 admit-from xs = Admit (getD xs 0 0) (getD xs 1 0) (getD xs 2 0)
@@ -54,12 +54,12 @@ zeros (d ∷ ds) = pick (eqb d 0) (zeros ds) false
 unfoldable pub link-written : ℕ → List ℕ → Bool
 link-written n ds = pick (LK .allows n) (zeros (drop n ds)) false
 
--- A link's n, S and first n bounds.
-unfoldable pub link-layout : ℕ → ℕ → List ℕ → Option (Kind × List ℕ)
-link-layout n s ds = pick (link-written n ds) (some (LK, n ∷ s ∷ take n ds)) none
+-- A link's n, S, silence and first n bounds.
+unfoldable pub link-layout : ℕ → ℕ → ℕ → List ℕ → Option (Kind × List ℕ)
+link-layout n s silence ds = pick (link-written n ds) (some (LK, n ∷ s ∷ silence ∷ take n ds)) none
 
 abbrev pub trace-layout : Record → Option (Kind × List ℕ)
-trace-layout (Link n s d1 d2 d3 d4 d5 d6 d7 d8) = link-layout n s (d1 ∷ d2 ∷ d3 ∷ d4 ∷ d5 ∷ d6 ∷ d7 ∷ d8 ∷ [])
+trace-layout (Link n s silence d1 d2 d3 d4 d5 d6 d7 d8) = link-layout n s silence (d1 ∷ d2 ∷ d3 ∷ d4 ∷ d5 ∷ d6 ∷ d7 ∷ d8 ∷ [])
 trace-layout (Admit level gap size) = some (CN, level ∷ gap ∷ size ∷ [])
 trace-layout (Offer connection len tag) = some (PK, connection ∷ len ∷ tag ∷ [])
 trace-layout (Notice len tag) = some (NQ, len ∷ tag ∷ [])
@@ -68,8 +68,8 @@ trace-layout Malformed = none
 
 -- The numbers of a record fit their types: of one, two or four bytes.
 abbrev pub trace-typed : Record → Type 0
-trace-typed (Link n s d1 d2 d3 d4 d5 d6 d7 d8) =
-    (n < 256) × (s < 65536) × (d1 < 65536) × (d2 < 65536) × (d3 < 65536) × (d4 < 65536) × (d5 < 65536) × (d6 < 65536) × (d7 < 65536) × (d8 < 65536)
+trace-typed (Link n s silence d1 d2 d3 d4 d5 d6 d7 d8) =
+    (n < 256) × (s < 65536) × (silence < 256) × (d1 < 65536) × (d2 < 65536) × (d3 < 65536) × (d4 < 65536) × (d5 < 65536) × (d6 < 65536) × (d7 < 65536) × (d8 < 65536)
 trace-typed (Admit level gap size) = (level < 256) × (gap < 65536) × (size < 65536)
 trace-typed (Offer connection len tag) = (connection < 256) × (len < 65536) × (tag < 4294967296)
 trace-typed (Notice len tag) = (len < 65536) × (tag < 4294967296)
@@ -100,7 +100,7 @@ trace-bytes r = laid (trace .layout r)
 
 -- The tables' column "Bytes".
 abbrev pub trace-table : Record → ℕ
-trace-table (Link n s d1 d2 d3 d4 d5 d6 d7 d8) = 5 + 2 * n
+trace-table (Link n s silence d1 d2 d3 d4 d5 d6 d7 d8) = 6 + 2 * n
 trace-table (Admit level gap size) = 7
 trace-table (Offer connection len tag) = 9
 trace-table (Notice len tag) = 8
@@ -109,9 +109,9 @@ trace-table Malformed = 0
 
 -- Of a link with n levels, the k-th bound that the bytes hold, counted from 0, and the link; both as the code reads them.
 abbrev pub bound-in : List ℕ → ℕ → ℕ → ℕ
-bound-in bs n k = getD (get-fields (replicate n 2) bs 5) k 0
+bound-in bs n k = getD (get-fields (replicate n 2) bs 6) k 0
 
 abbrev pub link-in : List ℕ → ℕ → Record
 link-in bs n =
-    Link n (number 2 bs 3) (bound-in bs n 0) (bound-in bs n 1) (bound-in bs n 2) (bound-in bs n 3) (bound-in bs n 4) (bound-in bs n 5)
+    Link n (number 2 bs 3) (number 1 bs 5) (bound-in bs n 0) (bound-in bs n 1) (bound-in bs n 2) (bound-in bs n 3) (bound-in bs n 4) (bound-in bs n 5)
     (bound-in bs n 6) (bound-in bs n 7)

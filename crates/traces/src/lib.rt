@@ -1,4 +1,4 @@
-// The trace records of document 01, "Trace and answer records", and of document 02, R-1: their kinds as values, read and written.
+// The trace records of document 01, "Trace and answer records", and of document 02, R-1 and R-4: their kinds as values, read and written.
 mod link; // link.rt: links, of which one number says how many follow
 
 ghost use mathlib.Core.Path.{_≡_};
@@ -29,6 +29,7 @@ pub enum Record {
     Link {
         levels: u8,
         largest: u16,
+        silence: u8,
         d1: u16,
         d2: u16,
         d3: u16,
@@ -153,6 +154,7 @@ fn draft(r: Record) -> Draft
         Record::Link {
             levels,
             largest,
+            silence,
             d1,
             d2,
             d3,
@@ -161,7 +163,7 @@ fn draft(r: Record) -> Draft
             d6,
             d7,
             d8,
-        } => link::draft(levels, largest, [d1, d2, d3, d4, d5, d6, d7, d8]),
+        } => link::draft(levels, largest, silence, [d1, d2, d3, d4, d5, d6, d7, d8]),
         Record::Admit { level, gap, size } => Draft::headed(CN, level).two(gap).two(size),
         Record::Offer {
             connection,

@@ -20,7 +20,7 @@ fn bound(s: &[u8], levels: usize, k: usize) -> u16
     ensures { λ r. ⌜ r ≡ bound-in (now (s .entry)) levels k ⌝ }
 {
     if k < levels {
-        return two(s, 5 + 2 * k);
+        return two(s, 6 + 2 * k);
     }
     0
 }
@@ -33,6 +33,7 @@ fn link_of(s: &[u8], levels: u8) -> Record
     Record::Link {
         levels: levels,
         largest: two(s, 3),
+        silence: one(s, 5),
         d1: bound(s, n, 0),
         d2: bound(s, n, 1),
         d3: bound(s, n, 2),
@@ -50,7 +51,7 @@ pub(crate) fn read(s: &[u8]) -> Found
 {
     let levels = one(s, 2);
     match levels {
-        1..=8 => whole_of(s, 5 + 2 * (levels as usize), link_of(s, levels)),
+        1..=8 => whole_of(s, 6 + 2 * (levels as usize), link_of(s, levels)),
         _ => nothing(),
     }
 }
@@ -76,12 +77,15 @@ fn is_written(levels: usize, bounds: [u16; 8]) -> bool
 }
 
 // The bytes of a link; none where it is not written.
-pub(crate) fn draft(levels: u8, largest: u16, bounds: [u16; 8]) -> Draft
-    ensures { λ r. ⌜ Holds r (laid (link-layout levels largest bounds)) ⌝ }
+pub(crate) fn draft(levels: u8, largest: u16, silence: u8, bounds: [u16; 8]) -> Draft
+    ensures { λ r. ⌜ Holds r (laid (link-layout levels largest silence bounds)) ⌝ }
 {
     let n = levels as usize;
     if !is_written(n, bounds) {
         return Draft::empty();
     }
-    Draft::headed(LK, levels).two(largest).pairs(n, bounds)
+    Draft::headed(LK, levels)
+        .two(largest)
+        .one(silence)
+        .pairs(n, bounds)
 }

@@ -16,7 +16,7 @@ const ANSWERS: [(&[u8; 2], usize); 6] = [
 
 /// A good record of each kind.
 const GOOD: [&[u8]; 4] = [
-    b"LK\x08\x01\x00\x09\x00\x0A\x00\x0B\x00\x0C\x00\x0D\x00\x0E\x00\x0F\x00\x10\x00",
+    b"LK\x08\x01\x00\x02\x09\x00\x0A\x00\x0B\x00\x0C\x00\x0D\x00\x0E\x00\x0F\x00\x10\x00",
     b"CN\x01\x14\x00\x01\x00",
     b"PK\x00\x01\x00\x07\x00\x00\x00",
     b"TK\x05\x00",
@@ -193,7 +193,7 @@ fn change_bytes(trace: &mut Trace, random: &mut Random) {
 fn change_fields(trace: &mut Trace, random: &mut Random) {
     for _ in 0..random.between(1, 12) {
         let start = late_start(trace, random);
-        let at = start + 2 + random.place(5);
+        let at = start + 2 + random.place(6);
         if let Some(byte) = trace.bytes.get_mut(at) {
             *byte = random.pick([0, 1, 2, 255, *byte ^ 1, *byte ^ 128]);
         }
@@ -243,7 +243,7 @@ fn answer_of(mark: &[u8; 2], fields: usize) -> Vec<u8> {
 
 /// An `LK` with all the bounds that it promises.
 fn link_of_levels(levels: u8) -> Vec<u8> {
-    let mut link = vec![b'L', b'K', levels, 1, 0];
+    let mut link = vec![b'L', b'K', levels, 1, 0, 0];
     for bound in 1..=u16::from(levels) {
         link.extend_from_slice(&bound.to_le_bytes());
     }
@@ -299,7 +299,7 @@ fn only_noise(trace: &mut Trace, random: &mut Random) {
         let (mark, fields) = if trace.with_notices && random.once_in(3) {
             (b"NQ", 6)
         } else {
-            random.pick([(b"CN", 5), (b"PK", 7), (b"TK", 2), (b"LK", 5)])
+            random.pick([(b"CN", 5), (b"PK", 7), (b"TK", 2), (b"LK", 6)])
         };
         bytes.extend_from_slice(mark);
         for _ in 0..fields {

@@ -4,7 +4,9 @@ use super::script::Script;
 use super::traffic::{admit_one, admit_some, flood, modest_link};
 use crate::hub::CLOCK_END;
 use crate::level_test::level_sum;
-use crate::link::{Connection, Link, HIGHEST_BOUND, MOST_CONNECTIONS, MOST_RESERVED, MOST_UNITS};
+use crate::link::{
+    Connection, Link, HIGHEST_BOUND, MOST_CONNECTIONS, MOST_RESERVED, MOST_SILENCE, MOST_UNITS,
+};
 use crate::record::Record;
 use crate::replay::SIZE_LIMIT;
 
@@ -13,8 +15,11 @@ pub fn refusals(script: &mut Script, size: usize) {
     before_the_link(script);
     let largest = script.random.between16(2, 16);
     let levels = script.random.between16(1, 8);
-    let bounds: Vec<u16> = (1..=levels).map(|level| 2_000 + 1_000 * level).collect();
-    script.link(largest, &bounds);
+    let silence = script.some_silence();
+    let room = (1 + u16::from(silence)).min(3);
+    let bound_of = |level| room * (2_000 + 1_000 * level);
+    let bounds: Vec<u16> = (1..=levels).map(bound_of).collect();
+    script.link(largest, silence, &bounds);
     for _ in 0..size / 3 {
         one_refusal(script);
     }
@@ -46,17 +51,35 @@ fn before_the_link(script: &mut Script) {
 }
 
 pub fn broken_link(script: &mut Script) -> u8 {
-    match script.random.between(0, 8) {
-        0 => script.link(0, &[10]),
-        1 => script.link(MOST_UNITS + 1, &[9_000]),
-        2 => script.link(4, &[10, 10]),
-        3 => script.link(4, &[10, 20, 19]),
-        4 => script.link(4, &[3, 20]),
-        5 => script.link(4, &[10, HIGHEST_BOUND + 1]),
-        6 => script.link(4, &[0]),
-        7 => script.link(u16::MAX, &[u16::MAX]),
-        _ => script.link(1, &[1, 2, 3, 4, 5, 6, 7, 7]),
+    let silence = script.any_silence();
+    match script.random.between(0, 11) {
+        0 => script.link(0, silence, &[10]),
+        1 => script.link(MOST_UNITS + 1, silence, &[9_000]),
+        2 => script.link(4, silence, &[10, 10]),
+        3 => script.link(4, silence, &[10, 20, 19]),
+        4 => script.link(4, silence, &[3, 20]),
+        5 => script.link(4, silence, &[10, HIGHEST_BOUND + 1]),
+        6 => script.link(4, silence, &[0]),
+        7 => script.link(u16::MAX, silence, &[u16::MAX]),
+        8 => script.link(1, silence, &[1, 2, 3, 4, 5, 6, 7, 7]),
+        9 => too_silent(script),
+        _ => first_bound_too_low(script),
     }
+}
+
+/// A silence above its limit, with bounds that leave room for it.
+fn too_silent(script: &mut Script) -> u8 {
+    let some = script.random.between(65, 255) as u8;
+    let silence = script.random.pick([MOST_SILENCE + 1, 128, 255, some]);
+    script.link(4, silence, &[1_000, 2_000])
+}
+
+/// A first bound one below S plus the silence, or S alone.
+fn first_bound_too_low(script: &mut Script) -> u8 {
+    let largest = script.random.between16(1, 30);
+    let silence = script.random.between16(1, u16::from(MOST_SILENCE));
+    let bound = script.random.pick([largest + silence - 1, largest]);
+    script.link(largest, silence as u8, &[bound, 2_000])
 }
 
 /// Small reservations, so that all 64 connections can stand.
@@ -71,7 +94,9 @@ fn crowd_up_to(script: &mut Script, wanted: usize) {
         }
         let level = script.random.between16(1, u16::from(link.levels())) as u8;
         let bound = link.bound(level);
-        let gap = script.random.between16(bound / 7 + 1, 4 * bound);
+        let gap = script
+            .random
+            .between16(bound / 7 + 1, bound.saturating_mul(4));
         script.admit(level, gap, 1);
     }
 }
@@ -82,7 +107,8 @@ fn one_refusal(script: &mut Script) {
             broken_link(script);
         }
         1 => {
-            script.link(4, &[10, 20]);
+            let silence = script.any_silence();
+            script.link(4, silence, &[10, 20]);
         }
         2..=4 => bad_admission(script),
         5..=7 => bad_offer(script),
@@ -169,13 +195,15 @@ pub fn tight(script: &mut Script, size: usize) {
 }
 
 /// Links at their limits beside ordinary ones.
-fn tight_link(script: &mut Script) {
+pub fn tight_link(script: &mut Script) {
+    let silence = script.some_silence();
+    let q = u16::from(silence);
     match script.random.between(0, 6) {
-        0 => script.link(MOST_UNITS, &[MOST_UNITS, 9_000, HIGHEST_BOUND]),
-        1 => script.link(1, &[1, 2, 3, 4, 5, 6, 7, 8]),
-        2 => script.link(1, &[HIGHEST_BOUND]),
-        3 => script.link(16, &[100, 101, 102, 103, 104, 105, 106, 107]),
-        4 => script.link(4, &[10, 20]),
+        0 => script.link(MOST_UNITS, silence, &[MOST_UNITS + q, 9_000, HIGHEST_BOUND]),
+        1 => script.link(1, silence, &[1, 2, 3, 4, 5, 6, 7, 8].map(|bound| q + bound)),
+        2 => script.link(1, silence, &[HIGHEST_BOUND]),
+        3 => script.link(16, silence, &[100, 101, 102, 103, 104, 105, 106, 107]),
+        4 => script.link(4, silence, &[10 + q, 20 + 3 * q]),
         _ => {
             modest_link(script);
             0
@@ -183,7 +211,7 @@ fn tight_link(script: &mut Script) {
     };
 }
 
-fn tight_admission(script: &mut Script) {
+pub fn tight_admission(script: &mut Script) {
     let link = match script.link_set() {
         Some(link) => link,
         _ => return,
@@ -219,7 +247,8 @@ pub fn largest_passing(link: &Link, connections: &[Connection], level: u8, gap: 
             let bound = link.bound(one);
             let sum = level_sum(link, connections, one);
             let room = u64::from(bound).saturating_sub(sum);
-            room / u64::from((bound - 1) / gap + 1)
+            let packets = u64::from((bound - 1) / gap + 1);
+            (room / packets).saturating_sub(u64::from(link.silence()))
         })
         .min()
         .map_or(0, |most| most.min(u64::from(link.largest())) as u16)
@@ -315,6 +344,7 @@ fn some_record(script: &mut Script) -> Vec<u8> {
         0 => Record::Link {
             levels: 2,
             largest: 4,
+            silence: 3,
             bounds: [10, 20, 0, 0, 0, 0, 0, 0],
         },
         1 => Record::Connection {
@@ -351,7 +381,7 @@ pub fn fill_up_to(script: &mut Script, length: usize) {
                 script.admit(1, 1, 1);
             }
             _ => {
-                script.link(1, &[1, 2, 3, 4, 5, 6, 7, 8]);
+                script.link(1, 0, &[1, 2, 3, 4, 5, 6, 7, 8]);
             }
         }
     }

@@ -5,6 +5,7 @@ mod edges;
 mod notices;
 mod script;
 mod short;
+mod silence;
 mod traffic;
 
 use crate::random::Random;
@@ -25,7 +26,7 @@ pub struct Kind {
 }
 
 #[rustfmt::skip] // One line for each kind.
-pub const KINDS: [Kind; 22] = [
+pub const KINDS: [Kind; 26] = [
     Kind { name: "quiet", size: 60, maker: Maker::Scripted(traffic::quiet) },
     Kind { name: "flooded", size: 60, maker: Maker::Scripted(traffic::flooded) },
     Kind { name: "wild", size: 60, maker: Maker::Scripted(traffic::wild) },
@@ -48,6 +49,10 @@ pub const KINDS: [Kind; 22] = [
     Kind { name: "noticeend", size: 40, maker: Maker::Scripted(notices::notice_end) },
     Kind { name: "noticelimit", size: 40, maker: Maker::Scripted(notices::notice_limit) },
     Kind { name: "short", size: 80, maker: Maker::Scripted(short::short) },
+    Kind { name: "silence", size: 300, maker: Maker::Scripted(silence::small) },
+    Kind { name: "silencesplit", size: 60, maker: Maker::Scripted(silence::split) },
+    Kind { name: "silencelinks", size: 40, maker: Maker::Scripted(silence::links) },
+    Kind { name: "silenceend", size: 40, maker: Maker::Scripted(silence::end) },
 ];
 
 impl Kind {

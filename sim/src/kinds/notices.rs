@@ -1,5 +1,4 @@
-//! Kinds with notices (docs/RULES-AFTER-BASE.md, section R-1). The kinds of document 01 are left
-//! as they are, so that their seeds go on giving the same traces.
+//! Kinds with notices (docs/RULES-AFTER-BASE.md, section R-1).
 
 use super::edges::{broken_link, end_with, fill_up_to, refusals, tight};
 use super::script::Script;
@@ -61,8 +60,8 @@ pub fn notice_full(script: &mut Script, size: usize) {
         if script.random.once_in(3) {
             script.offer_on_any();
         }
-        let largest = script.largest();
-        let ticks = [1, 1, 2, largest - 1, largest, largest + 1, 4 * largest];
+        let cost = script.largest_cost() as u16;
+        let ticks = [1, 1, 2, cost - 1, cost, cost + 1, 4 * cost];
         let ticks = script.random.pick(ticks);
         script.tick(ticks);
         if script.random.once_in(20) {
@@ -115,12 +114,14 @@ pub fn notice_refusals(script: &mut Script, size: usize) {
 
 /// The largest packets and the smallest beside ordinary ones.
 fn notice_link(script: &mut Script) {
+    let silence = script.some_silence();
+    let q = u16::from(silence);
     match script.random.between(0, 3) {
         0 => {
-            script.link(MOST_UNITS, &[MOST_UNITS, 9_000]);
+            script.link(MOST_UNITS, silence, &[MOST_UNITS + q, 9_000]);
         }
         1 => {
-            script.link(1, &[1, 40]);
+            script.link(1, silence, &[1 + q, 40 + 2 * q]);
         }
         _ => modest_link(script),
     }
@@ -130,7 +131,9 @@ fn notice_link(script: &mut Script) {
 /// goes; one that just does not; packets beside them.
 pub fn notice_end(script: &mut Script, size: usize) {
     let largest = script.random.between16(4, 24);
-    script.link(largest, &[3 * largest, 5 * largest]);
+    let silence = script.some_silence();
+    let cost = largest + u16::from(silence);
+    script.link(largest, silence, &[3 * cost, 5 * cost]);
     admit_some(script, 3);
     script.mix_in_notices(2);
     flood(script, size);
@@ -168,7 +171,7 @@ fn last_notice(script: &mut Script, length: u16, left: u16) {
     script.tick(left);
 }
 
-fn notice_after_the_end(script: &mut Script) {
+pub fn notice_after_the_end(script: &mut Script) {
     match script.random.between(0, 4) {
         0 => script.offer_on_any(),
         1 => {

@@ -4,7 +4,7 @@
 use std::convert::Infallible;
 
 use crate::hub::{Hub, Tick};
-use crate::link::{Connection, Link, MOST_LEVELS};
+use crate::link::{Connection, Link, MOST_LEVELS, MOST_SILENCE};
 use crate::random::Random;
 use crate::record::Record;
 use crate::replay::{Job, Pace};
@@ -75,7 +75,23 @@ impl Script {
         self.bytes.extend_from_slice(bytes);
     }
 
-    pub fn link(&mut self, largest: u16, used: &[u16]) -> u8 {
+    /// A silence for a link: none half of the time, else few ticks or any number up to the
+    /// most.
+    pub fn some_silence(&mut self) -> u8 {
+        let few = self.random.between(1, 5) as u8;
+        let any = self.random.between(1, u64::from(MOST_SILENCE)) as u8;
+        self.random.pick([0, 0, 0, 0, 1, few, any, MOST_SILENCE])
+    }
+
+    /// A silence for a link that is refused anyhow: none half of the time, so that it hides no
+    /// other reason.
+    pub fn any_silence(&mut self) -> u8 {
+        let any = self.random.byte();
+        self.random
+            .pick([0, 0, 0, 0, 1, MOST_SILENCE, MOST_SILENCE + 1, any])
+    }
+
+    pub fn link(&mut self, largest: u16, silence: u8, used: &[u16]) -> u8 {
         let mut bounds = [0; MOST_LEVELS];
         for (bound, value) in bounds.iter_mut().zip(used) {
             *bound = *value;
@@ -84,6 +100,7 @@ impl Script {
         self.put(Record::Link {
             levels,
             largest,
+            silence,
             bounds,
         })
     }
@@ -174,6 +191,11 @@ impl Script {
         self.link_set().map_or(1, |link| link.largest())
     }
 
+    /// The ticks that a packet of S occupies the line; 1 without a link.
+    pub fn largest_cost(&self) -> Tick {
+        self.link_set().map_or(1, |link| link.cost(link.largest()))
+    }
+
     /// Some standing connection, with its number.
     pub fn any_connection(&mut self) -> Option<(u8, Connection)> {
         let connections = self.connections();
@@ -203,7 +225,8 @@ impl Script {
         self.mix_in_notices(0);
         self.drain_places();
         while self.hub().notices_waiting() > 0 {
-            let some = self.random.between(1, 3 * u64::from(self.largest()));
+            let cost = self.largest_cost();
+            let some = self.random.between(1, 3 * cost);
             self.ticks(some);
         }
     }

@@ -34,9 +34,10 @@ pub fn short(script: &mut Script, size: usize) {
 /// In turn: any number of levels far apart, close together, with the largest packets, or as usual.
 fn short_link(script: &mut Script) -> Option<Link> {
     let levels = script.random.between(1, MOST_LEVELS as u64) as u16;
+    let silence = script.some_silence();
     let (largest, first, step) = match script.seed() % 4 {
         0 => (MOST_UNITS, HIGHEST_BOUND - 3_000 * (levels - 1), 3_000),
-        1 => (4, 10, 10),
+        1 => (4, 10 + 3 * u16::from(silence), 10 + u16::from(silence)),
         2 => (16, 200, 1),
         _ => {
             modest_link(script);
@@ -44,7 +45,7 @@ fn short_link(script: &mut Script) -> Option<Link> {
         }
     };
     let bounds: Vec<u16> = (0..levels).map(|level| first + level * step).collect();
-    script.link(largest, &bounds);
+    script.link(largest, silence, &bounds);
     script.link_set()
 }
 

@@ -4,17 +4,19 @@ use super::script::Script;
 use crate::hub::Tick;
 use crate::link::{Connection, HIGHEST_BOUND, MOST_CONNECTIONS, MOST_LEVELS, MOST_UNITS};
 
-/// A link of some levels with bounds that leave room for connections.
+/// A link of some levels with bounds that leave room for connections and their silences.
 pub fn modest_link(script: &mut Script) {
     let largest = script.random.between16(1, 24);
     let levels = script.random.between(1, MOST_LEVELS as u64);
-    let mut bound = largest + script.random.between16(1, 6 * largest);
+    let silence = script.some_silence();
+    let cost = largest + u16::from(silence);
+    let mut bound = cost + script.random.between16(1, 6 * cost);
     let mut bounds = Vec::new();
     for _ in 0..levels {
         bounds.push(bound);
-        bound += script.random.between16(1, 60);
+        bound += script.random.between16(1, 60 + 4 * u16::from(silence));
     }
-    script.link(largest, &bounds);
+    script.link(largest, silence, &bounds);
 }
 
 /// Tries to admit connections of gaps about as long as their bounds.
@@ -174,11 +176,13 @@ fn offer_on_the_next(script: &mut Script) {
 
 /// Equal gaps and levels, small packets: the order is decided by eligibility and by row.
 pub fn ties(script: &mut Script, size: usize) {
-    let gap = script.random.between16(8, 40);
-    let top = script.random.between16(60, 120);
+    let silence = script.some_silence();
+    let least = 1 + u16::from(silence);
+    let gap = least * script.random.between16(8, 40);
+    let top = least * script.random.between16(60, 120);
     let levels = script.random.between16(1, 3);
     let bounds: Vec<u16> = (0..levels).map(|level| top + level).collect();
-    script.link(3, &bounds);
+    script.link(3, silence, &bounds);
     for _ in 0..12 {
         let level = script.random.between16(1, levels) as u8;
         let size = script.random.between16(1, 3);
@@ -194,17 +198,21 @@ pub fn ties(script: &mut Script, size: usize) {
     script.drain();
 }
 
-/// Reservations of together 512, all of them used: the places are full.
+/// Reservations of together 512, all of them used: the places are full. More than 13 ticks of
+/// silence for each of them would not fit into the highest bound.
 pub fn reserve(script: &mut Script, size: usize) {
     let levels = script.random.between16(1, 4);
-    let bounds: Vec<u16> = (1..=levels).map(|level| 2_000 + 50 * level).collect();
-    script.link(2, &bounds);
+    let silence = script.some_silence().min(13);
+    let least = 1 + u16::from(silence);
+    let bound_of = |level| least * (2_000 + 50 * level);
+    let bounds: Vec<u16> = (1..=levels).map(bound_of).collect();
+    script.link(2, silence, &bounds);
     for _ in 0..40 {
         let level = script.random.between16(1, levels) as u8;
-        let gap = script.random.between16(20, 400);
+        let gap = least * script.random.between16(20, 400);
         script.admit(level, gap, 1);
     }
-    fill_reservations(script, levels as u8, 2_050);
+    fill_reservations(script, levels as u8, bound_of(1));
     for _ in 0..size {
         fill_places(script);
         let ticks = script.random.pick([1, 7, 30, 300]);
@@ -251,7 +259,8 @@ pub fn big_packets(script: &mut Script, size: usize) {
     if let Some(last) = bounds.last_mut() {
         *last = HIGHEST_BOUND;
     }
-    script.link(largest, &bounds);
+    let silence = script.some_silence();
+    script.link(largest, silence, &bounds);
     for _ in 0..12 {
         let level = script.random.between16(1, levels as u16) as u8;
         let gap = script.random.between16(3_000, u16::MAX);

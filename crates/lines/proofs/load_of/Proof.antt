@@ -29,7 +29,7 @@ share-requires c κs =
     let a = c .before .before .before .before .args in
     let i = c .before .before .loop .i in
     let k = L.figure-at (a .l) (connections (a .cs .now)) (c .before .before .before .before .pre .3) i (c .connection-at .result) (omega (arith, M.connections-length (a .cs .now))) (c .connection-at .ensures) in
-    (k .0, search needs, k .1)
+    (k .0, search needs, k .1, k .2)
 
 add-sum : tie.Need-add-sum Inv-loop μ-loop
 add-sum c = omega (arith, c .share .ensures .1, c .before .before .before .loop .inv .2)

@@ -17,14 +17,17 @@ load-of-requires c κs =
 share-requires : tie.Need-share-requires
 share-requires c κs =
     let a = c .before .before .before .args in
-    let k = L.link-limits (a .l) (c .before .before .before .pre .5 .link-in) .bounds-le (a .m) (search needs) in
-    (search needs, omega (arith, c .before .bound-of .ensures), search needs)
+    let limits = L.link-limits (a .l) (c .before .before .before .pre .5 .link-in) in
+    let k = limits .bounds-le (a .m) (search needs) in
+    (search needs, omega (arith, c .before .bound-of .ensures), search needs, limits .silence-le)
 
 add-result : tie.Need-add-result
 add-result c = search needs
 
-wide-requires : tie.Need-wide-requires
-wide-requires c κs = search needs
+cost-of-requires : tie.Need-cost-of-requires
+cost-of-requires c κs =
+    let limits = L.link-limits (c .before .before .before .before .args .l) (c .before .before .before .before .pre .5 .link-in) in
+    (omega arith, omega arith)
 
 add-result-2 : tie.Need-add-result-2
 add-result-2 c = search needs
@@ -32,7 +35,7 @@ add-result-2 c = search needs
 returns : tie.Need-returns
 returns c =
     let a = c .before .before .before .before .before .args in
-    L.sum-newcomer (a .l) (connections (a .cs .now)) (a .x) (a .m) (c .before .before .before .bound-of .result) _ _ _ (c .before .before .before .bound-of .ensures) (c .before .before .load-of .ensures .0) (c .before .share .ensures .0) (c .wide .ensures .0)
+    L.sum-newcomer (a .l) (connections (a .cs .now)) (a .x) (a .m) (c .before .before .before .bound-of .result) _ _ _ (c .before .before .before .bound-of .ensures) (c .before .before .load-of .ensures .0) (c .before .share .ensures .0) (c .cost-of .ensures .0)
 
 pub sum-at-spec : {M : Type 1} → statement M
 sum-at-spec =
@@ -42,6 +45,6 @@ sum-at-spec =
     load-of-requires
     share-requires
     add-result
-    wide-requires
+    cost-of-requires
     add-result-2
     returns)

@@ -1,10 +1,13 @@
--- `service::send` meets its contract: an idle line, a last unit of a notice or of a packet, any other unit. Assumes nothing.
-use mathlib.Core.Path.{_∙_}
+-- `service::send` meets its contract: nothing in service, a last unit of a notice or of a packet, any other unit. Assumes nothing.
+use mathlib.Core.Path.{ap, _∙_}
 use mathlib.Core.Bool.{false}
 use Rattle.service.proofs.TickLaws as L
 use borrow.Author.Needs.{needs}
 use Rattle.service.proofs.send.Statement.{statement}
 use Rattle.service.proofs.send.Tie as tie
+
+one-less-requires : tie.Need-one-less-requires
+one-less-requires c κs = search needs
 
 with-line-requires : tie.Need-with-line-requires
 with-line-requires c κs = search needs
@@ -17,9 +20,10 @@ pass-requires c κs = rw (c .before .with-line .ensures) (search needs)
 
 returns : tie.Need-returns
 returns c =
-    let s = c .before .before .before .before .before .before .before in
+    let s = c .before .before .before .before .before .before .before .before in
     let k = L.still (s .args .g) (s .args .t .now) (s .args .q .now) (s .pre .table) (s .pre .notices) (search needs) in
-    (c .pass .ensures ∙ L.passes false (c .before .before .with-line .ensures) (c .before .no-packet .ensures) ∙ k .0, k .1, k .2)
+    let g = c .before .before .with-line .ensures ∙ ap (L.lined (s .args .g) (0, 0)) (c .before .before .before .one-less .ensures) in
+    (c .pass .ensures ∙ L.passes false g (c .before .no-packet .ensures) ∙ k .0, k .1, k .2)
 
 depart-notice-requires : tie.Need-depart-notice-requires
 depart-notice-requires c κs = search needs
@@ -67,6 +71,7 @@ pub send-spec : {M : Type 1} → statement M
 send-spec =
     tie.close
     (tie.spec
+    one-less-requires
     with-line-requires
     no-packet-requires
     pass-requires

@@ -1,4 +1,4 @@
--- `service::start` meets its contract: a line in service is left alone, an idle one takes what was chosen, else the first notice. Assumes nothing.
+-- `service::start` meets its contract: a line in service or in silence is left alone, an idle one takes what was chosen, else the first notice. Assumes nothing.
 use native.Mathlib.Omega.{arith}
 use mathlib.Core.Path.{ap, _∙_}
 use Rattle.rules.specs.declared.Packet.{Packet}
@@ -11,35 +11,38 @@ use Rattle.service.proofs.start.Tie as tie
 returns : tie.Need-returns
 returns c = let a = c .before .before .before .before .before .args in L.busy (a .h) (a .cs .now) (a .t .now) (a .q .now) (search needs)
 
+returns-2 : tie.Need-returns-2
+returns-2 c = let a = c .before .before .before .before .before .before .before .args in L.waits (a .h) (a .cs .now) (a .t .now) (a .q .now) (search needs) (search needs)
+
 choose-requires : tie.Need-choose-requires
 choose-requires c κs = search needs
 
 with-line-requires : tie.Need-with-line-requires
 with-line-requires c κs = search needs
 
-returns-2 : tie.Need-returns-2
-returns-2 c =
+returns-3 : tie.Need-returns-3
+returns-3 c =
     let b = c .before .before .choose in
     let i = c .before .before .before in
-    let a = i .before .before .before .before .before .args in
-    c .with-line .ensures ∙ L.takes-packet (a .h) (a .cs .now) (a .t .now) (a .q .now) (b .result) (i .if1 .left) (b .ensures) (c .before .if2 .taken)
+    let a = i .before .before .before .before .before .before .before .args in
+    c .with-line .ensures ∙ L.takes-packet (a .h) (a .cs .now) (a .t .now) (a .q .now) (b .result) (i .before .before .if1 .left) (search needs) (b .ensures) (c .before .if3 .taken)
 
 row-requires : tie.Need-row-requires
-row-requires c κs = let s = c .before .before .before .before .before .before .before in omega (arith, notices-length-is (s .args .q .now) (s .pre .3))
+row-requires c κs = let s = c .before .before .before .before .before .before .before .before .before in omega (arith, notices-length-is (s .args .q .now) (s .pre .3))
 
 with-line-requires-2 : tie.Need-with-line-requires-2
 with-line-requires-2 c κs = search needs
 
-returns-3 : tie.Need-returns-3
-returns-3 c =
+returns-4 : tie.Need-returns-4
+returns-4 c =
     let r = c .before .row in
     let b = c .before .before .before .choose in
     let i = c .before .before .before .before in
-    let s = i .before .before .before .before .before in
+    let s = i .before .before .before .before .before .before .before in
     let a = s .args in
     c .with-line2 .ensures
-    ∙ ap (λ (p : Packet). L.lined (a .h) (p .connection, p .len)) (r .ensures)
-    ∙ L.takes-notice (a .h) (a .cs .now) (a .t .now) (a .q .now) (b .result) (i .if1 .left) (b .ensures) (c .before .before .if2 .left) (s .pre .3)
+    ∙ ap (λ (p : Packet). L.lined (a .h) (p .connection, p .len) 0) (r .ensures)
+    ∙ L.takes-notice (a .h) (a .cs .now) (a .t .now) (a .q .now) (b .result) (i .before .before .if1 .left) (search needs) (b .ensures) (c .before .before .if3 .left) (s .pre .3)
 
 pub start-spec : {M : Type 1} → statement M
-start-spec = tie.close (tie.spec returns choose-requires with-line-requires returns-2 row-requires with-line-requires-2 returns-3)
+start-spec = tie.close (tie.spec returns returns-2 choose-requires with-line-requires returns-3 row-requires with-line-requires-2 returns-4)

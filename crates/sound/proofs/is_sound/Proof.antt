@@ -47,8 +47,8 @@ unfolding sound-tables
 returns-4 c =
     let a = c .before .before .before .before .before .before .before .before .before .before .before .before .before .before .before .args in
     C.goes-on _ _ _ (sym (c .before .before .before .before .before .before .before .before .before .before .before .places-ok .ensures) ∙ not-false _ (c .before .before .before .before .before .before .before .before .before .before .if1 .left)) (C.goes-on _ _ _ (sym (c .before .before .before .before .before .before .before .before .before .members-ok .ensures) ∙ not-false _ (c .before .before .before .before .before .before .before .before .if2 .left)) (C.goes-on _ _ _ (sym (c .before .before .before .before .before .before .before .queue-ok .ensures) ∙ not-false _ (c .before .before .before .before .before .before .if3 .left))
-    (S.sound-unlinked (state-read (a .l) (a .cs .now) (a .t .now) (a .q .now) (a .clock) (a .serving) (a .units)) (c .unused-ok .result) (search needs)
-    (c .unused-ok .ensures ∙ S.unused-read (a .l) (a .cs .now) (a .t .now) (a .q .now) (a .clock) (a .serving) (a .units) (c .before .before .before .before .before .held .result) (c .before .before .before .before .held2 .result) (c .before .before .before .held3 .result) (c .before .before .before .before .before .held .ensures ∙ M.members-rows (a .cs .now)) (c .before .before .before .before .held2 .ensures) (c .before .before .before .held3 .ensures) (search needs)))))
+    (S.sound-unlinked (state-read (a .l) (a .cs .now) (a .t .now) (a .q .now) (a .clock) (a .serving) (a .units) (a .silent)) (c .unused-ok .result) (search needs)
+    (c .unused-ok .ensures ∙ S.unused-read (a .l) (a .cs .now) (a .t .now) (a .q .now) (a .clock) (a .serving) (a .units) (a .silent) (c .before .before .before .before .before .held .result) (c .before .before .before .before .held2 .result) (c .before .before .before .held3 .result) (c .before .before .before .before .before .held .ensures ∙ M.members-rows (a .cs .now)) (c .before .before .before .before .held2 .ensures) (c .before .before .before .held3 .ensures) (search needs)))))
 
 linked-ok-requires : tie.Need-linked-ok-requires
 linked-ok-requires c κs =
@@ -62,7 +62,7 @@ unfolding sound-tables
 returns-5 c =
     let a = c .before .before .before .before .before .before .before .before .before .before .before .before .before .before .before .args in
     C.goes-on _ _ _ (sym (c .before .before .before .before .before .before .before .before .before .before .before .places-ok .ensures) ∙ not-false _ (c .before .before .before .before .before .before .before .before .before .before .if1 .left)) (C.goes-on _ _ _ (sym (c .before .before .before .before .before .before .before .before .before .members-ok .ensures) ∙ not-false _ (c .before .before .before .before .before .before .before .before .if2 .left)) (C.goes-on _ _ _ (sym (c .before .before .before .before .before .before .before .queue-ok .ensures) ∙ not-false _ (c .before .before .before .before .before .before .if3 .left))
-    (S.sound-linked (state-read (a .l) (a .cs .now) (a .t .now) (a .q .now) (a .clock) (a .serving) (a .units)) (c .linked-ok .result) (search needs) (c .linked-ok .ensures))))
+    (S.sound-linked (state-read (a .l) (a .cs .now) (a .t .now) (a .q .now) (a .clock) (a .serving) (a .units) (a .silent)) (c .linked-ok .result) (search needs) (c .linked-ok .ensures))))
 
 pub is-sound-spec : {M : Type 1} → statement M
 is-sound-spec = tie.close (tie.spec places-ok-requires returns members-ok-requires returns-2 queue-ok-requires returns-3 held-requires held-requires-2 held-requires-3 unused-ok-requires returns-4 linked-ok-requires returns-5)

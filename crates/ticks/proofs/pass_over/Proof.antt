@@ -8,11 +8,14 @@ add-later c = search needs
 without-requires : tie.Need-without-requires
 without-requires c κs = search needs
 
+without-requires-2 : tie.Need-without-requires-2
+without-requires-2 c κs = search needs
+
 sub-t8 : tie.Need-sub-t8
 sub-t8 c = search needs
 
 returns : tie.Need-returns
-returns c = rw (c .without .ensures)
+returns c = rw (c .before .without .ensures, c .without2 .ensures)
 
 pub pass-over-spec : {M : Type 1} → statement M
-pass-over-spec = tie.close (tie.spec add-later without-requires sub-t8 returns)
+pass-over-spec = tie.close (tie.spec add-later without-requires without-requires-2 sub-t8 returns)

@@ -21,7 +21,7 @@ returns : tie.Need-returns
 unfolding laid
 returns c =
     let a = c .before .before .before .args in
-    rw (unwritten-as (a .levels) (a .largest) (a .bounds) (sym (c .before .before .is-written .ensures) ∙ not-true _ (c .before .if1 .taken))) (c .empty .ensures)
+    rw (unwritten-as (a .levels) (a .largest) (a .silence) (a .bounds) (sym (c .before .before .is-written .ensures) ∙ not-true _ (c .before .if1 .taken))) (c .empty .ensures)
 
 headed-requires : tie.Need-headed-requires
 headed-requires c κs = search needs
@@ -29,18 +29,21 @@ headed-requires c κs = search needs
 two-requires : tie.Need-two-requires
 two-requires c κs = search needs
 
+one-requires : tie.Need-one-requires
+one-requires c κs = search needs
+
 pairs-requires : tie.Need-pairs-requires
-pairs-requires c κs = let n = written-in-range _ _ (sym (c .before .before .before .is-written .ensures) ∙ not-false _ (c .before .before .if1 .left)) in search needs
+pairs-requires c κs = let n = written-in-range _ _ (sym (c .before .before .before .before .is-written .ensures) ∙ not-false _ (c .before .before .before .if1 .left)) in search needs
 
 returns-2 : tie.Need-returns-2
 unfolding laid sum
 returns-2 c =
-    let a = c .before .before .before .before .before .args in
+    let a = c .before .before .before .before .before .before .args in
     let n = a .levels in
-    let is = sym (c .before .before .before .before .is-written .ensures) ∙ not-false _ (c .before .before .before .if1 .left) in
+    let is = sym (c .before .before .before .before .before .is-written .ensures) ∙ not-false _ (c .before .before .before .before .if1 .left) in
     let range = written-in-range n (a .bounds) is in
-    rw (written-as n (a .largest) (a .bounds) is)
-    (drafted-behind LK n _ (search needs) refl (c .before .before .headed .ensures) (before (c .before .two .ensures) (c .pairs .ensures)) (omega (arith, sum-link n)))
+    rw (written-as n (a .largest) (a .silence) (a .bounds) is)
+    (drafted-behind LK n _ (search needs) refl (c .before .before .before .headed .ensures) (before (c .before .before .two .ensures) (before (c .before .one .ensures) (c .pairs .ensures))) (omega (arith, sum-link n)))
 
 pub draft-spec : {M : Type 1} → statement M
 draft-spec =
@@ -51,5 +54,6 @@ draft-spec =
     returns
     headed-requires
     two-requires
+    one-requires
     pairs-requires
     returns-2)

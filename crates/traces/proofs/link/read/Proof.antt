@@ -35,7 +35,7 @@ returns c =
     let s = c .before .before .before .before .before .before .args .s .now in
     let n = c .before .before .before .before .one .result in
     c .whole-of .ensures
-    ∙ ap (λ r. found (whole (5 + 2 * n) r s)) (c .before .link-of .ensures)
+    ∙ ap (λ r. found (whole (6 + 2 * n) r s)) (c .before .link-of .ensures)
     ∙ ap found (n-in-range s n (c .before .before .before .before .one .ensures) (search needs) (search needs))
 
 returns-2 : tie.Need-returns-2
