@@ -1,3 +1,4 @@
 pub mod ChoiceLaws
+pub mod LeadLaws
 pub mod TickLaws
 pub mod ReadyLaws

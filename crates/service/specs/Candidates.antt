@@ -1,15 +1,18 @@
 -- The choice as one pass upward: the best packet so far, and the next one of the rows. Document 01, "One tick", step 1. Assumes nothing.
-use Prim.Native.Nat.{ℕ}
+use Prim.Native.Nat.{ℕ, _+_, _*_, _≤_}
+use mathlib.Core.Path.{_≡_}
 use mathlib.Core.Bool.{Bool, true, false, cond}
 use mathlib.Core.List.{List}
 use mathlib.Core.Option.{Option, none, some}
 use lib.Dec.{leb}
+use lib.ListN.{length}
 use Rattle.rules.specs.declared.Packet.{Packet}
 use Rattle.rules.specs.Model.{nth}
 use Rattle.rules.specs.Service.{better}
-use Rattle.tables.specs.Places.{no-packet}
+use Rattle.tables.specs.Places.{row-at, no-packet}
 use Rattle.lines.specs.Members.{connections}
 use Rattle.service.specs.declared.Best.{Best}
+use Rattle.service.specs.declared.Lead.{Lead}
 
 -- the level of connection c, by the table of connections
 abbrev pub level-in : List ℕ → ℕ → ℕ
@@ -39,3 +42,19 @@ candidate t p = cond (leb (p .eligibility) t) (some p) none
 abbrev pub ahead : (ℕ → ℕ) → Option Packet → Option Packet → Option Packet
 ahead level none o = o
 ahead level (some p) o = better level p o
+
+-- ---- the best row so far, by its place
+
+-- the packet that is named, if one is
+abbrev pub named : List ℕ → Lead → Best
+named t l = best-of (cond (l .found) (some (row-at t (l .place))) none)
+
+-- .. whose level and eligibility are as they are noted
+pub record Leads (cs t : List ℕ) (l : Lead) : Type 0 where
+  pub inside : l .found ≡ true → 5 * l .place + 5 ≤ length t
+  pub level : l .found ≡ true → l .level ≡ level-in cs (row-at t (l .place) .connection)
+  pub eligibility : l .found ≡ true → l .eligibility ≡ row-at t (l .place) .eligibility
+
+-- what is named once row i, which was offered later, is taken in
+abbrev pub Leads-with : List ℕ → List ℕ → ℕ → Lead → ℕ → Lead → Type 0
+Leads-with cs t clock l i r = (named t r ≡ best-of (ahead (level-in cs) (option (named t l)) (candidate clock (row-at t i)))) × Leads cs t r

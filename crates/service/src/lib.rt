@@ -3,14 +3,14 @@
 ghost use mathlib.Core.Path.{_≡_};
 ghost use mathlib.Core.Bool.{true};
 ghost use mathlib.Core.List.{[]};
-ghost use Prim.Native.Nat.{_-_, _<_};
+ghost use Prim.Native.Nat.{_+_, _*_, _-_, _<_, _≤_};
 ghost use Rattle.rules.specs.Limits.{clock-end, notice-number};
 ghost use Rattle.rules.specs.Service.{choice, with-line, started, after-unit, ticked};
 ghost use Rattle.tables.specs.Table.{formed};
 ghost use lib.ListN.{length};
 ghost use Rattle.tables.specs.Places.{rows, places, places-length};
 ghost use Rattle.lines.specs.Members.{members-length, member-of};
-ghost use Rattle.service.specs.Candidates.{option, best-of, candidate, ahead, level-in};
+ghost use Rattle.service.specs.Candidates.{best-of, level-in, Leads, Leads-with};
 ghost use Rattle.service.specs.View.{view, hub-of, passed-on, Gives};
 ghost use Rattle.service.specs.Ready.{In-place, Ready};
 ghost use Rattle.tables.specs.Notices.{notices-formed};
@@ -39,37 +39,47 @@ pub struct Told {
     pub hub: Hub,
 }
 
-// The best packet of the rows walked so far, once one is found; an unused row before that.
+// The packet that the line takes next, where one is found; else an unused row.
 pub struct Best {
     pub found: bool,
     pub packet: Packet,
 }
 
-// The best so far, or p, which was offered later: p only if it is eligible and goes strictly before the best.
-fn best_with(cs: &[u32], best: Best, p: Packet, clock: u32) -> Best
-    requires { ⌜ (formed member-of members-length (now cs) ≡ true) × (best ≡ best-of (option best)) ⌝ }
-    ensures { λ r. ⌜ r ≡ best-of (ahead (level-in (now (cs .entry))) (option best) (candidate clock p)) ⌝ }
+// The best row of those walked so far, once one is found: its place, its connection's level and its eligibility, so that no row is read twice.
+pub struct Lead {
+    pub found: bool,
+    pub place: usize,
+    pub level: u32,
+    pub eligibility: u32,
+}
+
+// The best so far, or row i, which was offered later: row i only if it is eligible and goes strictly before the best.
+fn lead_with(cs: &[u32], t: &[u32], lead: Lead, i: usize, clock: u32) -> Lead
+    requires { ⌜ (formed member-of members-length (now cs) ≡ true) × (5 * i + 5 ≤ length (now t)) × Leads (now cs) (now t) lead ⌝ }
+    ensures { λ r. ⌜ Leads-with (now (cs .entry)) (now (t .entry)) clock lead i r ⌝ }
 {
-    if clock < p.eligibility {
-        return best;
+    let eligibility = t[5 * i + 4];
+    if clock < eligibility {
+        return lead;
     }
-    let next = Best {
+    let level = lines::level_of(cs, t[5 * i]);
+    let next = Lead {
         found: true,
-        packet: p,
+        place: i,
+        level: level,
+        eligibility: eligibility,
     };
-    if !best.found {
+    if !lead.found {
         return next;
     }
-    let best_level = lines::level_of(cs, best.packet.connection);
-    let level = lines::level_of(cs, p.connection);
-    if best_level < level {
-        return best;
+    if lead.level < level {
+        return lead;
     }
-    if level < best_level {
+    if level < lead.level {
         return next;
     }
-    if best.packet.eligibility <= p.eligibility {
-        return best;
+    if lead.eligibility <= eligibility {
+        return lead;
     }
     next
 }
@@ -80,17 +90,27 @@ pub fn choose(cs: &[u32], t: &[u32], clock: u32) -> Best
     ensures { λ r. ⌜ r ≡ best-of (choice (level-in (now (cs .entry))) clock (rows (now (t .entry)))) ⌝ }
 {
     let n = tables::count(t);
-    let mut best = Best {
+    let mut lead = Lead {
         found: false,
-        packet: tables::no_packet(),
+        place: 0,
+        level: 0,
+        eligibility: 0,
     };
     let mut i: usize = 0;
     while i < n {
-        let p = tables::row(t, i);
-        best = best_with(cs, best, p, clock);
+        lead = lead_with(cs, t, lead, i, clock);
         i += 1;
     }
-    best
+    if !lead.found {
+        return Best {
+            found: false,
+            packet: tables::no_packet(),
+        };
+    }
+    Best {
+        found: true,
+        packet: tables::row(t, lead.place),
+    }
 }
 
 // The hub with the line given anew.

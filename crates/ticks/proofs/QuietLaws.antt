@@ -50,6 +50,10 @@ module _ (t : List ℕ) where
         let e : i + 1 ≡ suc i = omega arith in
         rw e (omega (arith, next-row))
 
+    -- a row that is eligible: nothing to wait for
+    pub seen-now : (first clock : ℕ) → Seen t first i → getD t (5 * i + 4) 0 ≤ clock → 0 ≡ earliest (rows t) - clock
+    seen-now first clock s l = omega (arith, next-row)
+
 -- ---- the line
 
 module _ (u silent : ℕ) (held : List Packet) (ns : List Notice) (clock : ℕ) where

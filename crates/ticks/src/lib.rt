@@ -113,7 +113,12 @@ fn wait(t: &[u32], clock: u32) -> u32
     let mut first = CLOCK_END;
     let mut i: usize = 0;
     while i < n {
-        first = least(first, t[5 * i + 4]);
+        let e = t[5 * i + 4];
+        // it starts at once: no look at the rows behind it
+        if e <= clock {
+            return 0;
+        }
+        first = least(first, e);
         i += 1;
     }
     without(first, clock)

@@ -2,35 +2,37 @@
 -- choice of all rows. The measure is the rows that are left. Assumes nothing.
 use Prim.Native.Nat.{_≤_, _-_}
 use native.Mathlib.Omega.{arith}
+use mathlib.Core.Path.{refl, sym, ap, _∙_}
+use mathlib.Core.Bool.{true, false}
 use borrow.Author.Needs.{needs}
+use borrow.Author.Tests.{not-true, not-false}
+use Rattle.rules.specs.declared.Packet.{Packet}
+use Rattle.tables.specs.Places.{row-at, no-packet}
 use Rattle.tables.proofs.PlacesLaws.{rows-end}
-use Rattle.service.specs.Candidates.{level-in}
+use Rattle.service.specs.Candidates.{level-in, named, Leads}
 use Rattle.service.proofs.ChoiceLaws as L
+use Rattle.service.proofs.LeadLaws.{named-one, named-none, nothing-leads}
 use Rattle.service.proofs.choose.Statement.{statement}
 use Rattle.service.proofs.choose.Tie as tie
 
 abbrev Inv-loop : tie.InvT-loop
-Inv-loop cs t clock n best₀ i₀ best i = (i ≤ n) × L.Walked (level-in cs) clock t i best
+Inv-loop cs t clock n lead₀ i₀ lead i = (i ≤ n) × L.Walked (level-in cs) clock t i (named t lead) × Leads cs t lead
 
 abbrev μ-loop : tie.MeasureT-loop
-μ-loop cs t clock n best₀ i₀ best i = n - i
+μ-loop cs t clock n lead₀ i₀ lead i = n - i
 
 count-requires : tie.Need-count-requires Inv-loop μ-loop
 count-requires c κs = search needs
 
-no-packet-requires : tie.Need-no-packet-requires Inv-loop μ-loop
-no-packet-requires c κs = search needs
-
 loop-holds : tie.Need-loop-holds Inv-loop μ-loop
 loop-holds c =
-    let a = c .before .before .before .before .args in
-    (search needs, L.walk-start (level-in (a .cs .now)) (a .clock) (a .t .now) (c .no-packet .result) (c .no-packet .ensures))
+    let a = c .before .before .before .args in
+    (search needs, L.walk-start (level-in (a .cs .now)) (a .clock) (a .t .now) no-packet refl, nothing-leads (a .cs .now) (a .t .now))
 
-row-requires : tie.Need-row-requires Inv-loop μ-loop
-row-requires c κs = omega (arith, rows-end (c .before .before .before .before .before .before .args .t .now), c .before .before .before .count .ensures)
-
-best-with-requires : tie.Need-best-with-requires Inv-loop μ-loop
-best-with-requires c κs = search needs
+lead-with-requires : tie.Need-lead-with-requires Inv-loop μ-loop
+lead-with-requires c κs =
+    let s = c .before .before .before .before .before in
+    (s .pre .0, omega (arith, rows-end (s .args .t .now), c .before .before .count .ensures), c .before .loop .inv .2)
 
 add-i : tie.Need-add-i Inv-loop μ-loop
 add-i c = search needs
@@ -40,16 +42,34 @@ loop-less c = search needs
 
 loop-again : tie.Need-loop-again Inv-loop μ-loop
 loop-again c =
-    let a = c .before .before .before .before .before .before .before .before .args in
-    let l = c .before .before .before .loop in
-    let r = c .before .row in
-    (search needs, L.walk (level-in (a .cs .now)) (a .clock) (a .t .now) (l .i) (l .best) (c .best-with .result) (r .result) (omega (arith, c .before .before .before .before .before .count .ensures)) (r .ensures) (c .best-with .ensures) (l .inv .1))
+    let a = c .before .before .before .before .before .before .args in
+    let l = c .before .before .loop in
+    let r = c .lead-with in
+    (search needs, L.walk (level-in (a .cs .now)) (a .clock) (a .t .now) (l .i) (named (a .t .now) (l .lead)) (named (a .t .now) (r .result)) (row-at (a .t .now) (l .i)) (omega (arith, c .before .before .before .count .ensures)) refl (r .ensures .0) (l .inv .1), r .ensures .1)
+
+no-packet-requires : tie.Need-no-packet-requires Inv-loop μ-loop
+no-packet-requires c κs = search needs
 
 returns : tie.Need-returns Inv-loop μ-loop
 returns c =
-    let a = c .before .before .before .before .before .before .args in
-    let l = c .before .loop in
-    L.walked (level-in (a .cs .now)) (a .clock) (a .t .now) (l .i) (l .best) (omega (arith, c .before .before .before .count .ensures, l .inv .0)) (l .inv .1)
+    let m = c .before .before .before in
+    let a = m .before .before .before .before .before .args in
+    let l = m .before .loop in
+    ap (λ (q : Packet). record { found = false; packet = q }) (c .no-packet .ensures)
+    ∙ sym (named-none (a .t .now) (l .lead) (not-true _ (c .before .if1 .taken)))
+    ∙ L.walked (level-in (a .cs .now)) (a .clock) (a .t .now) (l .i) (named (a .t .now) (l .lead)) (omega (arith, m .before .before .count .ensures, l .inv .0)) (l .inv .1)
+
+row-requires : tie.Need-row-requires Inv-loop μ-loop
+row-requires c κs = c .before .before .before .loop .inv .2 .inside (not-false _ (c .if1 .left))
+
+returns-2 : tie.Need-returns-2 Inv-loop μ-loop
+returns-2 c =
+    let m = c .before .before .before in
+    let a = m .before .before .before .before .before .args in
+    let l = m .before .loop in
+    ap (λ (q : Packet). record { found = true; packet = q }) (c .row .ensures)
+    ∙ sym (named-one (a .t .now) (l .lead) (not-false _ (c .before .if1 .left)))
+    ∙ L.walked (level-in (a .cs .now)) (a .clock) (a .t .now) (l .i) (named (a .t .now) (l .lead)) (omega (arith, m .before .before .count .ensures, l .inv .0)) (l .inv .1)
 
 pub choose-spec : {M : Type 1} → statement M
 choose-spec =
@@ -58,11 +78,12 @@ choose-spec =
     Inv-loop
     μ-loop
     count-requires
-    no-packet-requires
     loop-holds
-    row-requires
-    best-with-requires
+    lead-with-requires
     add-i
     loop-less
     loop-again
-    returns)
+    no-packet-requires
+    returns
+    row-requires
+    returns-2)
