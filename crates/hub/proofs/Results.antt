@@ -1,7 +1,7 @@
 -- THE PROOFS of the statements in specs/Promises, each under its name in small letters. Assumes nothing.
 use Prim.Native.Nat.{ℕ, zero, suc, _+_, _≤_, _<_}
 use native.Mathlib.Omega.{arith}
-use mathlib.Core.Path.{_≡_, refl, sym, ap, _∙_, subst}
+use mathlib.Core.Path.{_≡_, refl, sym, ap, _∙_, subst, transport}
 use mathlib.Core.Bool.{Bool, true, false, cond, _&&_}
 use mathlib.Core.List.{List, [], _∷_, _++_, map}
 use mathlib.Core.Option.{Option, none, some}
@@ -14,11 +14,11 @@ use Rattle.rules.specs.Limits.{clock-end, notice-number}
 use Rattle.rules.specs.declared.Notice.{Notice}
 use Rattle.rules.specs.Model.{State, Call, link, admit, offer, notice, tick, Answer, figures}
 use Rattle.rules.specs.Admission.{stands}
-use Rattle.rules.specs.Service.{of, first, notice-departs, packet-departs, after-unit, started}
+use Rattle.rules.specs.Service.{Spaced, of, first, notice-departs, packet-departs, after-unit, started}
 use Rattle.rules.specs.SoundState.{Sound}
 use Rattle.rules.specs.SoundTest.{sound}
 use Rattle.rules.specs.Calls.{verdict, done, refused-number, answer}
-use Rattle.rules.specs.Runs.{Departure, History, taken, leaving, after, run-from, nothing-yet, run, departures, in-hub, bound-of, allowed, Keeps-its-gap, Exchange, exchange, exchanges-from, exchanges, own-answer}
+use Rattle.rules.specs.Runs.{Departure, History, taken, leaving, after, run-from, nothing-yet, run, departures, in-hub, bound-of, allowed, offer-tick, offer-ticks-from, offer-ticks, Keeps-its-gap, Exchange, exchange, exchanges-from, exchanges, own-answer}
 use Rattle.rules.specs.Promises.{Kept-promise}
 use Rattle.rules.proofs.Sums.{cond-is}
 use Rattle.rules.proofs.Tests.{and-intro}
@@ -41,7 +41,7 @@ use Rattle.service.specs.View.{view, hub-of, told-of, refusal}
 use Rattle.calls.specs.Acts.{sound-hub, members-of, places-of, notices-of}
 use Rattle.calls.proofs.ActLaws.{is-sound, members-kept, places-kept, notices-kept}
 use Rattle.hub.specs.Does.{tells, leaves-members, leaves-places, leaves-notices, Does}
-use Rattle.hub.specs.Sequence.{Notes, brought, went, call, calls-from, blank, calls, state-of, notes-of, heard, heard-from, all-heard}
+use Rattle.hub.specs.Sequence.{Notes, brought, went, call, calls-from, blank, calls, state-of, notes-of, seen-ticks-from, seen-ticks, Seen-to-keep-its-gap, heard, heard-from, all-heard}
 use Rattle.hub.specs.Promises.{One-outcome, Written-reads-back, Sound-is-written, Demand-1-of-the-code, Verdict-1-of-the-code, Sound-is-kept-by-the-code, Follows-the-rules, Conservation-of-the-code, Noted-by, Demand-3-first-of-the-code, Kept-by-the-code, Demand-3-second-of-the-code, Told-by-its-own-of-the-code, Bed-nine-and-bed-ten-of-the-code, Counted-of-the-code}
 
 -- ---- one outcome
@@ -191,6 +191,33 @@ blank-is = refl
 pub follows-the-rules : Follows-the-rules
 follows-the-rules ks = ap (λ (g : Notes). calls-from g ks) blank-is ∙ follows-from ks nothing-yet (fresh-invariant .sound)
 
+-- what the caller keeps stands for the state of the rules
+state-is : (ks : List Call) → state-of (calls ks) ≡ run ks .now
+state-is ks = ap state-of (follows-the-rules ks) ∙ back (run ks .now) (runs-are-sound ks)
+
+same-figures : (ks : List Call) (c : ℕ) → figures (state-of (calls ks)) c ≡ figures (run ks .now) c
+same-figures ks c = ap (λ (s : State). figures s c) (state-is ks)
+
+same-bound : (ks : List Call) (c : ℕ) → bound-of (state-of (calls ks)) c ≡ bound-of (run ks .now) c
+same-bound ks c = ap (λ (s : State). bound-of s c) (state-is ks)
+
+-- ---- a line that keeps its gap
+
+-- the ticks seen in the calls are those of the rules' run
+ticks-all : (c : ℕ) (ks : List Call) (h : History) (ts : List ℕ) → Sound (h .now) → seen-ticks-from c (notes-of h) ts ks ≡ offer-ticks-from c h ts ks
+ticks-all c [] h ts S = refl
+ticks-all c (k ∷ ks) h ts S =
+    ap (λ (s : State). seen-ticks-from c (call (notes-of h) k) (push ts (offer-tick c s k)) ks) (back (h .now) S)
+    ∙ ap (λ (g : Notes). seen-ticks-from c g (push ts (offer-tick c (h .now) k)) ks) (follows-one h k S)
+    ∙ ticks-all c ks (after h k) (push ts (offer-tick c (h .now) k)) (kept k (h .now) S)
+
+ticks-are : (c : ℕ) (ks : List Call) → seen-ticks c ks ≡ offer-ticks c ks
+ticks-are c ks = ap (λ (g : Notes). seen-ticks-from c g [] ks) blank-is ∙ ticks-all c ks nothing-yet [] (fresh-invariant .sound)
+
+-- so to be seen to keep its gap is to keep it in the rules' run
+gap-is : (c : ℕ) (ks : List Call) → Seen-to-keep-its-gap c ks ≡ Keeps-its-gap c ks
+gap-is c ks = ap (λ (x : Connection). Spaced x (seen-ticks c ks)) (same-figures ks c) ∙ ap (Spaced (figures (run ks .now) c)) (ticks-are c ks)
+
 -- ---- conservation
 
 pub conservation-of-the-code : Conservation-of-the-code
@@ -204,12 +231,19 @@ conservation-of-the-code ks c =
 pub demand-3-first-of-the-code : Demand-3-first-of-the-code
 demand-3-first-of-the-code ks c i p level is over =
     let e = follows-the-rules ks in
-    let k = demand-3-first ks c i p level (subst (λ (g : Notes). getElem? (of c (g .accepted)) i ≡ some p) e is) (subst (λ (g : Notes). p .eligibility + bound-of (run ks .now) c ≤ g .hub .clock) e over) in
-    record { finish = k .finish; is-departure = subst (λ (g : Notes). getElem? (departures c (g .departed)) i ≡ some (record { what = p; finish = k .finish })) (sym e) (k .is-departure); in-time = k .in-time }
+    let b = same-bound ks c in
+    let k = demand-3-first ks c i p level (subst (λ (g : Notes). getElem? (of c (g .accepted)) i ≡ some p) e is) (omega (arith, b, ap (λ (g : Notes). g .hub .clock) e)) in
+    record {
+      finish = k .finish;
+      is-departure = subst (λ (g : Notes). getElem? (departures c (g .departed)) i ≡ some (record { what = p; finish = k .finish })) (sym e) (k .is-departure);
+      in-time = omega (arith, b, k .in-time);
+    }
 
-module _ (earlier later : List Call) (c len tag : ℕ) (word : Keeps-its-gap c (earlier ++ offer c len tag ∷ [])) (good : allowed (run earlier .now) c len ≡ true) where
+module _ (earlier later : List Call) (c len tag : ℕ) (word : Seen-to-keep-its-gap c (earlier ++ offer c len tag ∷ [])) (good : allowed (state-of (calls earlier)) c len ≡ true) where
   promise : Kept-promise earlier later c len tag
-  promise = demand-3-second earlier later c len tag word good
+  promise =
+      demand-3-second earlier later c len tag (transport (gap-is c (earlier ++ offer c len tag ∷ [])) word)
+      (subst (λ (s : State). allowed s c len ≡ true) (state-is earlier) good)
 
   same-clock : calls earlier .hub .clock ≡ run earlier .now .clock
   same-clock = ap (λ (g : Notes). g .hub .clock) (follows-the-rules earlier)
@@ -221,20 +255,21 @@ module _ (earlier later : List Call) (c len tag : ℕ) (word : Keeps-its-gap c (
       ∙ ap (λ (g : Notes). tells (offer c len tag) (g .hub) (g .members) (g .places) (g .notices)) (follows-the-rules earlier)
       ∙ same-tells (run earlier .now) (runs-are-sound earlier) (offer c len tag)
 
-  -- the packet in the notes g of the calls before it and G of all
-  abbrev Noted : Notes → Notes → Type 0
-  Noted g G =
+  -- the packet in the notes g of the calls before it and G of all, with its level's bound d
+  abbrev Noted : Notes → Notes → ℕ → Type 0
+  Noted g G d =
       Noted-by G c (length (of c (g .accepted))) (record { connection = c; len = len; tag = tag; arrival = g .hub .clock; eligibility = g .hub .clock })
-      (g .hub .clock + bound-of (run earlier .now) c)
+      (g .hub .clock + d)
 
   noted : run earlier .now .clock < clock-end
       → run earlier .now .clock + bound-of (run earlier .now) c ≤ run (earlier ++ offer c len tag ∷ later) .now .clock
-      → Noted (calls earlier) (calls (earlier ++ offer c len tag ∷ later))
+      → Noted (calls earlier) (calls (earlier ++ offer c len tag ∷ later)) (bound-of (state-of (calls earlier)) c)
   noted l over =
       let q = promise .in-time l over in
-      subst (λ (g : Notes). Noted g (calls (earlier ++ offer c len tag ∷ later))) (sym (follows-the-rules earlier))
-      (subst (Noted (notes-of (run earlier))) (sym (follows-the-rules (earlier ++ offer c len tag ∷ later)))
-      (record { finish = q .finish; is-departure = q .is-departure; in-time = q .in-time }))
+      subst (Noted (calls earlier) (calls (earlier ++ offer c len tag ∷ later))) (sym (same-bound earlier c))
+      (subst (λ (g : Notes). Noted g (calls (earlier ++ offer c len tag ∷ later)) (bound-of (run earlier .now) c)) (sym (follows-the-rules earlier))
+      (subst (λ (G : Notes). Noted (notes-of (run earlier)) G (bound-of (run earlier .now) c)) (sym (follows-the-rules (earlier ++ offer c len tag ∷ later)))
+      (record { finish = q .finish; is-departure = q .is-departure; in-time = q .in-time })))
 
   kept-by-the-code : Kept-by-the-code earlier later c len tag
   kept-by-the-code = record {
@@ -244,7 +279,8 @@ module _ (earlier later : List Call) (c len tag : ℕ) (word : Keeps-its-gap c (
         let running : run earlier .now .clock < clock-end = omega (arith, same-clock) in
         (ap (λ (x : Told). x .verdict) a ∙ promise .accepted running, ap (λ (x : Told). x .number) a ∙ promise .on-arrival running ∙ sym same-clock);
     in-time = λ l over.
-        noted (omega (arith, same-clock)) (omega (arith, same-clock, ap (λ (g : Notes). g .hub .clock) (follows-the-rules (earlier ++ offer c len tag ∷ later))));
+        noted (omega (arith, same-clock))
+        (omega (arith, same-clock, same-bound earlier c, ap (λ (g : Notes). g .hub .clock) (follows-the-rules (earlier ++ offer c len tag ∷ later))));
   }
 
 pub demand-3-second-of-the-code : Demand-3-second-of-the-code
@@ -277,23 +313,16 @@ heard-all c (k ∷ ks) h es S =
 heard-is : (c : ℕ) (ks : List Call) → all-heard c ks ≡ exchanges c ks
 heard-is c ks = ap (λ (g : Notes). heard-from c g [] ks) blank-is ∙ heard-all c ks nothing-yet [] (fresh-invariant .sound)
 
--- and what the caller keeps stands for the state of the rules
-state-is : (ks : List Call) → state-of (calls ks) ≡ run ks .now
-state-is ks = ap state-of (follows-the-rules ks) ∙ back (run ks .now) (runs-are-sound ks)
-
-same-figures : (ks : List Call) (c : ℕ) → figures (state-of (calls ks)) c ≡ figures (run ks .now) c
-same-figures ks c = ap (λ (s : State). figures s c) (state-is ks)
-
 pub told-by-its-own-of-the-code : Told-by-its-own-of-the-code
 told-by-its-own-of-the-code ks c word =
     subst (λ (x : Connection). All (λ (e : Exchange). e ≡ own-answer x (e .asked)) (all-heard c ks)) (sym (same-figures ks c))
-    (subst (All (λ (e : Exchange). e ≡ own-answer (figures (run ks .now) c) (e .asked))) (sym (heard-is c ks)) (told-by-its-own ks c word))
+    (subst (All (λ (e : Exchange). e ≡ own-answer (figures (run ks .now) c) (e .asked))) (sym (heard-is c ks)) (told-by-its-own ks c (transport (gap-is c ks) word)))
 
 pub bed-nine-and-bed-ten-of-the-code : Bed-nine-and-bed-ten-of-the-code
 bed-nine-and-bed-ten-of-the-code ks ms c d alike asked word =
     heard-is c ks
     ∙ bed-nine-and-bed-ten ks ms c d (sym (same-figures ks c) ∙ alike ∙ same-figures ms d)
-    (ap asks (sym (heard-is c ks)) ∙ asked ∙ ap asks (heard-is d ms)) word
+    (ap asks (sym (heard-is c ks)) ∙ asked ∙ ap asks (heard-is d ms)) (transport (gap-is c ks) word)
     ∙ sym (heard-is d ms)
 
 pub counted-of-the-code : Counted-of-the-code

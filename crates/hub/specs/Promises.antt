@@ -12,13 +12,13 @@ use Rattle.rules.specs.Model.{State, Call, offer, figures}
 use Rattle.rules.specs.Service.{of}
 use Rattle.rules.specs.SoundState.{Sound}
 use Rattle.rules.specs.Calls.{refused-number}
-use Rattle.rules.specs.Runs.{Departure, run, departures, in-hub, bound-of, allowed, Keeps-its-gap, Exchange, own-answer}
+use Rattle.rules.specs.Runs.{Departure, run, departures, in-hub, bound-of, allowed, Exchange, own-answer}
 use Rattle.service.specs.declared.Hub.{Hub}
 use Rattle.service.specs.declared.Told.{Told}
 use Rattle.service.specs.View.{view, hub-of}
 use Rattle.calls.specs.Acts.{sound-hub, members-of, places-of, notices-of}
 use Rattle.hub.specs.Does.{Does}
-use Rattle.hub.specs.Sequence.{Notes, calls, state-of, notes-of, all-heard}
+use Rattle.hub.specs.Sequence.{Notes, calls, state-of, notes-of, Seen-to-keep-its-gap, all-heard}
 
 -- document 01, "What the hub's answers must settle": any two answers and tables that a contract allows are equal
 pub record Same-outcome (r r′ : Told) (cs cs′ t t′ q q′ : List ℕ) : Type 0 where
@@ -74,13 +74,15 @@ Sound-is-kept-by-the-code =
 abbrev pub Follows-the-rules : Type 0
 Follows-the-rules = (ks : List Call) → calls ks ≡ notes-of (run ks)
 
--- so for each connection, and for the notices under their number, what the answers accepted is what they let go, followed by what waits
+-- All that follows is said of the calls, of the answers that the caller has noted and of what the caller keeps, read as a state: no run of the rules is named.
+
+-- for each connection, and for the notices under their number, what the answers accepted is what they let go, followed by what waits
 abbrev pub Conservation-of-the-code : Type 0
 Conservation-of-the-code =
     (ks : List Call) (c : ℕ)
     → of c (calls ks .accepted) ≡ map (λ (d : Departure). d .what) (departures c (calls ks .departed)) ++ of c (in-hub (state-of (calls ks)))
 
--- so each accepted packet of a level has left by its eligibility plus its level's bound, whatever the other lines and the notices do: in the caller's own
+-- each accepted packet of a level has left by its eligibility plus its level's bound, whatever the other lines and the notices do: in the caller's own
 -- notes of the answers
 pub record Noted-by (g : Notes) (c i : ℕ) (p : Packet) (deadline : ℕ) : Type 0 where
   pub finish : ℕ
@@ -92,8 +94,8 @@ Demand-3-first-of-the-code =
     (ks : List Call) (c i : ℕ) (p : Packet)
     → (c ≡ notice-number → ⊥)
     → getElem? (of c (calls ks .accepted)) i ≡ some p
-    → p .eligibility + bound-of (run ks .now) c ≤ calls ks .hub .clock
-    → Noted-by (calls ks) c i p (p .eligibility + bound-of (run ks .now) c)
+    → p .eligibility + bound-of (state-of (calls ks)) c ≤ calls ks .hub .clock
+    → Noted-by (calls ks) c i p (p .eligibility + bound-of (state-of (calls ks)) c)
 
 -- and a line that keeps its gap is never refused for room: while the clock runs its offer is accepted, eligible on arrival, and leaves within the bound of
 -- its arrival. Any calls `earlier`, an offer of c of allowed length, any calls `later`; c has kept its gap up to this offer
@@ -106,16 +108,16 @@ pub record Kept-by-the-code (earlier later : List Call) (c len tag : ℕ) : Type
       → calls earlier .hub .clock < clock-end
       → (r .verdict ≡ 0) × (r .number ≡ calls earlier .hub .clock)
   pub in-time : calls earlier .hub .clock < clock-end
-      → calls earlier .hub .clock + bound-of (run earlier .now) c ≤ calls (earlier ++ offer c len tag ∷ later) .hub .clock
+      → calls earlier .hub .clock + bound-of (state-of (calls earlier)) c ≤ calls (earlier ++ offer c len tag ∷ later) .hub .clock
       → Noted-by (calls (earlier ++ offer c len tag ∷ later)) c (length (of c (calls earlier .accepted)))
       (record { connection = c; len = len; tag = tag; arrival = calls earlier .hub .clock; eligibility = calls earlier .hub .clock })
-      (calls earlier .hub .clock + bound-of (run earlier .now) c)
+      (calls earlier .hub .clock + bound-of (state-of (calls earlier)) c)
 
 abbrev pub Demand-3-second-of-the-code : Type 0
 Demand-3-second-of-the-code =
     (earlier later : List Call) (c len tag : ℕ)
-    → Keeps-its-gap c (earlier ++ offer c len tag ∷ [])
-    → allowed (run earlier .now) c len ≡ true
+    → Seen-to-keep-its-gap c (earlier ++ offer c len tag ∷ [])
+    → allowed (state-of (calls earlier)) c len ≡ true
     → Kept-by-the-code earlier later c len tag
 
 -- ---- bed nine and bed ten, of the code (document 02, R-3)
@@ -124,7 +126,7 @@ Demand-3-second-of-the-code =
 abbrev pub Told-by-its-own-of-the-code : Type 0
 Told-by-its-own-of-the-code =
     (ks : List Call) (c : ℕ)
-    → Keeps-its-gap c ks
+    → Seen-to-keep-its-gap c ks
     → All (λ (e : Exchange). e ≡ own-answer (figures (state-of (calls ks)) c) (e .asked)) (all-heard c ks)
 
 -- so through any two sequences of calls a line with the same figures and the same offers at the same ticks gets the same answers, whatever its number in each
@@ -133,7 +135,7 @@ Bed-nine-and-bed-ten-of-the-code =
     (ks ms : List Call) (c d : ℕ)
     → figures (state-of (calls ks)) c ≡ figures (state-of (calls ms)) d
     → map (λ (e : Exchange). e .asked) (all-heard c ks) ≡ map (λ (e : Exchange). e .asked) (all-heard d ms)
-    → Keeps-its-gap c ks
+    → Seen-to-keep-its-gap c ks
     → all-heard c ks ≡ all-heard d ms
 
 -- for every connection, counted in the caller's notes: accepted since the hub was fresh = departed plus held

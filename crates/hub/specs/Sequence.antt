@@ -8,9 +8,10 @@ use lib.ListN.{replicate}
 use Rattle.rules.specs.declared.Packet.{Packet}
 use Rattle.rules.specs.Words.{push}
 use Rattle.rules.specs.Limits.{notice-number}
-use Rattle.rules.specs.Model.{State, Call, link, admit, offer, notice, tick, fresh}
+use Rattle.rules.specs.Model.{State, Call, link, admit, offer, notice, tick, fresh, figures}
 use Rattle.rules.specs.Admission.{stands}
-use Rattle.rules.specs.Runs.{Departure, History, if-done, Exchange}
+use Rattle.rules.specs.Service.{Spaced}
+use Rattle.rules.specs.Runs.{Departure, History, if-done, offer-tick, Exchange}
 use Rattle.tables.specs.Places.{places-length}
 use Rattle.tables.specs.Notices.{notices-length}
 use Rattle.lines.specs.Members.{members-length}
@@ -86,6 +87,20 @@ notes-of h = record {
   places = places-of (h .now);
   notices = notices-of (h .now);
 }
+
+-- ---- a line that keeps its gap, seen in the calls and in what the caller keeps between them
+
+-- the ticks of the offers to connection c of allowed length, in order
+abbrev pub seen-ticks-from : ℕ → Notes → List ℕ → List Call → List ℕ
+seen-ticks-from c g ts [] = ts
+seen-ticks-from c g ts (k ∷ ks) = seen-ticks-from c (call g k) (push ts (offer-tick c (state-of g) k)) ks
+
+abbrev pub seen-ticks : ℕ → List Call → List ℕ
+seen-ticks c ks = seen-ticks-from c blank [] ks
+
+-- they are never closer than the spacing of c asks
+abbrev pub Seen-to-keep-its-gap : ℕ → List Call → Type 0
+Seen-to-keep-its-gap c ks = Spaced (figures (state-of (calls ks)) c) (seen-ticks c ks)
 
 -- ---- what a connection asks and is told, read off the answers (document 02, R-3)
 
