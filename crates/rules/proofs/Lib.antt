@@ -33,6 +33,6 @@ pub mod Keeper
 pub mod Alone
 pub mod NoticesLast
 pub mod Fields
-pub mod BeforeSilence
+pub mod WithoutSilence
 pub mod Results
 pub mod Examples

@@ -11,14 +11,14 @@ use lib.ListN.{length, getElem?, length-append}
 use borrow.Author.Tests.{eq-eqb, ne-eqb, eqb-false, leb-false}
 use Rattle.rules.specs.Words.{push, within}
 use Rattle.rules.specs.Limits.{clock-end, max-notices, notice-number}
-use Rattle.rules.specs.Model.{Link, Connection, Packet, State, Call, link, admit, offer, notice, tick, no-short, figures, fresh}
+use Rattle.rules.specs.Model.{Link, Connection, Packet, State, Call, link, admit, offer, notice, tick, no-short, figures}
 use Rattle.rules.specs.Admission.{stands, bound, reservation, level-test}
 use Rattle.rules.specs.Service.{Spaced, of, started}
 use Rattle.rules.specs.SoundState.{Sound}
 use Rattle.rules.specs.SoundTest.{sound}
 use Rattle.rules.specs.Calls.{verdicts, verdict, eligibility-now, done, refused-number, settle, answer}
 use Rattle.rules.specs.Runs.{Departure, History, taken, logged, after, run-from, nothing-yet, run, departures, in-hub, bound-of, allowed, offer-tick, offer-ticks-from, offer-ticks, Keeps-its-gap, Exchange, exchanges, own-answer}
-use Rattle.rules.specs.Promises.{Demand-1-refusals, Test-is-exact, Verdict-1-exactly, No-link-means-zero, Sound-is-kept, Runs-are-sound, Rows-fit, Notices-fit, Notices-come-last, Fifteen-after-thirteen, Names-the-lowest, Level-test-tells, Short-is-told, Units-are-missing, Units-fit, Eligibilities-fit, Answers-fit, Conservation, Left-by, Demand-3-first, Demand-3-second, Told-by-its-own, Bed-nine-and-bed-ten, Counted, As-before-without-silence}
+use Rattle.rules.specs.Promises.{Demand-1-refusals, Test-is-exact, Verdict-1-exactly, No-link-means-zero, Sound-is-kept, Runs-are-sound, Rows-fit, Notices-fit, Notices-come-last, Fifteen-after-thirteen, Names-the-lowest, Level-test-tells, Short-is-told, Units-are-missing, Units-fit, Eligibilities-fit, Answers-fit, Conservation, Left-by, Demand-3-first, Demand-3-second, Told-by-its-own, Bed-nine-and-bed-ten, Counted, Without-silence}
 use Rattle.rules.proofs.Sums.{same, cond-is}
 use Rattle.rules.proofs.Tests.{and-true, and-intro, not-true-false, never-number}
 use Rattle.rules.proofs.Lists.{All}
@@ -30,7 +30,7 @@ use Rattle.rules.proofs.SoundExact.{exact}
 use Rattle.rules.proofs.SoundKept.{kept}
 use Rattle.rules.proofs.Invariant.{connections-few}
 use Rattle.rules.proofs.Every.{fresh-invariant, invariant}
-use Rattle.rules.proofs.BeforeSilence.{told-the-same}
+use Rattle.rules.proofs.WithoutSilence.{as-in-the-base, no-silence-runs}
 use Rattle.rules.proofs.InTime.{conserved-lists, left-in-time}
 use Rattle.rules.proofs.Bounds.{rows-fit-places, notices-fit-places, eligibilities-fit-32}
 use Rattle.rules.proofs.NoticesLast.{none-eligible}
@@ -321,5 +321,7 @@ counted ks c =
     ∙ length-append (map (λ (d : Departure). d .what) (departures c (run ks .departed))) (of c (in-hub (run ks .now)))
     ∙ ap (λ (n : ℕ). n + length (of c (in-hub (run ks .now)))) (length-map (λ (d : Departure). d .what) (departures c (run ks .departed)))
 
-pub as-before-without-silence : As-before-without-silence
-as-before-without-silence ks a = told-the-same fresh (record { asked = refl; left = refl }) ks a
+-- ---- without a silence
+
+pub without-silence : Without-silence
+without-silence = (as-in-the-base, no-silence-runs)

@@ -1,4 +1,4 @@
--- Read in this order: Words, Limits, Model, Admission, Service, SoundState, SoundTest, Calls, Runs, BeforeSilence, Promises, Examples.
+-- Read in this order: Words, Limits, Model, Admission, Service, SoundState, SoundTest, Calls, Runs, Promises, Examples.
 pub mod Words
 pub mod Limits
 pub mod Model
@@ -8,6 +8,5 @@ pub mod SoundState
 pub mod SoundTest
 pub mod Calls
 pub mod Runs
-pub mod BeforeSilence
 pub mod Promises
 pub mod Examples

@@ -1,20 +1,20 @@
 -- THE STATEMENTS, apart from their proofs: each is proved in proofs/Results under the same name in small letters. Assumes nothing.
-use Prim.Native.Nat.{ℕ, _+_, _*_, _-_, _≤_, _<_}
+use Prim.Native.Nat.{ℕ, zero, suc, _+_, _*_, _-_, _≤_, _<_}
 use mathlib.Core.Path.{_≡_}
-use mathlib.Core.Bool.{true}
+use mathlib.Core.Bool.{Bool, true, cond, _&&_}
 use mathlib.Core.Logic.{_↔_}
 use mathlib.Core.List.{List, [], _∷_, _++_, map}
 use mathlib.Core.Option.{none, some}
+use lib.Dec.{leb}
 use lib.ListN.{length, getElem?}
-use Rattle.rules.specs.Words.{All}
-use Rattle.rules.specs.Limits.{max-largest, max-silence, max-bound, max-reserved, clock-end, beyond-32-bits, max-notices, notice-number}
-use Rattle.rules.specs.Model.{Link, Connection, Packet, State, Call, link, admit, offer, notice, tick, Short, no-short, Answer, fresh, past, figures}
-use Rattle.rules.specs.Admission.{bound, count, cost, level-sum, level-test}
-use Rattle.rules.specs.Service.{of, started}
+use Rattle.rules.specs.Words.{within, upto, sum, All}
+use Rattle.rules.specs.Limits.{max-levels, max-largest, max-silence, max-bound, max-reserved, clock-end, beyond-32-bits, max-notices, notice-number}
+use Rattle.rules.specs.Model.{Link, Connection, Packet, State, Call, link, admit, offer, notice, tick, Short, no-short, Answer, fresh, nth, past, figures}
+use Rattle.rules.specs.Admission.{rising, cost, link-within, bound, count, level-sum, level-test}
+use Rattle.rules.specs.Service.{of, started, ticked}
 use Rattle.rules.specs.SoundState.{Sound}
 use Rattle.rules.specs.SoundTest.{sound}
 use Rattle.rules.specs.Calls.{answer, refused-number, eligibility-now}
-use Rattle.rules.specs.BeforeSilence.{old-answer, Asks-no-silence, told-by}
 use Rattle.rules.specs.Runs.{History, run, departures, in-hub, bound-of, allowed, Keeps-its-gap, Exchange, exchanges, own-answer}
 
 -- ---- demand 1: any call on any state ends with an answer or a numbered refusal (`answer` is a function); a refused call changes nothing
@@ -213,7 +213,34 @@ Counted =
     (ks : List Call) (c : ℕ)
     → length (of c (run ks .accepted)) ≡ length (departures c (run ks .departed)) + length (of c (in-hub (run ks .now)))
 
--- ---- the silence (document 02, R-4): while no link asks for one, every call gets the answer that it got before, through any calls
+-- ---- the silence (document 02, R-4): where a link asks for none, the rules are document 01's own. Here are its formulas, each written out once
 
-abbrev pub As-before-without-silence : Type 0
-As-before-without-silence = (ks : List Call) → All Asks-no-silence ks → told-by answer fresh ks ≡ told-by old-answer fresh ks
+-- "Link, connections, places": 1 to 8 levels, S from 1 to its limit, bounds that rise strictly, the first at least S
+abbrev pub base-within : Link → Bool
+base-within l = within 1 max-levels (l .levels) && (within 1 max-largest (l .largest) && rising (l .largest) (l .levels) (l .bounds))
+
+-- "The level test": over all connections of levels 1 to m, d divided by X, rounded up, times size; add S
+abbrev pub base-sum : Link → List Connection → ℕ → ℕ
+base-sum l cs m = sum (length cs) (λ c. upto (nth cs c .level) m (count (nth cs c) (bound l m) * nth cs c .size)) + l .largest
+
+-- .. the sum must be at most d: of the k levels from m on the lowest where it is not, and by how many units
+abbrev pub base-short : Link → List Connection → ℕ → ℕ → Short
+base-short l cs m zero = no-short
+base-short l cs m (suc k) =
+    cond (leb (base-sum l cs m) (bound l m)) (base-short l cs (suc m) k) (record { level = m; units = base-sum l cs m - bound l m })
+
+-- a packet takes the line for its length; the link's limits and the level test, its sums, its level and its units, are these
+pub record As-in-the-base (l : Link) : Type 0 where
+  pub cost-is : (len : ℕ) → cost l len ≡ len
+  pub limits-are : link-within l ≡ base-within l
+  pub sum-is : (cs : List Connection) (m : ℕ) → level-sum l cs m ≡ base-sum l cs m
+  pub test-is : (cs : List Connection) → level-test l cs ≡ base-short l cs 1 (l .levels)
+
+-- in a sound state no silence is still to run, nor after any call on it; and a tick of any state leaves no longer one than it found
+pub record No-silence-runs (s : State) : Type 0 where
+  pub now : Sound s → s .silent ≡ 0
+  pub after-a-call : (k : Call) → Sound s → answer k s .next .silent ≡ 0
+  pub after-a-tick : ticked s .next .silent ≤ s .silent
+
+abbrev pub Without-silence : Type 0
+Without-silence = ((l : Link) → l .silence ≡ 0 → As-in-the-base l) × ((s : State) → s .link .silence ≡ 0 → No-silence-runs s)
