@@ -1,4 +1,4 @@
--- Read in this order: Words, Limits, Model, Admission, Service, SoundState, SoundTest, Calls, Runs, Promises, Examples.
+-- Read in this order: Words, Limits, Model, Admission, Service, SoundState, SoundTest, Calls, Runs, Promises, Examples, WorkedLimits.
 pub mod Words
 pub mod Limits
 pub mod Model
@@ -10,3 +10,4 @@ pub mod Calls
 pub mod Runs
 pub mod Promises
 pub mod Examples
+pub mod WorkedLimits

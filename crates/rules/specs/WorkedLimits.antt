@@ -1,0 +1,240 @@
+-- One table of limits and ties, worked by hand from documents 01 and 02: of each limit the last value inside and the first outside, the number that each
+-- refused call gives, and what is given where two causes or two packets meet. Assumes nothing.
+use Prim.Native.Nat.{ℕ, _+_, _-_}
+use mathlib.Core.Path.{_≡_}
+use mathlib.Core.Bool.{true}
+use mathlib.Core.List.{List, [], _∷_, _++_, map}
+use lib.ListN.{length, getD, replicate}
+use Rattle.rules.specs.Limits.{max-levels}
+use Rattle.rules.specs.Model.{Link, Connection, Past, Packet, Notice, State, Call, link, offer, notice, tick, no-link, no-past, fresh}
+use Rattle.rules.specs.Calls.{answer}
+use Rattle.rules.specs.Runs.{Departure, run-from}
+use Rattle.rules.specs.Examples.{line}
+
+-- what is seen of a call: its verdict, its number, and what has departed once so many ticks have followed it: connections and tags, in order
+pub record Outcome : Type 0 where
+  pub verdict : ℕ
+  pub number : ℕ
+  pub departed : List (ℕ × ℕ)
+
+-- a call on a state that is made by hand
+pub record Trial : Type 0 where
+  pub on : State
+  pub call : Call
+  pub ticks : ℕ
+  pub expected : Outcome
+
+unfoldable pub outcome : Trial → Outcome
+outcome x = record {
+  verdict = answer (x .call) (x .on) .verdict;
+  number = answer (x .call) (x .on) .number;
+  departed = map (λ (d : Departure). (d .what .connection, d .what .tag))
+      (run-from (record { accepted = []; departed = []; now = x .on }) (x .call ∷ replicate (x .ticks) tick) .departed);
+}
+
+-- ---- states by hand
+
+-- levels, S, silence, bounds; 0 behind them
+abbrev pub wire : ℕ → ℕ → ℕ → List ℕ → Link
+wire levels largest silence bounds = record { levels = levels; largest = largest; silence = silence; bounds = bounds ++ replicate (max-levels - length bounds) 0 }
+
+-- level, gap, size
+abbrev pub connection : ℕ → ℕ → ℕ → Connection
+connection level gap size = record { level = level; gap = gap; size = size }
+
+-- an idle line at clock t
+abbrev pub idle : ℕ → Link → List Connection → List Past → List Packet → List Notice → State
+idle t l cs hs ps ns = record { link = l; connections = cs; pasts = hs; clock = t; held = ps; notices = ns; serving = 0; to-go = 0; silent = 0 }
+
+-- one unit of connection c
+abbrev pub unit : ℕ → ℕ → ℕ → ℕ → Packet
+unit c tag arrival eligibility = record { connection = c; len = 1; tag = tag; arrival = arrival; eligibility = eligibility }
+
+abbrev pub last-at : ℕ → Past
+last-at e = record { sent = true; last = e }
+
+-- a link and nothing else
+abbrev pub bare : Link → State
+bare l = idle 0 l [] [] [] []
+
+-- document 01's link A: S 4, bounds 10, 20
+abbrev pub wire-a : Link
+wire-a = wire 2 4 0 (10 ∷ 20 ∷ [])
+
+-- n lines that count one unit each within the bound
+abbrev pub many : ℕ → State
+many n = idle 0 (wire 1 1 0 (100 ∷ [])) (replicate n (connection 1 100 1)) (replicate n no-past) [] []
+
+-- a bound of 600 and lines of gap 3, 3 and 6: reservations of 200, 200 and 100
+abbrev pub reserved-500 : State
+reserved-500 = idle 0 (wire 1 1 0 (600 ∷ [])) (connection 1 3 1 ∷ connection 1 3 1 ∷ connection 1 6 1 ∷ []) (replicate 3 no-past) [] []
+
+-- link A and a line of level 1, gap 5, size 3, at clock t: 2 * 3 + 4 = 10 at level 1, 4 * 3 + 4 = 16 at level 2, reservation 2. It holds none, one, two
+abbrev pub holds-none : ℕ → State
+holds-none t = idle t wire-a (connection 1 5 3 ∷ []) (no-past ∷ []) [] []
+
+abbrev pub holds-one : ℕ → State
+holds-one t = idle t wire-a (connection 1 5 3 ∷ []) (last-at t ∷ []) (unit 0 71 t t ∷ []) []
+
+abbrev pub holds-two : ℕ → State
+holds-two t = idle t wire-a (connection 1 5 3 ∷ []) (last-at (t + 5) ∷ []) (unit 0 71 t t ∷ unit 0 72 t (t + 5) ∷ []) []
+
+-- link A and n notices of one unit, at clock t
+abbrev pub waits : ℕ → ℕ → State
+waits t n = idle t wire-a [] [] [] (replicate n (record { len = 1; tag = 9; arrival = t }))
+
+-- link A at clock 10; connection 0 of level 2, 1 and 2 of level 1, each holds one unit, with the tag 70, 71, 72. Their eligibilities by number, their numbers
+-- in the order offered, and the tags of notices of one unit
+abbrev pub three : List ℕ → List ℕ → List ℕ → State
+three es order notes =
+    idle 10 wire-a (connection 2 20 1 ∷ connection 1 10 1 ∷ connection 1 10 1 ∷ []) (map last-at es) (map (λ c. unit c (70 + c) 0 (getD es c 0)) order)
+    (map (λ tag. record { len = 1; tag = tag; arrival = 10 }) notes)
+
+-- ---- rows: a call gives a verdict and a number; a tick and those after it send these, one in each tick
+
+abbrev pub gives : State → Call → ℕ → ℕ → Trial
+gives s k verdict number = record { on = s; call = k; ticks = 0; expected = record { verdict = verdict; number = number; departed = [] } }
+
+abbrev pub sends : State → List (ℕ × ℕ) → Trial
+sends s ps = record { on = s; call = tick; ticks = length ps - 1; expected = record { verdict = 0; number = 0; departed = ps } }
+
+-- "Link, connections, places", of a link; document 02, R-4
+abbrev pub link-limits : List Trial
+link-limits =
+    -- 1 to 8 levels
+    gives fresh (link (wire 0 1 0 [])) 4 0
+    ∷ gives fresh (link (wire 1 1 0 (1 ∷ []))) 0 0
+    ∷ gives fresh (link (wire 8 1 0 (1 ∷ 2 ∷ 3 ∷ 4 ∷ 5 ∷ 6 ∷ 7 ∷ 8 ∷ []))) 0 0
+    ∷ gives fresh (link (wire 9 1 0 (1 ∷ 2 ∷ 3 ∷ 4 ∷ 5 ∷ 6 ∷ 7 ∷ 8 ∷ 9 ∷ []))) 4 0
+    -- S from 1 to 2,048
+    ∷ gives fresh (link (wire 1 0 0 (1 ∷ []))) 4 0
+    ∷ gives fresh (link (wire 1 2_048 0 (2_048 ∷ []))) 0 0
+    ∷ gives fresh (link (wire 1 2_049 0 (2_049 ∷ []))) 4 0
+    -- silence up to 64
+    ∷ gives fresh (link (wire 1 1 64 (65 ∷ []))) 0 0
+    ∷ gives fresh (link (wire 1 1 65 (66 ∷ []))) 4 0
+    -- the bounds rise strictly
+    ∷ gives fresh (link (wire 2 4 0 (10 ∷ 11 ∷ []))) 0 0
+    ∷ gives fresh (link (wire 2 4 0 (10 ∷ 10 ∷ []))) 4 0
+    -- the first is at least S plus the silence
+    ∷ gives fresh (link (wire 1 4 2 (6 ∷ []))) 0 0
+    ∷ gives fresh (link (wire 1 4 2 (5 ∷ []))) 4 0
+    -- the last is at most 32,768
+    ∷ gives fresh (link (wire 2 4 0 (10 ∷ 32_768 ∷ []))) 0 0
+    ∷ gives fresh (link (wire 2 4 0 (10 ∷ 32_769 ∷ []))) 4 0
+    -- past n they are 0
+    ∷ gives fresh (link (wire 1 4 0 (10 ∷ 0 ∷ []))) 0 0
+    ∷ gives fresh (link (wire 1 4 0 (10 ∷ 11 ∷ []))) 4 0
+    ∷ []
+
+-- .. of a connection; "The level test". An accepted admission gives the next number, a refused one 255
+abbrev pub admission-limits : List Trial
+admission-limits =
+    -- level 1 to n
+    gives (bare wire-a) (line 0 10 4) 5 255
+    ∷ gives (bare wire-a) (line 1 10 4) 0 0
+    ∷ gives (bare wire-a) (line 2 10 4) 0 0
+    ∷ gives (bare wire-a) (line 3 10 4) 5 255
+    -- gap from 1 to 65,535; what refuses a gap of 1 is the level test
+    ∷ gives (bare wire-a) (line 1 0 4) 6 255
+    ∷ gives (bare wire-a) (line 1 1 4) 8 255
+    ∷ gives (bare wire-a) (line 1 65_535 4) 0 0
+    ∷ gives (bare wire-a) (line 1 65_536 4) 6 255
+    -- size from 1 to S
+    ∷ gives (bare wire-a) (line 1 10 0) 6 255
+    ∷ gives (bare wire-a) (line 1 10 1) 0 0
+    ∷ gives (bare wire-a) (line 1 10 5) 6 255
+    -- 64 connections
+    ∷ gives (many 63) (line 1 100 1) 0 63
+    ∷ gives (many 64) (line 1 100 1) 7 255
+    -- a sum at its bound, 4 + 4 of 8, and one above it, 4 + 4 of 7; with a silence of 2, 6 + 6 of 12 and of 11
+    ∷ gives (bare (wire 1 4 0 (8 ∷ []))) (line 1 8 4) 0 0
+    ∷ gives (bare (wire 1 4 0 (7 ∷ []))) (line 1 7 4) 8 255
+    ∷ gives (bare (wire 1 4 2 (12 ∷ []))) (line 1 12 4) 0 0
+    ∷ gives (bare (wire 1 4 2 (11 ∷ []))) (line 1 11 4) 8 255
+    -- reservations of 512 together: 500 and 600 / 50; 500 and 600 / 47, rounded up
+    ∷ gives reserved-500 (line 1 50 1) 0 3
+    ∷ gives reserved-500 (line 1 47 1) 9 255
+    ∷ []
+
+-- offers, notices and ticks. A refused offer or notice gives 0 and not the clock
+abbrev pub service-limits : List Trial
+service-limits =
+    -- a number that stands
+    gives (holds-none 7) (offer 0 1 73) 0 7
+    ∷ gives (holds-none 7) (offer 1 1 73) 10 0
+    -- lengths from 1 to the connection's size, which is below S here
+    ∷ gives (holds-none 7) (offer 0 0 73) 11 0
+    ∷ gives (holds-none 7) (offer 0 3 73) 0 7
+    ∷ gives (holds-none 7) (offer 0 4 73) 11 0
+    -- as many packets as its reservation, 2
+    ∷ gives (holds-one 7) (offer 0 1 73) 0 12
+    ∷ gives (holds-two 7) (offer 0 1 73) 12 0
+    -- of a notice from 1 to S
+    ∷ gives (waits 7 0) (notice 0 73) 11 0
+    ∷ gives (waits 7 0) (notice 1 73) 0 7
+    ∷ gives (waits 7 0) (notice 4 73) 0 7
+    ∷ gives (waits 7 0) (notice 5 73) 11 0
+    -- 64 notices
+    ∷ gives (waits 7 63) (notice 1 73) 0 7
+    ∷ gives (waits 7 64) (notice 1 73) 15 0
+    -- the clock's end, which admissions don't ask for; a tick beyond it the state is not sound
+    ∷ gives (holds-none 3_999_999_999) (offer 0 1 73) 0 3_999_999_999
+    ∷ gives (holds-none 3_999_999_999) (notice 1 73) 0 3_999_999_999
+    ∷ gives (holds-none 3_999_999_999) tick 0 0
+    ∷ gives (holds-none 4_000_000_000) (offer 0 1 73) 13 0
+    ∷ gives (holds-none 4_000_000_000) (notice 1 73) 13 0
+    ∷ gives (holds-none 4_000_000_000) tick 13 0
+    ∷ gives (idle 4_000_000_000 wire-a [] [] [] []) (line 1 10 4) 0 0
+    ∷ gives (holds-none 4_000_000_001) tick 1 0
+    ∷ []
+
+-- "Verdict numbers": number 1 first, otherwise the lowest that applies. Calls with several causes
+abbrev pub causes : List Trial
+causes =
+    -- 1 before 2, at every call: with no link everything is zero
+    gives (idle 1 no-link [] [] [] []) (link (wire 1 1 0 (1 ∷ []))) 1 0
+    ∷ gives (idle 1 no-link [] [] [] []) (line 1 10 4) 1 255
+    ∷ gives (idle 1 no-link [] [] [] []) (offer 0 1 73) 1 0
+    ∷ gives (idle 1 no-link [] [] [] []) (notice 1 73) 1 0
+    ∷ gives (idle 1 no-link [] [] [] []) tick 1 0
+    -- 2 before 5, 10 and 11
+    ∷ gives fresh (line 0 0 0) 2 255
+    ∷ gives fresh (offer 0 0 73) 2 0
+    ∷ gives fresh (notice 0 73) 2 0
+    ∷ gives fresh tick 2 0
+    -- 3 before 4
+    ∷ gives (bare wire-a) (link wire-a) 3 0
+    ∷ gives (bare wire-a) (link no-link) 3 0
+    -- 5 before 6, 6 before 7, 7 before 8, 8 before 9
+    ∷ gives (bare wire-a) (line 0 0 4) 5 255
+    ∷ gives (many 64) (line 1 0 1) 6 255
+    ∷ gives (many 64) (line 1 1 1) 7 255
+    ∷ gives reserved-500 (line 1 1 1) 8 255
+    -- 10 before 11, 11 before 12, 12 before 13
+    ∷ gives (holds-two 7) (offer 1 0 73) 10 0
+    ∷ gives (holds-two 7) (offer 0 4 73) 11 0
+    ∷ gives (holds-two 4_000_000_000) (offer 0 1 73) 12 0
+    -- 11 before 13, 13 before 15
+    ∷ gives (waits 4_000_000_000 0) (notice 5 73) 11 0
+    ∷ gives (waits 4_000_000_000 64) (notice 1 73) 13 0
+    ∷ []
+
+-- "One tick", step 1; document 02, R-1
+abbrev pub ties : List Trial
+ties =
+    -- the lower level first; of the same level and eligibility the first offered
+    sends (three (10 ∷ 10 ∷ 10 ∷ []) (0 ∷ 2 ∷ 1 ∷ []) []) ((2, 72) ∷ (1, 71) ∷ (0, 70) ∷ [])
+    -- the lower level first, though eligible and offered later; of the same level the earlier eligibility, though offered later
+    ∷ sends (three (3 ∷ 10 ∷ 5 ∷ []) (0 ∷ 1 ∷ 2 ∷ []) []) ((2, 72) ∷ (1, 71) ∷ (0, 70) ∷ [])
+    -- eligible at the clock, not a tick beyond it
+    ∷ sends (three (10 ∷ 11 ∷ 11 ∷ []) (1 ∷ 2 ∷ 0 ∷ []) []) ((0, 70) ∷ (1, 71) ∷ (2, 72) ∷ [])
+    -- notices in the order offered, as connection 254, and only where no packet is eligible
+    ∷ sends (three (12 ∷ 12 ∷ 12 ∷ []) (0 ∷ 1 ∷ 2 ∷ []) (9 ∷ 8 ∷ 7 ∷ [])) ((254, 9) ∷ (254, 8) ∷ (1, 71) ∷ (2, 72) ∷ (0, 70) ∷ (254, 7) ∷ [])
+    ∷ []
+
+abbrev pub As-worked : List Trial → Type 0
+As-worked rows = map outcome rows ≡ map (λ (x : Trial). x .expected) rows
+
+abbrev pub Worked-limits : Type 0
+Worked-limits = As-worked link-limits × As-worked admission-limits × As-worked service-limits × As-worked causes × As-worked ties
