@@ -10,6 +10,13 @@ use rules::Link;
 use service::Hub;
 use service::Told;
 
+// How many numbers the caller lends: as the table of connections, as the places table, as the table of notices.
+pub const CONNECTIONS: usize = lines::MEMBERS;
+
+pub const PLACES: usize = tables::PLACES;
+
+pub const NOTICES: usize = tables::NOTICES;
+
 // The fresh hub; its three tables start as zeros.
 pub fn fresh_hub() -> Hub
     ensures { λ r. ⌜ r ≡ hub-of fresh ⌝ }

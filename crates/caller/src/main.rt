@@ -1,0 +1,110 @@
+// A caller of the hub, to read and to copy: a link, two lines, four offers and a notice, 20 ticks. It prints each answer and each departure; its README.md works
+// out by hand what they must be. docs/CALLERS.md has every type and every call.
+use libc::STDOUT_FILENO;
+use rules::Connection;
+use rules::Link;
+use service::Hub;
+use service::Told;
+
+// What the caller keeps beside a hub: three tables, zeros at first. Only the hub's calls write to them: each call is handed the hub and gives one back, and is
+// lent the tables, `&mut` where it may change them.
+type Connections = [u32; hub::CONNECTIONS];
+
+type Places = [u32; hub::PLACES];
+
+type Notices = [u32; hub::NOTICES];
+
+fn write(text: &[u8], n: u64) {
+    io::write_all(STDOUT_FILENO, text);
+    io::print_decimal(STDOUT_FILENO, n);
+}
+
+// A packet that has left. Its finish is the clock after the tick.
+fn show_departure(r: Told) {
+    let p = r.packet;
+    let after = r.hub;
+    write(b"left: connection ", p.connection as u64);
+    write(b", tag ", p.tag as u64);
+    write(b", arrival ", p.arrival as u64);
+    write(b", eligibility ", p.eligibility as u64);
+    write(b", finish ", after.clock as u64);
+    io::write_all(STDOUT_FILENO, b"\n");
+}
+
+// What a call answered. Verdict 0: it is done, and `number` is the connection's number after an admission, the eligibility after an offer or a notice. Any other
+// verdict: nothing has changed, and with an 8 `short` names the level that is short and by how many units. The hub that comes with it goes to the next call.
+fn show(call: &[u8], r: Told) -> Hub {
+    let short = r.short;
+    io::write_all(STDOUT_FILENO, call);
+    write(b": verdict ", r.verdict as u64);
+    write(b", number ", r.number as u64);
+    if short.level != 0 {
+        write(b", short at level ", short.level as u64);
+        write(b" by ", short.units);
+    }
+    io::write_all(STDOUT_FILENO, b"\n");
+    r.hub
+}
+
+// So many ticks, one call each. A tick answers with at most one packet, and is refused only where no link is set or the clock has ended.
+fn ticks(before: Hub, cs: &Connections, t: &mut Places, q: &mut Notices, n: u32) -> Hub {
+    let mut h = before;
+    let mut i: u32 = 0;
+    while i < n {
+        let r = hub::tick(h, cs, t, q);
+        if r.gone {
+            show_departure(r);
+        }
+        h = r.hub;
+        i += 1;
+    }
+    h
+}
+
+// A link, and lines that ask to be admitted. A line says its level, the gap that it keeps between packets and their largest size; the number that it is given
+// names it in its offers.
+fn open(fresh: Hub, cs: &mut Connections, t: &Places, q: &Notices) -> Hub {
+    // packets of up to 4 units, a tick of silence after each; bound 10 for level 1, which is the most urgent, 20 for level 2, and 0 past the levels
+    let line = Link {
+        levels: 2,
+        largest: 4,
+        silence: 1,
+        bounds: [10, 20, 0, 0, 0, 0, 0, 0],
+    };
+    let urgent = Connection {
+        level: 1,
+        gap: 10,
+        size: 4,
+    };
+    let patient = Connection {
+        level: 2,
+        gap: 20,
+        size: 4,
+    };
+    let h = show(b"link", hub::link(fresh, cs, t, q, line));
+    let h = show(b"admit", hub::admit(h, cs, t, q, urgent));
+    let h = show(b"admit", hub::admit(h, cs, t, q, patient));
+    show(b"admit", hub::admit(h, cs, t, q, urgent))
+}
+
+// Offers: a connection, a length, a tag. What is in a packet stays with the caller, who finds it again by the tag. A notice has no connection.
+fn send(opened: Hub, cs: &mut Connections, t: &mut Places, q: &mut Notices) -> Hub {
+    let h = show(b"offer", hub::offer(opened, cs, t, q, 1, 4, 100));
+    let h = ticks(h, cs, t, q, 1);
+    let h = show(b"offer", hub::offer(h, cs, t, q, 0, 3, 90));
+    let h = show(b"offer", hub::offer(h, cs, t, q, 0, 3, 91));
+    let h = show(b"notice", hub::notice(h, cs, t, q, 2, 7));
+    let h = ticks(h, cs, t, q, 7);
+    let h = show(b"offer", hub::offer(h, cs, t, q, 0, 4, 92));
+    ticks(h, cs, t, q, 12)
+}
+
+fn main() {
+    let mut cs: Connections = [0; hub::CONNECTIONS];
+    let mut t: Places = [0; hub::PLACES];
+    let mut q: Notices = [0; hub::NOTICES];
+    let h = open(hub::fresh_hub(), &mut cs, &t, &q);
+    let h = send(h, &mut cs, &mut t, &mut q);
+    write(b"clock: ", h.clock as u64);
+    io::write_all(STDOUT_FILENO, b"\n");
+}
