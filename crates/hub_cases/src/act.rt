@@ -28,20 +28,21 @@ use std::num::wrapping_add_u32;
 use std::num::wrapping_add_usize;
 use std::num::wrapping_sub_u32;
 
-// Which form it is: 0 to 11 calls; 12 more; 13 to 16 looks; 17 to 22 acts; 23 to 46 numbers changed by hand; then end, group, recipe, and nothing at all.
+// Which form it is: 0 to 12 calls; 13 more; 14 to 17 looks; 18 to 23 acts; 24 to 47 numbers changed by hand; then end, group, recipe, and nothing at all.
 pub fn number_of(f: Form) -> u32 {
     let forms =
         b":link##########=#:admit###=##:offer###=##:refusedtick=#:tick=##:ticks#=##:gone######:notice##=##:gonenotice###:link##########silence#=#\
-        :tick=##silent#:ticks#=##silent#:more######:clockis#:rowsare#:noticesare#:silentis#:fresh:undo:lengths##:connectionsall#:placesall#:noticesall#\
-        :clock#:serving#:units#:silent#:levels#:largest#:bound##:level##:size##:gap##:sent##:last##:connection##:length##:tag##:arrival##:eligibility##\
-        :noticeconnection##:noticelength##:noticetag##:noticearrival##:noticeeligibility##:noticeslent#:silence#:end:group:recipe::";
+        :tick=##silent#:ticks#=##silent#:admit###=##short##:more######:clockis#:rowsare#:noticesare#:silentis#:fresh:undo:lengths##\
+        :connectionsall#:placesall#:noticesall#:clock#:serving#:units#:silent#:levels#:largest#:bound##:level##:size##:gap##:sent##:last##\
+        :connection##:length##:tag##:arrival##:eligibility##:noticeconnection##:noticelength##:noticetag##:noticearrival##:noticeeligibility##\
+        :noticeslent#:silence#:end:group:recipe::";
     let text = f.text;
     wrapping_sub_u32(count(forms, find(forms, text, f.bytes), b':'), 2)
 }
 
 // The fresh hub, tables of zeros, lent in their lengths.
 pub fn fresh() -> World {
-    let zeros = World { n: [0; 3859] };
+    let zeros = World { n: [0; 3862] };
     let none = Packet {
         connection: 0,
         len: 0,
@@ -64,13 +65,13 @@ pub fn fresh() -> World {
 // Where the number stands that a form changes by hand, in the row n where there are rows.
 pub fn changed(k: u32, n: u32) -> usize {
     match k {
-        23..=28 => CLOCK + (k - 23) as usize,
-        29 => bound(n),
-        30..=34 => connection(n) + (k - 30) as usize,
-        35..=39 => place(n) + (k - 35) as usize,
-        40..=44 => notice(n) + (k - 40) as usize,
-        45 => LENT_NOTICES,
-        46 => SILENCE,
+        24..=29 => CLOCK + (k - 24) as usize,
+        30 => bound(n),
+        31..=35 => connection(n) + (k - 31) as usize,
+        36..=40 => place(n) + (k - 36) as usize,
+        41..=45 => notice(n) + (k - 41) as usize,
+        46 => LENT_NOTICES,
+        47 => SILENCE,
         _ => NOWHERE,
     }
 }
@@ -79,10 +80,10 @@ pub fn changed(k: u32, n: u32) -> usize {
 pub fn acted(w: World, k: u32) -> World {
     let v = get(w, VALUE);
     match k {
-        19 => copy(w, LENT, READ, 2),
+        20 => copy(w, LENT, READ, 2),
         // a number that goes to the next place, and on from there, fills them all
-        20 => copy(put(w, 0, v), 1, 0, 319),
-        22 => copy(put(w, NOTICES, v), NOTICES + 1, NOTICES, 319),
+        21 => copy(put(w, 0, v), 1, 0, 319),
+        23 => copy(put(w, NOTICES, v), NOTICES + 1, NOTICES, 319),
         _ => copy(put(w, PLACES, v), PLACES + 1, PLACES, 2559),
     }
 }

@@ -9,6 +9,7 @@ use crate::world::NUMBER;
 use crate::world::PACKET;
 use crate::world::PLACES;
 use crate::world::SERVING;
+use crate::world::SHORT;
 use crate::world::SILENCE;
 use crate::world::SILENT;
 use crate::world::VERDICT;
@@ -104,19 +105,24 @@ pub fn expect(w: World) -> World {
     let at = match call {
         0 => ASKED + 10,
         9 => ASKED + 11,
-        1 | 2 => ASKED + 3,
+        1 | 2 | 12 => ASKED + 3,
         3 => ASKED,
         7 => ASKED + 2,
         _ => NONE,
     };
-    let x = put(copy(w, VERDICT, at, 2), GONE, 0);
+    // an admission says what was short; where the script does not, its numbers end and these are 0
+    let short = match call {
+        1 | 12 => ASKED + 5,
+        _ => NONE,
+    };
+    let x = put(copy(copy(w, SHORT, short, 3), VERDICT, at, 2), GONE, 0);
     let y = copy(x, PACKET, GONE, 5);
     if get(y, VERDICT) != 0 {
         return y;
     }
     match call {
         0 | 9 => link_asked(y),
-        1 => admitted(y),
+        1 | 12 => admitted(y),
         2 => offered(y),
         3 => y,
         4 | 10 => quiet(y, 1, ASKED),

@@ -9,7 +9,7 @@ use run::State;
 use world::World;
 
 fn follow(text: &[u8]) {
-    let none = World { n: [0; 3859] };
+    let none = World { n: [0; 3862] };
     let mut s = State {
         now: none,
         kept: none,

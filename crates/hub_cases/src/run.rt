@@ -172,37 +172,37 @@ fn obey(text: &[u8], f: Form, s: State, k: u32) -> State {
     let w = s.now;
     let mut x = s;
     match k {
-        0..=11 => case(s, put(copy(w, ASKED, READ, 15), CALL, k)),
-        12 => repeated(s),
-        13 => counted(s, w, get(w, CLOCK) == get(w, READ)),
-        14 => counted(s, w, expect::rows(w) == get(w, READ)),
-        15 => counted(s, w, expect::notices(w) == get(w, READ)),
-        16 => counted(s, w, get(w, SILENT) == get(w, READ)),
-        17 => {
+        0..=12 => case(s, put(copy(w, ASKED, READ, 15), CALL, k)),
+        13 => repeated(s),
+        14 => counted(s, w, get(w, CLOCK) == get(w, READ)),
+        15 => counted(s, w, expect::rows(w) == get(w, READ)),
+        16 => counted(s, w, expect::notices(w) == get(w, READ)),
+        17 => counted(s, w, get(w, SILENT) == get(w, READ)),
+        18 => {
             let y = act::fresh();
             x.now = y;
             x.kept = y;
             x
         }
-        18 => {
+        19 => {
             let y = s.kept;
             x.now = y;
             x
         }
-        19..=22 => {
+        20..=23 => {
             let y = act::acted(w, k);
             x.now = y;
             x
         }
-        23..=46 => changed(text, s, k),
-        47 => ended(text, s),
-        48 => opened(text, s),
+        24..=47 => changed(text, s, k),
+        48 => ended(text, s),
+        49 => opened(text, s),
         // the script ends where the recipes begin
-        49 => {
+        50 => {
             x.next = text.len();
             x
         }
-        50 => s,
+        51 => s,
         _ => called(text, f, s),
     }
 }

@@ -7,7 +7,7 @@ use service::Told;
 use std::num::wrapping_add_usize;
 
 pub struct World {
-    pub n: [u32; 3859],
+    pub n: [u32; 3862],
 }
 
 // Rows of connections stand from 0 on: 80, of which 64 are lent as a rule; then as many of notices.
@@ -51,10 +51,13 @@ pub const NONE: usize = 855;
 
 pub const CALL: usize = 858;
 
-pub const PLACES: usize = 859;
+// Of the last answer: the level that was short, and its units, low half first.
+pub const SHORT: usize = 859;
+
+pub const PLACES: usize = 862;
 
 // No place: what is put there makes the world differ from every other.
-pub const NOWHERE: usize = 3859;
+pub const NOWHERE: usize = 3862;
 
 pub fn get(w: World, at: usize) -> u32 {
     if NOWHERE <= at {
@@ -116,7 +119,7 @@ pub fn same(a: World, b: World) -> bool {
 
 // Where a row of the connections begins.
 pub fn connection(k: u32) -> usize
-    ensures { λ r. ⌜ r ≤ 3859 ⌝ }
+    ensures { λ r. ⌜ r ≤ 3862 ⌝ }
 {
     if 80 <= k {
         return NOWHERE;
@@ -126,7 +129,7 @@ pub fn connection(k: u32) -> usize
 
 // Where a row of the notices begins.
 pub fn notice(k: u32) -> usize
-    ensures { λ r. ⌜ r ≤ 3859 ⌝ }
+    ensures { λ r. ⌜ r ≤ 3862 ⌝ }
 {
     if 80 <= k {
         return NOWHERE;
@@ -136,7 +139,7 @@ pub fn notice(k: u32) -> usize
 
 // Where a row of the places begins.
 pub fn place(k: u32) -> usize
-    ensures { λ r. ⌜ r ≤ 3859 ⌝ }
+    ensures { λ r. ⌜ r ≤ 3862 ⌝ }
 {
     if 600 <= k {
         return NOWHERE;
@@ -182,7 +185,11 @@ pub fn told(w: World, r: Told) -> World {
     let l = h.link;
     let p = r.packet;
     let b = l.bounds;
+    let s = r.short;
     let x = put_all(w, BOUNDS, &b);
+    let x = put(x, 859, s.level);
+    let x = put(x, 860, (s.units % 4294967296) as u32);
+    let x = put(x, 861, (s.units / 4294967296) as u32);
     let x = put(x, 800, r.verdict);
     let x = put(x, 801, r.number);
     let x = put(x, 802, r.gone as u32);
@@ -220,7 +227,7 @@ fn ask(w: World, cs: &mut [u32], t: &mut [u32], q: &mut [u32]) -> Told {
             let l = g.link;
             hub::link(h, cs, t, q, l)
         }
-        1 => {
+        1 | 12 => {
             let x = Connection {
                 level: a,
                 gap: b,
@@ -246,7 +253,7 @@ fn lent(w: World, at: usize, most: usize) -> usize
 }
 
 // The numbers of a world, and from a place on those of another.
-fn joined(w: World, behind: [u32; 3859], from: usize) -> World {
+fn joined(w: World, behind: [u32; 3862], from: usize) -> World {
     let mut x = w;
     let mut i: usize = from;
     while i < NOWHERE {
@@ -257,7 +264,7 @@ fn joined(w: World, behind: [u32; 3859], from: usize) -> World {
 }
 
 // The world after the call: each table is lent of a copy of its numbers.
-pub fn call(w: World, lines: [u32; 3859], notices: [u32; 3859], places: [u32; 3859]) -> World {
+pub fn call(w: World, lines: [u32; 3862], notices: [u32; 3862], places: [u32; 3862]) -> World {
     let mut x = lines;
     let mut y = notices;
     let mut z = places;
