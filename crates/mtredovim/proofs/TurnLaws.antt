@@ -1,16 +1,25 @@
--- What the turns of the program's loop need: the measure, the window, and that each turn goes on with a session. Assumes nothing.
-use Prim.Native.Nat.{ℕ, zero, suc, _+_, _-_, _<_, _≤_}
+-- What one turn of the program's loop needs: the measure, the window, what follows it, and that it goes on with a session. Assumes nothing.
+use Prim.Native.Nat.{ℕ, zero, suc, _+_, _-_, _^_, _<_, _≤_}
 use native.Mathlib.Omega.{arith}
 use mathlib.Core.Path.{_≡_, refl, sym, ap, _∙_, subst}
 use mathlib.Core.Bool.{Bool, true, false}
 use mathlib.Core.List.{List, [], _∷_, _++_, append-nil}
-use lib.ListN.{length, take, drop, length-drop, take-append-drop}
-use lib.Seq.{length-take-le, take-append-add, take-nil, drop-drop, take-append-seam, take-length}
-use borrow.Author.Tests.{le-ltb}
+use mathlib.Core.Logic.{inr}
+use lib.IntN.{ℤ, pos, negsuc, natAbs}
+use lib.ListN.{length, take, drop, length-drop}
+use lib.Seq.{length-take-le, take-append-add, take-nil, drop-drop}
+use lib.Dec.{T, eqb}
+use lib.Signed.{mag, ltZ, nonNeg}
+use mir.Syntax.{w64}
+use mir.Val.{Fits, ofZ, hbits}
+use borrow.Author.Tests.{le-ltb, ne-eqb}
 use Rattle.rules.proofs.Tests.{never}
+use Rattle.fields.specs.Numbers.{pick}
+use Rattle.libc.specs.Io.{Moved}
 use Rattle.log.specs.declared.Cursor.{Cursor}
 use Rattle.log.specs.declared.Stepped.{Stepped}
-use Rattle.log.specs.declared.Status.the-variants.{GoOn, MoreBytes, Done}
+use Rattle.log.specs.declared.Status.{Status}
+use Rattle.log.specs.declared.Status.the-variants.{GoOn, MoreBytes, MoreRoom, NotSound, Done}
 use Rattle.log.specs.Log.{trace-limit, log}
 use Rattle.log.specs.Steps.{work}
 use Rattle.ticks.specs.Tie.{Facts}
@@ -20,9 +29,10 @@ use Rattle.replay.specs.Sessions.{Pumps, Session}
 use Rattle.replay.specs.Sessions.Session.{more, pump}
 use Rattle.replay.proofs.SlideLaws.{take-slid}
 use Rattle.replay.proofs.Results.{writes-the-log, done-is-finished}
-use mathlib.Core.Logic.{inr}
+use Rattle.mtredovim.specs.declared.End.{End}
+use Rattle.mtredovim.specs.declared.End.the-variants.{On, Whole, ReadFailed, WriteFailed}
 use Rattle.mtredovim.specs.declared.Turn.{Turn}
-use Rattle.mtredovim.specs.Turns.{waits, Right, Better, window, Refilled, Turned}
+use Rattle.mtredovim.specs.Turns.{waits, given-by, is-end, heard, reads, after, Right, Better, window, Refilled, Turned}
 
 pub slide-len : (from to n : ℕ) → from ≤ to → to ≤ n → slide-length from to n ≡ to - from
 slide-len from to n h k = rw (le-ltb to from h, le-ltb n to k)
@@ -43,39 +53,94 @@ go-less w v a b l k from to u d p q h = let e : b + (to - (from + u)) ≡ a + (t
 more-less : (x w v a b l from to u : ℕ) → b ≡ a + u → v ≤ w → u ≤ to - from → from ≤ to → x < v + (l - (b + (to - (from + u)))) + 1 → x < w + (l - (a + (to - from))) + 1
 more-less x w v a b l from to u d p q h m = let e : b + (to - (from + u)) ≡ a + (to - from) = omega arith in let n = rw e at m in omega arith
 
-module _ (N : ℕ) (c : Cursor) (from to : ℕ) (R : Right N c from to) where
-  pub refilled-none : (n : ℕ) → n ≡ to - from → Better N c from to false (record { cursor = c; from = 0; to = n; last = true; stop = false; broken = false })
-  refilled-none n e =
-      record {
-        right = record { order = omega arith; inside = omega (arith, R .inside); place = R .place };
-        less = rw (← e) (none-less (work (c .at) (c .phase)) (c .at) n (trace-limit + N));
-      }
+-- ---- what `read` answers
 
-  pub refilled-some : (n got : ℕ) → n ≡ to - from → 0 < got → n + got ≤ N →
-      Better N c from to false (record { cursor = c; from = 0; to = n + got; last = false; stop = false; broken = false })
-  refilled-some n got e p q =
+pub given-fits : (n : ℕ) (z : ℤ) → Moved n z → given-by z ≤ n
+given-fits n (pos k) h = h
+given-fits n (negsuc k) h = omega arith
+
+pub none-given : (z : ℤ) → ltZ z (pos 0) ≡ true → 0 ≡ given-by z
+none-given (pos n) e = never (sym (le-ltb n 0 (omega arith)) ∙ e)
+none-given (negsuc n) e = refl
+
+-- what is not below 0 is the number itself, and fits
+pub not-below : (z : ℤ) → mag z < 2 ^ hbits w64 → ltZ z (pos 0) ≡ false → (T (nonNeg z) × Fits w64 (natAbs z)) × (natAbs z ≡ given-by z)
+not-below (pos n) l e = ((tt, record { fits = omega arith }), refl)
+not-below (negsuc n) l e = never (sym e)
+
+pub below-0 : (z : ℤ) → ltZ z (pos 0) ≡ true → ReadFailed ≡ heard z
+below-0 (pos n) e = never (sym (le-ltb n 0 (omega arith)) ∙ e)
+below-0 (negsuc n) e = refl
+
+pub not-below-0 : (z : ℤ) → ltZ z (pos 0) ≡ false → On ≡ heard z
+not-below-0 (pos n) e = refl
+not-below-0 (negsuc n) e = never (sym e)
+
+-- its bits are 0 where it is
+pub is-zero : (z : ℤ) → mag z < 2 ^ hbits w64 → eqb (ofZ w64 z) 0 ≡ is-end z
+is-zero (pos zero) l = refl
+is-zero (pos (suc n)) l = ne-eqb (suc n) 0 (omega arith)
+is-zero (negsuc n) l = ne-eqb (2 ^ 64 - suc n) 0 (omega arith)
+
+-- the turn that ends with a read behind n bytes
+abbrev read-turn : Cursor → ℕ → ℤ → Turn
+read-turn c n z = record { cursor = c; from = 0; to = n + given-by z; last = is-end z; written = true; read = z; end = heard z }
+
+-- .. and one that does not read
+abbrev still-turn : Stepped → ℕ → ℕ → Bool → Bool → Turn
+still-turn a from to last written =
+    record { cursor = a .cursor; from = from + a .used; to = to; last = last; written = written; read = pos 0; end = after written (a .status) }
+
+pub reads-only : (b : Bool) (k : Status) → reads b k ≡ true → (b ≡ true) × (k ≡ MoreBytes)
+reads-only b GoOn e = never e
+reads-only b MoreBytes e = (e, refl)
+reads-only b MoreRoom e = never e
+reads-only b NotSound e = never e
+reads-only b Done e = never e
+
+-- where no read follows the next turn, some step was made
+goes : (b : Bool) (k : Status) → reads b k ≡ false → after b k ≡ On → k ≡ GoOn
+goes false k e f = never cc
+goes true GoOn e f = refl
+goes true MoreBytes e f = never (sym e)
+goes true MoreRoom e f = never cc
+goes true NotSound e f = never cc
+goes true Done e f = never cc
+
+module _ (N : ℕ) (c : Cursor) (from to : ℕ) (R : Right N c from to) where
+  pub refill-better : (n : ℕ) (z : ℤ) → n ≡ to - from → n + given-by z ≤ N → heard z ≡ On → Better N c from to false (read-turn c n z)
+  refill-better n (pos zero) e q o =
+      let k : n + 0 ≡ n = omega arith in
       record {
         right = record { order = omega arith; inside = q; place = R .place };
-        less = rw (← e) (some-less (work (c .at) (c .phase)) (c .at) n got (trace-limit + N) p (omega (arith, R .place)));
+        less = rw (k, ← e) (none-less (work (c .at) (c .phase)) (c .at) n (trace-limit + N));
       }
+  refill-better n (pos (suc g)) e q o =
+      record {
+        right = record { order = omega arith; inside = q; place = R .place };
+        less = rw (← e) (some-less (work (c .at) (c .phase)) (c .at) n (suc g) (trace-limit + N) (omega arith) (omega (arith, R .place)));
+      }
+  refill-better n (negsuc g) e q o = never cc
 
   module _ (last : Bool) (r : ℕ) (a : Stepped) (F : Facts c (to - from) last r a) where
     pub wanted : Right N (a .cursor) (from + a .used) to
     wanted = record { order = omega (arith, R .order, F .used); inside = R .inside; place = F .within (R .place) }
 
-    pub went : a .status ≡ GoOn → Better N c from to last (record { cursor = a .cursor; from = from + a .used; to = to; last = last; stop = false; broken = false })
-    went g =
+    pub still-better : (b : Bool) → reads b (a .status) ≡ false → after b (a .status) ≡ On → Better N c from to last (still-turn a from to last b)
+    still-better b e o =
         record {
           right = wanted;
-          less = go-less (work (c .at) (c .phase)) (work (a .cursor .at) (a .cursor .phase)) (c .at) (a .cursor .at) (trace-limit + N) (waits last) from to (a .used) (F .place) (F .less g) (F .used) (R .order);
+          less = go-less (work (c .at) (c .phase)) (work (a .cursor .at) (a .cursor .phase)) (c .at) (a .cursor .at) (trace-limit + N) (waits last) from to (a .used) (F .place) (F .less (goes b (a .status) e o)) (F .used) (R .order);
         }
 
-    pub wanting : (b : Turn) → a .status ≡ MoreBytes → Better N (a .cursor) (from + a .used) to false b → Better N c from to last b
-    wanting b m B =
+    pub asked-better : (b : Bool) (v : Turn) → reads b (a .status) ≡ true → Better N (a .cursor) (from + a .used) to false v → Better N c from to last v
+    asked-better b v e B =
         record {
           right = B .right;
-          less = rw (F .wants m) (more-less _ (work (c .at) (c .phase)) (work (a .cursor .at) (a .cursor .phase)) (c .at) (a .cursor .at) (trace-limit + N) from to (a .used) (F .place) (F .never-more) (F .used) (R .order) (B .less));
+          less = rw (F .wants (reads-only b (a .status) e .1)) (more-less _ (work (c .at) (c .phase)) (work (a .cursor .at) (a .cursor .phase)) (c .at) (a .cursor .at) (trace-limit + N) from to (a .used) (F .place) (F .never-more) (F .used) (R .order) (B .less));
         }
+
+-- ---- the window
 
 -- the window after u bytes of it were used
 drop-take : (u k : ℕ) (l : List ℕ) → drop u (take k l) ≡ take (k - u) (drop u l)
@@ -98,47 +163,80 @@ refilled b from to ys g h k =
     rw (e, take-slid b from (to - from) (omega arith))
     (ap (λ i. take (i + g) (window b from to ++ ys)) (sym d) ∙ take-append-add (window b from to) ys g)
 
-module _ (c : Cursor) (cs t q w : List ℕ) (last : Bool) (o : List ℕ) (a : Stepped) (cs2 t2 q2 o2 w2 : List ℕ) (P : Pumps c cs t q w last o a cs2 t2 q2 o2) (v : Turn)
-    (k : v .cursor ≡ a .cursor) where
-  -- a turn that stops; of one that goes on, all may then be said
-  pub turned-halt : {A : Type 0} → v .stop ≡ true → (v .broken ≡ false → a .status ≡ Done) → Turned c cs t q w last o v cs2 t2 q2 o2 w2 × (v .stop ≡ false → A)
-  turned-halt s b = (record { answer = a; pumps = P; cursor = k; rest = λ f. never (sym f ∙ s); done = λ _ f. b f }, λ f. never (sym f ∙ s))
-
-  pub turned-go : v .stop ≡ false → take (length (drop (a .used) w)) w2 ≡ drop (a .used) w → Turned c cs t q w last o v cs2 t2 q2 o2 w2
-  turned-go s e =
-      record { answer = a; pumps = P; cursor = k; rest = λ _. e; done = λ f _. never (sym s ∙ f) }
-
--- ---- a turn goes on with the session: the bytes behind the old window are the next of the trace, and what is written out is what `pump` wrote
-
-module _ (trace wrote : List ℕ) (c : Cursor) (cs t q w unread : List ℕ) (S : Session trace wrote c cs t q w unread) (last : Bool) (g : last ≡ true → unread ≡ [])
-    (o : List ℕ) (v : Turn) (cs2 t2 q2 o2 w2 : List ℕ) (T : Turned c cs t q w last o v cs2 t2 q2 o2 w2) where
-  pub turn-keeps : (then : List ℕ) → v .stop ≡ false → unread ≡ drop (length (drop (T .answer .used) w)) w2 ++ then
-      → Session trace (wrote ++ take (T .answer .wrote) o2) (v .cursor) cs2 t2 q2 w2 then
-  turn-keeps then s e =
-      let k = length (drop (T .answer .used) w) in
-      let f : drop (T .answer .used) w ++ drop k w2 ≡ w2 = ap (λ l. l ++ drop k w2) (sym (T .rest s)) ∙ take-append-drop k w2 in
-      let P = pump last g o (T .answer) cs2 t2 q2 o2 (T .pumps) S in
-      let Q = more (drop k w2) then (subst (λ l. Session trace (wrote ++ take (T .answer .wrote) o2) (T .answer .cursor) cs2 t2 q2 (drop (T .answer .used) w) l) e P) in
-      rw (T .cursor) (subst (λ l. Session trace (wrote ++ take (T .answer .wrote) o2) (T .answer .cursor) cs2 t2 q2 l then) f Q)
-
-  -- THE LAST TURN: what was written out is the log
-  pub turn-ends : v .stop ≡ true → v .broken ≡ false → wrote ++ take (T .answer .wrote) o2 ≡ log trace
-  turn-ends s b =
-      writes-the-log trace _ (T .answer .cursor) cs2 t2 q2 (drop (T .answer .used) w) unread (pump last g o (T .answer) cs2 t2 q2 o2 (T .pumps) S)
-      (done-is-finished trace wrote c cs t q w unread S last g o (T .answer) cs2 t2 q2 o2 (inr (T .pumps)) (T .done s b))
-
 module _ (b S ys : List ℕ) (from to n : ℕ) (h : from ≤ to) (k : to ≤ length b) (e : n ≡ to - from) (f : S ≡ slid b from n) where
   behind : (g : ℕ) → window (take n S ++ (ys ++ drop (length S - n) (drop n S))) 0 (n + g) ≡ window b from to ++ take g ys
   behind g = rw (part-back n S ys ys refl, f, e) (refilled b from to ys g h k)
 
-  pub refill-none : (c : Cursor) → Refilled c (record { cursor = c; from = 0; to = n; last = true; stop = false; broken = false })
-      (window b from to) (window (take n S ++ (ys ++ drop (length S - n) (drop n S))) 0 n)
-  refill-none c =
-      let q : n ≡ n + 0 = omega arith in
-      let p = ap (λ m. window (take n S ++ (ys ++ drop (length S - n) (drop n S))) 0 m) q ∙ behind 0 ∙ append-nil (window b from to) in
-      record { cursor = refl; goes = refl; rest = rw p (take-length (window b from to)); ended = λ _. p }
+  pub refill-reads : (c : Cursor) (z : ℤ) → given-by z ≤ length ys
+      → Refilled c (window b from to) (read-turn c n z) (window (take n S ++ (ys ++ drop (length S - n) (drop n S))) 0 (n + given-by z))
+  refill-reads c z l =
+      record { cursor = refl; written = refl; got = take (given-by z) ys; count = length-take-le (given-by z) ys l; rest = behind (given-by z); last = refl; end = refl }
 
-  pub refill-some : (c : Cursor) (g : ℕ) → Refilled c (record { cursor = c; from = 0; to = n + g; last = false; stop = false; broken = false })
-      (window b from to) (window (take n S ++ (ys ++ drop (length S - n) (drop n S))) 0 (n + g))
-  refill-some c g =
-      record { cursor = refl; goes = refl; rest = rw (behind g) (take-append-seam (window b from to) (take g ys)); ended = λ z. never z }
+-- ---- a turn, from what its calls ensure
+
+module _ (c : Cursor) (cs t q w : List ℕ) (last : Bool) (o : List ℕ) (a : Stepped) (cs2 t2 q2 o2 w2 : List ℕ) (P : Pumps c cs t q w last o a cs2 t2 q2 o2)
+    (b : Bool) where
+  pub turned-still : (from to : ℕ) → reads b (a .status) ≡ false → w2 ≡ drop (a .used) w → Turned c cs t q w last o (still-turn a from to last b) cs2 t2 q2 o2 w2
+  turned-still from to e f =
+      record {
+        answer = a;
+        pumps = P;
+        cursor = refl;
+        got = [];
+        count = refl;
+        rest = f ∙ sym (append-nil (drop (a .used) w));
+        only-asked = λ _. refl;
+        not-past-end = λ g. never (sym e ∙ g);
+        last-then = rw e;
+        end = rw e;
+      }
+
+  pub turned-read : (v : Turn) → reads b (a .status) ≡ true → (a .status ≡ MoreBytes → last ≡ false) → Refilled (a .cursor) (drop (a .used) w) v w2
+      → Turned c cs t q w last o v cs2 t2 q2 o2 w2
+  turned-read v e wants F =
+      let k = reads-only b (a .status) e .1 in
+      let d : reads (v .written) (a .status) ≡ true = rw (F .written, k) in
+      record {
+        answer = a;
+        pumps = P;
+        cursor = F .cursor;
+        got = F .got;
+        count = F .count;
+        rest = F .rest;
+        only-asked = λ g. never (sym g ∙ d);
+        not-past-end = λ _. wants k;
+        last-then = rw d (F .last);
+        end = rw d (F .end);
+      }
+
+-- what the end of a turn says of its calls
+not-whole : (z : ℤ) → heard z ≡ Whole → ⊥
+not-whole (pos n) e = never cc
+not-whole (negsuc n) e = never cc
+
+whole-done : (b : Bool) (k : Status) (z : ℤ) → pick (reads b k) (heard z) (after b k) ≡ Whole → k ≡ Done
+whole-done false GoOn z e = never cc
+whole-done false MoreBytes z e = never cc
+whole-done false MoreRoom z e = never cc
+whole-done false NotSound z e = never cc
+whole-done false Done z e = refl
+whole-done true GoOn z e = never cc
+whole-done true MoreBytes z e = absurd (not-whole z e)
+whole-done true MoreRoom z e = never cc
+whole-done true NotSound z e = never cc
+whole-done true Done z e = refl
+
+-- ---- a turn goes on with the session
+
+module _ (trace wrote : List ℕ) (c : Cursor) (cs t q w unread : List ℕ) (S : Session trace wrote c cs t q w unread) (last : Bool) (g : last ≡ true → unread ≡ [])
+    (o : List ℕ) (v : Turn) (cs2 t2 q2 o2 w2 : List ℕ) (T : Turned c cs t q w last o v cs2 t2 q2 o2 w2) where
+  pub turn-keeps : (then : List ℕ) → unread ≡ T .got ++ then → Session trace (wrote ++ take (T .answer .wrote) o2) (v .cursor) cs2 t2 q2 w2 then
+  turn-keeps then e =
+      let P = pump last g o (T .answer) cs2 t2 q2 o2 (T .pumps) S in
+      let Q = more (T .got) then (subst (λ l. Session trace (wrote ++ take (T .answer .wrote) o2) (T .answer .cursor) cs2 t2 q2 (drop (T .answer .used) w) l) e P) in
+      rw (T .cursor, T .rest) Q
+
+  pub turn-ends : v .end ≡ Whole → wrote ++ take (T .answer .wrote) o2 ≡ log trace
+  turn-ends e =
+      writes-the-log trace _ (T .answer .cursor) cs2 t2 q2 (drop (T .answer .used) w) unread (pump last g o (T .answer) cs2 t2 q2 o2 (T .pumps) S)
+      (done-is-finished trace wrote c cs t q w unread S last g o (T .answer) cs2 t2 q2 o2 (inr (T .pumps)) (whole-done (v .written) (T .answer .status) (v .read) (sym (T .end) ∙ e)))

@@ -1,34 +1,68 @@
--- THE STATEMENTS of the program, apart from their proofs: each is proved in proofs/Results under the same name in small letters. `main` is a loop of turns and
--- has no answer of its own, so they are said turn by turn; that the kernel hands over the trace and takes the log is what must be trusted. Assumes nothing.
-use Prim.Native.Nat.{ℕ}
+-- THE STATEMENTS of the program, apart from their proofs: each is proved in proofs/Results under the same name in small letters. `main` hands its tables to
+-- `replay_all`, whose contract is `Ran`: its turns are such as are spoken of here. Assumes nothing.
+use Prim.Native.Nat.{ℕ, _<_, _≤_}
 use mathlib.Core.Path.{_≡_}
 use mathlib.Core.Bool.{Bool, true, false}
 use mathlib.Core.List.{List, [], _++_}
 use lib.ListN.{length, take, drop}
+use lib.Signed.{nonNeg}
 use Rattle.log.specs.declared.Cursor.{Cursor}
 use Rattle.log.specs.Log.{log}
+use Rattle.log.specs.Steps.{longest-record, longest-answer}
 use Rattle.replay.specs.Sessions.{Session}
+use Rattle.mtredovim.specs.declared.End.the-variants.{On, Whole, ReadFailed, WriteFailed}
 use Rattle.mtredovim.specs.declared.Turn.{Turn}
-use Rattle.mtredovim.specs.Turns.{Turned}
+use Rattle.mtredovim.specs.Turns.{reads, Turned}
+use Rattle.mtredovim.specs.Runs.{Turns}
 
--- a turn that does not stop goes on with the session: the bytes behind the old window are the next of the trace, and what `pump` wrote was written out
+-- ---- all turns from the start: `given` is what the reads gave, `wrote` what was handed to `write`
+
+-- of all turns from the start: P of what was given and written, and of the turn made last
+abbrev pub Of-all-turns : (List ℕ → List ℕ → Turn → Type 0) → Type 0
+Of-all-turns P = (given wrote : List ℕ) (v : Turn) (cs t q w : List ℕ) → Turns given wrote v cs t q w → P given wrote v
+
+-- the same of the whole trace: `then` is what would come behind what was given, nothing where the input has ended
+abbrev pub Of-the-trace : (List ℕ → List ℕ → Turn → Type 0) → Type 0
+Of-the-trace P = Of-all-turns (λ given wrote v. (then : List ℕ) → (v .last ≡ true → then ≡ []) → P (given ++ then) wrote v)
+
+-- THE PROGRAM: where it ends with a whole log, what was written is the log of the trace
+abbrev pub The-program-writes-the-log : Type 0
+The-program-writes-the-log = Of-the-trace (λ trace wrote v. v .end ≡ Whole → wrote ≡ log trace)
+
+-- at any time, so where a read or a write has failed too, what was written is the beginning of the log
+abbrev pub It-writes-nothing-else : Type 0
+It-writes-nothing-else = Of-the-trace (λ trace wrote v. take (length wrote) (log trace) ≡ wrote)
+
+-- it ends for no other reason: not all was taken that was to be written, or `read` answered less than 0
+abbrev pub It-ends-for-no-other-reason : Type 0
+It-ends-for-no-other-reason = Of-all-turns (λ given wrote v. (v .end ≡ WriteFailed → v .written ≡ false) × (v .end ≡ ReadFailed → nonNeg (v .read) ≡ false))
+
+-- a read has room: with fewer bytes kept than the longest record has, a buffer of that length is not full, and a read that gives nothing is the end of the input
+abbrev pub A-read-has-room : Type 0
+A-read-has-room =
+    (given wrote : List ℕ) (v : Turn) (cs t q w : List ℕ) → Turns given wrote v cs t q w
+    → (o : List ℕ) (r : Turn) (cs2 t2 q2 o2 w2 : List ℕ) (T : Turned (v .cursor) cs t q w (v .last) o r cs2 t2 q2 o2 w2)
+    → reads (r .written) (T .answer .status) ≡ true
+    → length (drop (T .answer .used) w) < longest-record
+
+-- ---- one turn, in any session of the replay
+
+-- a turn goes on with the session: what the read gave are the next bytes of the trace, and what `pump` wrote was written out
 abbrev pub A-turn-goes-on : Type 0
 A-turn-goes-on =
     (trace wrote : List ℕ) (c : Cursor) (cs t q w unread : List ℕ)
     → Session trace wrote c cs t q w unread
     → (last : Bool) → (last ≡ true → unread ≡ []) → (o : List ℕ) (v : Turn) (cs2 t2 q2 o2 w2 : List ℕ)
     → (T : Turned c cs t q w last o v cs2 t2 q2 o2 w2) (then : List ℕ)
-    → v .stop ≡ false
-    → unread ≡ drop (length (drop (T .answer .used) w)) w2 ++ then
+    → unread ≡ T .got ++ then
     → Session trace (wrote ++ take (T .answer .wrote) o2) (v .cursor) cs2 t2 q2 w2 then
 
--- the last turn, unless it stopped because nothing more could be written out: what was written is the log
+-- a turn after which the log is whole: what was written is the log
 abbrev pub The-last-turn-ends-the-log : Type 0
 The-last-turn-ends-the-log =
     (trace wrote : List ℕ) (c : Cursor) (cs t q w unread : List ℕ)
     → Session trace wrote c cs t q w unread
     → (last : Bool) → (last ≡ true → unread ≡ []) → (o : List ℕ) (v : Turn) (cs2 t2 q2 o2 w2 : List ℕ)
     → (T : Turned c cs t q w last o v cs2 t2 q2 o2 w2)
-    → v .stop ≡ true
-    → v .broken ≡ false
+    → v .end ≡ Whole
     → wrote ++ take (T .answer .wrote) o2 ≡ log trace

@@ -1,16 +1,67 @@
 -- What a turn of the program's loop does. Assumes nothing.
-use Prim.Native.Nat.{ℕ, _+_, _-_, _<_, _≤_}
+use Prim.Native.Nat.{ℕ, zero, suc, _+_, _-_, _<_, _≤_}
 use mathlib.Core.Path.{_≡_}
 use mathlib.Core.Bool.{Bool, true, false}
-use mathlib.Core.List.{List}
+use mathlib.Core.List.{List, _++_}
+use lib.IntN.{ℤ, pos, negsuc}
 use lib.ListN.{length, take, drop}
+use Rattle.fields.specs.Numbers.{pick}
 use Rattle.log.specs.declared.Cursor.{Cursor}
-use Rattle.log.specs.declared.Status.the-variants.{Done}
+use Rattle.log.specs.declared.Status.{Status}
+use Rattle.log.specs.declared.Status.the-variants.{GoOn, MoreBytes, MoreRoom, NotSound, Done}
 use Rattle.log.specs.declared.Stepped.{Stepped}
 use Rattle.log.specs.Log.{trace-limit}
-use Rattle.log.specs.Steps.{work}
+use Rattle.log.specs.Steps.{beginning, work}
+use Rattle.ticks.specs.Tie.{cursor-of}
 use Rattle.replay.specs.Sessions.{Pumps}
+use Rattle.mtredovim.specs.declared.End.{End}
+use Rattle.mtredovim.specs.declared.End.the-variants.{On, Whole, ReadFailed, WriteFailed}
 use Rattle.mtredovim.specs.declared.Turn.{Turn}
+
+-- ---- what follows a turn
+
+abbrev pub is-on : End → Bool
+is-on On = true
+is-on Whole = false
+is-on ReadFailed = false
+is-on WriteFailed = false
+
+-- what `read` answers: -1 where it failed, else how many bytes it gave, 0 at the end of the input
+abbrev pub given-by : ℤ → ℕ
+given-by (pos n) = n
+given-by (negsuc n) = 0
+
+abbrev pub is-end : ℤ → Bool
+is-end (pos zero) = true
+is-end (pos (suc n)) = false
+is-end (negsuc n) = false
+
+abbrev pub heard : ℤ → End
+heard (pos n) = On
+heard (negsuc n) = ReadFailed
+
+-- whether a turn reads, where all that was to be written was taken or not, and its steps ended with a status
+abbrev pub reads : Bool → Status → Bool
+reads written GoOn = false
+reads written MoreBytes = written
+reads written MoreRoom = false
+reads written NotSound = false
+reads written Done = false
+
+-- what follows a turn that does not read. MoreRoom and NotSound never come: `It-ends-for-no-other-reason`
+abbrev pub after : Bool → Status → End
+after false k = WriteFailed
+after true GoOn = On
+after true MoreBytes = On
+after true MoreRoom = WriteFailed
+after true NotSound = WriteFailed
+after true Done = Whole
+
+-- before any turn
+abbrev pub first-turn : Turn
+first-turn = record { cursor = cursor-of beginning; from = 0; to = 0; last = false; written = true; read = pos 0; end = On }
+
+-- ---- the turns end
 
 abbrev pub waits : Bool → ℕ
 waits true = 0
@@ -26,25 +77,36 @@ pub record Right (n : ℕ) (c : Cursor) (from to : ℕ) : Type 0 where
   pub inside : to ≤ n
   pub place : c .at ≤ trace-limit
 
--- a turn that does not stop leaves less to do
+-- a turn that is followed by another leaves less to do
 pub record Better (n : ℕ) (c : Cursor) (from to : ℕ) (last : Bool) (r : Turn) : Type 0 where
   pub right : Right n (r .cursor) (r .from) (r .to)
   pub less : load n (r .cursor) (r .from) (r .to) (r .last) < load n c from to last
 
+-- ---- a turn
+
 abbrev pub window : List ℕ → ℕ → ℕ → List ℕ
 window b from to = take (to - from) (drop from b)
 
--- the window w2 is w with more behind it; nothing more where the input has ended
-pub record Refilled (c : Cursor) (r : Turn) (w w2 : List ℕ) : Type 0 where
+-- a read behind the window w: `got` is what it gave, and w2 the window then
+pub record Refilled (c : Cursor) (w : List ℕ) (r : Turn) (w2 : List ℕ) : Type 0 where
   pub cursor : r .cursor ≡ c
-  pub goes : r .stop ≡ false
-  pub rest : take (length w) w2 ≡ w
-  pub ended : r .last ≡ true → w2 ≡ w
+  pub written : r .written ≡ true
+  pub got : List ℕ
+  pub count : length got ≡ given-by (r .read)
+  pub rest : w2 ≡ w ++ got
+  pub last : r .last ≡ is-end (r .read)
+  pub end : r .end ≡ heard (r .read)
 
--- A TURN: a call of `pump` on the window w with the room o, which answered a; the first bytes of the room o2 were written out; w2 is the window then
+-- A TURN: a call of `pump` on the window w with the room o, which answered a; the first bytes of the room o2 were written out; then a read or none, which gave
+-- `got`; w2 is the window then
 pub record Turned (c : Cursor) (cs t q w : List ℕ) (last : Bool) (o : List ℕ) (r : Turn) (cs2 t2 q2 o2 w2 : List ℕ) : Type 0 where
   pub answer : Stepped
   pub pumps : Pumps c cs t q w last o answer cs2 t2 q2 o2
   pub cursor : r .cursor ≡ answer .cursor
-  pub rest : r .stop ≡ false → take (length (drop (answer .used) w)) w2 ≡ drop (answer .used) w
-  pub done : r .stop ≡ true → r .broken ≡ false → answer .status ≡ Done
+  pub got : List ℕ
+  pub count : length got ≡ given-by (r .read)
+  pub rest : w2 ≡ drop (answer .used) w ++ got
+  pub only-asked : reads (r .written) (answer .status) ≡ false → r .read ≡ pos 0
+  pub not-past-end : reads (r .written) (answer .status) ≡ true → last ≡ false
+  pub last-then : r .last ≡ pick (reads (r .written) (answer .status)) (is-end (r .read)) last
+  pub end : r .end ≡ pick (reads (r .written) (answer .status)) (heard (r .read)) (after (r .written) (answer .status))

@@ -1,102 +1,196 @@
 // Replays the trace on standard input and writes its answer log to standard output.
 ghost use mathlib.Core.Path.{_≡_};
 ghost use mathlib.Core.Bool.{true, false};
-ghost use Prim.Native.Nat.{_+_};
+ghost use Prim.Native.Nat.{_+_, _≤_};
 ghost use lib.ListN.{length};
-ghost use Rattle.mtredovim.specs.Turns.{Right, Better, Refilled, Turned, window};
+ghost use Rattle.log.specs.Steps.{longest-record, longest-answer};
+ghost use Rattle.mtredovim.specs.declared.End.the-variants.{On};
+ghost use Rattle.mtredovim.specs.Turns.{is-on, given-by, is-end, heard, reads, after, first-turn, window, Right, Better, Refilled, Turned};
+ghost use Rattle.mtredovim.specs.Runs.{Fresh, Ran};
+use libc::STDIN_FILENO;
 use libc::STDOUT_FILENO;
 use log::Cursor;
 use log::Status;
 
-// A turn of the program's loop: the window of the buffer then, whether it is the last, whether to stop, and whether that is for want of an output.
+// What follows a turn. On: the next turn. The program ends after any other. Whole: the log is written. ReadFailed, WriteFailed: the system refused.
+pub enum End {
+    On,
+    Whole,
+    ReadFailed,
+    WriteFailed,
+}
+
+// A turn of the program's loop: the cursor and the window of the buffer after it, whether that window is the last, whether all that was to be written was
+// taken, what `read` answered (0 where nothing was read), and what follows.
 pub struct Turn {
     pub cursor: Cursor,
     pub from: usize,
     pub to: usize,
     pub last: bool,
-    pub stop: bool,
-    pub broken: bool,
+    pub written: bool,
+    pub read: isize,
+    pub end: End,
 }
 
-// The program ends: all is done, or nothing more can be written.
-fn halt(c: Cursor, broken: bool) -> Turn
-    ensures { λ r. ⌜ (r .stop ≡ true) × (r .broken ≡ broken) × (r .cursor ≡ c) ⌝ }
+// Where the turns begin: nothing is read, and nothing written.
+fn first() -> Turn
+    ensures { λ r. ⌜ r ≡ first-turn ⌝ }
 {
+    let c = replay::start();
     Turn {
         cursor: c,
         from: 0,
         to: 0,
-        last: true,
-        stop: true,
-        broken: broken,
+        last: false,
+        written: true,
+        read: 0,
+        end: End::On,
     }
 }
 
-// The window moves to the front, and more is read behind it. Nothing more: it is the last.
+// Whether the next turn follows.
+fn goes_on(e: End) -> bool
+    ensures { λ r. ⌜ r ≡ is-on e ⌝ }
+{
+    match e {
+        End::On => true,
+        End::Whole => false,
+        End::ReadFailed => false,
+        End::WriteFailed => false,
+    }
+}
+
+// How many bytes `read` gave.
+fn given(read: isize) -> usize
+    ensures { λ r. ⌜ r ≡ given-by read ⌝ }
+{
+    if read < 0 {
+        return 0;
+    }
+    read as usize
+}
+
+// Whether `read` answered that the input has ended.
+fn is_last(read: isize) -> bool
+    ensures { λ r. ⌜ r ≡ is-end read ⌝ }
+{
+    read == 0
+}
+
+// What follows what `read` answered.
+fn after_read(read: isize) -> End
+    ensures { λ r. ⌜ r ≡ heard read ⌝ }
+{
+    if read < 0 {
+        return End::ReadFailed;
+    }
+    End::On
+}
+
+// Whether a turn reads: all that was to be written was taken, and the steps want more bytes.
+fn asks(written: bool, k: Status) -> bool
+    ensures { λ r. ⌜ r ≡ reads written k ⌝ }
+{
+    match k {
+        Status::GoOn => false,
+        Status::MoreBytes => written,
+        Status::MoreRoom => false,
+        Status::NotSound => false,
+        Status::Done => false,
+    }
+}
+
+// What follows a turn that does not read. MoreRoom and NotSound never come.
+fn after_steps(written: bool, k: Status) -> End
+    ensures { λ r. ⌜ r ≡ after written k ⌝ }
+{
+    if !written {
+        return End::WriteFailed;
+    }
+    match k {
+        Status::GoOn => End::On,
+        Status::MoreBytes => End::On,
+        Status::MoreRoom => End::WriteFailed,
+        Status::NotSound => End::WriteFailed,
+        Status::Done => End::Whole,
+    }
+}
+
+// The window moves to the front, and more is read behind it.
 fn refill(c: Cursor, buf: &mut [u8], from: usize, to: usize) -> Turn
     requires { ⌜ Right (length (now buf)) c from to ⌝ }
-    ensures { λ r. ⌜ Better (length (now (buf .entry))) c from to false r ⌝ }
-    ensures { λ r. ⌜ Refilled c r (window (now (buf .entry)) from to) (window (now (buf .exit)) (r .from) (r .to)) ⌝ }
+    ensures { λ r. ⌜ Refilled c (window (now (buf .entry)) from to) r (window (now (buf .exit)) (r .from) (r .to)) ⌝ }
+    ensures { λ r. ⌜ (r .end ≡ On → Better (length (now (buf .entry))) c from to false r) ⌝ }
 {
     let n = replay::slide(buf, from, to);
-    let got = io::read_full(0, &mut buf[n..]);
-    if got == 0 {
-        return Turn {
-            cursor: c,
-            from: 0,
-            to: n,
-            last: true,
-            stop: false,
-            broken: false,
-        };
-    }
+    let read = libc::read(STDIN_FILENO, &mut buf[n..]);
+    let got = given(read);
+    let last = is_last(read);
+    let end = after_read(read);
     Turn {
         cursor: c,
         from: 0,
         to: n + got,
-        last: false,
-        stop: false,
-        broken: false,
+        last: last,
+        written: true,
+        read: read,
+        end: end,
     }
 }
 
 // As many steps as the room holds, written out in one block; then more input, if that is what is wanted.
 fn advance(
-    c: Cursor,
+    v: Turn,
     cs: &mut [u32],
     t: &mut [u32],
     q: &mut [u32],
     buf: &mut [u8],
-    from: usize,
-    to: usize,
-    last: bool,
     out: &mut [u8],
 ) -> Turn
-    requires { ⌜ Right (length (now buf)) c from to ⌝ }
-    ensures { λ r. ⌜ Turned c (now (cs .entry)) (now (t .entry)) (now (q .entry)) (window (now (buf .entry)) from to) last (now (out .entry)) r (now (cs .exit)) (now (t .exit)) (now (q .exit)) (now (out .exit)) (window (now (buf .exit)) (r .from) (r .to)) ⌝ }
-    ensures { λ r. ⌜ (r .stop ≡ false → Better (length (now (buf .entry))) c from to last r) ⌝ }
+    requires { ⌜ Right (length (now buf)) (v .cursor) (v .from) (v .to) ⌝ }
+    ensures { λ r. ⌜ Turned (v .cursor) (now (cs .entry)) (now (t .entry)) (now (q .entry)) (window (now (buf .entry)) (v .from) (v .to)) (v .last) (now (out .entry)) r (now (cs .exit)) (now (t .exit)) (now (q .exit)) (now (out .exit)) (window (now (buf .exit)) (r .from) (r .to)) ⌝ }
+    ensures { λ r. ⌜ (r .end ≡ On → Better (length (now (buf .entry))) (v .cursor) (v .from) (v .to) (v .last) r) ⌝ }
 {
+    let c = v.cursor;
+    let from = v.from;
+    let to = v.to;
+    let last = v.last;
     let r = replay::pump(c, cs, t, q, &buf[from..to], last, out);
     let wrote = r.wrote;
+    let written = io::write_all(STDOUT_FILENO, &out[..wrote]);
     let then = r.cursor;
-    if !io::write_all(STDOUT_FILENO, &out[..wrote]) {
-        return halt(then, true);
-    }
     let next = from + r.used;
     let k = r.status;
-    match k {
-        Status::GoOn => Turn {
-            cursor: then,
-            from: next,
-            to: to,
-            last: last,
-            stop: false,
-            broken: false,
-        },
-        Status::MoreBytes => refill(then, buf, next, to),
-        Status::MoreRoom => halt(then, true),
-        Status::NotSound => halt(then, true),
-        Status::Done => halt(then, false),
+    if asks(written, k) {
+        return refill(then, buf, next, to);
+    }
+    let end = after_steps(written, k);
+    Turn {
+        cursor: then,
+        from: next,
+        to: to,
+        last: last,
+        written: written,
+        read: 0,
+        end: end,
+    }
+}
+
+// ALL TURNS, from the fresh hub and tables of zeros until one that is not followed by another: the last one.
+fn replay_all(cs: &mut [u32], t: &mut [u32], q: &mut [u32], buf: &mut [u8], out: &mut [u8]) -> Turn
+    requires { ⌜ Fresh (now cs) (now t) (now q) ⌝ }
+    requires { ⌜ longest-record ≤ length (now buf) ⌝ }
+    requires { ⌜ longest-answer ≤ length (now out) ⌝ }
+    ensures { λ r. ⌜ Ran r (now (cs .exit)) (now (t .exit)) (now (q .exit)) ⌝ }
+{
+    let mut v = first();
+    loop {
+        let r = advance(v, cs, t, q, buf, out);
+        let e = r.end;
+        if !goes_on(e) {
+            return r;
+        }
+        v = r;
     }
 }
 
@@ -106,29 +200,11 @@ fn main() {
     let mut notices = [0u32; 320];
     let mut buf = io::large_buffer();
     let mut out = io::large_buffer();
-    let mut c = replay::start();
-    let mut from: usize = 0;
-    let mut to: usize = 0;
-    let mut last = false;
-    loop {
-        let r = advance(
-            c,
-            &mut connections,
-            &mut places,
-            &mut notices,
-            &mut buf,
-            from,
-            to,
-            last,
-            &mut out,
-        );
-        if r.stop {
-            return;
-        }
-        let then = r.cursor;
-        c = then;
-        from = r.from;
-        to = r.to;
-        last = r.last;
-    }
+    replay_all(
+        &mut connections,
+        &mut places,
+        &mut notices,
+        &mut buf,
+        &mut out,
+    );
 }

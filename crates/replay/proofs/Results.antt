@@ -29,7 +29,7 @@ use Rattle.log.proofs.OutcomeLaws.{Ends-well, step-ends-well, steps-end-well}
 use Rattle.ticks.specs.Tie.{point-of, cursor-of, stepped-of, Did, in-room, Does}
 use Rattle.replay.specs.Sessions.{Steps, Pumps, Session}
 use Rattle.replay.specs.Sessions.Session.{start, more, step, pump}
-use Rattle.replay.specs.Promises.{Writes-the-log, Of-every-call, Done-is-finished, Never-refused, Asks-when-short, Same-outcome, One-outcome}
+use Rattle.replay.specs.Promises.{Writes-the-log, Writes-nothing-else, Of-every-call, Done-is-finished, Never-refused, Asks-when-short, Same-outcome, One-outcome}
 use Rattle.replay.proofs.Standing.{Stands, stands-sound, stands-there, stands-then}
 
 -- at any time of a session: what was written, and what is to come, is the log
@@ -115,6 +115,11 @@ writes-the-log trace wrote c cs t q w unread S e =
     let f : H .here .phase ≡ Finished = sym (ap (λ (x : Cursor). x .phase) (H .stands .cursor)) ∙ e in
     sym (append-nil wrote)
     ∙ (ap (λ l. wrote ++ l) (sym (ap (λ (p : Phase). phase-log p (H .here .at) (H .here .state) (w ++ unread)) f)) ∙ H .adds-up)
+
+pub writes-nothing-else : Writes-nothing-else
+writes-nothing-else trace wrote c cs t q w unread S =
+    let H = session-holds S in
+    rw (← H .adds-up) (take-append-seam wrote (to-come (H .here) (w ++ unread)))
 
 tells : Of-every-call Tells
 tells trace wrote c cs t q w unread S last g o a cs′ t′ q′ o′ (inl D) = step-holds trace wrote c cs t q w unread (session-holds S) last g o a cs′ t′ q′ o′ D .1

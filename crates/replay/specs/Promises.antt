@@ -4,7 +4,7 @@ use mathlib.Core.Path.{_≡_}
 use mathlib.Core.Bool.{Bool, true}
 use mathlib.Core.List.{List, []}
 use mathlib.Core.Logic.{_⊎_}
-use lib.ListN.{length, drop}
+use lib.ListN.{length, take, drop}
 use Rattle.log.specs.declared.Phase.the-variants.{Finished}
 use Rattle.log.specs.declared.Cursor.{Cursor}
 use Rattle.log.specs.declared.Status.the-variants.{MoreBytes, MoreRoom, NotSound, Done}
@@ -21,6 +21,13 @@ Writes-the-log =
     → Session trace wrote c cs t q w unread
     → c .phase ≡ Finished
     → wrote ≡ log trace
+
+-- at any time of a session what was written is the beginning of the log
+abbrev pub Writes-nothing-else : Type 0
+Writes-nothing-else =
+    (trace wrote : List ℕ) (c : Cursor) (cs t q w unread : List ℕ)
+    → Session trace wrote c cs t q w unread
+    → take (length wrote) (log trace) ≡ wrote
 
 -- of every call in every session: P of its window, its room and its answer
 abbrev pub Of-every-call : (List ℕ → List ℕ → Stepped → Type 0) → Type 0

@@ -1,66 +1,85 @@
+use mathlib.Core.Path.{_≡_, _∙_, ap}
+use mathlib.Core.Bool.{true}
+use mir.Syntax.{w64}
+use mir.Val.{toZ, ofZ}
+use mir.Facts.{toZ-ofZ}
+use Rattle.mtredovim.specs.Turns.{given-by, is-end, heard}
 use native.Mathlib.Omega.{arith}
 use mathlib.Core.Path.{_≡_, _∙_}
-use Prim.Native.Nat.{_-_}
+use Prim.Native.Nat.{_-_, _≤_}
 use lib.ListN.{length, length-take, length-drop}
-use Rattle.mtredovim.proofs.TurnLaws.{slide-len, refilled-none, refilled-some, refill-none, refill-some}
-use borrow.Author.Needs.{needs}
+use Rattle.mtredovim.specs.Turns.{given-by}
+use Rattle.mtredovim.proofs.TurnLaws.{slide-len, given-fits, refill-reads, refill-better}
+use borrow.Author.Needs.{needs, sfits-of}
 use Rattle.mtredovim.proofs.refill.Statement.{statement}
 use Rattle.mtredovim.proofs.refill.Tie as tie
 
 slide-requires : tie.Need-slide-requires
 slide-requires c κs = search needs
 
-sub-read-full : tie.Need-sub-read-full
-sub-read-full c =
+sub-read : tie.Need-sub-read
+sub-read c =
     let a = c .before .before .before .before .before .args in
     let R = c .before .before .before .before .before .pre in
     let s = c .before .before .slide in
     let e : s .result ≡ a .to - a .from = s .ensures .0 ∙ slide-len (a .from) (a .to) (length (a .buf .now)) (R .order) (R .inside) in
     omega (arith, R .inside, R .order, s .kept .0)
 
-part-read-full-start : tie.Need-part-read-full-start
-part-read-full-start c =
+part-read-start : tie.Need-part-read-start
+part-read-start c =
     let a = c .before .before .before .before .before .args in
     let R = c .before .before .before .before .before .pre in
     let s = c .before .before .slide in
     let e : s .result ≡ a .to - a .from = s .ensures .0 ∙ slide-len (a .from) (a .to) (length (a .buf .now)) (R .order) (R .inside) in
     omega (arith, R .inside, R .order, s .kept .0)
 
-part-read-full-end : tie.Need-part-read-full-end
-part-read-full-end c = search needs
+part-read-end : tie.Need-part-read-end
+part-read-end c = search needs
 
-read-full-requires : tie.Need-read-full-requires
-read-full-requires c κs = search needs
+read-requires : tie.Need-read-requires
+read-requires c κs = search needs
+
+given-requires : tie.Need-given-requires
+given-requires c κs = search needs
+
+is-last-requires : tie.Need-is-last-requires
+is-last-requires c κs = search needs
+
+after-read-requires : tie.Need-after-read-requires
+after-read-requires c κs = search needs
+
+add-t13 : tie.Need-add-t13
+add-t13 c =
+    let a = c .before .before .before .before .before .before .before .before .before .before .before .before .args in
+    let R = c .before .before .before .before .before .before .before .before .before .before .before .before .pre in
+    let s = c .before .before .before .before .before .before .before .before .before .slide in
+    let e : s .result ≡ a .to - a .from = s .ensures .0 ∙ slide-len (a .from) (a .to) (length (a .buf .now)) (R .order) (R .inside) in
+    let r = c .before .before .before .before .before .read in
+    let z : toZ w64 (ofZ w64 (r .result)) ≡ r .result = toZ-ofZ (sfits-of (r .ok)) in
+    let g : c .before .before .given .result ≡ given-by (r .result) = c .before .before .given .ensures ∙ ap given-by z in
+    let k = given-fits _ (r .result) (r .ensures) in
+    let j = simp (length-take, length-drop) at k in
+    record { fits = omega (arith, R .inside, R .order, s .kept .0, j, c .before .before .before .before .before .before .before .before .before .before .before .before .fits .to) }
 
 same-length : tie.Need-same-length
 same-length c = search needs
 
 returns : tie.Need-returns
 returns c =
-    let a = c .before .before .before .before .before .before .before .before .before .before .args in
-    let R = c .before .before .before .before .before .before .before .before .before .before .pre in
-    let s = c .before .before .before .before .before .before .before .slide in
+    let a = c .before .before .before .before .before .before .before .before .before .before .before .before .args in
+    let R = c .before .before .before .before .before .before .before .before .before .before .before .before .pre in
+    let s = c .before .before .before .before .before .before .before .before .before .slide in
     let e : s .result ≡ a .to - a .from = s .ensures .0 ∙ slide-len (a .from) (a .to) (length (a .buf .now)) (R .order) (R .inside) in
-    let f = c .before .before .before .read-full in (
-      refilled-none (length (a .buf .now)) (a .c) (a .from) (a .to) R (s .result) e,
-      refill-none (a .buf .now) (s .last .0) (f .last .1 .0) (a .from) (a .to) (s .result) (R .order) (R .inside) e (s .ensures .1) (a .c),
-    )
-
-add-t10 : tie.Need-add-t10
-add-t10 c = search needs
-
-same-length-2 : tie.Need-same-length-2
-same-length-2 c = search needs
-
-returns-2 : tie.Need-returns-2
-returns-2 c =
-    let a = c .before .before .before .before .before .before .before .before .before .before .args in
-    let R = c .before .before .before .before .before .before .before .before .before .before .pre in
-    let s = c .before .before .before .before .before .before .before .slide in
-    let e : s .result ≡ a .to - a .from = s .ensures .0 ∙ slide-len (a .from) (a .to) (length (a .buf .now)) (R .order) (R .inside) in
-    let f = c .before .before .before .read-full in (
-      refilled-some (length (a .buf .now)) (a .c) (a .from) (a .to) R (s .result) (f .result) e (search needs) (omega (arith, R .inside, R .order, s .kept .0, f .ensures .0, simp (length-take, length-drop) at (f .kept .1 .0))),
-      refill-some (a .buf .now) (s .last .0) (f .last .1 .0) (a .from) (a .to) (s .result) (R .order) (R .inside) e (s .ensures .1) (a .c) (f .result),
+    let r = c .before .before .before .before .before .read in
+    let z : toZ w64 (ofZ w64 (r .result)) ≡ r .result = toZ-ofZ (sfits-of (r .ok)) in
+    let g : c .before .before .given .result ≡ given-by (r .result) = c .before .before .given .ensures ∙ ap given-by z in
+    let k = given-fits _ (r .result) (r .ensures) in
+    let j = simp (length-take, length-drop) at k in
+    let l : c .before .is-last .result ≡ is-end (r .result) = c .before .is-last .ensures ∙ ap is-end z in
+    let h : c .after-read .result ≡ heard (r .result) = c .after-read .ensures ∙ ap heard z in
+    rw (z, g, l, h) (
+      refill-reads (a .buf .now) (s .last .0) (r .last .1 .0) (a .from) (a .to) (s .result) (R .order) (R .inside) e (s .ensures .1) (a .c) (r .result) (omega (arith, k, r .kept .1 .0)),
+      λ o. refill-better (length (a .buf .now)) (a .c) (a .from) (a .to) R (s .result) (r .result) e (omega (arith, R .inside, R .order, s .kept .0, j)) o,
     )
 
 pub refill-spec : {M : Type 1} → statement M
@@ -68,12 +87,13 @@ refill-spec =
     tie.close
     (tie.spec
     slide-requires
-    sub-read-full
-    part-read-full-start
-    part-read-full-end
-    read-full-requires
+    sub-read
+    part-read-start
+    part-read-end
+    read-requires
+    given-requires
+    is-last-requires
+    after-read-requires
+    add-t13
     same-length
-    returns
-    add-t10
-    same-length-2
-    returns-2)
+    returns)
