@@ -213,7 +213,8 @@ Counted =
     (ks : List Call) (c : ℕ)
     → length (of c (run ks .accepted)) ≡ length (departures c (run ks .departed)) + length (of c (in-hub (run ks .now)))
 
--- ---- the silence (document 02, R-4): where a link asks for none, the rules are document 01's own. Here are its formulas, each written out once
+-- ---- the silence (document 02, R-4): where a link asks for none, what a packet costs, the link's limits and the level test are document 01's own, and no
+-- silence runs. First its formulas, each written out once
 
 -- "Link, connections, places": 1 to 8 levels, S from 1 to its limit, bounds that rise strictly, the first at least S
 abbrev pub base-within : Link → Bool
