@@ -1,3 +1,4 @@
--- Read in this order: Log, Steps.
+-- Read in this order: Log, Bad, Steps.
 pub mod Log
+pub mod Bad
 pub mod Steps

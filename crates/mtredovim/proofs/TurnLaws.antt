@@ -11,11 +11,12 @@ use lib.Seq.{length-take-le, take-append-add, take-nil, drop-drop}
 use lib.Dec.{T, eqb}
 use lib.Signed.{mag, ltZ, nonNeg}
 use mir.Syntax.{w64}
-use mir.Val.{Fits, ofZ, hbits}
-use borrow.Author.Tests.{le-ltb, ne-eqb}
+use mir.Val.{Fits, hbits}
+use borrow.Author.Tests.{le-ltb, eq-eqb, ne-eqb, eqb-true, eqb-false}
 use Rattle.rules.proofs.Tests.{never}
 use Rattle.fields.specs.Numbers.{pick}
 use Rattle.libc.specs.Io.{Moved}
+use Rattle.log.specs.declared.Phase.the-variants.{Finished}
 use Rattle.log.specs.declared.Cursor.{Cursor}
 use Rattle.log.specs.declared.Stepped.{Stepped}
 use Rattle.log.specs.declared.Status.{Status}
@@ -30,9 +31,9 @@ use Rattle.replay.specs.Sessions.Session.{more, pump}
 use Rattle.replay.proofs.SlideLaws.{take-slid}
 use Rattle.replay.proofs.Results.{writes-the-log, done-is-finished}
 use Rattle.mtredovim.specs.declared.End.{End}
-use Rattle.mtredovim.specs.declared.End.the-variants.{On, Whole, ReadFailed, WriteFailed}
+use Rattle.mtredovim.specs.declared.End.the-variants.{On, Whole, Malformed, ReadFailed, WriteFailed}
 use Rattle.mtredovim.specs.declared.Turn.{Turn}
-use Rattle.mtredovim.specs.Turns.{waits, given-by, is-end, heard, reads, after, Right, Better, window, Refilled, Turned}
+use Rattle.mtredovim.specs.Turns.{waits, given-by, is-end, heard, ends-log, reads, after, read-turn, Right, Better, window, Refilled, Turned}
 
 pub slide-len : (from to n : ℕ) → from ≤ to → to ≤ n → slide-length from to n ≡ to - from
 slide-len from to n h k = rw (le-ltb to from h, le-ltb n to k)
@@ -59,37 +60,26 @@ pub given-fits : (n : ℕ) (z : ℤ) → Moved n z → given-by z ≤ n
 given-fits n (pos k) h = h
 given-fits n (negsuc k) h = omega arith
 
-pub none-given : (z : ℤ) → ltZ z (pos 0) ≡ true → 0 ≡ given-by z
-none-given (pos n) e = never (sym (le-ltb n 0 (omega arith)) ∙ e)
-none-given (negsuc n) e = refl
+pub below-0 : (c : Cursor) (n : ℕ) (z : ℤ) → ltZ z (pos 0) ≡ true
+    → record { cursor = c; from = 0; to = n; last = false; written = true; read = z; end = ReadFailed } ≡ read-turn c n z
+below-0 c n (pos k) e = never (sym (le-ltb k 0 (omega arith)) ∙ e)
+below-0 c n (negsuc k) e = let d : n + 0 ≡ n = omega arith in rw d
 
 -- what is not below 0 is the number itself, and fits
 pub not-below : (z : ℤ) → mag z < 2 ^ hbits w64 → ltZ z (pos 0) ≡ false → (T (nonNeg z) × Fits w64 (natAbs z)) × (natAbs z ≡ given-by z)
 not-below (pos n) l e = ((tt, record { fits = omega arith }), refl)
 not-below (negsuc n) l e = never (sym e)
 
-pub below-0 : (z : ℤ) → ltZ z (pos 0) ≡ true → ReadFailed ≡ heard z
-below-0 (pos n) e = never (sym (le-ltb n 0 (omega arith)) ∙ e)
-below-0 (negsuc n) e = refl
+pub some-read : (c : Cursor) (n : ℕ) (z : ℤ) → ltZ z (pos 0) ≡ false
+    → record { cursor = c; from = 0; to = n + given-by z; last = eqb (given-by z) 0; written = true; read = z; end = On } ≡ read-turn c n z
+some-read c n (pos zero) e = refl
+some-read c n (pos (suc k)) e = rw (ne-eqb (suc k) 0 (omega arith))
+some-read c n (negsuc k) e = never (sym e)
 
-pub not-below-0 : (z : ℤ) → ltZ z (pos 0) ≡ false → On ≡ heard z
-not-below-0 (pos n) e = refl
-not-below-0 (negsuc n) e = never (sym e)
-
--- its bits are 0 where it is
-pub is-zero : (z : ℤ) → mag z < 2 ^ hbits w64 → eqb (ofZ w64 z) 0 ≡ is-end z
-is-zero (pos zero) l = refl
-is-zero (pos (suc n)) l = ne-eqb (suc n) 0 (omega arith)
-is-zero (negsuc n) l = ne-eqb (2 ^ 64 - suc n) 0 (omega arith)
-
--- the turn that ends with a read behind n bytes
-abbrev read-turn : Cursor → ℕ → ℤ → Turn
-read-turn c n z = record { cursor = c; from = 0; to = n + given-by z; last = is-end z; written = true; read = z; end = heard z }
-
--- .. and one that does not read
-abbrev still-turn : Stepped → ℕ → ℕ → Bool → Bool → Turn
-still-turn a from to last written =
-    record { cursor = a .cursor; from = from + a .used; to = to; last = last; written = written; read = pos 0; end = after written (a .status) }
+-- a turn that does not read
+abbrev still-turn : Stepped → ℕ → ℕ → Bool → Bool → Bool → Turn
+still-turn a from to last written emptied =
+    record { cursor = a .cursor; from = from + a .used; to = to; last = last; written = written; read = pos 0; end = after written (a .status) emptied }
 
 pub reads-only : (b : Bool) (k : Status) → reads b k ≡ true → (b ≡ true) × (k ≡ MoreBytes)
 reads-only b GoOn e = never e
@@ -99,13 +89,17 @@ reads-only b NotSound e = never e
 reads-only b Done e = never e
 
 -- where no read follows the next turn, some step was made
-goes : (b : Bool) (k : Status) → reads b k ≡ false → after b k ≡ On → k ≡ GoOn
-goes false k e f = never cc
-goes true GoOn e f = refl
-goes true MoreBytes e f = never (sym e)
-goes true MoreRoom e f = never cc
-goes true NotSound e f = never cc
-goes true Done e f = never cc
+not-on : (e : Bool) → pick e Whole Malformed ≡ On → ⊥
+not-on true f = never cc
+not-on false f = never cc
+
+goes : (b : Bool) (k : Status) (e : Bool) → reads b k ≡ false → after b k e ≡ On → k ≡ GoOn
+goes false k e r f = never cc
+goes true GoOn e r f = refl
+goes true MoreBytes e r f = never (sym r)
+goes true MoreRoom e r f = never cc
+goes true NotSound e r f = never cc
+goes true Done e r f = absurd (not-on e f)
 
 module _ (N : ℕ) (c : Cursor) (from to : ℕ) (R : Right N c from to) where
   pub refill-better : (n : ℕ) (z : ℤ) → n ≡ to - from → n + given-by z ≤ N → heard z ≡ On → Better N c from to false (read-turn c n z)
@@ -126,11 +120,11 @@ module _ (N : ℕ) (c : Cursor) (from to : ℕ) (R : Right N c from to) where
     pub wanted : Right N (a .cursor) (from + a .used) to
     wanted = record { order = omega (arith, R .order, F .used); inside = R .inside; place = F .within (R .place) }
 
-    pub still-better : (b : Bool) → reads b (a .status) ≡ false → after b (a .status) ≡ On → Better N c from to last (still-turn a from to last b)
-    still-better b e o =
+    pub still-better : (b i : Bool) → reads b (a .status) ≡ false → after b (a .status) i ≡ On → Better N c from to last (still-turn a from to last b i)
+    still-better b i e o =
         record {
           right = wanted;
-          less = go-less (work (c .at) (c .phase)) (work (a .cursor .at) (a .cursor .phase)) (c .at) (a .cursor .at) (trace-limit + N) (waits last) from to (a .used) (F .place) (F .less (goes b (a .status) e o)) (F .used) (R .order);
+          less = go-less (work (c .at) (c .phase)) (work (a .cursor .at) (a .cursor .phase)) (c .at) (a .cursor .at) (trace-limit + N) (waits last) from to (a .used) (F .place) (F .less (goes b (a .status) i e o)) (F .used) (R .order);
         }
 
     pub asked-better : (b : Bool) (v : Turn) → reads b (a .status) ≡ true → Better N (a .cursor) (from + a .used) to false v → Better N c from to last v
@@ -154,6 +148,16 @@ window-drop b from to u h =
     let e : to - (from + u) ≡ to - from - u = omega arith in
     rw (e, drop-take u (to - from) (drop from b), drop-drop)
 
+-- the window is used up where nothing of it is left
+pub used-up : (b : List ℕ) (from to u : ℕ) → from ≤ to → to ≤ length b → u ≤ to - from → eqb (from + u) to ≡ eqb (length (drop u (window b from to))) 0
+used-up b from to u h k l =
+    let d : length (drop u (window b from to)) ≡ to - from - u = simp length-drop (rw (length-window b from to h k)) in
+    rw d (go (eqb (from + u) to) refl)
+  where
+    go : (t : Bool) → eqb (from + u) to ≡ t → t ≡ eqb (to - from - u) 0
+    go true e = let n : from + u ≡ to = eqb-true _ _ e in sym (eq-eqb (to - from - u) 0 (omega arith))
+    go false e = let n : from + u ≡ to → ⊥ = eqb-false _ _ e in sym (ne-eqb (to - from - u) 0 (λ z. n (omega arith)))
+
 -- the buffer b after its window went to the front, and ys were read behind it
 pub refilled : (b : List ℕ) (from to : ℕ) (ys : List ℕ) (g : ℕ) → from ≤ to → to ≤ length b →
     window (take (to - from) (slid b from (to - from)) ++ ys) 0 (to - from + g) ≡ window b from to ++ take g ys
@@ -176,8 +180,9 @@ module _ (b S ys : List ℕ) (from to n : ℕ) (h : from ≤ to) (k : to ≤ len
 
 module _ (c : Cursor) (cs t q w : List ℕ) (last : Bool) (o : List ℕ) (a : Stepped) (cs2 t2 q2 o2 w2 : List ℕ) (P : Pumps c cs t q w last o a cs2 t2 q2 o2)
     (b : Bool) where
-  pub turned-still : (from to : ℕ) → reads b (a .status) ≡ false → w2 ≡ drop (a .used) w → Turned c cs t q w last o (still-turn a from to last b) cs2 t2 q2 o2 w2
-  turned-still from to e f =
+  pub turned-still : (from to : ℕ) (i : Bool) → reads b (a .status) ≡ false → i ≡ eqb (length (drop (a .used) w)) 0 → w2 ≡ drop (a .used) w
+      → Turned c cs t q w last o (still-turn a from to last b i) cs2 t2 q2 o2 w2
+  turned-still from to i e h f =
       record {
         answer = a;
         pumps = P;
@@ -188,7 +193,7 @@ module _ (c : Cursor) (cs t q w : List ℕ) (last : Bool) (o : List ℕ) (a : St
         only-asked = λ _. refl;
         not-past-end = λ g. never (sym e ∙ g);
         last-then = rw e;
-        end = rw e;
+        end = rw (e, h);
       }
 
   pub turned-read : (v : Turn) → reads b (a .status) ≡ true → (a .status ≡ MoreBytes → last ≡ false) → Refilled (a .cursor) (drop (a .used) w) v w2
@@ -210,21 +215,21 @@ module _ (c : Cursor) (cs t q w : List ℕ) (last : Bool) (o : List ℕ) (a : St
       }
 
 -- what the end of a turn says of its calls
-not-whole : (z : ℤ) → heard z ≡ Whole → ⊥
-not-whole (pos n) e = never cc
-not-whole (negsuc n) e = never cc
+heard-ends : (z : ℤ) → ends-log (heard z) ≡ true → ⊥
+heard-ends (pos n) e = never e
+heard-ends (negsuc n) e = never e
 
-whole-done : (b : Bool) (k : Status) (z : ℤ) → pick (reads b k) (heard z) (after b k) ≡ Whole → k ≡ Done
-whole-done false GoOn z e = never cc
-whole-done false MoreBytes z e = never cc
-whole-done false MoreRoom z e = never cc
-whole-done false NotSound z e = never cc
-whole-done false Done z e = refl
-whole-done true GoOn z e = never cc
-whole-done true MoreBytes z e = absurd (not-whole z e)
-whole-done true MoreRoom z e = never cc
-whole-done true NotSound z e = never cc
-whole-done true Done z e = refl
+pub ends-done : (b : Bool) (k : Status) (z : ℤ) (i : Bool) → ends-log (pick (reads b k) (heard z) (after b k i)) ≡ true → (b ≡ true) × (k ≡ Done)
+ends-done false GoOn z i e = never e
+ends-done false MoreBytes z i e = never e
+ends-done false MoreRoom z i e = never e
+ends-done false NotSound z i e = never e
+ends-done false Done z i e = never e
+ends-done true GoOn z i e = never e
+ends-done true MoreBytes z i e = absurd (heard-ends z e)
+ends-done true MoreRoom z i e = never e
+ends-done true NotSound z i e = never e
+ends-done true Done z i e = (refl, refl)
 
 -- ---- a turn goes on with the session
 
@@ -236,7 +241,14 @@ module _ (trace wrote : List ℕ) (c : Cursor) (cs t q w unread : List ℕ) (S :
       let Q = more (T .got) then (subst (λ l. Session trace (wrote ++ take (T .answer .wrote) o2) (T .answer .cursor) cs2 t2 q2 (drop (T .answer .used) w) l) e P) in
       rw (T .cursor, T .rest) Q
 
-  pub turn-ends : v .end ≡ Whole → wrote ++ take (T .answer .wrote) o2 ≡ log trace
+  pub ends-status : ends-log (v .end) ≡ true → (v .written ≡ true) × (T .answer .status ≡ Done)
+  ends-status e = ends-done (v .written) (T .answer .status) (v .read) (eqb (length (drop (T .answer .used) w)) 0) (ap ends-log (sym (T .end)) ∙ e)
+
+  -- the log ended: the cursor is finished
+  pub turn-finishes : ends-log (v .end) ≡ true → T .answer .cursor .phase ≡ Finished
+  turn-finishes e = done-is-finished trace wrote c cs t q w unread S last g o (T .answer) cs2 t2 q2 o2 (inr (T .pumps)) (ends-status e .1)
+
+  pub turn-ends : ends-log (v .end) ≡ true → wrote ++ take (T .answer .wrote) o2 ≡ log trace
   turn-ends e =
       writes-the-log trace _ (T .answer .cursor) cs2 t2 q2 (drop (T .answer .used) w) unread (pump last g o (T .answer) cs2 t2 q2 o2 (T .pumps) S)
-      (done-is-finished trace wrote c cs t q w unread S last g o (T .answer) cs2 t2 q2 o2 (inr (T .pumps)) (whole-done (v .written) (T .answer .status) (v .read) (sym (T .end) ∙ e)))
+      (turn-finishes e)

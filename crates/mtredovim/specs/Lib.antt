@@ -1,4 +1,5 @@
--- Read in this order: Turns, Runs, Promises.
+-- Read in this order: Turns, Runs, Promises; Words is apart.
 pub mod Turns
 pub mod Runs
 pub mod Promises
+pub mod Words

@@ -1,18 +1,20 @@
 -- THE STATEMENTS of the program, apart from their proofs: each is proved in proofs/Results under the same name in small letters. `main` hands its tables to
 -- `replay_all`, whose contract is `Ran`: its turns are such as are spoken of here. Assumes nothing.
-use Prim.Native.Nat.{ℕ, _<_, _≤_}
+use Prim.Native.Nat.{ℕ, _<_}
 use mathlib.Core.Path.{_≡_}
 use mathlib.Core.Bool.{Bool, true, false}
 use mathlib.Core.List.{List, [], _++_}
+use mathlib.Core.Option.{none, some}
 use lib.ListN.{length, take, drop}
 use lib.Signed.{nonNeg}
 use Rattle.log.specs.declared.Cursor.{Cursor}
 use Rattle.log.specs.Log.{log}
-use Rattle.log.specs.Steps.{longest-record, longest-answer}
+use Rattle.log.specs.Bad.{bad-at}
+use Rattle.log.specs.Steps.{longest-record}
 use Rattle.replay.specs.Sessions.{Session}
-use Rattle.mtredovim.specs.declared.End.the-variants.{On, Whole, ReadFailed, WriteFailed}
+use Rattle.mtredovim.specs.declared.End.the-variants.{Whole, Malformed, ReadFailed, WriteFailed}
 use Rattle.mtredovim.specs.declared.Turn.{Turn}
-use Rattle.mtredovim.specs.Turns.{reads, Turned}
+use Rattle.mtredovim.specs.Turns.{ends-log, reads, Turned}
 use Rattle.mtredovim.specs.Runs.{Turns}
 
 -- ---- all turns from the start: `given` is what the reads gave, `wrote` what was handed to `write`
@@ -25,9 +27,18 @@ Of-all-turns P = (given wrote : List ℕ) (v : Turn) (cs t q w : List ℕ) → T
 abbrev pub Of-the-trace : (List ℕ → List ℕ → Turn → Type 0) → Type 0
 Of-the-trace P = Of-all-turns (λ given wrote v. (then : List ℕ) → (v .last ≡ true → then ≡ []) → P (given ++ then) wrote v)
 
--- THE PROGRAM: where it ends with a whole log, what was written is the log of the trace
+-- THE PROGRAM: where it has written the log to its end, that is the log of the trace
 abbrev pub The-program-writes-the-log : Type 0
-The-program-writes-the-log = Of-the-trace (λ trace wrote v. v .end ≡ Whole → wrote ≡ log trace)
+The-program-writes-the-log = Of-the-trace (λ trace wrote v. ends-log (v .end) ≡ true → wrote ≡ log trace)
+
+-- it says Whole of a trace whose records are all well formed, and Malformed of one whose first malformed record is where the cursor stands
+abbrev pub It-tells-the-malformed : Type 0
+It-tells-the-malformed =
+    Of-the-trace (λ trace wrote v. (v .end ≡ Whole → bad-at trace ≡ none) × (v .end ≡ Malformed → bad-at trace ≡ some (v .cursor .at)))
+
+-- .. and Whole only once the input has ended
+abbrev pub Whole-at-the-end : Type 0
+Whole-at-the-end = Of-all-turns (λ given wrote v. v .end ≡ Whole → v .last ≡ true)
 
 -- at any time, so where a read or a write has failed too, what was written is the beginning of the log
 abbrev pub It-writes-nothing-else : Type 0
@@ -57,12 +68,12 @@ A-turn-goes-on =
     → unread ≡ T .got ++ then
     → Session trace (wrote ++ take (T .answer .wrote) o2) (v .cursor) cs2 t2 q2 w2 then
 
--- a turn after which the log is whole: what was written is the log
+-- a turn that ends the log: what was written is the log
 abbrev pub The-last-turn-ends-the-log : Type 0
 The-last-turn-ends-the-log =
     (trace wrote : List ℕ) (c : Cursor) (cs t q w unread : List ℕ)
     → Session trace wrote c cs t q w unread
     → (last : Bool) → (last ≡ true → unread ≡ []) → (o : List ℕ) (v : Turn) (cs2 t2 q2 o2 w2 : List ℕ)
     → (T : Turned c cs t q w last o v cs2 t2 q2 o2 w2)
-    → v .end ≡ Whole
+    → ends-log (v .end) ≡ true
     → wrote ++ take (T .answer .wrote) o2 ≡ log trace

@@ -3,6 +3,7 @@ use Prim.Native.Nat.{ℕ, zero, suc, _+_, _-_, _<_, _≤_}
 use mathlib.Core.Path.{_≡_}
 use mathlib.Core.Bool.{Bool, true, false}
 use mathlib.Core.List.{List, _++_}
+use lib.Dec.{eqb}
 use lib.IntN.{ℤ, pos, negsuc}
 use lib.ListN.{length, take, drop}
 use Rattle.fields.specs.Numbers.{pick}
@@ -15,7 +16,7 @@ use Rattle.log.specs.Steps.{beginning, work}
 use Rattle.ticks.specs.Tie.{cursor-of}
 use Rattle.replay.specs.Sessions.{Pumps}
 use Rattle.mtredovim.specs.declared.End.{End}
-use Rattle.mtredovim.specs.declared.End.the-variants.{On, Whole, ReadFailed, WriteFailed}
+use Rattle.mtredovim.specs.declared.End.the-variants.{On, Whole, Malformed, ReadFailed, WriteFailed}
 use Rattle.mtredovim.specs.declared.Turn.{Turn}
 
 -- ---- what follows a turn
@@ -23,8 +24,17 @@ use Rattle.mtredovim.specs.declared.Turn.{Turn}
 abbrev pub is-on : End → Bool
 is-on On = true
 is-on Whole = false
+is-on Malformed = false
 is-on ReadFailed = false
 is-on WriteFailed = false
+
+-- whether the log is written to its end
+abbrev pub ends-log : End → Bool
+ends-log On = false
+ends-log Whole = true
+ends-log Malformed = true
+ends-log ReadFailed = false
+ends-log WriteFailed = false
 
 -- what `read` answers: -1 where it failed, else how many bytes it gave, 0 at the end of the input
 abbrev pub given-by : ℤ → ℕ
@@ -48,14 +58,19 @@ reads written MoreRoom = false
 reads written NotSound = false
 reads written Done = false
 
--- what follows a turn that does not read. MoreRoom and NotSound never come: `It-ends-for-no-other-reason`
-abbrev pub after : Bool → Status → End
-after false k = WriteFailed
-after true GoOn = On
-after true MoreBytes = On
-after true MoreRoom = WriteFailed
-after true NotSound = WriteFailed
-after true Done = Whole
+-- what follows a turn that does not read, where the window is used up or not: a malformed record stays in it. MoreRoom and NotSound never come:
+-- `It-ends-for-no-other-reason`
+abbrev pub after : Bool → Status → Bool → End
+after false k emptied = WriteFailed
+after true GoOn emptied = On
+after true MoreBytes emptied = On
+after true MoreRoom emptied = WriteFailed
+after true NotSound emptied = WriteFailed
+after true Done emptied = pick emptied Whole Malformed
+
+-- a turn that ends with a read behind n bytes of the window, which answered z
+abbrev pub read-turn : Cursor → ℕ → ℤ → Turn
+read-turn c n z = record { cursor = c; from = 0; to = n + given-by z; last = is-end z; written = true; read = z; end = heard z }
 
 -- before any turn
 abbrev pub first-turn : Turn
@@ -109,4 +124,4 @@ pub record Turned (c : Cursor) (cs t q w : List ℕ) (last : Bool) (o : List ℕ
   pub only-asked : reads (r .written) (answer .status) ≡ false → r .read ≡ pos 0
   pub not-past-end : reads (r .written) (answer .status) ≡ true → last ≡ false
   pub last-then : r .last ≡ pick (reads (r .written) (answer .status)) (is-end (r .read)) last
-  pub end : r .end ≡ pick (reads (r .written) (answer .status)) (heard (r .read)) (after (r .written) (answer .status))
+  pub end : r .end ≡ pick (reads (r .written) (answer .status)) (heard (r .read)) (after (r .written) (answer .status) (eqb (length (drop (answer .used) w)) 0))

@@ -1,21 +1,25 @@
-// Replays the trace on standard input and writes its answer log to standard output.
+// Replays the trace on standard input and writes its answer log to standard output. Of what went wrong it tells in a line on standard error.
 ghost use mathlib.Core.Path.{_≡_};
 ghost use mathlib.Core.Bool.{true, false};
-ghost use Prim.Native.Nat.{_+_, _≤_};
+ghost use Prim.Native.Nat.{_+_, _^_, _<_, _≤_};
 ghost use lib.ListN.{length};
 ghost use Rattle.log.specs.Steps.{longest-record, longest-answer};
 ghost use Rattle.mtredovim.specs.declared.End.the-variants.{On};
-ghost use Rattle.mtredovim.specs.Turns.{is-on, given-by, is-end, heard, reads, after, first-turn, window, Right, Better, Refilled, Turned};
+ghost use Rattle.mtredovim.specs.Turns.{is-on, given-by, reads, after, first-turn, read-turn, window, Right, Better, Refilled, Turned};
 ghost use Rattle.mtredovim.specs.Runs.{Fresh, Ran};
+ghost use Rattle.mtredovim.specs.Words.{Told};
+use libc::STDERR_FILENO;
 use libc::STDIN_FILENO;
 use libc::STDOUT_FILENO;
 use log::Cursor;
 use log::Status;
 
-// What follows a turn. On: the next turn. The program ends after any other. Whole: the log is written. ReadFailed, WriteFailed: the system refused.
+// What follows a turn. On: the next turn. The program ends after any other. Whole: the log is written, and every record was well formed. Malformed: it is
+// written, and ends with the `ER` of the cursor's offset. ReadFailed, WriteFailed: the system refused.
 pub enum End {
     On,
     Whole,
+    Malformed,
     ReadFailed,
     WriteFailed,
 }
@@ -37,11 +41,12 @@ fn first() -> Turn
     ensures { λ r. ⌜ r ≡ first-turn ⌝ }
 {
     let c = replay::start();
+    let last = false;
     Turn {
         cursor: c,
         from: 0,
         to: 0,
-        last: false,
+        last: last,
         written: true,
         read: 0,
         end: End::On,
@@ -55,36 +60,39 @@ fn goes_on(e: End) -> bool
     match e {
         End::On => true,
         End::Whole => false,
+        End::Malformed => false,
         End::ReadFailed => false,
         End::WriteFailed => false,
     }
 }
 
-// How many bytes `read` gave.
-fn given(read: isize) -> usize
-    ensures { λ r. ⌜ r ≡ given-by read ⌝ }
+// The turn that ends with a read behind n bytes, which answered `read`.
+fn heard(c: Cursor, n: usize, read: isize) -> Turn
+    requires { ⌜ n + given-by read < 2 ^ 64 ⌝ }
+    ensures { λ r. ⌜ r ≡ read-turn c n read ⌝ }
 {
     if read < 0 {
-        return 0;
+        return Turn {
+            cursor: c,
+            from: 0,
+            to: n,
+            last: false,
+            written: true,
+            read: read,
+            end: End::ReadFailed,
+        };
     }
-    read as usize
-}
-
-// Whether `read` answered that the input has ended.
-fn is_last(read: isize) -> bool
-    ensures { λ r. ⌜ r ≡ is-end read ⌝ }
-{
-    read == 0
-}
-
-// What follows what `read` answered.
-fn after_read(read: isize) -> End
-    ensures { λ r. ⌜ r ≡ heard read ⌝ }
-{
-    if read < 0 {
-        return End::ReadFailed;
+    let got = read as usize;
+    let last = got == 0;
+    Turn {
+        cursor: c,
+        from: 0,
+        to: n + got,
+        last: last,
+        written: true,
+        read: read,
+        end: End::On,
     }
-    End::On
 }
 
 // Whether a turn reads: all that was to be written was taken, and the steps want more bytes.
@@ -100,9 +108,9 @@ fn asks(written: bool, k: Status) -> bool
     }
 }
 
-// What follows a turn that does not read. MoreRoom and NotSound never come.
-fn after_steps(written: bool, k: Status) -> End
-    ensures { λ r. ⌜ r ≡ after written k ⌝ }
+// What follows a turn that does not read; `emptied`: nothing of the window is left, in which a malformed record stays. MoreRoom and NotSound never come.
+fn after_steps(written: bool, k: Status, emptied: bool) -> End
+    ensures { λ r. ⌜ r ≡ after written k emptied ⌝ }
 {
     if !written {
         return End::WriteFailed;
@@ -112,7 +120,12 @@ fn after_steps(written: bool, k: Status) -> End
         Status::MoreBytes => End::On,
         Status::MoreRoom => End::WriteFailed,
         Status::NotSound => End::WriteFailed,
-        Status::Done => End::Whole,
+        Status::Done => {
+            if emptied {
+                return End::Whole;
+            }
+            End::Malformed
+        }
     }
 }
 
@@ -124,18 +137,7 @@ fn refill(c: Cursor, buf: &mut [u8], from: usize, to: usize) -> Turn
 {
     let n = replay::slide(buf, from, to);
     let read = libc::read(STDIN_FILENO, &mut buf[n..]);
-    let got = given(read);
-    let last = is_last(read);
-    let end = after_read(read);
-    Turn {
-        cursor: c,
-        from: 0,
-        to: n + got,
-        last: last,
-        written: true,
-        read: read,
-        end: end,
-    }
+    heard(c, n, read)
 }
 
 // As many steps as the room holds, written out in one block; then more input, if that is what is wanted.
@@ -164,7 +166,8 @@ fn advance(
     if asks(written, k) {
         return refill(then, buf, next, to);
     }
-    let end = after_steps(written, k);
+    let emptied = next == to;
+    let end = after_steps(written, k, emptied);
     Turn {
         cursor: then,
         from: next,
@@ -194,17 +197,42 @@ fn replay_all(cs: &mut [u32], t: &mut [u32], q: &mut [u32], buf: &mut [u8], out:
     }
 }
 
+// Hands a line to `write`, on standard error: the words told of an end, and behind those of a malformed record the digits of its offset.
+fn say(v: Turn, words: &[u8], digits: &[u8])
+    requires { ⌜ Told v (now words) (now digits) ⌝ }
+{
+    io::write_all(STDERR_FILENO, words);
+    io::write_all(STDERR_FILENO, digits);
+    io::write_all(STDERR_FILENO, b"\n");
+}
+
+// Tells why the log is not whole, or that it ends in `ER`; nothing of any other log.
+fn tell(v: Turn) {
+    let c = v.cursor;
+    let mut text = [0u8; 20];
+    let k = io::decimal(c.at as u64, &mut text);
+    let e = v.end;
+    match e {
+        End::On => {}
+        End::Whole => {}
+        End::Malformed => say(v, b"mtredovim: malformed record at offset ", &text[..k]),
+        End::ReadFailed => say(v, b"mtredovim: reading failed", &text[..0]),
+        End::WriteFailed => say(v, b"mtredovim: writing failed", &text[..0]),
+    }
+}
+
 fn main() {
     let mut places = [0u32; 2560];
     let mut connections = [0u32; 320];
     let mut notices = [0u32; 320];
     let mut buf = io::large_buffer();
     let mut out = io::large_buffer();
-    replay_all(
+    let v = replay_all(
         &mut connections,
         &mut places,
         &mut notices,
         &mut buf,
         &mut out,
     );
+    tell(v);
 }

@@ -22,26 +22,34 @@ use Rattle.log.specs.declared.Cursor.{Cursor}
 use Rattle.log.specs.declared.Status.the-variants.{MoreBytes, MoreRoom, NotSound, Done}
 use Rattle.log.specs.declared.Stepped.{Stepped}
 use Rattle.log.specs.Log.{log}
+use Rattle.log.specs.Bad.{bad-at}
 use Rattle.log.specs.Steps.{longest-record, longest-answer, Point, point, Next, still, beginning, next, steps, to-come, phase-log}
 use Rattle.log.proofs.ReadLaws.{pick-by}
 use Rattle.log.proofs.StepLaws.{Keeps, step-keeps, steps-keep}
+use Rattle.log.proofs.BadLaws.{phase-tells, Tells as Malformed-in, Tells-then as Malformed-then, tells-more, step-tells, steps-tell, log-ends}
 use Rattle.log.proofs.OutcomeLaws.{Ends-well, step-ends-well, steps-end-well}
 use Rattle.ticks.specs.Tie.{point-of, cursor-of, stepped-of, Did, in-room, Does}
 use Rattle.replay.specs.Sessions.{Steps, Pumps, Session}
 use Rattle.replay.specs.Sessions.Session.{start, more, step, pump}
-use Rattle.replay.specs.Promises.{Writes-the-log, Writes-nothing-else, Of-every-call, Done-is-finished, Never-refused, Asks-when-short, Same-outcome, One-outcome}
+use Rattle.replay.specs.Promises.{Writes-the-log, Writes-nothing-else, Tells-the-malformed, Ends-with-its-ER, Of-every-call, Done-is-finished, Never-refused, Asks-when-short, Same-outcome, One-outcome}
 use Rattle.replay.proofs.Standing.{Stands, stands-sound, stands-there, stands-then}
 
--- at any time of a session: what was written, and what is to come, is the log
+-- at any time of a session: what was written, and what is to come, is the log; and where the trace is malformed is where what is left of it is
 record Holds (trace wrote : List ℕ) (c : Cursor) (cs t q w unread : List ℕ) : Type 0 where
   here : Point
   stands : Stands here c cs t q
   adds-up : wrote ++ to-come here (w ++ unread) ≡ log trace
+  told : Malformed-in (bad-at trace) here w unread
 
 start-holds : (trace : List ℕ) → Holds trace [] (cursor-of beginning) (replicate members-length 0) (replicate places-length 0) (replicate notices-length 0) [] trace
-unfolding log written-members places table-of
+unfolding log bad-at written-members places table-of
 start-holds trace =
-    record { here = beginning; stands = record { sound = fresh-invariant .sound; cursor = refl; connections = refl; table = refl; queue = refl }; adds-up = refl }
+    record {
+      here = beginning;
+      stands = record { sound = fresh-invariant .sound; cursor = refl; connections = refl; table = refl; queue = refl };
+      adds-up = refl;
+      told = refl;
+    }
 
 -- what is told of a call with the window w and the room o
 record Tells (w o : List ℕ) (a : Stepped) : Type 0 where
@@ -52,60 +60,65 @@ record Tells (w o : List ℕ) (a : Stepped) : Type 0 where
 
 module _ (trace wrote : List ℕ) (c : Cursor) (cs t q w unread : List ℕ) (H : Holds trace wrote c cs t q w unread) where
   -- a step of the rules from here, made by the code
-  then-holds : (n : Next) (a : Stepped) (cs′ t′ q′ o o′ : List ℕ) → Keeps (H .here) w unread n → Sound (n .point .state) → Did n a cs′ t′ q′ o o′
+  then-holds : (n : Next) (a : Stepped) (cs′ t′ q′ o o′ : List ℕ) → Keeps (H .here) w unread n → Malformed-then (bad-at trace) w unread n → Sound (n .point .state)
+      → Did n a cs′ t′ q′ o o′
       → Holds trace (wrote ++ take (a .wrote) o′) (a .cursor) cs′ t′ q′ (drop (a .used) w) unread
-  then-holds n a cs′ t′ q′ o o′ K S D =
+  then-holds n a cs′ t′ q′ o o′ K M S D =
       let e : take (a .wrote) o′ ≡ n .bytes = rw (D .answers, D .room) (take-append-seam (n .bytes) (drop (length (n .bytes)) o)) in
       record {
         here = n .point;
         stands = stands-then n a cs′ t′ q′ o o′ S D;
         adds-up = rw (e, append-assoc, ap (λ (x : Stepped). x .used) (D .answers)) (ap (λ l. wrote ++ l) (sym K) ∙ H .adds-up);
+        told = rw (ap (λ (x : Stepped). x .used) (D .answers)) M;
       }
 
   -- where the room is short nothing is done; else the step n
   abbrev Outcome : List ℕ → Next → Type 0
-  Outcome o n = Tells w o (stepped-of n) × Keeps (H .here) w unread n × Sound (n .point .state)
+  Outcome o n = Tells w o (stepped-of n) × Keeps (H .here) w unread n × Malformed-then (bad-at trace) w unread n × Sound (n .point .state)
 
-  outcome : (o : List ℕ) (n : Next) → Keeps (H .here) w unread n → Ends-well w n → Outcome o (in-room (length o) (H .here) n)
-  outcome o n K E =
+  outcome : (o : List ℕ) (n : Next) → Keeps (H .here) w unread n → Malformed-then (bad-at trace) w unread n → Ends-well w n → Outcome o (in-room (length o) (H .here) n)
+  outcome o n K M E =
       pick-by (Outcome o) (ltb (length o) longest-answer) (still (H .here) MoreRoom) n
       (λ e. let l : length o < longest-answer = ltb-true _ _ e in (
         record { finished = λ z. cc; short = λ z. never cc; room-enough = λ k z. omega arith; never-unsound = λ z. never cc },
         refl,
+        H .told,
         H .stands .sound,
       ))
-      (λ _. (record { finished = E .finished; short = E .short; room-enough = λ _. E .room-enough; never-unsound = E .never-unsound }, K, E .sound))
+      (λ _. (record { finished = E .finished; short = E .short; room-enough = λ _. E .room-enough; never-unsound = E .never-unsound }, K, M, E .sound))
 
   -- what a call may do, whatever its room
   call-holds : (n : Point → Next) (last : Bool) (a : Stepped) (cs′ t′ q′ o o′ : List ℕ)
-      → Keeps (H .here) w unread (n (H .here)) → Ends-well w (n (H .here))
+      → Keeps (H .here) w unread (n (H .here)) → Malformed-then (bad-at trace) w unread (n (H .here)) → Ends-well w (n (H .here))
       → Does (in-room (length o) (point-of c cs t q) (n (point-of c cs t q))) c cs t q o a cs′ t′ q′ o′
       → Holds trace (wrote ++ take (a .wrote) o′) (a .cursor) cs′ t′ q′ (drop (a .used) w) unread × Tells w o a
-  call-holds n last a cs′ t′ q′ o o′ K E D =
+  call-holds n last a cs′ t′ q′ o o′ K M E D =
       let ok = stands-sound (H .here) c cs t q (H .stands) in
       let there = stands-there (H .here) c cs t q (H .stands) in
       let d = subst (λ (p : Point). Did (in-room (length o) p (n p)) a cs′ t′ q′ o o′) there (D .where-sound ok) in
-      let r = outcome o (n (H .here)) K E in (
-        then-holds (in-room (length o) (H .here) (n (H .here))) a cs′ t′ q′ o o′ (r .1) (r .2) d,
+      let r = outcome o (n (H .here)) K M E in (
+        then-holds (in-room (length o) (H .here) (n (H .here))) a cs′ t′ q′ o o′ (r .1) (r .2) (r .3) d,
         subst (Tells w o) (sym (d .answers)) (r .0),
       )
 
   step-holds : (last : Bool) → (last ≡ true → unread ≡ []) → (o : List ℕ) (a : Stepped) (cs′ t′ q′ o′ : List ℕ) → Steps c cs t q w last o a cs′ t′ q′ o′
       → Holds trace (wrote ++ take (a .wrote) o′) (a .cursor) cs′ t′ q′ (drop (a .used) w) unread × Tells w o a
   step-holds last g o a cs′ t′ q′ o′ D =
-      call-holds (λ (p : Point). next p w last) last a cs′ t′ q′ o o′ (step-keeps (H .here) w unread last g) (step-ends-well (H .here) w last (H .stands .sound)) D
+      call-holds (λ (p : Point). next p w last) last a cs′ t′ q′ o o′ (step-keeps (H .here) w unread last g)
+      (step-tells (bad-at trace) (H .here) w unread last g (H .told)) (step-ends-well (H .here) w last (H .stands .sound)) D
 
   pump-holds : (last : Bool) → (last ≡ true → unread ≡ []) → (o : List ℕ) (a : Stepped) (cs′ t′ q′ o′ : List ℕ) → Pumps c cs t q w last o a cs′ t′ q′ o′
       → Holds trace (wrote ++ take (a .wrote) o′) (a .cursor) cs′ t′ q′ (drop (a .used) w) unread × Tells w o a
   pump-holds last g o a cs′ t′ q′ o′ D =
       call-holds (λ (p : Point). steps (length o / longest-answer) p w last) last a cs′ t′ q′ o o′ (steps-keep (length o / longest-answer) (H .here) w unread last g)
+      (steps-tell (bad-at trace) (length o / longest-answer) (H .here) w unread last g (H .told))
       (steps-end-well (length o / longest-answer) (H .here) w last (H .stands .sound)) D
 
 session-holds : {trace wrote : List ℕ} {c : Cursor} {cs t q w unread : List ℕ} → Session trace wrote c cs t q w unread → Holds trace wrote c cs t q w unread
 session-holds start = start-holds _
-session-holds (more got unread S) =
+session-holds (more {w} got unread S) =
     let H = session-holds S in
-    record { here = H .here; stands = H .stands; adds-up = rw append-assoc (H .adds-up) }
+    record { here = H .here; stands = H .stands; adds-up = rw append-assoc (H .adds-up); told = tells-more _ (H .here .phase) (H .here .at) w got unread (H .told) }
 session-holds (step {wrote} {c} {cs} {t} {q} {w} {unread} last g o a cs′ t′ q′ o′ D S) = step-holds _ wrote c cs t q w unread (session-holds S) last g o a cs′ t′ q′ o′ D .0
 session-holds (pump {wrote} {c} {cs} {t} {q} {w} {unread} last g o a cs′ t′ q′ o′ D S) = pump-holds _ wrote c cs t q w unread (session-holds S) last g o a cs′ t′ q′ o′ D .0
 
@@ -120,6 +133,16 @@ pub writes-nothing-else : Writes-nothing-else
 writes-nothing-else trace wrote c cs t q w unread S =
     let H = session-holds S in
     rw (← H .adds-up) (take-append-seam wrote (to-come (H .here) (w ++ unread)))
+
+pub tells-the-malformed : Tells-the-malformed
+tells-the-malformed trace wrote c cs t q w unread S e =
+    let H = session-holds S in
+    let f : H .here .phase ≡ Finished = sym (ap (λ (x : Cursor). x .phase) (H .stands .cursor)) ∙ e in
+    let k : H .here .at ≡ c .at = sym (ap (λ (x : Cursor). x .at) (H .stands .cursor)) in
+    rw (← k) (subst (λ (p : Phase). phase-tells (bad-at trace) p (H .here .at) w unread) f (H .told))
+
+pub ends-with-its-er : Ends-with-its-ER
+ends-with-its-er = log-ends
 
 tells : Of-every-call Tells
 tells trace wrote c cs t q w unread S last g o a cs′ t′ q′ o′ (inl D) = step-holds trace wrote c cs t q w unread (session-holds S) last g o a cs′ t′ q′ o′ D .1

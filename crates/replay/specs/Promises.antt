@@ -4,12 +4,18 @@ use mathlib.Core.Path.{_≡_}
 use mathlib.Core.Bool.{Bool, true}
 use mathlib.Core.List.{List, []}
 use mathlib.Core.Logic.{_⊎_}
+use mathlib.Core.Option.{none, some}
+use lib.Dec.{eqb}
 use lib.ListN.{length, take, drop}
+use Rattle.fields.specs.Numbers.{pick}
+use Rattle.answers.specs.declared.Reply.the-variants.{Broken}
+use Rattle.answers.specs.Answers.{answer-bytes}
 use Rattle.log.specs.declared.Phase.the-variants.{Finished}
 use Rattle.log.specs.declared.Cursor.{Cursor}
 use Rattle.log.specs.declared.Status.the-variants.{MoreBytes, MoreRoom, NotSound, Done}
 use Rattle.log.specs.declared.Stepped.{Stepped}
 use Rattle.log.specs.Log.{log}
+use Rattle.log.specs.Bad.{bad-at, Ends-with}
 use Rattle.log.specs.Steps.{longest-record, longest-answer, Next}
 use Rattle.ticks.specs.Tie.{Does}
 use Rattle.replay.specs.Sessions.{Steps, Pumps, Session}
@@ -28,6 +34,18 @@ Writes-nothing-else =
     (trace wrote : List ℕ) (c : Cursor) (cs t q w unread : List ℕ)
     → Session trace wrote c cs t q w unread
     → take (length wrote) (log trace) ≡ wrote
+
+-- a finished cursor: nothing of the window is left, and nothing unread, where every record of the trace is well formed; else it stands at the first malformed one
+abbrev pub Tells-the-malformed : Type 0
+Tells-the-malformed =
+    (trace wrote : List ℕ) (c : Cursor) (cs t q w unread : List ℕ)
+    → Session trace wrote c cs t q w unread
+    → c .phase ≡ Finished
+    → (bad-at trace ≡ pick (eqb (length w) 0) none (some (c .at))) × (length w ≡ 0 → unread ≡ [])
+
+-- the log of a trace with a malformed record ends with the `ER` of the first one's offset
+abbrev pub Ends-with-its-ER : Type 0
+Ends-with-its-ER = (trace : List ℕ) (offset : ℕ) → bad-at trace ≡ some offset → Ends-with (answer-bytes (Broken offset)) (log trace)
 
 -- of every call in every session: P of its window, its room and its answer
 abbrev pub Of-every-call : (List ℕ → List ℕ → Stepped → Type 0) → Type 0

@@ -1,7 +1,7 @@
 use native.Mathlib.Omega.{arith}
 use mathlib.Core.Path.{_≡_, sym, _∙_, ap}
 use lib.ListN.{length, length-take}
-use Rattle.mtredovim.proofs.TurnLaws.{window-drop, length-window, wanted, turned-still, turned-read, still-better, asked-better}
+use Rattle.mtredovim.proofs.TurnLaws.{window-drop, length-window, used-up, wanted, turned-still, turned-read, still-better, asked-better}
 use borrow.Author.Needs.{needs}
 use Rattle.mtredovim.proofs.advance.Statement.{statement}
 use Rattle.mtredovim.proofs.advance.Tie as tie
@@ -107,9 +107,10 @@ returns-2 c =
     let b = c .before .before .before .before .before .write-all .result in
     let d = sym (c .before .before .asks .ensures) ∙ c .before .if1 .left in
     rw (c .after-steps .ensures) (
-      turned-still (a .v .cursor) (a .cs .now) (a .t .now) (a .q .now) _ (a .v .last) (a .out .now) (p .result) _ _ _ _ _ (p .ensures .0) b (a .v .from) (a .v .to) d
+      turned-still (a .v .cursor) (a .cs .now) (a .t .now) (a .q .now) _ (a .v .last) (a .out .now) (p .result) _ _ _ _ _ (p .ensures .0) b (a .v .from) (a .v .to) _ d
+          (used-up (a .buf .now) (a .v .from) (a .v .to) (p .result .used) (R .order) (R .inside) (F .used))
           (window-drop (a .buf .now) (a .v .from) (a .v .to) (p .result .used) (R .order)),
-      λ o. still-better (length (a .buf .now)) (a .v .cursor) (a .v .from) (a .v .to) R (a .v .last) (length (a .out .now)) (p .result) F b d o,
+      λ o. still-better (length (a .buf .now)) (a .v .cursor) (a .v .from) (a .v .to) R (a .v .last) (length (a .out .now)) (p .result) F b _ d o,
     )
 
 pub advance-spec : {M : Type 1} → statement M

@@ -22,19 +22,22 @@ enum-told-5 : tie.Need-enum-told-5
 enum-told-5 c = search needs
 
 returns-2 : tie.Need-returns-2
-returns-2 c = rw (not-false (c .before .before .before .args .written) (c .before .before .if1 .left), c .enum-told .given .1)
+returns-2 c = rw (not-false (c .before .before .before .before .args .written) (c .before .before .before .if1 .left), c .before .enum-told5 .given .1, c .if2 .taken)
 
 returns-3 : tie.Need-returns-3
-returns-3 c = rw (not-false (c .before .before .before .args .written) (c .before .before .if1 .left), c .enum-told2 .given .1)
+returns-3 c = rw (not-false (c .before .before .before .args .written) (c .before .before .if1 .left), c .enum-told .given .1)
 
 returns-4 : tie.Need-returns-4
-returns-4 c = rw (not-false (c .before .before .before .args .written) (c .before .before .if1 .left), c .enum-told3 .given .1)
+returns-4 c = rw (not-false (c .before .before .before .args .written) (c .before .before .if1 .left), c .enum-told2 .given .1)
 
 returns-5 : tie.Need-returns-5
-returns-5 c = rw (not-false (c .before .before .before .args .written) (c .before .before .if1 .left), c .enum-told4 .given .1)
+returns-5 c = rw (not-false (c .before .before .before .args .written) (c .before .before .if1 .left), c .enum-told3 .given .1)
 
 returns-6 : tie.Need-returns-6
-returns-6 c = rw (not-false (c .before .before .before .args .written) (c .before .before .if1 .left), c .enum-told5 .given .1)
+returns-6 c = rw (not-false (c .before .before .before .args .written) (c .before .before .if1 .left), c .enum-told4 .given .1)
+
+returns-7 : tie.Need-returns-7
+returns-7 c = rw (not-false (c .before .before .before .before .args .written) (c .before .before .before .if1 .left), c .before .enum-told5 .given .1, c .if2 .left)
 
 pub after-steps-spec : {M : Type 1} → statement M
 after-steps-spec =
@@ -50,4 +53,5 @@ after-steps-spec =
     returns-3
     returns-4
     returns-5
-    returns-6)
+    returns-6
+    returns-7)

@@ -27,6 +27,9 @@ slice-aggregate-replay-all-5 c = search needs
 replay-all-requires : tie.Need-replay-all-requires
 replay-all-requires c κs = (record { connections = refl; table = refl; queue = refl }, (search needs, search needs))
 
+tell-requires : tie.Need-tell-requires
+tell-requires c κs = search needs
+
 returns : tie.Need-returns
 returns c = search needs
 
@@ -42,4 +45,5 @@ main-spec =
     slice-aggregate-replay-all-4
     slice-aggregate-replay-all-5
     replay-all-requires
+    tell-requires
     returns)

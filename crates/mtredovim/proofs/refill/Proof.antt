@@ -1,14 +1,10 @@
-use mathlib.Core.Path.{_≡_, _∙_, ap}
-use mathlib.Core.Bool.{true}
+use native.Mathlib.Omega.{arith}
+use mathlib.Core.Path.{_≡_, _∙_}
+use Prim.Native.Nat.{_-_}
+use lib.ListN.{length, length-take, length-drop}
 use mir.Syntax.{w64}
 use mir.Val.{toZ, ofZ}
 use mir.Facts.{toZ-ofZ}
-use Rattle.mtredovim.specs.Turns.{given-by, is-end, heard}
-use native.Mathlib.Omega.{arith}
-use mathlib.Core.Path.{_≡_, _∙_}
-use Prim.Native.Nat.{_-_, _≤_}
-use lib.ListN.{length, length-take, length-drop}
-use Rattle.mtredovim.specs.Turns.{given-by}
 use Rattle.mtredovim.proofs.TurnLaws.{slide-len, given-fits, refill-reads, refill-better}
 use borrow.Author.Needs.{needs, sfits-of}
 use Rattle.mtredovim.proofs.refill.Statement.{statement}
@@ -39,45 +35,32 @@ part-read-end c = search needs
 read-requires : tie.Need-read-requires
 read-requires c κs = search needs
 
-given-requires : tie.Need-given-requires
-given-requires c κs = search needs
-
-is-last-requires : tie.Need-is-last-requires
-is-last-requires c κs = search needs
-
-after-read-requires : tie.Need-after-read-requires
-after-read-requires c κs = search needs
-
-add-t13 : tie.Need-add-t13
-add-t13 c =
-    let a = c .before .before .before .before .before .before .before .before .before .before .before .before .args in
-    let R = c .before .before .before .before .before .before .before .before .before .before .before .before .pre in
-    let s = c .before .before .before .before .before .before .before .before .before .slide in
+heard-requires : tie.Need-heard-requires
+heard-requires c κs =
+    let a = c .before .before .before .before .before .before .before .before .before .args in
+    let R = c .before .before .before .before .before .before .before .before .before .pre in
+    let s = c .before .before .before .before .before .before .slide in
     let e : s .result ≡ a .to - a .from = s .ensures .0 ∙ slide-len (a .from) (a .to) (length (a .buf .now)) (R .order) (R .inside) in
-    let r = c .before .before .before .before .before .read in
+    let r = c .before .before .read in
     let z : toZ w64 (ofZ w64 (r .result)) ≡ r .result = toZ-ofZ (sfits-of (r .ok)) in
-    let g : c .before .before .given .result ≡ given-by (r .result) = c .before .before .given .ensures ∙ ap given-by z in
     let k = given-fits _ (r .result) (r .ensures) in
     let j = simp (length-take, length-drop) at k in
-    record { fits = omega (arith, R .inside, R .order, s .kept .0, j, c .before .before .before .before .before .before .before .before .before .before .before .before .fits .to) }
+    rw z (omega (arith, R .inside, R .order, s .kept .0, j, c .before .before .before .before .before .before .before .before .before .fits .to))
 
 same-length : tie.Need-same-length
 same-length c = search needs
 
 returns : tie.Need-returns
 returns c =
-    let a = c .before .before .before .before .before .before .before .before .before .before .before .before .args in
-    let R = c .before .before .before .before .before .before .before .before .before .before .before .before .pre in
-    let s = c .before .before .before .before .before .before .before .before .before .slide in
+    let a = c .before .before .before .before .before .before .before .before .before .before .args in
+    let R = c .before .before .before .before .before .before .before .before .before .before .pre in
+    let s = c .before .before .before .before .before .before .before .slide in
     let e : s .result ≡ a .to - a .from = s .ensures .0 ∙ slide-len (a .from) (a .to) (length (a .buf .now)) (R .order) (R .inside) in
-    let r = c .before .before .before .before .before .read in
+    let r = c .before .before .before .read in
     let z : toZ w64 (ofZ w64 (r .result)) ≡ r .result = toZ-ofZ (sfits-of (r .ok)) in
-    let g : c .before .before .given .result ≡ given-by (r .result) = c .before .before .given .ensures ∙ ap given-by z in
     let k = given-fits _ (r .result) (r .ensures) in
     let j = simp (length-take, length-drop) at k in
-    let l : c .before .is-last .result ≡ is-end (r .result) = c .before .is-last .ensures ∙ ap is-end z in
-    let h : c .after-read .result ≡ heard (r .result) = c .after-read .ensures ∙ ap heard z in
-    rw (z, g, l, h) (
+    rw (c .heard .ensures, z) (
       refill-reads (a .buf .now) (s .last .0) (r .last .1 .0) (a .from) (a .to) (s .result) (R .order) (R .inside) e (s .ensures .1) (a .c) (r .result) (omega (arith, k, r .kept .1 .0)),
       λ o. refill-better (length (a .buf .now)) (a .c) (a .from) (a .to) R (s .result) (r .result) e (omega (arith, R .inside, R .order, s .kept .0, j)) o,
     )
@@ -91,9 +74,6 @@ refill-spec =
     part-read-start
     part-read-end
     read-requires
-    given-requires
-    is-last-requires
-    after-read-requires
-    add-t13
+    heard-requires
     same-length
     returns)
