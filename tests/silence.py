@@ -1,10 +1,9 @@
 """Traces from before R-4, in which an `LK` has no silence, and what their answers become."""
 
-import struct
+from records import ANSWERS, records, written
 
 # Trace records by their marks as they were before R-4; an `LK` has two bytes more for each level.
 LENGTHS = {b"LK": 5, b"CN": 7, b"PK": 9, b"NQ": 8, b"TK": 4}
-ANSWER_LENGTHS = {b"LA": 3, b"CA": 9, b"PA": 7, b"NA": 7, b"TA": 5, b"DP": 19, b"ER": 7}
 
 # Where an `LK` gets its silence: behind mark, n and S.
 SILENCE_AT = 5
@@ -38,10 +37,8 @@ def with_silence_0(trace):
 
 def moved(answers, inserted):
     """The same answers, but for the offset in an `ER`: so many bytes were inserted before it."""
-    at = 0
-    while at < len(answers):
-        if answers[at:at + 2] == b"ER":
-            offset = struct.unpack_from("<I", answers, at + 3)[0] + inserted
-            return answers[:at + 3] + struct.pack("<I", offset) + answers[at + 7:]
-        at += ANSWER_LENGTHS[answers[at:at + 2]]
+    for at, mark, _, numbers in records(answers, ANSWERS):
+        if mark == b"ER":
+            verdict, offset = numbers
+            return answers[:at] + written(mark, verdict, offset + inserted)
     return answers

@@ -5,55 +5,21 @@ the notices and the calls around it are drawn anew for each. The line's number m
 """
 
 import random
-import struct
 from collections import namedtuple
+
+from records import ANSWERS, CannotRead, admit, link, notice, offer, records, ticks, written
 
 CLOCK_END = 4_000_000_000
 LAST_TICK = 240
-
-ANSWER_LENGTHS = {b"LA": 3, b"CA": 9, b"PA": 7, b"NA": 7, b"TA": 5, b"DP": 19, b"ER": 7}
 
 
 # What the shared line is told in one trace, and what it must be told.
 Twin = namedtuple("Twin", "told expected number")
 
 
-class CannotRead(Exception):
-    """Answers that are no list of answer records, or too few."""
-
-
-def link(bounds, largest, silence):
-    return b"LK" + struct.pack(f"<BHB{len(bounds)}H", len(bounds), largest, silence, *bounds)
-
-
-def admission(level, gap, size):
-    return b"CN" + struct.pack("<BHH", level, gap, size)
-
-
-def offer(connection, length, tag):
-    return b"PK" + struct.pack("<BHI", connection, length, tag)
-
-
-def notice(length, tag):
-    return b"NQ" + struct.pack("<HI", length, tag)
-
-
-def ticks(count):
-    return b"TK" + struct.pack("<H", count)
-
-
 def answers(output):
     """The answers in order, one for each record of the trace: departures are left out."""
-    found, at = [], 0
-    while at < len(output):
-        mark = output[at:at + 2]
-        length = ANSWER_LENGTHS.get(mark)
-        if length is None or at + length > len(output):
-            raise CannotRead(f"no answer record at offset {at}")
-        if mark != b"DP":
-            found.append(output[at:at + length])
-        at += length
-    return found
+    return [written(mark, *numbers) for _, mark, _, numbers in records(output, ANSWERS) if mark != b"DP"]
 
 
 class Line:
@@ -85,7 +51,7 @@ class Line:
             verdict, eligibility = 13, 0
         else:
             verdict, eligibility = 0, tick
-        return b"PA" + struct.pack("<BI", verdict, eligibility)
+        return written(b"PA", verdict, eligibility)
 
 
 class Ward:
@@ -94,7 +60,7 @@ class Ward:
     def __init__(self, numbers, limits, line, busy):
         self.numbers, self.line, self.busy = numbers, line, busy
         self.bounds, self.largest, _ = limits
-        self.link = link(*limits)
+        self.link = link(self.largest, limits[2], self.bounds)
         self.records = [self.link]
         self.own = None
         self.expected = {}
@@ -105,7 +71,7 @@ class Ward:
         choice = numbers.random()
         if choice < 0.15:
             level = numbers.randint(0, len(self.bounds) + 1)
-            return admission(level, numbers.randint(1, 300), numbers.randint(1, self.largest))
+            return admit(level, numbers.randint(1, 300), numbers.randint(1, self.largest))
         if choice < 0.3:
             return notice(numbers.randint(0, self.largest + 1), numbers.getrandbits(32))
         if choice < 0.33:
@@ -123,7 +89,7 @@ class Ward:
             self.crowd()
             self.records.append(ticks(1))
         self.crowd()
-        self.records.append(admission(self.line.level, self.line.gap, self.line.size))
+        self.records.append(admit(self.line.level, self.line.gap, self.line.size))
         return b"".join(self.records)
 
     def ask(self, tick, length, tag):

@@ -1,0 +1,83 @@
+"""The layouts of the trace and answer records, and nothing else: every script that reads or writes records takes them from here."""
+
+import struct
+
+# Of each mark its name in print and the fields behind it, each with its width in bytes. An `LK` has a bound for each level besides.
+TRACE = {
+    b"LK": ("link", [("levels", 1), ("largest", 2), ("silence", 1)]),
+    b"CN": ("admit", [("level", 1), ("gap", 2), ("size", 2)]),
+    b"PK": ("offer", [("connection", 1), ("length", 2), ("tag", 4)]),
+    b"NQ": ("notice", [("length", 2), ("tag", 4)]),
+    b"TK": ("ticks", [("asked", 2)]),
+}
+ANSWERS = {
+    b"LA": ("linked", [("verdict", 1)]),
+    b"CA": ("admitted", [("verdict", 1), ("connection", 1), ("level", 1), ("units", 4)]),
+    b"PA": ("offered", [("verdict", 1), ("eligibility", 4)]),
+    b"NA": ("noticed", [("verdict", 1), ("eligibility", 4)]),
+    b"DP": ("departed", [("connection", 1), ("tag", 4), ("arrival", 4), ("eligibility", 4), ("finish", 4)]),
+    b"TA": ("ticked", [("verdict", 1), ("done", 2)]),
+    b"ER": ("malformed", [("verdict", 1), ("offset", 4)]),
+}
+MOST_LEVELS = 8
+CODES = {1: "B", 2: "H", 4: "I"}
+
+
+class CannotRead(Exception):
+    """Bytes that are no list of records."""
+
+
+def layout(fields):
+    """What `struct` calls some fields."""
+    return "<" + "".join(CODES[width] for _, width in fields)
+
+
+def fields_at(data, at, kinds):
+    """The name and the fields of the record at a place; no name where the mark is none of these kinds', or an `LK` has no such number of levels."""
+    mark = data[at:at + 2]
+    name, fields = kinds.get(mark, (None, []))
+    if mark != b"LK" or name is None or at + 2 >= len(data):
+        return name, fields
+    levels = data[at + 2]
+    if not 1 <= levels <= MOST_LEVELS:
+        return None, []
+    return name, fields + [(f"bound {level}", 2) for level in range(1, levels + 1)]
+
+
+def records(data, kinds):
+    """The records in order, each as its place, its mark, its fields and their numbers; raises CannotRead at bytes that are none."""
+    at = 0
+    while at < len(data):
+        name, fields = fields_at(data, at, kinds)
+        form = layout(fields)
+        end = at + 2 + struct.calcsize(form)
+        if name is None or end > len(data):
+            raise CannotRead(f"no record at offset {at}")
+        yield at, data[at:at + 2], fields, struct.unpack_from(form, data, at + 2)
+        at = end
+
+
+def written(mark, *numbers):
+    """A record, from its mark and the numbers of its fields."""
+    _, fields = {**TRACE, **ANSWERS}[mark]
+    return mark + struct.pack(layout(fields), *numbers)
+
+
+def link(largest, silence, bounds):
+    return written(b"LK", len(bounds), largest, silence) + b"".join(struct.pack("<H", bound) for bound in bounds)
+
+
+def admit(level, gap, size):
+    return written(b"CN", level, gap, size)
+
+
+def offer(connection, length, tag):
+    return written(b"PK", connection, length, tag)
+
+
+def notice(length, tag):
+    return written(b"NQ", length, tag)
+
+
+def ticks(count):
+    return written(b"TK", count)
