@@ -1,12 +1,10 @@
 //! The state of the hub and its calls: link, admit, offer, offer of a notice, tick.
 
+use crate::departure::{Departure, Tick};
 use crate::level_test::lowest_shortage;
 use crate::link::{Connection, Link, MOST_CONNECTIONS, MOST_RESERVED};
 use crate::notices::{Notice, Notices};
 use crate::verdict::Refusal;
-
-/// A moment in whole ticks.
-pub type Tick = u64;
 
 /// The clock begins at 0 and ends here (section "Link, connections, places").
 pub const CLOCK_END: Tick = 4_000_000_000;
@@ -20,16 +18,6 @@ struct Held {
     tag: u32,
     arrival: Tick,
     eligibility: Tick,
-}
-
-/// A packet whose last unit has gone.
-#[derive(Clone, Copy, Debug, PartialEq, Eq)]
-pub struct Departure {
-    pub connection: u8,
-    pub tag: u32,
-    pub arrival: Tick,
-    pub eligibility: Tick,
-    pub finish: Tick,
 }
 
 /// An accepted connection and the eligibility of its last accepted packet, if there was one.

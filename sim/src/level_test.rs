@@ -1,6 +1,7 @@
 //! The level test (section "The level test"; which level was short by R-2, the silence by R-4).
 
 use crate::link::{Connection, Link};
+use crate::verdict::Shortage;
 
 /// The sum for one level with bound d: over all connections of levels 1 to that level,
 /// (d divided by X, rounded up) times size; and S; each size and S with the silence behind it.
@@ -13,13 +14,6 @@ pub fn level_sum(link: &Link, connections: &[Connection], level: u8) -> u64 {
         .map(|connection| connection.packets_within(bound) * link.cost(connection.size()))
         .sum();
     packets + link.cost(link.largest())
-}
-
-/// A level that fails and by how many units: its sum, in which S is counted, less its bound.
-#[derive(Clone, Copy, Debug, PartialEq, Eq)]
-pub struct Shortage {
-    pub level: u8,
-    pub units: u64,
 }
 
 /// The lowest level that fails; nothing if the test holds at every level.

@@ -4,6 +4,7 @@
 //! document 01 that it follows, or the request of docs/RULES-AFTER-BASE.md. The simulator never tests its own state for soundness:
 //! a trace starts from an empty state, so verdict 1 cannot occur.
 
+pub mod departure;
 pub mod firmware;
 pub mod hub;
 pub mod kinds;

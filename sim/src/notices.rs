@@ -2,7 +2,7 @@
 
 use std::collections::VecDeque;
 
-use crate::hub::{Departure, Tick};
+use crate::departure::{Departure, Tick};
 
 /// The places of the queue; the notice in service keeps its own until its last unit has gone.
 pub const MOST_NOTICES: usize = 64;

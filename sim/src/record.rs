@@ -1,10 +1,9 @@
 //! Trace and answer records (section "Trace and answer records"; `NQ` and `NA` by R-1,
 //! level and units in `CA` by R-2, the silence in `LK` by R-4).
 
-use crate::hub::{Departure, Tick};
-use crate::level_test::Shortage;
+use crate::departure::{Departure, Tick};
 use crate::link::MOST_LEVELS;
-use crate::verdict::Refusal;
+use crate::verdict::{Refusal, Shortage};
 
 /// The longest trace record: an `LK` with 8 bounds.
 pub const LONGEST_RECORD: usize = 6 + 2 * MOST_LEVELS;

@@ -2,7 +2,8 @@
 
 use std::io::{self, Read, Write};
 
-use crate::hub::{Hub, Tick};
+use crate::departure::Tick;
+use crate::hub::Hub;
 use crate::link::Link;
 use crate::record::{Answer, Record, LONGEST_RECORD, NO_CONNECTION};
 use crate::verdict::{number_of, Refusal, DONE};

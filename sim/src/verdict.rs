@@ -1,6 +1,11 @@
 //! The verdict numbers (section "Verdict numbers"; 15 by R-1).
 
-use crate::level_test::Shortage;
+/// A level that fails and by how many units: its sum, in which S is counted, less its bound.
+#[derive(Clone, Copy, Debug, PartialEq, Eq)]
+pub struct Shortage {
+    pub level: u8,
+    pub units: u64,
+}
 
 /// Why a call was refused. Only a failed level test tells more than its number.
 #[derive(Clone, Copy, Debug, PartialEq, Eq)]

@@ -1,11 +1,12 @@
 //! The examples P1 to P10 and the whole run (section "Table of proved examples"), with the level
 //! and units of R-2.
 
-use sim::hub::{Departure, Hub};
-use sim::level_test::{level_sum, Shortage};
+use sim::departure::Departure;
+use sim::hub::Hub;
+use sim::level_test::level_sum;
 use sim::link::{Connection, Link};
 use sim::replay::{answers, Pace};
-use sim::verdict::Refusal;
+use sim::verdict::{Refusal, Shortage};
 
 fn link_a() -> Link {
     Link::new(2, 4, 0, [10, 20, 0, 0, 0, 0, 0, 0]).expect("link A is within its limits")

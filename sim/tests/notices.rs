@@ -3,7 +3,8 @@
 //! Link A of document 01: S 4, bounds 10 and 20; connections 0 (level 1, gap 10, size 4) and
 //! 1 (level 2, gap 20, size 4).
 
-use sim::hub::{Departure, Hub, CLOCK_END};
+use sim::departure::Departure;
+use sim::hub::{Hub, CLOCK_END};
 use sim::link::Link;
 use sim::verdict::Refusal;
 

@@ -4,11 +4,10 @@ use std::collections::BTreeSet;
 
 use sim::hub::Hub;
 use sim::kinds::{Kind, KINDS};
-use sim::level_test::Shortage;
 use sim::link::{Connection, Link};
 use sim::record::{Answer, Record};
 use sim::replay::{answers, Job, Pace};
-use sim::verdict::Refusal;
+use sim::verdict::{Refusal, Shortage};
 
 const LINK_A: &[u8] = b"LK\x02\x04\x00\x00\x0A\x00\x14\x00";
 

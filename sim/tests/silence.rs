@@ -3,11 +3,12 @@
 //! Unless a test says otherwise: S 4, silence 3, bounds 14 and 35; connections 0 (level 1, gap 14,
 //! size 4: 7 + 7 = 14 of 14) and 1 (level 2, gap 35, size 4: 3 * 7 + 7 + 7 = 35 of 35).
 
-use sim::hub::{Departure, Hub, CLOCK_END};
-use sim::level_test::{level_sum, Shortage};
+use sim::departure::Departure;
+use sim::hub::{Hub, CLOCK_END};
+use sim::level_test::level_sum;
 use sim::link::{Connection, Link};
 use sim::replay::{answers, Pace};
-use sim::verdict::Refusal;
+use sim::verdict::{Refusal, Shortage};
 
 fn link(largest: u16, silence: u8, used: &[u16]) -> Option<Link> {
     let mut bounds = [0; 8];

@@ -1,7 +1,7 @@
 //! The departures of every generated trace against a schedule that knows no ticks: from start to
 //! start, with the silence behind each finish (docs/RULES-AFTER-BASE.md, section R-4).
 
-use sim::hub::Departure;
+use sim::departure::Departure;
 use sim::kinds::{Kind, KINDS};
 use sim::notices::NOTICE_NUMBER;
 use sim::record::{Answer, Record};

@@ -2,9 +2,8 @@
 
 use sim::firmware::{level_answer, units_answer};
 use sim::hub::Hub;
-use sim::level_test::Shortage;
 use sim::link::Link;
-use sim::verdict::Refusal;
+use sim::verdict::{Refusal, Shortage};
 
 fn hub(largest: u16, bounds: [u16; 2]) -> Hub {
     let [first, second] = bounds;

@@ -2,7 +2,8 @@
 
 use std::io::{self, Read};
 
-use sim::hub::{Departure, CLOCK_END};
+use sim::departure::Departure;
+use sim::hub::CLOCK_END;
 use sim::kinds::KINDS;
 use sim::notices::NOTICE_NUMBER;
 use sim::record::{Answer, Record};

@@ -3,7 +3,8 @@
 
 use std::convert::Infallible;
 
-use crate::hub::{Hub, Tick};
+use crate::departure::Tick;
+use crate::hub::Hub;
 use crate::link::{Connection, Link, MOST_LEVELS, MOST_SILENCE};
 use crate::random::Random;
 use crate::record::Record;

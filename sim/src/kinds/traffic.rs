@@ -1,7 +1,7 @@
 //! Kinds with traffic on a link that was set up well.
 
 use super::script::Script;
-use crate::hub::Tick;
+use crate::departure::Tick;
 use crate::link::{Connection, HIGHEST_BOUND, MOST_CONNECTIONS, MOST_LEVELS, MOST_UNITS};
 
 /// A link of some levels with bounds that leave room for connections and their silences.
