@@ -10,7 +10,7 @@ use Rattle.fields.specs.Numbers.{little, number, put-fields, get-fields, sum, F
 use Rattle.fields.specs.Kinds.{bytes}
 use Rattle.answers.specs.Kinds.{LA, CA, PA, NA, DP, TA, ER}
 use Rattle.fields.specs.Formats.{starts, read-rows, laid}
-use Rattle.answers.specs.Answers.{answers, answer-table, answer-layout, linked-row, admitted-row, offered-row, noticed-row, departed-row, ticked-row, broken-row}
+use Rattle.answers.specs.Answers.{answers, answer-table, answer-layout, linked-row, admitted-row, offered-row, noticed-row, departed-row, ticked-row, broken-row, longest-answer}
 use Rattle.fields.specs.Laws.{Reads-back-what-is-written, Has-the-length-of}
 use Rattle.answers.specs.declared.Reply.the-variants.{Linked, Admitted, Offered, Noticed, Departed, Ticked, Broken, Malformed}
 use Rattle.fields.proofs.NumberLaws.{one-byte}
@@ -78,7 +78,7 @@ answer-length (Broken offset) h = length-bytes ER (14 ∷ offset ∷ [])
 answer-length Malformed h = absurd (omega arith)
 
 -- The longest answer is a departure.
-pub answers-within : All-within 19 (answers .rows)
+pub answers-within : All-within longest-answer (answers .rows)
 unfolding All-within sum
 answers-within = (
   λ b a. omega arith,

@@ -3,7 +3,7 @@ use native.Mathlib.Omega.{arith}
 use Rattle.fields.specs.Laws.{Reads-back-what-is-written, Writes-back-what-was-read, Tells-records-apart, Has-the-length-of, Looks-no-further-than}
 use Rattle.fields.proofs.FormatLaws.{rows-written, apart}
 use Rattle.fields.proofs.WindowLaws.{rows-same}
-use Rattle.answers.specs.Answers.{answers, answer-table}
+use Rattle.answers.specs.Answers.{answers, answer-table, longest-answer}
 use Rattle.answers.proofs.AnswerLaws.{answer-back, answers-fair, answer-length, answers-within}
 
 pub answers-read-back : Reads-back-what-is-written answers
@@ -18,5 +18,5 @@ answers-tell-apart = apart answers answer-back
 pub answers-have-lengths : Has-the-length-of answers answer-table
 answers-have-lengths = answer-length
 
-pub answers-look-no-further : Looks-no-further-than 19 answers
-answers-look-no-further bs rest h = rows-same 19 bs rest h (answers .rows) (omega arith) answers-within
+pub answers-look-no-further : Looks-no-further-than longest-answer answers
+answers-look-no-further bs rest h = rows-same longest-answer bs rest h (answers .rows) (omega arith) answers-within

@@ -1,2 +1,3 @@
 pub mod AnswerLaws
 pub mod Laws
+pub mod WriteLaws

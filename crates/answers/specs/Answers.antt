@@ -90,3 +90,7 @@ answer-table (Departed connection tag arrival eligibility finish) = 19
 answer-table (Ticked verdict ticks) = 5
 answer-table (Broken offset) = 7
 answer-table Malformed = 0
+
+-- .. and the longest of them.
+abbrev pub longest-answer : ℕ
+longest-answer = 19

@@ -1,6 +1,7 @@
 // The answer records of document 01, "Trace and answer records", and of document 02, R-1 and R-2: their kinds as values, read and written.
 ghost use mathlib.Core.Path.{_≡_};
 ghost use mathlib.Core.Option.{none};
+ghost use Prim.Native.Nat.{_%_};
 ghost use lib.ListN.{getD};
 ghost use Rattle.fields.specs.Drafts.{Holds};
 ghost use Rattle.fields.specs.Formats.{whole, read-row, mark-among, length-after, room-after};
@@ -26,6 +27,9 @@ const DP: [u8; 2] = *b"DP";
 const TA: [u8; 2] = *b"TA";
 
 const ER: [u8; 2] = *b"ER";
+
+// The bytes of the longest answer.
+pub const LONGEST_ANSWER: usize = 19;
 
 // An answer record with its numbers, or malformed. `Broken` is the answer to a malformed trace record, and its verdict is always 14.
 pub enum Reply {
@@ -231,4 +235,11 @@ pub fn write(r: Reply, room: &mut [u8]) -> usize
     ensures { λ n. ⌜ (n ≡ length-after (answer-bytes r) (now (room .entry))) × (now (room .exit) ≡ room-after (answer-bytes r) (now (room .entry))) ⌝ }
 {
     draft(r).into_room(room)
+}
+
+// The low byte of a number. An answer's numbers of one byte are no larger.
+pub fn low(v: u32) -> u8
+    ensures { λ r. ⌜ r ≡ v % 256 ⌝ }
+{
+    (v % 256) as u8
 }

@@ -31,18 +31,18 @@ use Rattle.rules.proofs.Bounds.{rows-fit-places, eligibilities-fit-32}
 use Rattle.rules.proofs.SoundKept.{done-sound}
 use Rattle.rules.proofs.Verdicts.{admit-done, Offer-done, offer-done, notice-done}
 use Rattle.tables.specs.Table.{formed}
-use Rattle.tables.specs.Places.{places-length, packet-of, rows, places, table-of, no-packet}
+use Rattle.tables.specs.Places.{places-length, packet-width, rows, places, table-of, no-packet}
 use Rattle.tables.specs.Notices.{notices-length, notice-of, notices, notices-formed}
 use Rattle.tables.proofs.TableLaws.{formed-length}
 use Rattle.tables.proofs.PlacesLaws.{table-back}
 use Rattle.tables.proofs.NoticeLaws.{notices-length-is, notice-rows, notices-table, notices-back}
 use Rattle.lines.specs.declared.Member.{Member}
-use Rattle.lines.specs.Members.{members-length, member-of, no-member, member-in, members, connections, pasts, connection-of, past-of, written-members, members-formed}
+use Rattle.lines.specs.Members.{members-length, no-member, member-in, members, None-free, connections, pasts, connection-of, past-of, written-members, members-formed}
 use Rattle.lines.specs.Within.{Within, short-of, shortage-of, gap-only}
 use Rattle.lines.specs.declared.Shortage.{Shortage}
 use Rattle.lines.proofs.MemberLaws.{member-is, connections-length}
 use Rattle.lines.proofs.FigureLaws.{sum-more}
-use Rattle.lines.proofs.WrittenLaws.{members-written}
+use Rattle.lines.proofs.WrittenLaws.{writable, members-written, members-long}
 use Rattle.sound.specs.SoundTables.{places-formed, sound-tables}
 use Rattle.service.specs.declared.Hub.{Hub}
 use Rattle.service.specs.declared.Told.{Told}
@@ -57,7 +57,7 @@ use Rattle.calls.specs.Acts.{sound-hub, members-of, places-of, notices-o
 pub record Tested (h : Hub) (cs t q : List ℕ) : Type 0 where
   pub state : sound (view h cs t q) ≡ true
   pub members-shape : members-formed cs ≡ true
-  pub places-shape : formed packet-of places-length t ≡ true
+  pub places-shape : formed packet-width places-length t ≡ true
   pub notices-shape : notices-formed q ≡ true
 
 module _ (h : Hub) (cs t q : List ℕ) (ok : sound-hub h cs t q ≡ true) where
@@ -82,12 +82,14 @@ module _ (h : Hub) (cs t q : List ℕ) (ok : sound-hub h cs t q ≡ true) where
   pub notices-kept : q ≡ notices-of (view h cs t q)
   notices-kept = notices-back q (tested .notices-shape)
 
+  pub none-free : None-free cs
+  none-free = writable (view h cs t q) is-sound .used
+
   pub members-size : length cs ≡ members-length
-  unfolding members-formed
-  members-size = formed-length member-of members-length cs (and-true (formed member-of members-length cs) _ (tested .members-shape) .0)
+  members-size = members-long cs (tested .members-shape)
 
   pub places-size : length t ≡ places-length
-  places-size = formed-length packet-of places-length t (tested .places-shape)
+  places-size = formed-length packet-width places-length t (tested .places-shape)
 
   -- a refusal: the rules leave the state, and writing what was read gives the tables back
   pub refuses : (k : Call) (v w n : ℕ) (r : Told) → verdict k (view h cs t q) ≡ v → v ≡ suc w → n ≡ refused-number k
@@ -135,10 +137,8 @@ module _ (h : Hub) (cs t q : List ℕ) (ok : sound-hub h cs t q ≡ true) where
         let b = and-true (rows-sound s) (notices-sound s && line-sound s) (a .1) in
         and-true (notices-sound s) (line-sound s) (b .1) .1
 
-    pub ready-to-tick : h .clock < clock-end → Ready h cs t q
-    unfolding members-formed
-    ready-to-tick r =
-        ready h cs t q (tested .places-shape) (and-true (formed member-of members-length cs) _ (tested .members-shape) .0) (tested .notices-shape) others line-holds r
+    pub ready-to-tick : h .clock < clock-end → Ready h t q
+    ready-to-tick r = ready h cs t q (tested .places-shape) (tested .notices-shape) others line-holds r
 
     -- ---- the figures
 

@@ -12,19 +12,18 @@ ghost use Rattle.lines.specs.Members.{members};
 ghost use Rattle.service.specs.View.{view, refusal};
 ghost use Rattle.lines.specs.Within.{shortage-of};
 ghost use Rattle.calls.specs.Acts.{sound-hub, ruling-of, Acts};
-use lines::MAX_CONNECTIONS;
+use limits::CLOCK_END;
+use limits::MAX_CONNECTIONS;
+use limits::MAX_NOTICES;
+use limits::MAX_RESERVED;
+use limits::NO_CONNECTION;
+use limits::NOTICE_NUMBER;
 use lines::Shortage;
 use rules::Connection;
 use rules::Link;
 use rules::Packet;
 use service::Hub;
 use service::Told;
-use sound::CLOCK_END;
-use sound::MAX_RESERVED;
-use tables::MAX_NOTICES;
-use tables::NOTICE_NUMBER;
-
-const NO_CONNECTION: u32 = 255;
 
 // An answer with no packet.
 pub fn say(h: Hub, verdict: u32, number: u32) -> Told
@@ -48,7 +47,7 @@ pub fn link_tested(h: Hub, cs: &[u32], t: &[u32], q: &[u32], l: Link) -> Told
     if h.link.levels != 0 {
         return say(h, 3, 0);
     }
-    if !sound::link_ok(l) {
+    if !limits::link_ok(l) {
         return say(h, 4, 0);
     }
     let mut g = h;
@@ -95,10 +94,10 @@ fn admit_verdict(h: Hub, cs: &[u32], t: &[u32], q: &[u32], n: usize, x: Connecti
     if l.levels == 0 {
         return ruled(2);
     }
-    if !sound::level_ok(l, x) {
+    if !limits::level_ok(l, x) {
         return ruled(5);
     }
-    if !sound::figures_ok(l, x) {
+    if !limits::figures_ok(l, x) {
         return ruled(6);
     }
     if MAX_CONNECTIONS <= n {
@@ -122,7 +121,7 @@ pub fn admit_tested(h: Hub, cs: &mut [u32], t: &[u32], q: &[u32], x: Connection)
     requires { ⌜ sound-hub h (now cs) (now t) (now q) ≡ true ⌝ }
     ensures { λ r. ⌜ Acts (admit x) h (now (cs .entry)) (now (t .entry)) (now (q .entry)) r (now (cs .exit)) (now (t .entry)) (now (q .entry)) ⌝ }
 {
-    let n = tables::held(cs);
+    let n = lines::standing(cs);
     let v = admit_verdict(h, cs, t, q, n, x);
     let short = v.short;
     if v.verdict != 0 {
@@ -173,7 +172,7 @@ fn offer_verdict(h: Hub, cs: &[u32], t: &[u32], q: &[u32], c: u32, len: u32, tag
     if l.levels == 0 {
         return 2;
     }
-    let n = tables::held(cs);
+    let n = lines::standing(cs);
     let k = c as usize;
     if n <= k {
         return 10;

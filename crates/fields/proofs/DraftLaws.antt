@@ -10,7 +10,7 @@ use borrow.Author.Tests.{lt-ltb, le-ltb}
 use Rattle.fields.specs.Numbers.{little, put-fields, sum}
 use Rattle.fields.proofs.NumberLaws.{length-put}
 use Rattle.fields.specs.Kinds.{Kind, bytes}
-use Rattle.fields.specs.Drafts.{held, Holds, Adds, Adds-all}
+use Rattle.fields.specs.Drafts.{longest, held, Holds, Adds, Adds-all}
 use Rattle.fields.specs.Formats.{length-after, room-after}
 use Rattle.fields.specs.declared.Draft.{Draft}
 
@@ -74,7 +74,7 @@ before {d} {e} {r} {w} {v} {ws} {xs} f g =
     }
 
 pub drafted : {d r : Draft} (k : Kind) (xs : List ℕ) → Holds d (k .mark) → Adds-all d r (k .widths (getD xs 0 0)) xs
-    → length (k .mark) + sum (k .widths (getD xs 0 0)) ≤ 22
+    → length (k .mark) + sum (k .widths (getD xs 0 0)) ≤ longest
     → Holds r (bytes k xs)
 unfolding bytes
 drafted {d} {r} k xs h f l =
@@ -96,7 +96,7 @@ head-held {d} {r} a b v h f =
 
 pub drafted-behind : {d r : Draft} {ws : List ℕ} (k : Kind) (v : ℕ) (xs : List ℕ) → v < 256 → k .widths v ≡ 1 ∷ ws → Holds d (k .mark ++ v ∷ [])
     → Adds-all d r ws xs
-    → length (k .mark) + (1 + sum ws) ≤ 22
+    → length (k .mark) + (1 + sum ws) ≤ longest
     → Holds r (bytes k (v ∷ xs))
 unfolding bytes put-fields sum
 drafted-behind {d} {r} {ws} k v xs small e h f l =

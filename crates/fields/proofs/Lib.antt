@@ -4,3 +4,4 @@ pub mod MarkLaws
 pub mod FormatLaws
 pub mod WindowLaws
 pub mod DraftLaws
+pub mod PartLaws

@@ -6,6 +6,10 @@ use lib.ListN.{length, take}
 use Rattle.fields.specs.Numbers.{little, put-fields, sum}
 use Rattle.fields.specs.declared.Draft.{Draft}
 
+-- The bytes of the longest record of any format.
+abbrev pub longest : ℕ
+longest = 22
+
 -- The bytes put together so far.
 abbrev pub held : Draft → List ℕ
 held d = take (d .len) (d .bytes)
@@ -14,7 +18,7 @@ held d = take (d .len) (d .bytes)
 pub record Holds (d : Draft) (bs : List ℕ) : Type 0 where
   pub bytes : held d ≡ bs
   pub count : d .len ≡ length bs
-  pub within : d .len ≤ 22
+  pub within : d .len ≤ longest
 
 -- The draft r holds what d holds, and behind it the number v in w bytes, which it fits.
 pub record Adds (d r : Draft) (w v : ℕ) : Type 0 where

@@ -43,9 +43,13 @@ unfoldable pub laid : Option (Kind × List ℕ) → List ℕ
 laid none = []
 laid (some (k, xs)) = bytes k xs
 
+-- The room with bs written at its start: "bytes behind a written record stay".
+abbrev pub over : List ℕ → List ℕ → List ℕ
+over bs room = bs ++ drop (length bs) room
+
 -- "Bytes behind a written record stay"; "one longer than the room lent" is not written: "length 0, no byte changed".
 unfoldable pub room-after : List ℕ → List ℕ → List ℕ
-room-after bs room = pick (ltb (length room) (length bs)) room (bs ++ drop (length bs) room)
+room-after bs room = pick (ltb (length room) (length bs)) room (over bs room)
 
 unfoldable pub length-after : List ℕ → List ℕ → ℕ
 length-after bs room = pick (ltb (length room) (length bs)) 0 (length bs)

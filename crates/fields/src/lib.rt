@@ -4,14 +4,17 @@ pub mod read; // read.rt: the marks and the numbers of a record, read from bytes
 
 ghost use mathlib.Core.Path.{_≡_};
 ghost use mathlib.Core.List.{_∷_, []};
-ghost use Prim.Native.Nat.{_<_, _≤_};
+ghost use Prim.Native.Nat.{_+_, _<_, _≤_};
 ghost use lib.ListN.{getD, take, replicate};
 ghost use Rattle.fields.specs.Formats.{length-after, room-after};
-ghost use Rattle.fields.specs.Drafts.{held, Holds, Adds, Adds-all};
+ghost use Rattle.fields.specs.Drafts.{longest, held, Holds, Adds, Adds-all};
 
-// The first `len` of `bytes`. The longest record, a link of eight levels, has 22.
+// The bytes of the longest record of any format, a link of eight levels.
+pub const LONGEST: usize = 22;
+
+// The first `len` of `bytes`.
 pub struct Draft {
-    pub bytes: [u8; 22],
+    pub bytes: [u8; LONGEST],
     pub len: usize,
 }
 
@@ -21,7 +24,7 @@ impl Draft {
         ensures { λ r. ⌜ Holds r [] ⌝ }
     {
         Draft {
-            bytes: [0u8; 22],
+            bytes: [0u8; LONGEST],
             len: 0,
         }
     }
@@ -42,7 +45,7 @@ impl Draft {
 
     // One byte more.
     pub fn one(mut self, v: u8) -> Draft
-        requires { ⌜ self .len < 22 ⌝ }
+        requires { ⌜ self .len < longest ⌝ }
         ensures { λ r. ⌜ Adds self r 1 v ⌝ }
     {
         let at = self.len;
@@ -53,7 +56,7 @@ impl Draft {
 
     // A number in two bytes more, the low one first.
     pub fn two(self, v: u16) -> Draft
-        requires { ⌜ self .len < 21 ⌝ }
+        requires { ⌜ self .len + 1 < longest ⌝ }
         ensures { λ r. ⌜ Adds self r 2 v ⌝ }
     {
         self.one((v % 256) as u8).one((v / 256) as u8)
@@ -61,7 +64,7 @@ impl Draft {
 
     // A number in four bytes more: two pairs, the low pair first.
     pub fn four(self, v: u32) -> Draft
-        requires { ⌜ self .len < 19 ⌝ }
+        requires { ⌜ self .len + 3 < longest ⌝ }
         ensures { λ r. ⌜ Adds self r 4 v ⌝ }
     {
         self.two((v % 65536) as u16).two((v / 65536) as u16)
@@ -83,7 +86,7 @@ impl Draft {
 
     // The bytes into the room lent, if they fit; their number, or 0.
     pub fn into_room(self, room: &mut [u8]) -> usize
-        requires { ⌜ self .len ≤ 22 ⌝ }
+        requires { ⌜ self .len ≤ longest ⌝ }
         ensures { λ r. ⌜ (r ≡ length-after (held self) (now (room .entry))) × (now (room .exit) ≡ room-after (held self) (now (room .entry))) ⌝ }
     {
         let n = self.len;

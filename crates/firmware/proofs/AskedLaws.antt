@@ -26,7 +26,7 @@ use Rattle.traces.specs.Trace.{read-trace}
 use Rattle.named.specs.Named.{link-of, connection-of}
 use Rattle.lines.specs.Within.{Within, gap-only}
 use Rattle.lines.proofs.FigureLaws.{figure-limits, link-limits}
-use Rattle.sound.proofs.ChainLaws.{fails, goes-on}
+use Rattle.limits.proofs.ChainLaws.{fails, goes-on}
 use Rattle.firmware.specs.Questions.{next-asked, link-asked, row-bytes, rows-asked, row-asked, first-rows, all-rows, row-within}
 use Rattle.firmware.specs.Questions.{testable, well-asked, not-well-asked, short-asked, short-level}
 

@@ -3,18 +3,14 @@ use Prim.Native.Nat.{ℕ, zero, suc, _+_, _≤_, _<_}
 use native.Mathlib.Omega.{arith}
 use native.Mathlib.Numerals.{add-one}
 use mathlib.Core.Path.{_≡_, refl, sym, ap, _∙_, subst}
-use mathlib.Core.Bool.{true}
 use mathlib.Core.List.{List, [], _∷_, _++_}
 use lib.ListN.{length, replicate, length-append}
 use Rattle.rules.specs.declared.Connection.{Connection}
 use Rattle.rules.specs.Limits.{max-connections}
 use Rattle.rules.specs.Model.{no-past, nth}
-use Rattle.rules.proofs.Tests.{and-true}
-use Rattle.tables.specs.Table.{formed}
-use Rattle.tables.proofs.TableLaws.{formed-length}
-use Rattle.lines.specs.Members.{members-length, member-of, members, connections, pasts, written-members, members-formed}
+use Rattle.lines.specs.Members.{members-length, members, connections, pasts, written-members}
 use Rattle.lines.proofs.MemberLaws.{connections-length}
-use Rattle.lines.proofs.WrittenLaws.{connections-back, pasts-back, members-formed-back}
+use Rattle.lines.proofs.WrittenLaws.{connections-back, pasts-back, members-formed-back, members-long}
 use Rattle.firmware.specs.Questions.{row-asked, first-rows}
 use Rattle.firmware.specs.Laid.{no-pasts, laid-out}
 use Rattle.firmware.proofs.AskedLaws.{length-first, nth-first}
@@ -27,10 +23,6 @@ blank rows = refl
 length-none : (n : ℕ) → length (no-pasts n) ≡ n
 length-none zero = refl
 length-none (suc n) = omega (arith, length-append (no-pasts n) (no-past ∷ []), length-none n)
-
-formed-long : (t : List ℕ) → members-formed t ≡ true → length t ≡ members-length
-unfolding members-formed
-formed-long t h = formed-length member-of members-length t (and-true (formed member-of members-length t) _ h .0)
 
 module _ (rows : List ℕ) (n : ℕ) (few : n ≤ max-connections) (sized : (i : ℕ) → i < n → 1 ≤ row-asked rows i .size)
     (t : List ℕ) (e : t ≡ laid-out n rows) where
@@ -57,7 +49,7 @@ module _ (rows : List ℕ) (n : ℕ) (few : n ≤ max-connections) (sized : (i :
   pub length-laid : length t ≡ members-length
   length-laid =
       ap (λ (u : List ℕ). length u) e
-      ∙ formed-long (laid-out n rows) (members-formed-back (first-rows n rows) (no-pasts n) each-past used fit)
+      ∙ members-long (laid-out n rows) (members-formed-back (first-rows n rows) (no-pasts n) each-past used fit)
 
   pub written-laid : t ≡ written-members (connections t) (pasts t)
   written-laid = e ∙ rw (connections-laid, pasts-laid)

@@ -107,31 +107,8 @@ eight s x ok n v f h e = rw (ok, ne-eqb (s .link .levels) 0 n, v, f, lt-leb max-
 not-eight : (s : State) (x : Connection) → passes (s .link) (s .connections ++ x ∷ []) ≡ true → verdict (admit x) s ≡ 8 → ⊥
 unfolding verdicts
 not-eight s x p =
-    never-number 8 (verdicts (admit x) s) (
-      other 1 refl,
-      (
-        other 2 refl,
-        (
-          other 3 refl,
-          (
-            other 4 refl,
-            (
-              other 5 refl,
-              (
-                other 6 refl,
-                (
-                  other 7 refl,
-                  (
-                    λ _. ap not p,
-                    (other 9 refl, (other 10 refl, (other 11 refl, (other 12 refl, (other 13 refl, (other 15 refl, tt)))))),
-                  ),
-                ),
-              ),
-            ),
-          ),
-        ),
-      ),
-    )
+    never-number 8 (verdicts (admit x) s)
+    (other 1 refl, (other 2 refl, (other 5 refl, (other 6 refl, (other 7 refl, (λ _. ap not p, (other 9 refl, tt)))))))
     (omega arith)
   where
     other : {A : Type 0} (n : ℕ) → eqb n 8 ≡ false → n ≡ 8 → A

@@ -10,8 +10,8 @@ ghost use Rattle.lines.specs.Within.{short-of};
 ghost use Rattle.firmware.specs.Questions.{next-asked, link-asked, row-bytes, row-asked, first-rows, row-within, testable};
 ghost use Rattle.firmware.specs.Questions.{short-asked, short-level, short-units};
 ghost use Rattle.firmware.specs.Laid.{laid-out};
-use lines::MAX_CONNECTIONS;
-use lines::MEMBERS;
+use limits::MAX_CONNECTIONS;
+use limits::MEMBERS;
 use lines::Shortage;
 use rules::Connection;
 use rules::Link;
@@ -71,7 +71,7 @@ fn rows_ok(l: Link, rows: &[u8], n: usize) -> bool
     let mut i: usize = 0;
     while i < n {
         let x = row_asked(rows, i);
-        if !sound::connection_ok(l, x) {
+        if !limits::connection_ok(l, x) {
             return false;
         }
         i += 1;
@@ -106,7 +106,7 @@ fn short_over(l: Link, rows: &[u8], n: usize) -> Shortage
 fn testable(l: Link, rows: &[u8]) -> bool
     ensures { λ r. ⌜ r ≡ testable l (now (rows .entry)) ⌝ }
 {
-    if !sound::link_ok(l) {
+    if !limits::link_ok(l) {
         return false;
     }
     let n = rows.len() / ROW;

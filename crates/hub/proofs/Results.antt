@@ -29,7 +29,7 @@ use Rattle.rules.proofs.Every.{fresh-invariant}
 use Rattle.rules.proofs.Alone.{asks}
 use Rattle.rules.proofs.Results.{demand-1-refusals, verdict-1-exactly, runs-are-sound, conservation, demand-3-first, demand-3-second, told-by-its-own, bed-nine-and-bed-ten, counted}
 use Rattle.tables.specs.Table.{formed}
-use Rattle.tables.specs.Places.{places, places-length, packet-of, table-of}
+use Rattle.tables.specs.Places.{places, places-length, packet-width, table-of}
 use Rattle.tables.specs.Notices.{notices-formed}
 use Rattle.tables.proofs.NoticeLaws.{written-formed}
 use Rattle.lines.specs.Members.{members-formed, written-members}
@@ -62,7 +62,7 @@ written-reads-back s S =
     let w = writable s S in
     let e : view (hub-of s) (members-of s) (places-of s) (notices-of s) ≡ s = read-written s w in (
       e,
-      and-intro (formed packet-of places-length (places-of s)) _ (places-formed-back s w)
+      and-intro (formed packet-width places-length (places-of s)) _ (places-formed-back s w)
           (and-intro (members-formed (members-of s)) _ (members-formed-back (s .connections) (s .pasts) (w .each-past) (w .used) (w .few))
           (and-intro (notices-formed (notices-of s)) (sound (view (hub-of s) (members-of s) (places-of s) (notices-of s))) (written-formed (s .notices) (w .said) (w .few-said))
           (ap sound e ∙ exact s .1 S))),

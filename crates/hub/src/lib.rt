@@ -5,17 +5,19 @@ ghost use mathlib.Core.Path.{_≡_};
 ghost use Rattle.rules.specs.Model.{fresh, link, admit, offer, notice, tick};
 ghost use Rattle.service.specs.View.{hub-of};
 ghost use Rattle.hub.specs.Does.{Does};
+use limits::MAX_LEVELS;
+use limits::NO_CONNECTION;
 use rules::Connection;
 use rules::Link;
 use service::Hub;
 use service::Told;
 
 // How many numbers the caller lends: as the table of connections, as the places table, as the table of notices.
-pub const CONNECTIONS: usize = lines::MEMBERS;
+pub const CONNECTIONS: usize = limits::MEMBERS;
 
-pub const PLACES: usize = tables::PLACES;
+pub const PLACES: usize = limits::PLACES;
 
-pub const NOTICES: usize = tables::NOTICES;
+pub const NOTICES: usize = limits::NOTICES;
 
 // The fresh hub; its three tables start as zeros.
 pub fn fresh_hub() -> Hub
@@ -26,7 +28,7 @@ pub fn fresh_hub() -> Hub
             levels: 0,
             largest: 0,
             silence: 0,
-            bounds: [0; 8],
+            bounds: [0; MAX_LEVELS as usize],
         },
         clock: 0,
         serving: 0,
@@ -52,7 +54,7 @@ pub fn admit(h: Hub, cs: &mut [u32], t: &[u32], q: &[u32], x: Connection) -> Tol
 {
     let set = h.link;
     if !sound::is_sound(set, cs, t, q, h.clock, h.serving, h.units, h.silent) {
-        return calls::say(h, 1, 255);
+        return calls::say(h, 1, NO_CONNECTION);
     }
     calls::admit_tested(h, cs, t, q, x)
 }

@@ -1,120 +1,153 @@
 -- Laws of the table of connections: its rows, its shape, and a past set in it. Assumes nothing.
 use mathlib.Core.Path.{_≡_, refl, sym, ap, _∙_}
-use mathlib.Core.Bool.{true, cond}
+use mathlib.Core.Bool.{true, false}
 use mathlib.Core.List.{List, [], _∷_, _++_}
 use mathlib.Core.Logic.{_⊎_, inl, inr}
-use Prim.Native.Nat.{ℕ, zero, suc, _+_, _*_, _-_, _≤_, _<_}
-use native.Mathlib.Nat.{le-of-suc-le-suc}
+use Prim.Native.Nat.{ℕ, zero, suc, _*_, _/_, _≤_, _<_}
 use native.Mathlib.Omega.{arith}
-use native.Mathlib.Numerals.{unary-clauses}
-use lib.Dec.{eqb}
-use borrow.Author.Tests.{eq-eqb}
-use lib.ListN.{length-map, length-set, List·getD-map, List·getD-eq-default, length, getD, set, drop, replicate}
-use lib.Seq.{drop-cons, getD-drop}
+use lib.ListN.{length-map, List·getD-map, List·getD-eq-default, length, getD, set, drop, replicate}
+use lib.Seq.{drop-cons}
 use Rattle.rules.specs.declared.Connection.{Connection}
 use Rattle.rules.specs.declared.Past.{Past}
-use Rattle.rules.specs.Model.{nth, no-past}
-use Rattle.rules.proofs.Tests.{and-true}
-use Rattle.rules.proofs.Sums.{split}
-use Rattle.tables.specs.Table.{put-numbers, read, write, padded, zeros, formed}
-use Rattle.tables.specs.Places.{rows, packet-of}
-use Rattle.tables.proofs.TableLaws.{read-same, read-at, held-end, put-last}
-use Rattle.tables.proofs.PlacesLaws.{zero-at}
+use Rattle.rules.specs.Limits.{max-connections}
+use Rattle.rules.specs.Model.{nth, no-connection, no-past}
+use Rattle.rules.proofs.Tests.{never}
+use Rattle.rules.proofs.Sums.{split, same}
+use Rattle.limits.specs.Zeros.{zeros}
+use Rattle.limits.proofs.ZeroLaws.{zeros-are}
+use Rattle.tables.specs.Table.{row-in, by-number, used, padded}
+use Rattle.tables.proofs.TableLaws.{listed-row, length-row, used-end, read-at, row-behind, row-last, put-at, put-last}
 use Rattle.lines.specs.declared.Member.{Member}
-use Rattle.lines.specs.Members.{members-length, member-of, five-of-member, no-member, member-in, members, connection-of, past-of, connections, pasts, member, paired, written-members}
+use Rattle.lines.specs.Members.{member-width, members-length, row-of, member-of, no-member, member-in, put-member, members, None-free, connection-of, past-of, connections, pasts, member, paired, written-members}
 
-pub nth-member : (cs : List ℕ) (c : ℕ) → nth (connections cs) c ≡ connection-of (getD (members cs) c no-member)
-nth-member cs c = List·getD-map connection-of (members cs) c no-member
+-- ---- a row
 
-pub level-is : (cs : List ℕ) (c : ℕ) → formed member-of members-length cs ≡ true → getD cs (5 * c) 0 ≡ nth (connections cs) c .level
+pub row-back : (r : List ℕ) → length r ≡ member-width → row-of (member-of r) ≡ r
+row-back r e = listed-row member-width r e
+
+members-used : (t : List ℕ) → length (members t) ≡ length (used by-number member-width t)
 unfolding members
-level-is cs c f = nth-level (split (length (members cs)) c)
-  where
-    nth-level : (length (read member-of cs) ≤ c) ⊎ (c < length (read member-of cs)) → getD cs (5 * c) 0 ≡ nth (connections cs) c .level
-    nth-level (inr l) = rw (nth-member cs c, read-at member-of no-member cs c l)
-    nth-level (inl l) =
-        let n : ℕ = 5 * length (read member-of cs) in
-        let e : 5 * c ≡ n + (5 * c - n) = omega arith in
-        rw (nth-member cs c, List·getD-eq-default (members cs) no-member l)
-        (ap (λ (j : ℕ). getD cs j 0) e ∙ sym (getD-drop n cs (5 * c - n) 0) ∙ zero-at (drop n cs) (5 * c - n) (and-true (eqb (length cs) members-length) (zeros (drop n cs)) f .1))
+members-used t = length-map (used by-number member-width t) member-of
 
-pub no-level : (cs : List ℕ) (c : ℕ) → formed member-of members-length cs ≡ true → length cs ≤ 5 * c → 0 ≡ nth (connections cs) c .level
-no-level cs c f l = sym (List·getD-eq-default cs 0 l) ∙ level-is cs c f
-
--- ---- the shape of the table
-
-pub members-rows : (t : List ℕ) → length (rows t) ≡ length (members t)
-unfolding rows members
-members-rows t = read-same packet-of member-of t
-
-pub members-shape : (n m : ℕ) (t : List ℕ) → length t ≡ n → m ≡ length (rows t) → zeros (drop (5 * m) t) ≡ formed member-of n t
-unfolding members
-members-shape n m t h e = rw (eq-eqb (length t) n h, e ∙ members-rows t)
-
-pub members-end : (t : List ℕ) → 5 * length (members t) ≤ length t
-unfolding members
-members-end t = held-end member-of t
+pub members-end : (t : List ℕ) → member-width * length (members t) ≤ length t
+members-end t = omega (arith, used-end by-number member-width t, members-used t)
 
 pub member-is : (t : List ℕ) (i : ℕ) → i < length (members t) → getD (members t) i no-member ≡ member-in t i
 unfolding members
-member-is t i h = read-at member-of no-member t i h
+member-is t i h = read-at by-number member-width member-of t i (omega (arith, members-used t))
 
-pub members-from : (t : List ℕ) (i : ℕ) → i < length (members t) → drop i (members t) ≡ member-in t i ∷ drop (suc i) (members t)
-members-from t i h = drop-cons (members t) i no-member h ∙ ap (λ (p : Member). p ∷ drop (suc i) (members t)) (member-is t i h)
+-- ---- rows by number
+
+-- a free row, and one that is not there, read as no member
+free-row : (r : List ℕ) → zeros r ≡ true → length r ≡ member-width → member-of r ≡ no-member
+free-row r z e = ap member-of (zeros-are r z ∙ ap (λ (n : ℕ). replicate {A = ℕ} n 0) e)
+
+module _ (t : List ℕ) (i : ℕ) (l : i < length t / member-width) where
+  row-free : length (members t) ≤ i → zeros (row-in member-width t i) ≡ true
+  row-free h = row-behind member-width t i l (omega (arith, members-used t))
+
+  member-at-number : getD (members t) i no-member ≡ member-in t i
+  member-at-number = go (split (length (members t)) i)
+    where
+      go : (length (members t) ≤ i) ⊎ (i < length (members t)) → getD (members t) i no-member ≡ member-in t i
+      go (inl h) = List·getD-eq-default (members t) no-member h ∙ sym (free-row (row-in member-width t i) (row-free h) (length-row member-width t i (omega arith)))
+      go (inr h) = member-is t i h
+
+nth-member : (cs : List ℕ) (c : ℕ) → nth (connections cs) c ≡ connection-of (getD (members cs) c no-member)
+nth-member cs c = List·getD-map connection-of (members cs) c no-member
+
+pub connection-at-number : (cs : List ℕ) (c : ℕ) → c < length cs / member-width → nth (connections cs) c ≡ connection-of (member-in cs c)
+connection-at-number cs c l = nth-member cs c ∙ ap connection-of (member-at-number cs c l)
 
 pub connection-is : (cs : List ℕ) (c : ℕ) → c < length (members cs) → nth (connections cs) c ≡ connection-of (member-in cs c)
 connection-is cs c l = nth-member cs c ∙ ap connection-of (member-is cs c l)
 
+pub connection-none : (cs : List ℕ) (c : ℕ) → length (members cs) ≤ c → nth (connections cs) c ≡ no-connection
+connection-none cs c l = nth-member cs c ∙ ap connection-of (List·getD-eq-default (members cs) no-member l)
+
 pub connections-length : (cs : List ℕ) → length (connections cs) ≡ length (members cs)
 connections-length cs = length-map (members cs) connection-of
 
--- the past of connection c, set in the table
-write-past : (cs : List Connection) (hs : List Past) (c e : ℕ) (r : List ℕ) → c < length cs → length hs ≡ length cs
-    → set (set (write five-of-member (paired cs hs) ++ r) (5 * c + 3) 1) (5 * c + 4) e ≡ write five-of-member (paired cs (set hs c (record { sent = true; last = e }))) ++ r
-write-past [] hs c e r l q = absurd (omega arith)
-write-past (x ∷ cs) [] c e r l q = absurd (omega arith)
-write-past (x ∷ cs) (h ∷ hs) zero e r l q = refl
-write-past (x ∷ cs) (h ∷ hs) (suc c) e r l q =
-    simp unary-clauses
-    (ap (λ (l : List ℕ). x .level ∷ x .size ∷ x .gap ∷ cond (h .sent) 1 0 ∷ h .last ∷ l) (simp unary-clauses at (write-past cs hs c e r (le-of-suc-le-suc l) (omega arith))))
+-- ---- how many there are
 
-paired-length : (cs : List Connection) (hs ks : List Past) → length hs ≡ length ks → length (paired cs hs) ≡ length (paired cs ks)
-paired-length [] hs ks q = refl
-paired-length (x ∷ cs) [] [] q = refl
-paired-length (x ∷ cs) [] (k ∷ ks) q = absurd (omega arith)
-paired-length (x ∷ cs) (h ∷ hs) [] q = absurd (omega arith)
-paired-length (x ∷ cs) (h ∷ hs) (k ∷ ks) q = ap suc (paired-length cs hs ks (omega arith))
+-- from the end: a free row is none of them, one that is not is the last
+module _ (t : List ℕ) (i : ℕ) (h : length (members t) ≤ suc i) where
+  pub end-lower : zeros (row-in member-width t i) ≡ true → length (members t) ≤ i
+  end-lower z = go (same (length (members t)) (suc i))
+    where
+      go : (length (members t) ≡ suc i) ⊎ (length (members t) ≡ suc i → ⊥) → length (members t) ≤ i
+      go (inl e) = never (sym (row-last member-width t i (sym (members-used t) ∙ e)) ∙ z)
+      go (inr n) = omega (arith, n)
 
-pub set-past : (t : List ℕ) (c e : ℕ) → t ≡ written-members (connections t) (pasts t) → c < length (members t)
-    → set (set t (5 * c + 3) 1) (5 * c + 4) e ≡ written-members (connections t) (set (pasts t) c (record { sent = true; last = e }))
-unfolding written-members
-set-past t c e w l =
-    let hs : List Past = set (pasts t) c (record { sent = true; last = e }) in
-    let lp : length (pasts t) ≡ length (connections t) = length-map (members t) past-of ∙ sym (length-map (members t) connection-of) in
-    let n : length (paired (connections t) (pasts t)) ≡ length (paired (connections t) hs) = paired-length (connections t) (pasts t) hs (sym (length-set (pasts t) c _)) in
-    ap (λ (u : List ℕ). set (set u (5 * c + 3) 1) (5 * c + 4) e) w
-    ∙ write-past (connections t) (pasts t) c e (replicate (members-length - 5 * length (paired (connections t) (pasts t))) 0) (omega (arith, connections-length t)) lp
-    ∙ ap (λ (m : ℕ). write five-of-member (paired (connections t) hs) ++ replicate (members-length - 5 * m) 0) n
+  pub end-here : i < length t / member-width → zeros (row-in member-width t i) ≡ false → suc i ≡ length (members t)
+  end-here l z = go (split (length (members t)) i)
+    where
+      go : (length (members t) ≤ i) ⊎ (i < length (members t)) → suc i ≡ length (members t)
+      go (inl k) = never (sym z ∙ row-free t i l k)
+      go (inr k) = omega arith
 
--- a new connection, put behind the others
-paired-snoc : (cs : List Connection) (hs : List Past) (x : Connection) (h : Past) → length hs ≡ length cs → paired (cs ++ x ∷ []) (hs ++ h ∷ []) ≡ paired cs hs ++ member x h ∷ []
-paired-snoc [] [] x h e = refl
-paired-snoc [] (k ∷ hs) x h e = absurd (omega arith)
-paired-snoc (c ∷ cs) [] x h e = absurd (omega arith)
-paired-snoc (c ∷ cs) (k ∷ hs) x h e = ap (λ (l : List Member). member c k ∷ l) (paired-snoc cs hs x h (omega arith))
+-- from the start, where none is free between others: a row with no size is the first that is free
+module _ (t : List ℕ) (i : ℕ) (h : i ≤ length (members t)) where
+  pub size-stops : None-free t → member-in t i .size ≡ 0 → i ≡ length (members t)
+  size-stops f z = go (split (length (members t)) i)
+    where
+      go : (length (members t) ≤ i) ⊎ (i < length (members t)) → i ≡ length (members t)
+      go (inl k) = omega arith
+      go (inr k) = absurd (omega (arith, f i (omega (arith, connections-length t)), ap (λ (x : Connection). x .size) (connection-is t i k)))
+
+  pub size-goes : i < length t / member-width → (member-in t i .size ≡ 0 → ⊥) → i < length (members t)
+  size-goes l n = go (split (length (members t)) i)
+    where
+      go : (length (members t) ≤ i) ⊎ (i < length (members t)) → i < length (members t)
+      go (inl k) = absurd (n (ap (λ (m : Member). m .size) (sym (member-at-number t i l) ∙ List·getD-eq-default (members t) no-member k)))
+      go (inr k) = k
+
+pub members-from : (t : List ℕ) (i : ℕ) → i < length (members t) → drop i (members t) ≡ member-in t i ∷ drop (suc i) (members t)
+members-from t i h = drop-cons (members t) i no-member h ∙ ap (λ (p : Member). p ∷ drop (suc i) (members t)) (member-is t i h)
+
+pasts-length : (cs : List ℕ) → length (pasts cs) ≡ length (connections cs)
+pasts-length cs = length-map (members cs) past-of ∙ sym (connections-length cs)
+
+-- ---- a row written anew
 
 pub paired-all : (cs : List Connection) (hs : List Past) → length hs ≡ length cs → length (paired cs hs) ≡ length cs
 paired-all [] hs e = refl
 paired-all (c ∷ cs) [] e = absurd (omega arith)
 paired-all (c ∷ cs) (h ∷ hs) e = ap suc (paired-all cs hs (omega arith))
 
-pub add-last : (t : List ℕ) (n : ℕ) (x : Connection) → t ≡ written-members (connections t) (pasts t) → n ≡ length (members t) → 5 * n + 5 ≤ members-length
-    → put-numbers t n (five-of-member (member x no-past)) ≡ written-members (connections t ++ x ∷ []) (pasts t ++ no-past ∷ [])
-unfolding written-members
-add-last t n x w e h =
-    let lp : length (pasts t) ≡ length (connections t) = length-map (members t) past-of ∙ sym (length-map (members t) connection-of) in
-    let ln : length (paired (connections t) (pasts t)) ≡ n = paired-all (connections t) (pasts t) lp ∙ connections-length t ∙ sym e in
-    ap (λ (u : List ℕ). put-numbers u n (five-of-member (member x no-past))) w
-    ∙ ap (λ (k : ℕ). put-numbers (padded five-of-member members-length (paired (connections t) (pasts t))) k (five-of-member (member x no-past))) (sym ln)
-    ∙ put-last member-of five-of-member members-length (paired (connections t) (pasts t)) (member x no-past) (omega arith)
-    ∙ ap (padded five-of-member members-length) (sym (paired-snoc (connections t) (pasts t) x no-past lp))
+paired-length : (t : List ℕ) → length (paired (connections t) (pasts t)) ≡ length (members t)
+paired-length t = paired-all (connections t) (pasts t) (pasts-length t) ∙ connections-length t
+
+paired-set : (cs : List Connection) (hs : List Past) (c : ℕ) (h : Past) → length hs ≡ length cs → paired cs (set hs c h) ≡ set (paired cs hs) c (member (nth cs c) h)
+paired-set [] hs c h e = refl
+paired-set (x ∷ cs) [] c h e = absurd (omega arith)
+paired-set (x ∷ cs) (k ∷ hs) zero h e = refl
+paired-set (x ∷ cs) (k ∷ hs) (suc c) h e = ap (λ (l : List Member). member x k ∷ l) (paired-set cs hs c h (omega arith))
+
+paired-snoc : (cs : List Connection) (hs : List Past) (x : Connection) (h : Past) → length hs ≡ length cs → paired (cs ++ x ∷ []) (hs ++ h ∷ []) ≡ paired cs hs ++ member x h ∷ []
+paired-snoc [] [] x h e = refl
+paired-snoc [] (k ∷ hs) x h e = absurd (omega arith)
+paired-snoc (c ∷ cs) [] x h e = absurd (omega arith)
+paired-snoc (c ∷ cs) (k ∷ hs) x h e = ap (λ (l : List Member). member c k ∷ l) (paired-snoc cs hs x h (omega arith))
+
+module _ (t : List ℕ) (w : t ≡ written-members (connections t) (pasts t)) (long : length t ≡ members-length) where
+  -- another past of connection c
+  pub set-past : (c : ℕ) (h : Past) → c < length (members t) → put-member t c (member (nth (connections t) c) h) ≡ written-members (connections t) (set (pasts t) c h)
+  unfolding written-members
+  set-past c h l =
+      let m : Member = member (nth (connections t) c) h in
+      let n : length (paired (connections t) (pasts t)) ≡ length (members t) = paired-length t in
+      ap (λ (u : List ℕ). put-member u c m) w
+      ∙ put-at member-width row-of (λ m. refl) members-length (paired (connections t) (pasts t)) c m (omega arith) (omega (arith, members-end t))
+      ∙ ap (padded member-width row-of members-length) (sym (paired-set (connections t) (pasts t) c h (pasts-length t)))
+
+  -- a new connection, behind the others
+  pub add-last : (n : ℕ) (x : Connection) → n ≡ length (members t) → n < max-connections
+      → put-member t n (member x no-past) ≡ written-members (connections t ++ x ∷ []) (pasts t ++ no-past ∷ [])
+  unfolding written-members
+  add-last n x e h =
+      let ln : length (paired (connections t) (pasts t)) ≡ n = paired-length t ∙ sym e in
+      ap (λ (u : List ℕ). put-member u n (member x no-past)) w
+      ∙ ap (λ (k : ℕ). put-member (padded member-width row-of members-length (paired (connections t) (pasts t))) k (member x no-past)) (sym ln)
+      ∙ put-last member-width row-of (λ m. refl) members-length (paired (connections t) (pasts t)) (member x no-past) (omega arith)
+      ∙ ap (padded member-width row-of members-length) (sym (paired-snoc (connections t) (pasts t) x no-past (pasts-length t)))

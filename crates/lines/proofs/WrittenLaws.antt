@@ -7,7 +7,7 @@ use mathlib.Core.Logic.{⊎-elim}
 use mathlib.Core.List.{List, [], _∷_, map}
 use lib.Dec.{eqb, leb}
 use lib.ListN.{length}
-use borrow.Author.Tests.{leb-true}
+use borrow.Author.Tests.{leb-true, eqb-true, eq-eqb}
 use Rattle.rules.specs.declared.Connection.{Connection}
 use Rattle.rules.specs.declared.Past.{Past}
 use Rattle.rules.specs.Words.{All, within, each}
@@ -19,15 +19,15 @@ use Rattle.rules.proofs.Lists.{all-map}
 use Rattle.rules.proofs.Sums.{same}
 use Rattle.rules.proofs.Tests.{and-true, and-intro, within-true, each-true, each-intro}
 use Rattle.rules.proofs.Bounds.{rows-fit-places}
-use Rattle.tables.specs.Table.{padded, formed}
-use Rattle.tables.specs.Places.{rows, places, places-length, packet-of, five-of}
+use Rattle.tables.specs.Table.{by-number, padded, formed}
+use Rattle.tables.specs.Places.{packet-width, rows, places, places-length, packet-in, numbers-of}
 use Rattle.tables.specs.Notices.{written-notices}
-use Rattle.tables.proofs.TableLaws.{read-back, formed-back, written-back}
+use Rattle.tables.proofs.TableLaws.{ends-in-front, ends-by-number, read-back, formed-back, length-padded, numbers-behind, written-back}
 use Rattle.tables.proofs.NoticeLaws.{notices-again}
 use Rattle.lines.specs.declared.Member.{Member}
-use Rattle.lines.specs.Members.{members-length, member-of, five-of-member, members, connection-of, past-of, connections, pasts, member, paired, written-members, members-formed}
+use Rattle.lines.specs.Members.{member-width, members-length, member-of, row-of, members, connection-of, past-of, connections, pasts, member, paired, written-members, members-formed}
 use Rattle.lines.specs.StateRead.{state-read}
-use Rattle.lines.proofs.MemberLaws.{paired-all}
+use Rattle.lines.proofs.MemberLaws.{row-back, paired-all}
 
 -- ---- a table of connections that is formed is what is written of what is read
 
@@ -43,12 +43,17 @@ paired-back : (ms : List Member) → All (λ m. m .sent ≤ 1) ms → paired (ma
 paired-back [] h = refl
 paired-back (m ∷ ms) h = rw (marked-back m (h .0), paired-back ms (h .1))
 
+pub members-long : (t : List ℕ) → members-formed t ≡ true → length t ≡ members-length
+unfolding members-formed
+members-long t h = eqb-true (length t) members-length (and-true (eqb (length t) members-length) (each (λ m. leb (m .sent) 1) (members t)) h .0)
+
 pub members-written : (t : List ℕ) → members-formed t ≡ true → t ≡ written-members (connections t) (pasts t)
 unfolding members-formed members written-members
 members-written t h =
-    let k = and-true (formed member-of members-length t) (each (λ m. leb (m .sent) 1) (members t)) h in
-    written-back member-of five-of-member (λ a b c d e. refl) members-length t (k .0)
-    ∙ ap (padded five-of-member members-length) (sym (paired-back (members t) (all-map (λ m e. leb-true (m .sent) 1 e) (members t) (each-true (λ (m : Member). leb (m .sent) 1) (members t) (k .1)))))
+    let k = and-true (eqb (length t) members-length) (each (λ m. leb (m .sent) 1) (members t)) h in
+    let e : length t ≡ members-length = eqb-true (length t) members-length (k .0) in
+    written-back member-width member-of row-of row-back by-number members-length t e (numbers-behind member-width t max-connections (omega arith) e)
+    ∙ ap (padded member-width row-of members-length) (sym (paired-back (members t) (all-map (λ m e. leb-true (m .sent) 1 e) (members t) (each-true (λ (m : Member). leb (m .sent) 1) (members t) (k .1)))))
 
 -- ---- and what is written is read back
 
@@ -88,7 +93,7 @@ module _ where
 module _ (cs : List Connection) (hs : List Past) (e : length hs ≡ length cs) (used : (c : ℕ) → c < length cs → 0 < nth cs c .size) (few : length cs ≤ max-connections) where
   members-back : members (written-members cs hs) ≡ paired cs hs
   unfolding members written-members
-  members-back = read-back member-of five-of-member (λ m. refl) (paired cs hs) (members-length - 5 * length (paired cs hs)) (paired-used cs hs used)
+  members-back = read-back member-width row-of (λ m. refl) (omega arith) member-of (λ m. refl) ends-by-number (paired cs hs) (members-length - member-width * length (paired cs hs)) (paired-used cs hs used)
 
   pub connections-back : connections (written-members cs hs) ≡ cs
   connections-back = ap (map connection-of) members-back ∙ connections-paired cs hs e
@@ -99,8 +104,8 @@ module _ (cs : List Connection) (hs : List Past) (e : length hs ≡ length cs) (
   pub members-formed-back : members-formed (written-members cs hs) ≡ true
   unfolding members-formed written-members
   members-formed-back =
-      and-intro (formed member-of members-length (written-members cs hs)) (each (λ m. leb (m .sent) 1) (members (written-members cs hs)))
-      (formed-back member-of five-of-member (λ m. refl) (paired cs hs) members-length (paired-used cs hs used) (omega (arith, paired-all cs hs e)))
+      and-intro (eqb (length (written-members cs hs)) members-length) (each (λ m. leb (m .sent) 1) (members (written-members cs hs)))
+      (eq-eqb (length (written-members cs hs)) members-length (length-padded member-width row-of (λ m. refl) members-length (paired cs hs) (omega (arith, paired-all cs hs e))))
       (subst (λ (ms : List Member). each (λ m. leb (m .sent) 1) ms ≡ true) (sym members-back) (each-intro (λ (m : Member). leb (m .sent) 1) (paired cs hs) (paired-marked cs hs)))
 
 -- ---- a sound state
@@ -139,11 +144,11 @@ writable s S =
 module _ (s : State) (W : Writable s) where
   pub rows-back : rows (places (s .held)) ≡ s .held
   unfolding rows places
-  rows-back = read-back packet-of five-of (λ p. refl) (s .held) (places-length - 5 * length (s .held)) (W .sent)
+  rows-back = read-back packet-width numbers-of (λ p. refl) (omega arith) packet-in (λ p. refl) ends-in-front (s .held) (places-length - packet-width * length (s .held)) (W .sent)
 
-  pub places-formed-back : formed packet-of places-length (places (s .held)) ≡ true
+  pub places-formed-back : formed packet-width places-length (places (s .held)) ≡ true
   unfolding places
-  places-formed-back = formed-back packet-of five-of (λ p. refl) (s .held) places-length (W .sent) (omega (arith, W .fit))
+  places-formed-back = formed-back packet-width numbers-of (λ p. refl) (omega arith) packet-in (λ p. refl) (s .held) places-length (W .sent) (omega (arith, W .fit))
 
   -- READING WHAT IS WRITTEN gives the state back
   pub read-written : state-read (s .link) (written-members (s .connections) (s .pasts)) (places (s .held)) (written-notices (s .notices)) (s .clock) (s .serving) (s .to-go) (s .silent) ≡ s

@@ -1,39 +1,48 @@
--- The table of connections: five numbers to a row (level, size, gap, 1 if a packet was accepted else 0, last eligibility), in order of their numbers.
--- Document 01 leaves its form open; docs/DECISIONS.md says why this one. Assumes nothing.
-use Prim.Native.Nat.{ℕ, _+_, _*_}
+-- The table of connections, a row for each, at its number: level, size, gap, 1 if a packet was accepted else 0, last eligibility. Document 01 leaves
+-- its form open; docs/DECISIONS.md says why this one. Assumes nothing.
+use Prim.Native.Nat.{ℕ, _*_, _<_}
 use mathlib.Core.Bool.{Bool, cond, not, _&&_}
 use mathlib.Core.List.{List, [], _∷_, map}
 use lib.Dec.{eqb, leb}
-use lib.ListN.{getD}
+use lib.ListN.{length, getD}
+use lib.Seq.{sets}
 use Rattle.rules.specs.declared.Connection.{Connection}
 use Rattle.rules.specs.declared.Past.{Past}
 use Rattle.rules.specs.Words.{each}
 use Rattle.rules.specs.Limits.{max-connections}
-use Rattle.tables.specs.declared.Five.{Five}
-use Rattle.tables.specs.Table.{read, padded, formed}
+use Rattle.rules.specs.Model.{nth}
+use Rattle.tables.specs.Table.{row-in, by-number, read, padded}
 use Rattle.lines.specs.declared.Member.{Member}
 
--- the numbers of the table: five for each connection
+abbrev pub member-width : ℕ
+member-width = 5
+
+-- the numbers of the table: a row for each connection
 abbrev pub members-length : ℕ
-members-length = 5 * max-connections
+members-length = member-width * max-connections
 
 -- ---- rows
 
-abbrev pub member-of : ℕ → ℕ → ℕ → ℕ → ℕ → Member
-member-of a b c d e = record { level = a; size = b; gap = c; sent = d; last = e }
+-- the numbers of a row, in their order, and the row that they make
+abbrev pub row-of : Member → List ℕ
+row-of m = m .level ∷ m .size ∷ m .gap ∷ m .sent ∷ m .last ∷ []
 
-abbrev pub five-of-member : Member → Five
-five-of-member m = record { a = m .level; b = m .size; c = m .gap; d = m .sent; e = m .last }
+abbrev pub member-of : List ℕ → Member
+member-of r = record { level = getD r 0 0; size = getD r 1 0; gap = getD r 2 0; sent = getD r 3 0; last = getD r 4 0 }
 
 abbrev pub no-member : Member
-no-member = member-of 0 0 0 0 0
+no-member = member-of []
 
--- row i of a table, used or not
+-- row i of a table, used or not, and the table with another there
 abbrev pub member-in : List ℕ → ℕ → Member
-member-in t i = member-of (getD t (5 * i) 0) (getD t (5 * i + 1) 0) (getD t (5 * i + 2) 0) (getD t (5 * i + 3) 0) (getD t (5 * i + 4) 0)
+member-in t i = member-of (row-in member-width t i)
 
+abbrev pub put-member : List ℕ → ℕ → Member → List ℕ
+put-member t i m = sets t (member-width * i) (row-of m)
+
+-- the rows by number: number c is row c, and a free row, all zero, may stand between others
 unfoldable pub members : List ℕ → List Member
-members t = read member-of t
+members t = read by-number member-width member-of t
 
 -- ---- what they stand for
 
@@ -49,6 +58,10 @@ connections t = map connection-of (members t)
 abbrev pub pasts : List ℕ → List Past
 pasts t = map past-of (members t)
 
+-- no row is free between others
+abbrev pub None-free : List ℕ → Type 0
+None-free t = (c : ℕ) → c < length (connections t) → 0 < nth (connections t) c .size
+
 -- ---- writing
 
 abbrev pub member : Connection → Past → Member
@@ -60,8 +73,8 @@ paired (x ∷ xs) [] = []
 paired (x ∷ xs) (h ∷ hs) = member x h ∷ paired xs hs
 
 unfoldable pub written-members : List Connection → List Past → List ℕ
-written-members cs hs = padded five-of-member members-length (paired cs hs)
+written-members cs hs = padded member-width row-of members-length (paired cs hs)
 
--- the table is what is written of what is read: its length, zeros behind its rows, and marks that are 0 or 1
+-- the table is what is written of what is read: its length, and marks that are 0 or 1
 unfoldable pub members-formed : List ℕ → Bool
-members-formed t = formed member-of members-length t && each (λ m. leb (m .sent) 1) (members t)
+members-formed t = eqb (length t) members-length && each (λ m. leb (m .sent) 1) (members t)

@@ -4,24 +4,19 @@ ghost use mathlib.Core.List.{[], _∷_, _++_};
 ghost use mathlib.Core.Bool.{true, not};
 ghost use Prim.Native.Nat.{ℕ, _+_, _*_, _-_, _/_, _<_, _≤_};
 ghost use lib.Dec.{eqb};
-ghost use lib.ListN.{length, set};
+ghost use lib.ListN.{length, getD, set};
 ghost use Rattle.rules.specs.Limits.{max-largest, max-silence, max-bound, max-connections, beyond-32-bits};
 ghost use Rattle.rules.specs.Model.{no-short, nth, no-past};
 ghost use Rattle.rules.specs.Admission.{bound, count, reservation, reserved, load, level-sum, level-test};
 ghost use Rattle.rules.specs.Service.{next-eligibility};
-ghost use Rattle.tables.specs.Table.{formed};
-ghost use Rattle.lines.specs.Members.{members-length, member-of, member-in, members, connections, pasts, written-members};
+ghost use Rattle.limits.specs.Zeros.{zeros};
+ghost use Rattle.tables.specs.Table.{row-in};
+ghost use Rattle.lines.specs.Members.{member-width, members-length, member-in, put-member, members, None-free, connections, pasts, written-members};
 ghost use Rattle.lines.specs.Within.{Within, most-share, share-of, short-of, shortage-of, gap-only};
+use limits::MAX_LEVELS;
+use limits::MEMBER_WIDTH;
 use rules::Connection;
 use rules::Link;
-use tables::Five;
-
-pub const MAX_LEVELS: u32 = 8;
-
-pub const MAX_CONNECTIONS: usize = 64;
-
-// The numbers of the table of connections, five to a row.
-pub const MEMBERS: usize = 5 * MAX_CONNECTIONS;
 
 // A row of the table: a connection's figures, 1 if a packet of it was accepted else 0, and the last eligibility.
 pub struct Member {
@@ -32,19 +27,80 @@ pub struct Member {
     pub last: u32,
 }
 
+// Number k of row i.
+fn number(cs: &[u32], i: usize, k: usize) -> u32
+    requires { ⌜ (member-width * i + member-width ≤ length (now cs)) × (k < member-width) ⌝ }
+    ensures { λ r. ⌜ r ≡ getD (row-in member-width (now (cs .entry)) i) k 0 ⌝ }
+{
+    cs[MEMBER_WIDTH * i + k]
+}
+
 // Row i of the table.
 pub fn member_at(cs: &[u32], i: usize) -> Member
-    requires { ⌜ 5 * i + 5 ≤ length (now cs) ⌝ }
+    requires { ⌜ member-width * i + member-width ≤ length (now cs) ⌝ }
     ensures { λ r. ⌜ r ≡ member-in (now (cs .entry)) i ⌝ }
 {
-    let f = tables::five_at(cs, i);
     Member {
-        level: f.a,
-        size: f.b,
-        gap: f.c,
-        sent: f.d,
-        last: f.e,
+        level: number(cs, i, 0),
+        size: number(cs, i, 1),
+        gap: number(cs, i, 2),
+        sent: number(cs, i, 3),
+        last: number(cs, i, 4),
     }
+}
+
+// Row i becomes m.
+fn put_member(cs: &mut [u32], i: usize, m: Member)
+    requires { ⌜ member-width * i + member-width ≤ length (now cs) ⌝ }
+    ensures { λ r. ⌜ now (cs .exit) ≡ put-member (now (cs .entry)) i m ⌝ }
+{
+    let at = MEMBER_WIDTH * i;
+    cs[at] = m.level;
+    cs[at + 1] = m.size;
+    cs[at + 2] = m.gap;
+    cs[at + 3] = m.sent;
+    cs[at + 4] = m.last;
+}
+
+// Row i is free: all its numbers are 0.
+fn is_free(cs: &[u32], i: usize) -> bool
+    requires { ⌜ member-width * i + member-width ≤ length (now cs) ⌝ }
+    ensures { λ r. ⌜ r ≡ zeros (row-in member-width (now (cs .entry)) i) ⌝ }
+{
+    let at = MEMBER_WIDTH * i;
+    let end = at + MEMBER_WIDTH;
+    limits::zero_from(&cs[at..end], 0)
+}
+
+// The number of rows, up to the last that is not free.
+pub fn members_in(cs: &[u32]) -> usize
+    ensures { λ r. ⌜ r ≡ length (members (now (cs .entry))) ⌝ }
+{
+    let mut n = cs.len() / MEMBER_WIDTH;
+    while 0 < n {
+        if !is_free(cs, n - 1) {
+            return n;
+        }
+        n -= 1;
+    }
+    0
+}
+
+// The number of rows where none of them is free: up to the first that has no size.
+pub fn standing(cs: &[u32]) -> usize
+    requires { ⌜ None-free (now cs) ⌝ }
+    ensures { λ r. ⌜ r ≡ length (members (now (cs .entry))) ⌝ }
+{
+    let n = cs.len() / MEMBER_WIDTH;
+    let mut i: usize = 0;
+    while i < n {
+        let m = member_at(cs, i);
+        if m.size == 0 {
+            return i;
+        }
+        i += 1;
+    }
+    i
 }
 
 // A connection that was just admitted, behind the n that stand.
@@ -52,27 +108,27 @@ pub fn add_member(cs: &mut [u32], n: usize, x: Connection)
     requires { ⌜ (now cs ≡ written-members (connections (now cs)) (pasts (now cs))) × (n ≡ length (members (now cs))) × (n < max-connections) × (length (now cs) ≡ members-length) ⌝ }
     ensures { λ r. ⌜ now (cs .exit) ≡ written-members (connections (now (cs .entry)) ++ x ∷ []) (pasts (now (cs .entry)) ++ no-past ∷ []) ⌝ }
 {
-    tables::put_five(
+    put_member(
         cs,
         n,
-        Five {
-            a: x.level,
-            b: x.size,
-            c: x.gap,
-            d: 0,
-            e: 0,
+        Member {
+            level: x.level,
+            size: x.size,
+            gap: x.gap,
+            sent: 0,
+            last: 0,
         },
     );
 }
 
 // The level of connection c; 0 where there is none.
 pub fn level_of(cs: &[u32], c: u32) -> u32
-    requires { ⌜ formed member-of members-length (now cs) ≡ true ⌝ }
     ensures { λ r. ⌜ r ≡ nth (connections (now (cs .entry))) c .level ⌝ }
 {
     let k = c as usize;
-    if k < cs.len() / 5 {
-        return cs[5 * k];
+    if k < cs.len() / MEMBER_WIDTH {
+        let m = member_at(cs, k);
+        return m.level;
     }
     0
 }
@@ -82,8 +138,18 @@ pub fn put_past(cs: &mut [u32], c: usize, e: u32)
     requires { ⌜ (now cs ≡ written-members (connections (now cs)) (pasts (now cs))) × (c < length (members (now cs))) × (length (now cs) ≡ members-length) ⌝ }
     ensures { λ r. ⌜ now (cs .exit) ≡ written-members (connections (now (cs .entry))) (set (pasts (now (cs .entry))) c (record { sent = true; last = e })) ⌝ }
 {
-    cs[5 * c + 3] = 1;
-    cs[5 * c + 4] = e;
+    let m = member_at(cs, c);
+    put_member(
+        cs,
+        c,
+        Member {
+            level: m.level,
+            size: m.size,
+            gap: m.gap,
+            sent: 1,
+            last: e,
+        },
+    );
 }
 
 fn wide(x: u32) -> u64

@@ -1,5 +1,3 @@
 pub mod ReadLaws
-pub mod QuietLaws
-pub mod StepLaws
+pub mod LogLaws
 pub mod BadLaws
-pub mod OutcomeLaws

@@ -7,17 +7,16 @@ use lib.Dec.{eqb}
 use lib.ListN.{length, drop}
 use Rattle.fields.specs.Numbers.{pick}
 use Rattle.traces.specs.declared.Record.{Record}
-use Rattle.traces.specs.declared.Record.the-variants.{Link as LinkRecord, Admit, Offer, Notice, Ticks, Malformed}
-use Rattle.log.specs.Log.{read-at}
+use Rattle.log.specs.Log.{Asked, one-call, some-ticks, unread, asks, read-at}
 
 -- a record of k bytes at the start of bs, which starts at offset `at`: where the first malformed one starts, this or, by `more`, one behind it
+abbrev pub asked-bad : (ℕ → List ℕ → Option ℕ) → Asked → ℕ → ℕ → List ℕ → Option ℕ
+asked-bad more (one-call c) k at bs = more (at + k) (drop k bs)
+asked-bad more (some-ticks n) k at bs = more (at + k) (drop k bs)
+asked-bad more unread k at bs = some at
+
 abbrev pub record-bad : (ℕ → List ℕ → Option ℕ) → Record → ℕ → ℕ → List ℕ → Option ℕ
-record-bad more (LinkRecord n m silence d1 d2 d3 d4 d5 d6 d7 d8) k at bs = more (at + k) (drop k bs)
-record-bad more (Admit level gap size) k at bs = more (at + k) (drop k bs)
-record-bad more (Offer c len tag) k at bs = more (at + k) (drop k bs)
-record-bad more (Notice len tag) k at bs = more (at + k) (drop k bs)
-record-bad more (Ticks n) k at bs = more (at + k) (drop k bs)
-record-bad more Malformed k at bs = some at
+record-bad more r k at bs = asked-bad more (asks r) k at bs
 
 -- of at most f records; none where all are well formed
 unfoldable pub bad-within : ℕ → ℕ → List ℕ → Option ℕ

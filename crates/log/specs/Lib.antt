@@ -1,4 +1,3 @@
--- Read in this order: Log, Bad, Steps.
+-- Read in this order: Log, Bad.
 pub mod Log
 pub mod Bad
-pub mod Steps

@@ -8,15 +8,15 @@ use lib.Dec.{ltb, eqb}
 use lib.ListN.{length, drop}
 use Rattle.rules.specs.declared.Packet.{Packet}
 use Rattle.rules.specs.Words.{first-number}
-use Rattle.rules.specs.Model.{State, link, admit, offer, notice, tick, Answer, fresh}
+use Rattle.rules.specs.Model.{State, Call, link, admit, offer, notice, tick, Answer, fresh}
 use Rattle.rules.specs.SoundTest.{sound}
 use Rattle.rules.specs.Calls.{answer}
 use Rattle.fields.specs.Numbers.{pick}
 use Rattle.traces.specs.declared.Record.{Record}
 use Rattle.traces.specs.declared.Record.the-variants.{Link as LinkRecord, Admit, Offer, Notice, Ticks, Malformed}
-use Rattle.answers.specs.declared.Reply.the-variants.{Linked, Admitted, Offered, Noticed, Departed, Ticked, Broken}
 use Rattle.traces.specs.declared.Found.{Found}
 use Rattle.traces.specs.Trace.{found, read-trace}
+use Rattle.answers.specs.declared.Reply.the-variants.{Linked, Admitted, Offered, Noticed, Departed, Ticked, Broken}
 use Rattle.answers.specs.Answers.{answer-bytes}
 use Rattle.named.specs.Named.{link-named, connection-named}
 
@@ -62,23 +62,37 @@ ticks-end (suc left) s = pick (eqb (answer tick s .verdict) 0) (ticks-end left (
 
 -- ---- a record, and a trace
 
+-- what a record asks: a call, ticks, or nothing that can be read
+pub data Asked : Type 0 where
+  one-call : Call → Asked
+  some-ticks : ℕ → Asked
+  unread : Asked
+
+abbrev pub asks : Record → Asked
+asks (LinkRecord n m silence d1 d2 d3 d4 d5 d6 d7 d8) = one-call (link (link-named n m silence d1 d2 d3 d4 d5 d6 d7 d8))
+asks (Admit level gap size) = one-call (admit (connection-named level gap size))
+asks (Offer c len tag) = one-call (offer c len tag)
+asks (Notice len tag) = one-call (notice len tag)
+asks (Ticks n) = some-ticks n
+asks Malformed = unread
+
+-- what is written of the answer to a call: of a tick its departure, if there is one
+abbrev pub call-log : Call → Answer → List ℕ
+call-log (link l) a = answer-bytes (Linked (a .verdict))
+call-log (admit x) a = answer-bytes (Admitted (a .verdict) (a .number) (a .short .level) (a .short .units))
+call-log (offer c len tag) a = answer-bytes (Offered (a .verdict) (a .number))
+call-log (notice len tag) a = answer-bytes (Noticed (a .verdict) (a .number))
+call-log tick a = tick-log a
+
 -- a record of k bytes at the start of bs, which starts at offset `at`: its answer from the state s, and then the rest by `more`, from the offset, the
 -- state and the bytes behind it. Of a malformed one `ER` with its offset, and nothing more
+abbrev pub asked-log : (ℕ → State → List ℕ → List ℕ) → Asked → ℕ → ℕ → State → List ℕ → List ℕ
+asked-log more (one-call c) k at s bs = call-log c (answer c s) ++ more (at + k) (answer c s .next) (drop k bs)
+asked-log more (some-ticks n) k at s bs = ticks-log n n s ++ more (at + k) (ticks-end n s) (drop k bs)
+asked-log more unread k at s bs = answer-bytes (Broken at)
+
 abbrev pub record-log : (ℕ → State → List ℕ → List ℕ) → Record → ℕ → ℕ → State → List ℕ → List ℕ
-record-log more (LinkRecord n m silence d1 d2 d3 d4 d5 d6 d7 d8) k at s bs =
-    let a = answer (link (link-named n m silence d1 d2 d3 d4 d5 d6 d7 d8)) s in
-    answer-bytes (Linked (a .verdict)) ++ more (at + k) (a .next) (drop k bs)
-record-log more (Admit level gap size) k at s bs =
-    let a = answer (admit (connection-named level gap size)) s in
-    answer-bytes (Admitted (a .verdict) (a .number) (a .short .level) (a .short .units)) ++ more (at + k) (a .next) (drop k bs)
-record-log more (Offer c len tag) k at s bs =
-    let a = answer (offer c len tag) s in
-    answer-bytes (Offered (a .verdict) (a .number)) ++ more (at + k) (a .next) (drop k bs)
-record-log more (Notice len tag) k at s bs =
-    let a = answer (notice len tag) s in
-    answer-bytes (Noticed (a .verdict) (a .number)) ++ more (at + k) (a .next) (drop k bs)
-record-log more (Ticks n) k at s bs = ticks-log n n s ++ more (at + k) (ticks-end n s) (drop k bs)
-record-log more Malformed k at s bs = answer-bytes (Broken at)
+record-log more r k at s bs = asked-log more (asks r) k at s bs
 
 -- of at most f records; "an empty trace gives no output"
 unfoldable pub log-within : ℕ → ℕ → State → List ℕ → List ℕ

@@ -11,12 +11,12 @@ use lib.ListN.{length, take, drop}
 use lib.Signed.{nonNeg}
 use Rattle.rules.proofs.Tests.{never}
 use Rattle.fields.specs.Numbers.{pick}
-use Rattle.log.specs.declared.Phase.the-variants.{Finished}
-use Rattle.log.specs.declared.Cursor.{Cursor}
-use Rattle.log.specs.declared.Status.{Status}
-use Rattle.log.specs.declared.Status.the-variants.{GoOn, MoreBytes, MoreRoom, NotSound, Done}
+use Rattle.steps.specs.declared.Phase.the-variants.{Finished}
+use Rattle.steps.specs.declared.Cursor.{Cursor}
+use Rattle.steps.specs.declared.Status.{Status}
+use Rattle.steps.specs.declared.Status.the-variants.{GoOn, MoreBytes, MoreRoom, NotSound, Done}
 use Rattle.log.specs.Bad.{bad-at}
-use Rattle.log.specs.Steps.{longest-answer}
+use Rattle.answers.specs.Answers.{longest-answer}
 use Rattle.replay.specs.Sessions.{Session}
 use Rattle.replay.specs.Sessions.Session.{start}
 use Rattle.replay.proofs.Results.{tells-the-malformed}

@@ -16,15 +16,15 @@ use borrow.Author.Tests.{le-ltb, eq-eqb, ne-eqb, eqb-true, eqb-false}
 use Rattle.rules.proofs.Tests.{never}
 use Rattle.fields.specs.Numbers.{pick}
 use Rattle.libc.specs.Io.{Moved}
-use Rattle.log.specs.declared.Phase.the-variants.{Finished}
-use Rattle.log.specs.declared.Cursor.{Cursor}
-use Rattle.log.specs.declared.Stepped.{Stepped}
-use Rattle.log.specs.declared.Status.{Status}
-use Rattle.log.specs.declared.Status.the-variants.{GoOn, MoreBytes, MoreRoom, NotSound, Done}
+use Rattle.steps.specs.declared.Phase.the-variants.{Finished}
+use Rattle.steps.specs.declared.Cursor.{Cursor}
+use Rattle.steps.specs.declared.Stepped.{Stepped}
+use Rattle.steps.specs.declared.Status.{Status}
+use Rattle.steps.specs.declared.Status.the-variants.{GoOn, MoreBytes, MoreRoom, NotSound, Done}
 use Rattle.log.specs.Log.{trace-limit, log}
-use Rattle.log.specs.Steps.{work}
-use Rattle.ticks.specs.Tie.{Facts}
-use Rattle.ticks.proofs.WriteLaws.{part-back}
+use Rattle.steps.specs.Steps.{work}
+use Rattle.steps.specs.Tie.{Facts}
+use Rattle.fields.proofs.PartLaws.{part-back}
 use Rattle.replay.specs.Slides.{slide-length, slid}
 use Rattle.replay.specs.Sessions.{Pumps, Session}
 use Rattle.replay.specs.Sessions.Session.{more, pump}

@@ -7,10 +7,10 @@ use mathlib.Core.List.{List, [], _++_}
 use mathlib.Core.Option.{none, some}
 use lib.ListN.{length, take, drop}
 use lib.Signed.{nonNeg}
-use Rattle.log.specs.declared.Cursor.{Cursor}
+use Rattle.steps.specs.declared.Cursor.{Cursor}
 use Rattle.log.specs.Log.{log}
 use Rattle.log.specs.Bad.{bad-at}
-use Rattle.log.specs.Steps.{longest-record}
+use Rattle.traces.specs.Trace.{longest-record}
 use Rattle.replay.specs.Sessions.{Session}
 use Rattle.mtredovim.specs.declared.End.the-variants.{Whole, Malformed, ReadFailed, WriteFailed}
 use Rattle.mtredovim.specs.declared.Turn.{Turn}

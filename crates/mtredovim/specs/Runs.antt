@@ -6,7 +6,7 @@ use lib.ListN.{length, take, replicate}
 use Rattle.tables.specs.Places.{places-length}
 use Rattle.tables.specs.Notices.{notices-length}
 use Rattle.lines.specs.Members.{members-length}
-use Rattle.log.specs.Steps.{longest-answer}
+use Rattle.answers.specs.Answers.{longest-answer}
 use Rattle.mtredovim.specs.declared.End.the-variants.{On}
 use Rattle.mtredovim.specs.declared.Turn.{Turn}
 use Rattle.mtredovim.specs.Turns.{first-turn, Turned}

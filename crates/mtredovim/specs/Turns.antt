@@ -7,13 +7,13 @@ use lib.Dec.{eqb}
 use lib.IntN.{ℤ, pos, negsuc}
 use lib.ListN.{length, take, drop}
 use Rattle.fields.specs.Numbers.{pick}
-use Rattle.log.specs.declared.Cursor.{Cursor}
-use Rattle.log.specs.declared.Status.{Status}
-use Rattle.log.specs.declared.Status.the-variants.{GoOn, MoreBytes, MoreRoom, NotSound, Done}
-use Rattle.log.specs.declared.Stepped.{Stepped}
+use Rattle.steps.specs.declared.Cursor.{Cursor}
+use Rattle.steps.specs.declared.Status.{Status}
+use Rattle.steps.specs.declared.Status.the-variants.{GoOn, MoreBytes, MoreRoom, NotSound, Done}
+use Rattle.steps.specs.declared.Stepped.{Stepped}
 use Rattle.log.specs.Log.{trace-limit}
-use Rattle.log.specs.Steps.{beginning, work}
-use Rattle.ticks.specs.Tie.{cursor-of}
+use Rattle.steps.specs.Steps.{beginning, work}
+use Rattle.steps.specs.Tie.{cursor-of}
 use Rattle.replay.specs.Sessions.{Pumps}
 use Rattle.mtredovim.specs.declared.End.{End}
 use Rattle.mtredovim.specs.declared.End.the-variants.{On, Whole, Malformed, ReadFailed, WriteFailed}

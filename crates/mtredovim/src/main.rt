@@ -3,7 +3,8 @@ ghost use mathlib.Core.Path.{_≡_};
 ghost use mathlib.Core.Bool.{true, false};
 ghost use Prim.Native.Nat.{_+_, _^_, _<_, _≤_};
 ghost use lib.ListN.{length};
-ghost use Rattle.log.specs.Steps.{longest-record, longest-answer};
+ghost use Rattle.traces.specs.Trace.{longest-record};
+ghost use Rattle.answers.specs.Answers.{longest-answer};
 ghost use Rattle.mtredovim.specs.declared.End.the-variants.{On};
 ghost use Rattle.mtredovim.specs.Turns.{is-on, given-by, reads, after, first-turn, read-turn, window, Right, Better, Refilled, Turned};
 ghost use Rattle.mtredovim.specs.Runs.{Fresh, Ran};
@@ -11,8 +12,11 @@ ghost use Rattle.mtredovim.specs.Words.{Told};
 use libc::STDERR_FILENO;
 use libc::STDIN_FILENO;
 use libc::STDOUT_FILENO;
-use log::Cursor;
-use log::Status;
+use limits::MEMBERS;
+use limits::NOTICES;
+use limits::PLACES;
+use steps::Cursor;
+use steps::Status;
 
 // What follows a turn. On: the next turn. The program ends after any other. Whole: the log is written, and every record was well formed. Malformed: it is
 // written, and ends with the `ER` of the cursor's offset. ReadFailed, WriteFailed: the system refused.
@@ -222,9 +226,9 @@ fn tell(v: Turn) {
 }
 
 fn main() {
-    let mut places = [0u32; 2560];
-    let mut connections = [0u32; 320];
-    let mut notices = [0u32; 320];
+    let mut places = [0u32; PLACES];
+    let mut connections = [0u32; MEMBERS];
+    let mut notices = [0u32; NOTICES];
     let mut buf = io::large_buffer();
     let mut out = io::large_buffer();
     let v = replay_all(

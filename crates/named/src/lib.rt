@@ -2,6 +2,7 @@
 ghost use mathlib.Core.Path.{_≡_};
 ghost use Rattle.rules.specs.Model.{no-link, no-connection};
 ghost use Rattle.named.specs.Named.{link-named, connection-named, link-of, connection-of};
+use limits::MAX_LEVELS;
 use rules::Connection;
 use rules::Link;
 use traces::Record;
@@ -58,7 +59,7 @@ pub fn no_link() -> Link
         levels: 0,
         largest: 0,
         silence: 0,
-        bounds: [0; 8],
+        bounds: [0; MAX_LEVELS as usize],
     }
 }
 

@@ -16,19 +16,22 @@ use Rattle.tables.specs.Places.{places, places-length, table-of}
 use Rattle.tables.specs.Notices.{notices-length}
 use Rattle.lines.specs.Members.{written-members, members-length}
 use Rattle.calls.specs.Acts.{sound-hub}
-use Rattle.log.specs.declared.Phase.{Phase}
-use Rattle.log.specs.declared.Phase.the-variants.{Finished}
-use Rattle.log.specs.declared.Cursor.{Cursor}
-use Rattle.log.specs.declared.Status.the-variants.{MoreBytes, MoreRoom, NotSound, Done}
-use Rattle.log.specs.declared.Stepped.{Stepped}
+use Rattle.steps.specs.declared.Phase.{Phase}
+use Rattle.steps.specs.declared.Phase.the-variants.{Finished}
+use Rattle.steps.specs.declared.Cursor.{Cursor}
+use Rattle.steps.specs.declared.Status.the-variants.{MoreBytes, MoreRoom, NotSound, Done}
+use Rattle.steps.specs.declared.Stepped.{Stepped}
 use Rattle.log.specs.Log.{log}
 use Rattle.log.specs.Bad.{bad-at}
-use Rattle.log.specs.Steps.{longest-record, longest-answer, Point, point, Next, still, beginning, next, steps, to-come, phase-log}
-use Rattle.log.proofs.ReadLaws.{pick-by}
-use Rattle.log.proofs.StepLaws.{Keeps, step-keeps, steps-keep}
-use Rattle.log.proofs.BadLaws.{phase-tells, Tells as Malformed-in, Tells-then as Malformed-then, tells-more, step-tells, steps-tell, log-ends}
-use Rattle.log.proofs.OutcomeLaws.{Ends-well, step-ends-well, steps-end-well}
-use Rattle.ticks.specs.Tie.{point-of, cursor-of, stepped-of, Did, in-room, Does}
+use Rattle.traces.specs.Trace.{longest-record}
+use Rattle.answers.specs.Answers.{longest-answer}
+use Rattle.steps.specs.Steps.{Point, point, Next, still, beginning, next, steps, to-come, phase-log}
+use Rattle.fields.proofs.NumberLaws.{pick-by}
+use Rattle.steps.proofs.StepLaws.{Keeps, step-keeps, steps-keep}
+use Rattle.log.proofs.BadLaws.{log-ends}
+use Rattle.steps.proofs.MalformedLaws.{phase-tells, Tells as Malformed-in, Tells-then as Malformed-then, tells-more, step-tells, steps-tell}
+use Rattle.steps.proofs.OutcomeLaws.{Ends-well, step-ends-well, steps-end-well}
+use Rattle.steps.specs.Tie.{point-of, cursor-of, stepped-of, Did, in-room, Does}
 use Rattle.replay.specs.Sessions.{Steps, Pumps, Session}
 use Rattle.replay.specs.Sessions.Session.{start, more, step, pump}
 use Rattle.replay.specs.Promises.{Writes-the-log, Writes-nothing-else, Tells-the-malformed, Ends-with-its-ER, Of-every-call, Done-is-finished, Never-refused, Asks-when-short, Same-outcome, One-outcome}

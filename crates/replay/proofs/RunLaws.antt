@@ -8,15 +8,17 @@ use mathlib.Core.List.{List, _++_, append-assoc}
 use lib.ListN.{length, take, drop, length-append}
 use lib.Seq.{take-append-seam, drop-append-seam, drop-drop}
 use Rattle.rules.proofs.Tests.{never}
-use Rattle.log.specs.declared.Cursor.{Cursor}
-use Rattle.log.specs.declared.Status.{Status}
-use Rattle.log.specs.declared.Status.the-variants.{GoOn, MoreBytes, MoreRoom, NotSound, Done}
-use Rattle.log.specs.declared.Stepped.{Stepped}
+use Rattle.steps.specs.declared.Cursor.{Cursor}
+use Rattle.steps.specs.declared.Status.{Status}
+use Rattle.steps.specs.declared.Status.the-variants.{GoOn, MoreBytes, MoreRoom, NotSound, Done}
+use Rattle.steps.specs.declared.Stepped.{Stepped}
 use Rattle.calls.specs.Acts.{sound-hub, members-of, places-of, notices-of}
 use Rattle.log.specs.Log.{trace-limit}
-use Rattle.log.specs.Steps.{longest-answer, next, joined, onward, steps, is-go, work}
-use Rattle.log.proofs.OutcomeLaws.{steps-end-well}
-use Rattle.ticks.specs.Tie.{point-of, cursor-of, over, Did, Did-from, Facts}
+use Rattle.answers.specs.Answers.{longest-answer}
+use Rattle.steps.specs.Steps.{next, joined, onward, steps, is-go, work}
+use Rattle.steps.proofs.OutcomeLaws.{steps-end-well}
+use Rattle.steps.specs.Tie.{point-of, cursor-of, Did, Did-from, Facts}
+use Rattle.fields.specs.Formats.{over}
 use Rattle.steps.proofs.FactLaws.{next-short}
 use Rattle.replay.proofs.Standing.{Stands, stands-sound, stands-there, stands-of}
 

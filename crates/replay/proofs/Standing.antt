@@ -15,12 +15,13 @@ use Rattle.calls.specs.Acts.{sound-hub, members-of, places-of, notices-of}
 use Rattle.calls.proofs.ActLaws.{is-sound, members-kept, places-kept, notices-kept}
 use Rattle.hub.proofs.Results.{written-reads-back}
 use Rattle.fields.specs.Numbers.{pick}
-use Rattle.log.specs.declared.Cursor.{Cursor}
-use Rattle.log.specs.declared.Status.{Status}
-use Rattle.log.specs.declared.Status.the-variants.{GoOn, MoreRoom, NotSound}
-use Rattle.log.specs.declared.Stepped.{Stepped}
-use Rattle.log.specs.Steps.{longest-answer, Point, point, Next, still, is-go}
-use Rattle.ticks.specs.Tie.{point-of, cursor-of, nothing-done, Did, in-room, Does, Facts}
+use Rattle.steps.specs.declared.Cursor.{Cursor}
+use Rattle.steps.specs.declared.Status.{Status}
+use Rattle.steps.specs.declared.Status.the-variants.{GoOn, MoreRoom, NotSound}
+use Rattle.steps.specs.declared.Stepped.{Stepped}
+use Rattle.answers.specs.Answers.{longest-answer}
+use Rattle.steps.specs.Steps.{Point, point, Next, still, is-go}
+use Rattle.steps.specs.Tie.{point-of, cursor-of, nothing-done, Did, in-room, Does, Facts}
 use Rattle.steps.proofs.FactLaws.{waits-facts}
 use Rattle.replay.specs.Sessions.{readiness}
 

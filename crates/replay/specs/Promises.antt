@@ -10,14 +10,16 @@ use lib.ListN.{length, take, drop}
 use Rattle.fields.specs.Numbers.{pick}
 use Rattle.answers.specs.declared.Reply.the-variants.{Broken}
 use Rattle.answers.specs.Answers.{answer-bytes}
-use Rattle.log.specs.declared.Phase.the-variants.{Finished}
-use Rattle.log.specs.declared.Cursor.{Cursor}
-use Rattle.log.specs.declared.Status.the-variants.{MoreBytes, MoreRoom, NotSound, Done}
-use Rattle.log.specs.declared.Stepped.{Stepped}
+use Rattle.steps.specs.declared.Phase.the-variants.{Finished}
+use Rattle.steps.specs.declared.Cursor.{Cursor}
+use Rattle.steps.specs.declared.Status.the-variants.{MoreBytes, MoreRoom, NotSound, Done}
+use Rattle.steps.specs.declared.Stepped.{Stepped}
 use Rattle.log.specs.Log.{log}
 use Rattle.log.specs.Bad.{bad-at, Ends-with}
-use Rattle.log.specs.Steps.{longest-record, longest-answer, Next}
-use Rattle.ticks.specs.Tie.{Does}
+use Rattle.traces.specs.Trace.{longest-record}
+use Rattle.answers.specs.Answers.{longest-answer}
+use Rattle.steps.specs.Steps.{Next}
+use Rattle.steps.specs.Tie.{Does}
 use Rattle.replay.specs.Sessions.{Steps, Pumps, Session}
 
 -- THE THEOREM: for any bytes, in any pieces, the steps until the cursor says that it is finished write exactly the log of the trace

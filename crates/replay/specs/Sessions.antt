@@ -10,12 +10,13 @@ use Rattle.tables.specs.Notices.{notices-length}
 use Rattle.lines.specs.Members.{members-length}
 use Rattle.calls.specs.Acts.{sound-hub}
 use Rattle.fields.specs.Numbers.{pick}
-use Rattle.log.specs.declared.Cursor.{Cursor}
-use Rattle.log.specs.declared.Status.{Status}
-use Rattle.log.specs.declared.Status.the-variants.{GoOn, MoreRoom, NotSound}
-use Rattle.log.specs.declared.Stepped.{Stepped}
-use Rattle.log.specs.Steps.{longest-answer, beginning, next, steps}
-use Rattle.ticks.specs.Tie.{point-of, cursor-of, in-room, Does}
+use Rattle.steps.specs.declared.Cursor.{Cursor}
+use Rattle.steps.specs.declared.Status.{Status}
+use Rattle.steps.specs.declared.Status.the-variants.{GoOn, MoreRoom, NotSound}
+use Rattle.steps.specs.declared.Stepped.{Stepped}
+use Rattle.answers.specs.Answers.{longest-answer}
+use Rattle.steps.specs.Steps.{beginning, next, steps}
+use Rattle.steps.specs.Tie.{point-of, cursor-of, in-room, Does}
 
 -- whether a step can be made, with a room of r bytes
 unfoldable pub readiness : Cursor → List ℕ → List ℕ → List ℕ → ℕ → Status

@@ -5,15 +5,16 @@ ghost use mathlib.Core.Bool.{true};
 ghost use Prim.Native.Nat.{_+_, _-_, _/_, _≤_};
 ghost use lib.ListN.{length, drop};
 ghost use Rattle.calls.specs.Acts.{sound-hub};
-ghost use Rattle.log.specs.Steps.{longest-answer, beginning, next, steps, is-go};
-ghost use Rattle.ticks.specs.Tie.{point-of, cursor-of, in-room, Did, Did-from, Does, Facts};
+ghost use Rattle.answers.specs.Answers.{longest-answer};
+ghost use Rattle.steps.specs.Steps.{beginning, next, steps, is-go};
+ghost use Rattle.steps.specs.Tie.{point-of, cursor-of, in-room, Did, Did-from, Does, Facts};
 ghost use Rattle.replay.specs.Slides.{slide-length, slid};
 ghost use Rattle.replay.specs.Sessions.{readiness};
-use log::Cursor;
-use log::Phase;
-use log::Status;
-use log::Stepped;
-use ticks::LONGEST_ANSWER;
+use answers::LONGEST_ANSWER;
+use steps::Cursor;
+use steps::Phase;
+use steps::Status;
+use steps::Stepped;
 
 // Where every replay begins; its tables are zeros there.
 pub fn start() -> Cursor

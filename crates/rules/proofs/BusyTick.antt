@@ -7,9 +7,9 @@ use mathlib.Core.List.{List, [], _∷_}
 use mathlib.Core.Option.{Option, none, some}
 use Rattle.rules.specs.Words.{upto}
 use Rattle.rules.specs.Limits.{notice-number}
-use Rattle.rules.specs.Model.{Link, Connection, Packet, Notice, State, Answer, nth}
+use Rattle.rules.specs.Model.{Link, Connection, Packet, Notice, State, Answer, nth, with-line}
 use Rattle.rules.specs.Admission.{bound, cost}
-use Rattle.rules.specs.Service.{first, without, level-of, takes, with-line, later, after-unit, line-left}
+use Rattle.rules.specs.Service.{first, without, level-of, takes, later, after-unit, line-left}
 use Rattle.rules.specs.SoundState.{Fits, Notice-fits, In-service}
 use Rattle.rules.proofs.Lists.{All, all-map, all-zip, all-sub, all-every, Sub, sub-refl, total-le, total-sub, total-add, total-zero, total-none}
 use Rattle.rules.proofs.Sums.{split, upto-yes, upto-no, upto-le, upto-mono, upto-add}

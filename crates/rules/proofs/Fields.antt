@@ -13,13 +13,13 @@ use Rattle.rules.specs.Model.{Connection, Packet, Notice, State, Call, l
 use Rattle.rules.specs.Admission.{level-test}
 use Rattle.rules.specs.Service.{first, started, tick-answer, packet-departs, notice-departs, after-unit, ticked}
 use Rattle.rules.specs.SoundState.{Fits, Dated, Notice-fits, Sound-with-link, Sound}
-use Rattle.rules.specs.Calls.{verdicts, verdict, done, refused-number, refused-short, refused, settle, answer}
+use Rattle.rules.specs.Calls.{causes, verdicts, verdict, done, refused-number, refused-short, refused, settle, answer}
 use Rattle.rules.specs.Promises.{Names-the-lowest, own-term, Packet-fits, Answer-fits, number-limit}
-use Rattle.rules.proofs.Lists.{All, all-zip}
+use Rattle.rules.proofs.Lists.{All, all-map, all-zip}
 use Rattle.rules.proofs.Rows.{none-some, some-inj, first-all}
 use Rattle.rules.proofs.Notices.{first-notice-is}
 use Rattle.rules.proofs.Standing.{stands-below}
-use Rattle.rules.proofs.Verdicts.{admit-done, Short-refused, short-refused, tick-done}
+use Rattle.rules.proofs.Verdicts.{causes-from-2, admit-done, Short-refused, short-refused, tick-done}
 use Rattle.rules.proofs.Line.{tick-leaves}
 use Rattle.rules.proofs.Invariant.{clock-le-end}
 use Rattle.rules.proofs.Figures.{link-facts}
@@ -78,7 +78,7 @@ short-fits x s R t N =
 
 verdict-le : (k : Call) (s : State) → verdict k s ≤ 15
 unfolding verdicts
-verdict-le k s = number-le 15 (verdicts k s) (omega arith)
+verdict-le k s = number-le 15 (verdicts k s) (omega arith, all-map {P = λ r. (2 ≤ r .0) × (r .0 ≤ 15)} {Q = λ r. r .0 ≤ 15} (λ r n. n .1) (causes k s) (causes-from-2 k s))
 
 -- a held packet's numbers
 held-fit : (s : State) (S : Sound s) (T : Sound-with-link s) → All Packet-fits (s .held)

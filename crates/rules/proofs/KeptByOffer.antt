@@ -10,7 +10,7 @@ use lib.Seq.{getD-set-same, getD-set-other}
 use borrow.Author.Tests.{ne-eqb}
 use Rattle.rules.specs.Words.{upto}
 use Rattle.rules.specs.Limits.{max-connections, notice-number}
-use Rattle.rules.specs.Model.{Past, no-past, Packet, State, past, figures, notice-packet}
+use Rattle.rules.specs.Model.{Past, no-past, Packet, State, past, figures, notice-packet, with-connections, with-held}
 use Rattle.rules.specs.Admission.{cost}
 use Rattle.rules.specs.Service.{next-eligibility, remember, Spaced, of, eligibilities, first, level-of}
 use Rattle.rules.specs.SoundState.{Fits, In-service, Sound}
@@ -32,17 +32,7 @@ use Rattle.rules.proofs.Invariant.{whats, Invariant}
 
 module _ (s : State) (acc : List Packet) (p : Packet) (hs : List Past) (level : p .connection ≡ notice-number → ⊥) where
   abbrev behind : State
-  behind = record {
-    link = s .link;
-    connections = s .connections;
-    pasts = hs;
-    clock = s .clock;
-    held = s .held ++ p ∷ [];
-    notices = s .notices;
-    serving = s .serving;
-    to-go = s .to-go;
-    silent = s .silent;
-  }
+  behind = with-held (with-connections s (s .connections) hs) (s .held ++ p ∷ [])
 
   behind-service : (k : ℕ) → In-service s k → In-service behind k
   behind-service k r = record {

@@ -9,9 +9,9 @@ use mathlib.Core.Option.{Option, none, some}
 use lib.ListN.{length}
 use Rattle.rules.specs.Words.{push}
 use Rattle.rules.specs.Limits.{notice-number}
-use Rattle.rules.specs.Model.{Packet, Notice, State, Answer, notice-packet}
+use Rattle.rules.specs.Model.{Packet, Notice, State, Answer, notice-packet, with-line}
 use Rattle.rules.specs.Admission.{bound}
-use Rattle.rules.specs.Service.{of, first, without, level-of, chosen, with-line, later, line-after-start, packet-departs, after-unit, ticked, line-left}
+use Rattle.rules.specs.Service.{of, first, without, level-of, chosen, later, line-after-start, packet-departs, after-unit, ticked, line-left}
 use Rattle.rules.specs.SoundState.{Fits, In-service, Sound-with-link, Sound}
 use Rattle.rules.specs.Runs.{Departure, History, leaving, in-hub}
 use Rattle.rules.proofs.Lists.{All, all-map, all-snoc, Sub, sub-refl, total-sub, total-zero}

@@ -8,9 +8,9 @@ use mathlib.Core.Option.{none, some}
 use lib.Dec.{eqb}
 use borrow.Author.Tests.{eq-eqb, ne-eqb}
 use Rattle.rules.specs.Limits.{notice-number}
-use Rattle.rules.specs.Model.{Packet, Notice, State, Answer, notice-packet}
+use Rattle.rules.specs.Model.{Packet, Notice, State, Answer, notice-packet, with-line}
 use Rattle.rules.specs.Admission.{cost}
-use Rattle.rules.specs.Service.{chosen, takes, with-line, later, line-after-start, started, tick-answer, packet-departs, notice-departs, after-unit, ticked, line-left}
+use Rattle.rules.specs.Service.{chosen, takes, later, line-after-start, started, tick-answer, packet-departs, notice-departs, after-unit, ticked, line-left}
 use Rattle.rules.specs.SoundState.{In-service, Notice-in-service}
 use Rattle.rules.proofs.Sums.{cond-is}
 use Rattle.rules.proofs.Figures.{cost-pos}

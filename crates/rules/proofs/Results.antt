@@ -16,16 +16,16 @@ use Rattle.rules.specs.Admission.{stands, bound, reservation, level-test
 use Rattle.rules.specs.Service.{Spaced, of, started}
 use Rattle.rules.specs.SoundState.{Sound}
 use Rattle.rules.specs.SoundTest.{sound}
-use Rattle.rules.specs.Calls.{verdicts, verdict, eligibility-now, done, refused-number, settle, answer}
+use Rattle.rules.specs.Calls.{causes, verdicts, verdict, eligibility-now, done, refused-number, settle, answer}
 use Rattle.rules.specs.Runs.{Departure, History, taken, logged, after, run-from, nothing-yet, run, departures, in-hub, bound-of, allowed, offer-tick, offer-ticks-from, offer-ticks, Keeps-its-gap, Exchange, exchanges, own-answer}
 use Rattle.rules.specs.Promises.{Demand-1-refusals, Test-is-exact, Verdict-1-exactly, No-link-means-zero, Sound-is-kept, Runs-are-sound, Rows-fit, Notices-fit, Notices-come-last, Fifteen-after-thirteen, Names-the-lowest, Level-test-tells, Short-is-told, Units-are-missing, Units-fit, Eligibilities-fit, Answers-fit, Conservation, Left-by, Demand-3-first, Demand-3-second, Told-by-its-own, Bed-nine-and-bed-ten, Counted, Without-silence}
 use Rattle.rules.proofs.Sums.{same, cond-is}
 use Rattle.rules.proofs.Tests.{and-true, and-intro, not-true-false, never-number}
-use Rattle.rules.proofs.Lists.{All}
+use Rattle.rules.proofs.Lists.{All, all-map}
 use Rattle.rules.proofs.Rows.{of-append, length-map}
 use Rattle.rules.proofs.Spacing.{spaced-front}
 use Rattle.rules.proofs.Standing.{stands-below}
-use Rattle.rules.proofs.Verdicts.{settled, refused-leaves, short-refused}
+use Rattle.rules.proofs.Verdicts.{causes-from-2, settled, refused-leaves, short-refused}
 use Rattle.rules.proofs.SoundExact.{exact}
 use Rattle.rules.proofs.SoundKept.{kept}
 use Rattle.rules.proofs.Invariant.{connections-few}
@@ -71,13 +71,10 @@ pub verdict-1-exactly : Verdict-1-exactly
 unfolding verdicts
 verdict-1-exactly k s = (to, from)
   where
-    other : {A : Type 0} {n : ℕ} → suc (suc n) ≡ 1 → A
-    other i = absurd (omega arith)
-
     to : answer k s .verdict ≡ 1 → Sound s → ⊥
     to e S =
         never-number 1 (verdicts k s)
-        (λ _. ap not (exact s .1 S), (other, (other, (other, (other, (other, (other, (other, (other, (other, (other, (other, (other, (other, tt))))))))))))))
+        (λ _. ap not (exact s .1 S), all-map {P = λ r. (2 ≤ r .0) × (r .0 ≤ 15)} {Q = λ r. r .0 ≡ 1 → r .1 ≡ false} (λ r n i. absurd (omega arith)) (causes k s) (causes-from-2 k s))
         (omega arith) (sym (answer-verdict k s) ∙ e)
 
     from : (Sound s → ⊥) → answer k s .verdict ≡ 1

@@ -7,8 +7,8 @@ use mathlib.Core.List.{List, [], _∷_, map}
 use mathlib.Core.Option.{Option, none, some}
 use lib.ListN.{length}
 use Rattle.rules.specs.Limits.{clock-end, max-notices, notice-number}
-use Rattle.rules.specs.Model.{Packet, Notice, State, Answer, past, figures, first-notice}
-use Rattle.rules.specs.Service.{of, eligibilities, first, without, level-of, chosen, with-line, later, takes, line-after-start, after-unit, ticked}
+use Rattle.rules.specs.Model.{Packet, Notice, State, Answer, past, figures, first-notice, with-line}
+use Rattle.rules.specs.Service.{of, eligibilities, first, without, level-of, chosen, later, takes, line-after-start, after-unit, ticked}
 use Rattle.rules.specs.SoundState.{Fits, Dated, Queue, Notice-fits, Idle, In-service, Notice-in-service, Serves, Sound-with-link}
 use Rattle.rules.proofs.Lists.{All, all-map, all-sub, Pairs, Sub, sub-refl}
 use Rattle.rules.proofs.Sums.{same}

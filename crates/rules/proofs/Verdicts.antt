@@ -12,8 +12,8 @@ use Rattle.rules.specs.Model.{Link, Connection, State, Call, link, admit
 use Rattle.rules.specs.Admission.{link-within, level-within, figures-within, stands, reservation, reserved, passes}
 use Rattle.rules.specs.Service.{of}
 use Rattle.rules.specs.SoundTest.{sound}
-use Rattle.rules.specs.Calls.{verdicts, verdict, done, refused, settle}
-use Rattle.rules.proofs.Lists.{All}
+use Rattle.rules.specs.Calls.{causes, verdicts, verdict, done, refused, settle}
+use Rattle.rules.proofs.Lists.{All, all-map}
 use Rattle.rules.proofs.Tests.{passed, within-true}
 
 -- an answer is what is done at verdict 0, or a refusal
@@ -38,10 +38,18 @@ none-holds v (r ∷ rs) h = go (eqb (r .0) v) (none-holds v rs (h .1))
     go true k = h .0
     go false k = k
 
+-- the numbers of the causes
+pub causes-from-2 : (k : Call) (s : State) → All (λ r. (2 ≤ r .0) × (r .0 ≤ 15)) (causes k s)
+causes-from-2 (link l) s = omega arith
+causes-from-2 (admit x) s = omega arith
+causes-from-2 (offer c len tag) s = omega arith
+causes-from-2 (notice len tag) s = omega arith
+causes-from-2 tick s = omega arith
+
 -- at verdict 0 the test of no row holds
 not-given : (k : Call) (s : State) → verdict k s ≡ 0 → (v : ℕ) → test-of v (verdicts k s) ≡ false
 unfolding verdicts
-not-given k s e v = none-holds v (verdicts k s) (passed (verdicts k s) (omega arith) e)
+not-given k s e v = none-holds v (verdicts k s) (passed (verdicts k s) (omega arith, all-map {P = λ r. (2 ≤ r .0) × (r .0 ≤ 15)} {Q = λ r. 0 < r .0} (λ r n. omega arith) (causes k s) (causes-from-2 k s)) e)
 
 -- ---- each call done
 

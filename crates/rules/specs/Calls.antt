@@ -1,102 +1,65 @@
 -- The five calls: their verdicts as one table, and what each does where the verdict is 0. Document 01, "Verdict numbers"; document 02, R-1.
 -- Assumes nothing.
 use Prim.Native.Nat.{ℕ, zero, suc}
-use mathlib.Core.Bool.{Bool, false, cond, not}
+use mathlib.Core.Bool.{Bool, cond, not}
 use mathlib.Core.List.{List, [], _∷_, _++_}
 use mathlib.Core.Option.{none}
 use lib.Dec.{leb, ltb, eqb}
 use lib.ListN.{length, set}
 use Rattle.rules.specs.Words.{within, first-number}
 use Rattle.rules.specs.Limits.{max-connections, max-reserved, clock-end, max-notices, no-connection-number}
-use Rattle.rules.specs.Model.{Link, Connection, Packet, State, Call, link, admit, offer, notice, tick, Short, no-short, Answer, no-past, past, figures}
+use Rattle.rules.specs.Model.{Link, Connection, Packet, State, Call, link, admit, offer, notice, tick, Short, no-short, Answer, no-past, past, figures, with-link, with-connections, with-held, with-notices}
 use Rattle.rules.specs.Admission.{link-within, level-within, figures-within, next-number, stands, reservation, reserved, level-test, passes}
 use Rattle.rules.specs.Service.{next-eligibility, remember, of, ticked}
 use Rattle.rules.specs.SoundTest.{sound}
 
--- ---- the column "Call": a test that is asked of these calls alone
+-- ---- the table "Verdict numbers", call by call, each in the document's order: number, given exactly when
 
-abbrev pub at-link : (Link → Bool) → Call → Bool
-at-link f (link l) = f l
-at-link f (admit x) = false
-at-link f (offer c len tag) = false
-at-link f (notice len tag) = false
-at-link f tick = false
+-- no link set; the clock has ended
+abbrev pub no-link-set : State → ℕ × Bool
+no-link-set s = (2, eqb (s .link .levels) 0)
 
-abbrev pub at-admit : (Connection → Bool) → Call → Bool
-at-admit f (link l) = false
-at-admit f (admit x) = f x
-at-admit f (offer c len tag) = false
-at-admit f (notice len tag) = false
-at-admit f tick = false
+abbrev pub clock-ended : State → ℕ × Bool
+clock-ended s = (13, leb clock-end (s .clock))
 
-abbrev pub at-offer : (ℕ → ℕ → Bool) → Call → Bool
-at-offer f (link l) = false
-at-offer f (admit x) = false
-at-offer f (offer c len tag) = f c len
-at-offer f (notice len tag) = false
-at-offer f tick = false
-
-abbrev pub at-notice : (ℕ → Bool) → Call → Bool
-at-notice f (link l) = false
-at-notice f (admit x) = false
-at-notice f (offer c len tag) = false
-at-notice f (notice len tag) = f len
-at-notice f tick = false
-
-abbrev pub at-offer-and-notice : (ℕ → ℕ → Bool) → (ℕ → Bool) → Call → Bool
-at-offer-and-notice f g (link l) = false
-at-offer-and-notice f g (admit x) = false
-at-offer-and-notice f g (offer c len tag) = f c len
-at-offer-and-notice f g (notice len tag) = g len
-at-offer-and-notice f g tick = false
-
-abbrev pub at-all-but-link-and-admit : Bool → Call → Bool
-at-all-but-link-and-admit b (link l) = false
-at-all-but-link-and-admit b (admit x) = false
-at-all-but-link-and-admit b (offer c len tag) = b
-at-all-but-link-and-admit b (notice len tag) = b
-at-all-but-link-and-admit b tick = b
-
-abbrev pub at-all-but-link : Bool → Call → Bool
-at-all-but-link b (link l) = false
-at-all-but-link b (admit x) = b
-at-all-but-link b (offer c len tag) = b
-at-all-but-link b (notice len tag) = b
-at-all-but-link b tick = b
-
--- ---- the table, in the document's order: number, call, given exactly when
+abbrev pub causes : Call → State → List (ℕ × Bool)
+causes (link l) s =
+    -- a link is set already
+    (3, not (eqb (s .link .levels) 0))
+    -- a link limit is broken
+    ∷ (4, not (link-within l)) ∷ []
+causes (admit x) s =
+    no-link-set s
+    -- level not 1 to n
+    ∷ (5, not (level-within (s .link) x))
+    -- gap or size outside its limits
+    ∷ (6, not (figures-within (s .link) x))
+    -- all connections stand
+    ∷ (7, leb max-connections (length (s .connections)))
+    -- a level test fails, with the new one counted
+    ∷ (8, not (passes (s .link) (s .connections ++ x ∷ [])))
+    -- reservations would pass their limit
+    ∷ (9, ltb max-reserved (reserved (s .link) (s .connections ++ x ∷ []))) ∷ []
+causes (offer c len tag) s =
+    no-link-set s
+    -- no such connection
+    ∷ (10, not (stands (s .connections) c))
+    -- length 0 or above the connection's size
+    ∷ (11, not (within 1 (figures s c .size) len))
+    -- it holds as many packets as its reservation
+    ∷ (12, leb (reservation (s .link) (figures s c)) (length (of c (s .held))))
+    ∷ clock-ended s ∷ []
+causes (notice len tag) s =
+    no-link-set s
+    -- length 0 or above S
+    ∷ (11, not (within 1 (s .link .largest) len))
+    ∷ clock-ended s
+    -- the places of the notices are full
+    ∷ (15, leb max-notices (length (s .notices))) ∷ []
+causes tick s = no-link-set s ∷ clock-ended s ∷ []
 
 unfoldable pub verdicts : Call → State → List (ℕ × Bool)
-verdicts k s =
-    -- the state is not sound
-    (1, not (sound s))
-    -- no link set
-    ∷ (2, at-all-but-link (eqb (s .link .levels) 0) k)
-    -- a link is set already
-    ∷ (3, at-link (λ l. not (eqb (s .link .levels) 0)) k)
-    -- a link limit is broken
-    ∷ (4, at-link (λ l. not (link-within l)) k)
-    -- level not 1 to n
-    ∷ (5, at-admit (λ x. not (level-within (s .link) x)) k)
-    -- gap or size outside its limits
-    ∷ (6, at-admit (λ x. not (figures-within (s .link) x)) k)
-    -- all connections stand
-    ∷ (7, at-admit (λ x. leb max-connections (length (s .connections))) k)
-    -- a level test fails, with the new one counted
-    ∷ (8, at-admit (λ x. not (passes (s .link) (s .connections ++ x ∷ []))) k)
-    -- reservations would pass their limit
-    ∷ (9, at-admit (λ x. ltb max-reserved (reserved (s .link) (s .connections ++ x ∷ []))) k)
-    -- no such connection
-    ∷ (10, at-offer (λ c len. not (stands (s .connections) c)) k)
-    -- length 0 or above the connection's size; of a notice, above S
-    ∷ (11, at-offer-and-notice (λ c len. not (within 1 (figures s c .size) len)) (λ len. not (within 1 (s .link .largest) len)) k)
-    -- it holds as many packets as its reservation
-    ∷ (12, at-offer (λ c len. leb (reservation (s .link) (figures s c)) (length (of c (s .held)))) k)
-    -- the clock has ended
-    ∷ (13, at-all-but-link-and-admit (leb clock-end (s .clock)) k)
-    -- the places of the notices are full
-    ∷ (15, at-notice (λ len. leb max-notices (length (s .notices))) k)
-    ∷ []
+verdicts k s = (1, not (sound s)) ∷ causes k s
 
 -- number 1 first, otherwise the lowest that applies; 0: done
 abbrev pub verdict : Call → State → ℕ
@@ -105,20 +68,10 @@ verdict k s = first-number (verdicts k s)
 -- ---- what a call does
 
 abbrev pub linked : State → Link → State
-linked s l = record { link = l; connections = s .connections; pasts = s .pasts; clock = s .clock; held = s .held; notices = s .notices; serving = s .serving; to-go = s .to-go; silent = s .silent }
+linked s l = with-link s l
 
 abbrev pub joined : State → Connection → State
-joined s x = record {
-  link = s .link;
-  connections = s .connections ++ x ∷ [];
-  pasts = s .pasts ++ no-past ∷ [];
-  clock = s .clock;
-  held = s .held;
-  notices = s .notices;
-  serving = s .serving;
-  to-go = s .to-go;
-  silent = s .silent;
-}
+joined s x = with-connections s (s .connections ++ x ∷ []) (s .pasts ++ no-past ∷ [])
 
 -- the eligibility of an offer to connection c now
 abbrev pub eligibility-now : State → ℕ → ℕ
@@ -128,31 +81,14 @@ abbrev pub packet : State → ℕ → ℕ → ℕ → Packet
 packet s c len tag = record { connection = c; len = len; tag = tag; arrival = s .clock; eligibility = eligibility-now s c }
 
 abbrev pub placed : State → ℕ → ℕ → ℕ → State
-placed s c len tag = record {
-  link = s .link;
-  connections = s .connections;
-  pasts = set (s .pasts) c (remember (past s c) (eligibility-now s c));
-  clock = s .clock;
-  held = s .held ++ packet s c len tag ∷ [];
-  notices = s .notices;
-  serving = s .serving;
-  to-go = s .to-go;
-  silent = s .silent;
-}
+placed s c len tag =
+    with-held
+    (with-connections s (s .connections) (set (s .pasts) c (remember (past s c) (eligibility-now s c))))
+    (s .held ++ packet s c len tag ∷ [])
 
 -- a notice behind the others
 abbrev pub noted : State → ℕ → ℕ → State
-noted s len tag = record {
-  link = s .link;
-  connections = s .connections;
-  pasts = s .pasts;
-  clock = s .clock;
-  held = s .held;
-  notices = s .notices ++ record { len = len; tag = tag; arrival = s .clock } ∷ [];
-  serving = s .serving;
-  to-go = s .to-go;
-  silent = s .silent;
-}
+noted s len tag = with-notices s (s .notices ++ record { len = len; tag = tag; arrival = s .clock } ∷ [])
 
 -- no packet leaves but in a tick
 abbrev pub accepted : ℕ → State → Answer

@@ -82,3 +82,22 @@ notice-packet n = record { connection = notice-number; len = n .len; tag = n .ta
 abbrev pub first-notice : List Notice → Option Notice
 first-notice [] = none
 first-notice (n ∷ ns) = some n
+
+-- the state with one part given anew: no other text writes a whole state out
+abbrev pub with-link : State → Link → State
+with-link s l = record { link = l; connections = s .connections; pasts = s .pasts; clock = s .clock; held = s .held; notices = s .notices; serving = s .serving; to-go = s .to-go; silent = s .silent }
+
+abbrev pub with-connections : State → List Connection → List Past → State
+with-connections s cs hs = record { link = s .link; connections = cs; pasts = hs; clock = s .clock; held = s .held; notices = s .notices; serving = s .serving; to-go = s .to-go; silent = s .silent }
+
+abbrev pub with-clock : State → ℕ → State
+with-clock s t = record { link = s .link; connections = s .connections; pasts = s .pasts; clock = t; held = s .held; notices = s .notices; serving = s .serving; to-go = s .to-go; silent = s .silent }
+
+abbrev pub with-held : State → List Packet → State
+with-held s ps = record { link = s .link; connections = s .connections; pasts = s .pasts; clock = s .clock; held = ps; notices = s .notices; serving = s .serving; to-go = s .to-go; silent = s .silent }
+
+abbrev pub with-notices : State → List Notice → State
+with-notices s ns = record { link = s .link; connections = s .connections; pasts = s .pasts; clock = s .clock; held = s .held; notices = ns; serving = s .serving; to-go = s .to-go; silent = s .silent }
+
+abbrev pub with-line : State → ℕ → ℕ → ℕ → State
+with-line s serving to-go silent = record { link = s .link; connections = s .connections; pasts = s .pasts; clock = s .clock; held = s .held; notices = s .notices; serving = serving; to-go = to-go; silent = silent }

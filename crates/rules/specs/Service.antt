@@ -7,7 +7,7 @@ use mathlib.Core.Option.{Option, none, some}
 use lib.Dec.{leb, ltb, eqb}
 use Rattle.rules.specs.Words.{Pairs}
 use Rattle.rules.specs.Limits.{notice-number}
-use Rattle.rules.specs.Model.{Connection, Past, Packet, Notice, State, Answer, no-short, figures, notice-packet}
+use Rattle.rules.specs.Model.{Connection, Past, Packet, Notice, State, Answer, no-short, figures, notice-packet, with-clock, with-held, with-notices, with-line}
 use Rattle.rules.specs.Admission.{cost}
 
 -- ---- "Eligibility"
@@ -71,13 +71,9 @@ chosen s = choice (level-of s) (s .clock) (s .held)
 
 -- ---- "One tick", the three steps
 
--- the state with the line given anew: the connection in service, its units to go, and the silence still to run
-abbrev pub with-line : State → ℕ → ℕ → ℕ → State
-with-line s serving to-go silent = record { link = s .link; connections = s .connections; pasts = s .pasts; clock = s .clock; held = s .held; notices = s .notices; serving = serving; to-go = to-go; silent = silent }
-
--- .. and with the packets held and the notices given anew, one tick later
+-- the state one tick later, with the packets held, the notices and the line given anew
 abbrev pub later : State → List Packet → List Notice → ℕ → ℕ → ℕ → State
-later s held notices serving to-go silent = record { link = s .link; connections = s .connections; pasts = s .pasts; clock = s .clock + 1; held = held; notices = notices; serving = serving; to-go = to-go; silent = silent }
+later s held notices serving to-go silent = with-line (with-notices (with-held (with-clock s (s .clock + 1)) held) notices) serving to-go silent
 
 -- the line takes a packet whole; where no held one is eligible the first notice, "in the order offered"; where there is none it stays idle
 abbrev pub takes : Option Packet → List Notice → ℕ × ℕ

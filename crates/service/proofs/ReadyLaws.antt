@@ -17,11 +17,10 @@ use Rattle.rules.specs.SoundTest.{serves, serves-notice, busy-sound, line-sound
 use Rattle.rules.proofs.Sums.{cond-is}
 use Rattle.rules.proofs.Tests.{never, and-true}
 use Rattle.tables.specs.Table.{formed}
-use Rattle.tables.specs.Places.{rows, place, packet-of, places-length}
+use Rattle.tables.specs.Places.{rows, place, packet-width, places-length}
 use Rattle.tables.specs.Notices.{notice-of, notices, notices-formed}
 use Rattle.tables.proofs.TableLaws.{formed-length}
 use Rattle.tables.proofs.PlacesLaws.{first-held, table-back}
-use Rattle.lines.specs.Members.{members-length, member-of}
 use Rattle.service.specs.declared.Hub.{Hub}
 use Rattle.service.specs.View.{view}
 use Rattle.service.specs.Ready.{Ready}
@@ -53,14 +52,13 @@ module _ (h : Hub) (cs t q : List ℕ) where
       go [] s = never s
       go (p ∷ ps) s = omega arith
 
-  pub ready : formed packet-of places-length t ≡ true → formed member-of members-length cs ≡ true → notices-formed q ≡ true
-      → All (λ p. p .connection ≡ notice-number → ⊥) (rows t) → line-sound (view h cs t q) ≡ true → h .clock < clock-end → Ready h cs t q
-  ready p m n o l c = record {
-    members = m;
+  pub ready : formed packet-width places-length t ≡ true → notices-formed q ≡ true
+      → All (λ p. p .connection ≡ notice-number → ⊥) (rows t) → line-sound (view h cs t q) ≡ true → h .clock < clock-end → Ready h t q
+  ready p n o l c = record {
     others = o;
     in-place = record {
       table = table-back t p;
-      size = formed-length packet-of places-length t p;
+      size = formed-length packet-width places-length t p;
       notices = n;
       time = c;
       line = served-held l;

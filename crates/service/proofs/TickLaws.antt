@@ -12,8 +12,8 @@ use Rattle.rules.specs.declared.Packet.{Packet}
 use Rattle.rules.specs.declared.Notice.{Notice}
 use Rattle.rules.specs.Words.{All, each}
 use Rattle.rules.specs.Limits.{notice-number}
-use Rattle.rules.specs.Model.{Answer}
-use Rattle.rules.specs.Service.{goes-first, better, choice, with-line, takes, line-after-start, started, packet-departs, notice-departs, after-unit, ticked}
+use Rattle.rules.specs.Model.{Answer, with-line}
+use Rattle.rules.specs.Service.{goes-first, better, choice, takes, line-after-start, started, packet-departs, notice-departs, after-unit, ticked}
 use Rattle.rules.proofs.Sums.{cond-ind}
 use Rattle.rules.proofs.Tests.{never, and-true}
 use Rattle.rules.proofs.Line.{last-of-packet, last-of-notice}

@@ -1,3 +1,4 @@
 pub mod Candidates
 pub mod View
 pub mod Ready
+pub mod Quiet

@@ -7,10 +7,8 @@ use mathlib.Core.List.{List}
 use lib.ListN.{length}
 use Rattle.rules.specs.Words.{All}
 use Rattle.rules.specs.Limits.{clock-end, notice-number}
-use Rattle.tables.specs.Table.{formed}
 use Rattle.tables.specs.Places.{rows, places, places-length, place}
 use Rattle.tables.specs.Notices.{notices-formed}
-use Rattle.lines.specs.Members.{members-length, member-of}
 use Rattle.service.specs.declared.Hub.{Hub}
 
 -- what the hub, the places table and the table of notices need
@@ -28,9 +26,8 @@ pub record In-place (h : Hub) (t q : List ℕ) : Type 0 where
   -- and so is a notice in service the first one
   pub notice-line : (h .units ≡ 0 → ⊥) → h .serving ≡ notice-number → 0 < length (rows q)
 
--- .. and the table of connections
-pub record Ready (h : Hub) (cs t q : List ℕ) : Type 0 where
-  pub members : formed member-of members-length cs ≡ true
+-- .. and, at the start of a tick
+pub record Ready (h : Hub) (t q : List ℕ) : Type 0 where
   -- each row names a connection, which has another number than the notices
   pub others : All (λ p. p .connection ≡ notice-number → ⊥) (rows t)
   pub in-place : In-place h t q

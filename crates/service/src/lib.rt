@@ -1,23 +1,25 @@
 // One tick of the line: the choice of the next packet in one pass over the rows, and the three steps. Document 01, "One tick"; document 02, R-1
 // and R-4.
+pub mod quiet; // quiet.rt: ticks in which nothing starts and nothing departs
+
 ghost use mathlib.Core.Path.{_≡_};
 ghost use mathlib.Core.Bool.{true};
 ghost use mathlib.Core.List.{[]};
 ghost use Prim.Native.Nat.{_+_, _*_, _-_, _<_, _≤_};
 ghost use Rattle.rules.specs.Limits.{clock-end, notice-number};
-ghost use Rattle.rules.specs.Service.{choice, with-line, started, after-unit, ticked};
-ghost use Rattle.tables.specs.Table.{formed};
+ghost use Rattle.rules.specs.Model.{with-line};
+ghost use Rattle.rules.specs.Service.{choice, started, after-unit, ticked};
 ghost use lib.ListN.{length};
 ghost use Rattle.tables.specs.Places.{rows, places, places-length};
-ghost use Rattle.lines.specs.Members.{members-length, member-of};
 ghost use Rattle.service.specs.Candidates.{best-of, level-in, Leads, Leads-with};
 ghost use Rattle.service.specs.View.{view, hub-of, passed-on, Gives};
 ghost use Rattle.service.specs.Ready.{In-place, Ready};
 ghost use Rattle.tables.specs.Notices.{notices-formed};
+use limits::NOTICE_NUMBER;
+use limits::PACKET_WIDTH;
 use lines::Shortage;
 use rules::Link;
 use rules::Packet;
-use tables::NOTICE_NUMBER;
 
 // The part of the state that no table holds. While `units` is 0 nothing is in service, and `serving` is 0 too. `silent` is the silence still to run.
 pub struct Hub {
@@ -55,14 +57,14 @@ pub struct Lead {
 
 // The best so far, or row i, which was offered later: row i only if it is eligible and goes strictly before the best.
 fn lead_with(cs: &[u32], t: &[u32], lead: Lead, i: usize, clock: u32) -> Lead
-    requires { ⌜ (formed member-of members-length (now cs) ≡ true) × (5 * i + 5 ≤ length (now t)) × Leads (now cs) (now t) lead ⌝ }
+    requires { ⌜ (5 * i + 5 ≤ length (now t)) × Leads (now cs) (now t) lead ⌝ }
     ensures { λ r. ⌜ Leads-with (now (cs .entry)) (now (t .entry)) clock lead i r ⌝ }
 {
-    let eligibility = t[5 * i + 4];
+    let eligibility = t[PACKET_WIDTH * i + 4];
     if clock < eligibility {
         return lead;
     }
-    let level = lines::level_of(cs, t[5 * i]);
+    let level = lines::level_of(cs, t[PACKET_WIDTH * i]);
     let next = Lead {
         found: true,
         place: i,
@@ -86,7 +88,7 @@ fn lead_with(cs: &[u32], t: &[u32], lead: Lead, i: usize, clock: u32) -> Lead
 
 // The packet that the line takes next, if one is eligible. One pass upward over the held rows.
 pub fn choose(cs: &[u32], t: &[u32], clock: u32) -> Best
-    requires { ⌜ (formed member-of members-length (now cs) ≡ true) × (now t ≡ places (rows (now t))) × (length (now t) ≡ places-length) ⌝ }
+    requires { ⌜ (now t ≡ places (rows (now t))) × (length (now t) ≡ places-length) ⌝ }
     ensures { λ r. ⌜ r ≡ best-of (choice (level-in (now (cs .entry))) clock (rows (now (t .entry)))) ⌝ }
 {
     let n = tables::count(t);
@@ -124,20 +126,20 @@ fn with_line(h: Hub, serving: u32, units: u32, silent: u32) -> Hub
     g
 }
 
-// A tick of the silence runs, if one is left.
-fn one_less(silent: u32) -> u32
-    ensures { λ r. ⌜ r ≡ silent - 1 ⌝ }
+// a less b, or 0 where b is more.
+pub fn without(a: u32, b: u32) -> u32
+    ensures { λ r. ⌜ r ≡ a - b ⌝ }
 {
-    if silent == 0 {
+    if a < b {
         return 0;
     }
-    silent - 1
+    a - b
 }
 
 // Step 1: an idle line takes the chosen packet, else the first notice. Nothing interrupts what is in service, and nothing starts before the silence has
 // run, so no row is looked at then.
 fn start(h: Hub, cs: &[u32], t: &[u32], q: &[u32]) -> Hub
-    requires { ⌜ (formed member-of members-length (now cs) ≡ true) × (now t ≡ places (rows (now t))) × (length (now t) ≡ places-length) × (notices-formed (now q) ≡ true) ⌝ }
+    requires { ⌜ (now t ≡ places (rows (now t))) × (length (now t) ≡ places-length) × (notices-formed (now q) ≡ true) ⌝ }
     ensures { λ r. ⌜ r ≡ hub-of (started (view h (now (cs .entry)) (now (t .entry)) (now (q .entry)))) ⌝ }
 {
     if h.units != 0 {
@@ -203,7 +205,7 @@ fn send(g: Hub, t: &mut [u32], q: &mut [u32]) -> Told
     ensures { λ r. ⌜ Gives (after-unit (view g [] (now (t .entry)) (now (q .entry))) (g .units)) r (now (t .exit)) (now (q .exit)) ⌝ }
 {
     if g.units == 0 {
-        let idle = with_line(g, 0, 0, one_less(g.silent));
+        let idle = with_line(g, 0, 0, without(g.silent, 1));
         return pass(idle, false, tables::no_packet());
     }
     if g.units == 1 {
@@ -218,7 +220,7 @@ fn send(g: Hub, t: &mut [u32], q: &mut [u32]) -> Told
 
 // One tick of a hub that is ready for it.
 pub fn run_tick(h: Hub, cs: &[u32], t: &mut [u32], q: &mut [u32]) -> Told
-    requires { ⌜ Ready h (now cs) (now t) (now q) ⌝ }
+    requires { ⌜ Ready h (now t) (now q) ⌝ }
     ensures { λ r. ⌜ Gives (ticked (view h (now (cs .entry)) (now (t .entry)) (now (q .entry)))) r (now (t .exit)) (now (q .exit)) ⌝ }
 {
     let g = start(h, cs, t, q);

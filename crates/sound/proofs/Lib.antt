@@ -1,3 +1,2 @@
-pub mod ChainLaws
-pub mod LimitLaws
 pub mod StateLaws
+pub mod PaceLaws

@@ -23,18 +23,18 @@ use Rattle.rules.specs.SoundTest.{nothing-used, connection-sound, admissions-so
 use Rattle.rules.specs.SoundTest.{notice-sound, notices-sound, serves, serves-notice, busy-sound, line-sound, sound}
 use Rattle.rules.proofs.Sums.{cond-is}
 use Rattle.rules.proofs.Tests.{and-true, every-true, within-intro}
-use Rattle.tables.specs.Table.{zeros, formed}
-use Rattle.tables.specs.Places.{places-length, packet-of, rows, row-at, place, no-packet}
+use Rattle.tables.specs.Places.{places-length, packet-width, rows, row-at, place, no-packet}
 use Rattle.tables.specs.Notices.{notice-of, notices, notices-formed}
 use Rattle.tables.proofs.TableLaws.{formed-length}
 use Rattle.tables.proofs.PlacesLaws.{row-is, rows-end, rows-from, first-place, first-none}
 use Rattle.tables.proofs.NoticeLaws.{notices-few, first-row, no-rows}
-use Rattle.lines.specs.Members.{members-length, member-of, members, connections, pasts, connection-of, past-of, members-formed}
-use Rattle.lines.proofs.MemberLaws.{members-rows}
+use Rattle.lines.specs.Members.{members, connections, pasts, connection-of, past-of, members-formed}
+use Rattle.lines.proofs.MemberLaws.{members-end}
+use Rattle.lines.proofs.WrittenLaws.{members-long}
 use Rattle.lines.specs.Within.{Within}
 use Rattle.lines.specs.StateRead.{state-read}
 use Rattle.sound.specs.SoundTables.{places-formed, unused, Counted, Waiting, linked-sound}
-use Rattle.sound.proofs.ChainLaws.{fails, goes-on, too-low, too-high}
+use Rattle.limits.proofs.ChainLaws.{fails, goes-on, too-low, too-high}
 
 -- ---- a test of each element, one by one
 
@@ -200,12 +200,6 @@ module _ (l : Link) (t q : List ℕ) (clock w u z : ℕ) where
     pub line-rest : z ≡ 0 → (r : Bool) → r ≡ busy-sound (state-read no-link [] t q clock w u 0) → r ≡ line-sound line
     line-rest n r h = goes-on (eqb z 0) (busy-sound line) r (eq-eqb z 0 n) h ∙ sym taken
 
--- ---- with no link set
-
-zeros-each : (ds : List ℕ) → zeros ds ≡ each (λ d. eqb d 0) ds
-zeros-each [] = refl
-zeros-each (d ∷ ds) = ap (λ (b : Bool). eqb d 0 && b) (zeros-each ds)
-
 -- ---- link, connections, tests and reservations: a table has one past beside each connection, so that clause always holds of what is read
 
 module _ (l : Link) (cs : List ℕ) where
@@ -249,7 +243,7 @@ module _ (l : Link) (cs t q : List ℕ) (clock w u z : ℕ) where
       → unused l n held waiting clock w u z ≡ nothing-used (state-read l cs t q clock w u z)
   unfolding nothing-used
   unused-read n held waiting e f h g =
-      rw (e, f, h, zeros-each (l .bounds), eq-eqb (length (l .bounds)) max-levels g)
+      rw (e, f, h, eq-eqb (length (l .bounds)) max-levels g)
       (rw (length-map (members cs) connection-of, length-map (members cs) past-of, length-map (rows q) notice-of)
       (twice (eqb (l .largest) 0 && (eqb (l .silence) 0 && each (λ d. eqb d 0) (l .bounds))) (eqb (length (members cs)) 0) _))
     where
@@ -304,14 +298,14 @@ module _ (s : State) (r : Bool) where
   sound-linked n e = e ∙ sym (cond-is (nothing-used s) (linked-sound s) (ne-eqb (s .link .levels) 0 n))
 
 -- formed tables have no more rows than they have room for
-pub counted : (cs t : List ℕ) (n held : ℕ) → members-formed cs ≡ true → places-formed t ≡ true → n ≡ length (rows cs) → held ≡ length (rows t) → Counted cs t n held
-unfolding members-formed places-formed
+pub counted : (cs t : List ℕ) (n held : ℕ) → members-formed cs ≡ true → places-formed t ≡ true → n ≡ length (members cs) → held ≡ length (rows t) → Counted cs t n held
+unfolding places-formed
 counted cs t n held f g e k =
-    let a = formed-length member-of members-length cs (and-true (formed member-of members-length cs) _ f .0) in
-    let b = formed-length packet-of places-length t g in
+    let a = members-long cs f in
+    let b = formed-length packet-width places-length t g in
     record {
-      connections = e ∙ members-rows cs;
-      few-connections = omega (arith, rows-end cs);
+      connections = e;
+      few-connections = omega (arith, members-end cs);
       rows = k;
       few-rows = omega (arith, rows-end t);
     }

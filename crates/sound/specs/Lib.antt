@@ -1,1 +1,2 @@
 pub mod SoundTables
+pub mod Pace

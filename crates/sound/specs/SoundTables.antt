@@ -10,15 +10,16 @@ use Rattle.rules.specs.Model.{State}
 use Rattle.rules.specs.SoundTest.{admissions-sound, rows-sound, notices-sound, line-sound, sound}
 use lib.Dec.{eqb}
 use lib.ListN.{length}
-use Rattle.tables.specs.Table.{zeros, formed}
-use Rattle.tables.specs.Places.{places-length, packet-of, rows as rows-of}
+use Rattle.limits.specs.Zeros.{zeros}
+use Rattle.tables.specs.Table.{formed}
+use Rattle.tables.specs.Places.{places-length, packet-width, rows as rows-of}
 use Rattle.tables.specs.Notices.{notices-formed}
 use Rattle.lines.specs.Members.{members, members-formed}
 use Rattle.lines.specs.StateRead.{state-read}
 
 -- the places table has its length and nothing but zeros behind its rows
 unfoldable pub places-formed : List ℕ → Bool
-places-formed t = formed packet-of places-length t
+places-formed t = formed packet-width places-length t
 
 unfoldable pub sound-tables : Link → List ℕ → List ℕ → List ℕ → ℕ → ℕ → ℕ → ℕ → Bool
 sound-tables l cs t q clock serving to-go silent = places-formed t && (members-formed cs && (notices-formed q && sound (state-read l cs t q clock serving to-go silent)))

@@ -1,4 +1,6 @@
 // Whether a link, three lent tables and the line's numbers are a sound state: exactly, for any numbers and tables of any length.
+mod pace; // pace.rt: the rows of each connection, compared with each other
+
 ghost use mathlib.Core.Path.{_≡_};
 ghost use mathlib.Core.Bool.{true, _&&_};
 ghost use mathlib.Core.List.{[], _∷_};
@@ -6,9 +8,9 @@ ghost use Prim.Native.Nat.{ℕ, _*_, _<_, _≤_};
 ghost use lib.Dec.{leb};
 ghost use lib.ListN.{length};
 ghost use Rattle.rules.specs.Words.{every, each};
-ghost use Rattle.rules.specs.Limits.{max-levels, max-connections};
+ghost use Rattle.rules.specs.Limits.{max-connections};
 ghost use Rattle.rules.specs.Model.{nth, no-link};
-ghost use Rattle.rules.specs.Admission.{rising, link-within, level-within, figures-within, passes};
+ghost use Rattle.rules.specs.Admission.{passes};
 ghost use Rattle.rules.specs.SoundTest.{connection-sound, admissions-sound, row-sound, rows-sound, notice-sound, notices-sound, busy-sound, line-sound};
 ghost use Rattle.tables.specs.Places.{rows};
 ghost use Rattle.tables.specs.Notices.{notice-of, marked, notices-formed};
@@ -16,104 +18,14 @@ ghost use Rattle.lines.specs.Members.{members, connections, members-formed};
 ghost use Rattle.lines.specs.Within.{Within};
 ghost use Rattle.lines.specs.StateRead.{state-read};
 ghost use Rattle.sound.specs.SoundTables.{places-formed, blank, unused, Counted, Waiting, linked-sound, sound-tables};
-use lines::MAX_CONNECTIONS;
-use lines::MAX_LEVELS;
-use rules::Connection;
+use limits::CLOCK_END;
+use limits::MAX_CONNECTIONS;
+use limits::MAX_RESERVED;
+use limits::NOTICE_NUMBER;
+use limits::PACKET_WIDTH;
+use limits::zero_from;
 use rules::Link;
 use rules::Packet;
-use tables::NOTICE_NUMBER;
-
-const MAX_LARGEST: u32 = 2048;
-
-const MAX_SILENCE: u32 = 64;
-
-const MAX_BOUND: u32 = 32768;
-
-const MAX_GAP: u32 = 65535;
-
-pub const MAX_RESERVED: u64 = 512;
-
-pub const CLOCK_END: u32 = 4000000000;
-
-// Bounds that rise strictly from `lowest` on, n of them, none above its limit, and zeros behind.
-fn bounds_ok(lowest: u32, n: usize, bounds: [u32; 8]) -> bool
-    requires { ⌜ n ≤ max-levels ⌝ }
-    ensures { λ r. ⌜ r ≡ rising lowest n bounds ⌝ }
-{
-    let mut low = lowest;
-    let mut i: usize = 0;
-    while i < n {
-        let d = bounds[i];
-        if d < low {
-            return false;
-        }
-        if MAX_BOUND < d {
-            return false;
-        }
-        low = d + 1;
-        i += 1;
-    }
-    tables::zero_from(&bounds, n)
-}
-
-// The limits of a link.
-pub fn link_ok(l: Link) -> bool
-    ensures { λ r. ⌜ r ≡ link-within l ⌝ }
-{
-    if l.levels < 1 {
-        return false;
-    }
-    if MAX_LEVELS < l.levels {
-        return false;
-    }
-    if l.largest < 1 {
-        return false;
-    }
-    if MAX_LARGEST < l.largest {
-        return false;
-    }
-    if MAX_SILENCE < l.silence {
-        return false;
-    }
-    let bounds = l.bounds;
-    bounds_ok(l.largest + l.silence, l.levels as usize, bounds)
-}
-
-// Level 1 to n.
-pub fn level_ok(l: Link, x: Connection) -> bool
-    ensures { λ r. ⌜ r ≡ level-within l x ⌝ }
-{
-    if x.level < 1 {
-        return false;
-    }
-    x.level <= l.levels
-}
-
-// Gap and size within their limits.
-pub fn figures_ok(l: Link, x: Connection) -> bool
-    ensures { λ r. ⌜ r ≡ figures-within l x ⌝ }
-{
-    if x.gap < 1 {
-        return false;
-    }
-    if MAX_GAP < x.gap {
-        return false;
-    }
-    if x.size < 1 {
-        return false;
-    }
-    x.size <= l.largest
-}
-
-// Level, gap and size within their limits.
-pub fn connection_ok(l: Link, x: Connection) -> bool
-    ensures { λ r. ⌜ r ≡ connection-sound l x ⌝ }
-{
-    if !level_ok(l, x) {
-        return false;
-    }
-    figures_ok(l, x)
-}
 
 // All connections within their limits.
 fn connections_ok(l: Link, cs: &[u32], n: usize) -> bool
@@ -123,7 +35,7 @@ fn connections_ok(l: Link, cs: &[u32], n: usize) -> bool
     let mut i: usize = 0;
     while i < n {
         let x = lines::connection_at(cs, i);
-        if !connection_ok(l, x) {
+        if !limits::connection_ok(l, x) {
             return false;
         }
         i += 1;
@@ -145,7 +57,7 @@ fn admissions_ok(l: Link, cs: &[u32], n: usize) -> bool
     requires { ⌜ n ≡ length (members (now cs)) ⌝ }
     ensures { λ r. ⌜ r ≡ admissions-sound (state-read l (now (cs .entry)) [] [] 0 0 0 0) ⌝ }
 {
-    if !link_ok(l) {
+    if !limits::link_ok(l) {
         return false;
     }
     if MAX_CONNECTIONS < n {
@@ -294,7 +206,7 @@ fn blank_ok(l: Link) -> bool
         return false;
     }
     let bounds = l.bounds;
-    tables::zero_from(&bounds, 0)
+    zero_from(&bounds, 0)
 }
 
 // With no link set, everything is zero.
@@ -338,11 +250,11 @@ fn unused_ok(
 fn places_ok(t: &[u32]) -> bool
     ensures { λ r. ⌜ r ≡ places-formed (now (t .entry)) ⌝ }
 {
-    if t.len() != tables::PLACES {
+    if t.len() != limits::PLACES {
         return false;
     }
     let held = tables::held(t);
-    tables::zero_from(t, 5 * held)
+    zero_from(t, PACKET_WIDTH * held)
 }
 
 // A row of the table of notices bears their number, and an eligibility that is its arrival.
@@ -374,11 +286,11 @@ fn marks_of_notices_ok(q: &[u32], waiting: usize) -> bool
 fn queue_ok(q: &[u32]) -> bool
     ensures { λ r. ⌜ r ≡ notices-formed (now (q .entry)) ⌝ }
 {
-    if q.len() != tables::NOTICES {
+    if q.len() != limits::NOTICES {
         return false;
     }
     let waiting = tables::held(q);
-    if !tables::zero_from(q, 5 * waiting) {
+    if !zero_from(q, PACKET_WIDTH * waiting) {
         return false;
     }
     marks_of_notices_ok(q, waiting)
@@ -400,15 +312,12 @@ fn marks_ok(cs: &[u32], n: usize) -> bool
     true
 }
 
-// The table of connections has its length, zeros behind its rows, and marks that are 0 or 1.
-fn members_ok(cs: &[u32]) -> bool
+// The table of connections has its length, and marks that are 0 or 1.
+fn members_ok(cs: &[u32], n: usize) -> bool
+    requires { ⌜ n ≡ length (members (now cs)) ⌝ }
     ensures { λ r. ⌜ r ≡ members-formed (now (cs .entry)) ⌝ }
 {
-    if cs.len() != lines::MEMBERS {
-        return false;
-    }
-    let n = tables::held(cs);
-    if !tables::zero_from(cs, 5 * n) {
+    if cs.len() != limits::MEMBERS {
         return false;
     }
     marks_ok(cs, n)
@@ -473,13 +382,13 @@ pub fn is_sound(
     if !places_ok(t) {
         return false;
     }
-    if !members_ok(cs) {
+    let n = lines::members_in(cs);
+    if !members_ok(cs, n) {
         return false;
     }
     if !queue_ok(q) {
         return false;
     }
-    let n = tables::held(cs);
     let held = tables::held(t);
     let waiting = tables::held(q);
     if l.levels == 0 {

@@ -12,22 +12,25 @@ use Rattle.rules.specs.declared.Packet.{Packet}
 use Rattle.rules.specs.Model.{State, tick}
 use Rattle.rules.specs.Calls.{answer}
 use Rattle.rules.proofs.Tests.{never}
+use Rattle.service.specs.declared.Hub.{Hub}
+use Rattle.service.specs.Quiet.{passed, quiet-ticks}
+use Rattle.service.proofs.QuietLaws.{quiets}
+use Rattle.fields.proofs.NumberLaws.{pick-by}
 use Rattle.traces.specs.declared.Record.{Record}
 use Rattle.traces.specs.declared.Record.the-variants.{Link as LinkRecord, Admit, Offer, Notice, Ticks, Malformed}
+use Rattle.traces.specs.Trace.{longest-record}
 use Rattle.answers.specs.declared.Reply.the-variants.{Linked, Admitted, Offered, Noticed, Departed, Ticked, Broken}
-use Rattle.answers.specs.Answers.{answer-bytes}
-use Rattle.service.specs.declared.Hub.{Hub}
-use Rattle.log.specs.declared.Phase.{Phase}
-use Rattle.log.specs.declared.Phase.the-variants.{Reading, Ticking, Finished}
-use Rattle.log.specs.declared.Cursor.{Cursor}
-use Rattle.log.specs.declared.Status.{Status}
-use Rattle.log.specs.declared.Status.the-variants.{MoreBytes, Done}
-use Rattle.log.specs.declared.Stepped.{Stepped}
+use Rattle.answers.specs.Answers.{answer-bytes, longest-answer}
+use Rattle.answers.proofs.WriteLaws.{answer-short}
 use Rattle.log.specs.Log.{trace-limit, departure, tick-log, read-at, all-done-verdict}
-use Rattle.log.specs.Steps.{longest-record, longest-answer, Point, point, Next, still, goes, record-next, found-next, read-next, one-tick, passed, quiet-ticks, tick-next, phase-next, next, is-go, weight}
-use Rattle.log.proofs.ReadLaws.{pick-by, answer-short}
-use Rattle.log.proofs.QuietLaws.{quiets}
-use Rattle.ticks.specs.Tie.{cursor-at, point-of, stepped-of, nothing-done, Facts}
+use Rattle.steps.specs.declared.Phase.{Phase}
+use Rattle.steps.specs.declared.Phase.the-variants.{Reading, Ticking, Finished}
+use Rattle.steps.specs.declared.Cursor.{Cursor}
+use Rattle.steps.specs.declared.Status.{Status}
+use Rattle.steps.specs.declared.Status.the-variants.{MoreBytes, Done}
+use Rattle.steps.specs.declared.Stepped.{Stepped}
+use Rattle.steps.specs.Steps.{Point, point, Next, still, goes, record-next, found-next, read-next, one-tick, tick-next, phase-next, next, is-go, weight}
+use Rattle.steps.specs.Tie.{cursor-at, point-of, stepped-of, nothing-done, Facts}
 
 -- nothing is done
 pub waits-facts : (at : ℕ) (q q′ : Phase) (h : Hub) (len : ℕ) (last : Bool) (r : ℕ) (k : Status) → weight q′ ≤ weight q

@@ -1,151 +1,73 @@
-// One step of a replay: at most one answer record. Document 01, "Trace and answer records" and "One tick".
+// One step of a replay on a hub that has been tested: at most one answer record. Document 01, "Trace and answer records" and "One tick".
+mod reading; // reading.rt: a record is read, and its call is made or its ticks begin
+mod ticking; // ticking.rt: the ticks of a `TK`
+
 ghost use mathlib.Core.Path.{_≡_};
 ghost use mathlib.Core.Bool.{true};
-ghost use Prim.Native.Nat.{_+_, _-_, _≤_};
+ghost use Prim.Native.Nat.{_≤_};
 ghost use lib.ListN.{length};
-ghost use Rattle.answers.specs.Answers.{answer-bytes};
-ghost use Rattle.answers.specs.declared.Reply.the-variants.{Broken};
-ghost use Rattle.service.specs.View.{view};
 ghost use Rattle.calls.specs.Acts.{sound-hub};
-ghost use Rattle.log.specs.declared.Phase.the-variants.{Reading, Ticking, Finished};
-ghost use Rattle.log.specs.declared.Status.the-variants.{GoOn, Done};
-ghost use Rattle.log.specs.Log.{trace-limit, read-at};
-ghost use Rattle.log.specs.Steps.{longest-answer, link-next, admit-next, offer-next, notice-next, found-next, read-next, next, weight};
-ghost use Rattle.ticks.specs.Tie.{cursor-at, point-of, over, nothing-done, Did, Facts};
+ghost use Rattle.fields.specs.Formats.{over};
+ghost use Rattle.answers.specs.Answers.{answer-bytes, longest-answer};
+ghost use Rattle.steps.specs.declared.Phase.the-variants.{Reading};
+ghost use Rattle.steps.specs.declared.Status.the-variants.{GoOn};
+ghost use Rattle.steps.specs.Steps.{next};
+ghost use Rattle.steps.specs.Tie.{cursor-at, point-of, nothing-done, Did, Facts};
 use answers::Reply;
-use log::Cursor;
-use log::Phase;
-use log::Status;
-use log::Stepped;
-use rules::Connection;
-use rules::Link;
 use service::Hub;
-use service::Told;
-use traces::Found;
-use traces::Record;
 
-// No trace is longer.
-pub const LIMIT: usize = 16777216;
+// What comes next: a record is read; a tick of a `TK` is run, of which `left` of `asked` are still to run; or nothing.
+pub enum Phase {
+    Reading,
+    Ticking { asked: u16, left: u16 },
+    Finished,
+}
 
-// The longest trace record.
-pub const LONGEST_RECORD: usize = 22;
+// A place in the trace: its offset, what comes next, and the hub there.
+pub struct Cursor {
+    pub at: u32,
+    pub phase: Phase,
+    pub hub: Hub,
+}
 
-// The record that the bytes start with, at offset `at` of the trace: malformed where it would end beyond the limit.
-fn read_at(s: &[u8], at: u32) -> Found
-    ensures { λ r. ⌜ (r ≡ read-at at (now (s .entry))) × (r .taken ≤ trace-limit - at) ⌝ }
+// GoOn: a step was made. MoreBytes: the window is too short and not the last. MoreRoom: the room lent is too short for an answer.
+// NotSound: the hub and its tables are not sound. Done: the log is whole.
+pub enum Status {
+    GoOn,
+    MoreBytes,
+    MoreRoom,
+    NotSound,
+    Done,
+}
+
+// A step: the place after it, the bytes taken from the window, the bytes written to the room.
+pub struct Stepped {
+    pub cursor: Cursor,
+    pub used: usize,
+    pub wrote: usize,
+    pub status: Status,
+}
+
+// A step with an answer: it is written, and a record is read next.
+pub(crate) fn answered(at: u32, hub: Hub, used: usize, reply: Reply, out: &mut [u8]) -> Stepped
+    requires { ⌜ longest-answer ≤ length (now out) ⌝ }
+    ensures { λ r. ⌜ (r ≡ record { cursor = cursor-at at Reading hub; used = used; wrote = length (answer-bytes reply); status = GoOn }) × (now (out .exit) ≡ over (answer-bytes reply) (now (out .entry))) ⌝ }
 {
-    let f = traces::read(s);
-    let place = at as usize;
-    if LIMIT < place {
-        return Found {
-            what: Record::Malformed,
-            taken: 0,
-        };
+    let wrote = answers::write(reply, out);
+    Stepped {
+        cursor: Cursor {
+            at: at,
+            phase: Phase::Reading,
+            hub: hub,
+        },
+        used: used,
+        wrote: wrote,
+        status: Status::GoOn,
     }
-    if LIMIT - place < f.taken {
-        return Found {
-            what: Record::Malformed,
-            taken: 0,
-        };
-    }
-    f
-}
-
-// `LK`, which took `used` bytes and ends at offset `at`.
-fn link_step(
-    h: Hub,
-    cs: &[u32],
-    t: &[u32],
-    q: &[u32],
-    l: Link,
-    at: u32,
-    used: usize,
-    out: &mut [u8],
-) -> Stepped
-    requires { ⌜ (sound-hub h (now cs) (now t) (now q) ≡ true) × (longest-answer ≤ length (now out)) ⌝ }
-    ensures { λ r. ⌜ Did (link-next l used at (view h (now (cs .entry)) (now (t .entry)) (now (q .entry)))) r (now (cs .entry)) (now (t .entry)) (now (q .entry)) (now (out .entry)) (now (out .exit)) ⌝ }
-{
-    let told = calls::link_tested(h, cs, t, q, l);
-    let reply = Reply::Linked {
-        verdict: ticks::low(told.verdict),
-    };
-    ticks::answered(at, told.hub, used, reply, out)
-}
-
-// `CN`, the same.
-fn admit_step(
-    h: Hub,
-    cs: &mut [u32],
-    t: &[u32],
-    q: &[u32],
-    x: Connection,
-    at: u32,
-    used: usize,
-    out: &mut [u8],
-) -> Stepped
-    requires { ⌜ (sound-hub h (now cs) (now t) (now q) ≡ true) × (longest-answer ≤ length (now out)) ⌝ }
-    ensures { λ r. ⌜ Did (admit-next x used at (view h (now (cs .entry)) (now (t .entry)) (now (q .entry)))) r (now (cs .exit)) (now (t .entry)) (now (q .entry)) (now (out .entry)) (now (out .exit)) ⌝ }
-{
-    let told = calls::admit_tested(h, cs, t, q, x);
-    let short = told.short;
-    let reply = Reply::Admitted {
-        verdict: ticks::low(told.verdict),
-        connection: ticks::low(told.number),
-        level: ticks::low(short.level),
-        units: short.units as u32,
-    };
-    ticks::answered(at, told.hub, used, reply, out)
-}
-
-// `PK`, the same.
-fn offer_step(
-    h: Hub,
-    cs: &mut [u32],
-    t: &mut [u32],
-    q: &[u32],
-    c: u32,
-    len: u32,
-    tag: u32,
-    at: u32,
-    used: usize,
-    out: &mut [u8],
-) -> Stepped
-    requires { ⌜ (sound-hub h (now cs) (now t) (now q) ≡ true) × (longest-answer ≤ length (now out)) ⌝ }
-    ensures { λ r. ⌜ Did (offer-next c len tag used at (view h (now (cs .entry)) (now (t .entry)) (now (q .entry)))) r (now (cs .exit)) (now (t .exit)) (now (q .entry)) (now (out .entry)) (now (out .exit)) ⌝ }
-{
-    let told = calls::offer_tested(h, cs, t, q, c, len, tag);
-    let reply = Reply::Offered {
-        verdict: ticks::low(told.verdict),
-        eligibility: told.number,
-    };
-    ticks::answered(at, told.hub, used, reply, out)
-}
-
-// `NQ`, the same.
-fn notice_step(
-    h: Hub,
-    cs: &[u32],
-    t: &[u32],
-    q: &mut [u32],
-    len: u32,
-    tag: u32,
-    at: u32,
-    used: usize,
-    out: &mut [u8],
-) -> Stepped
-    requires { ⌜ (sound-hub h (now cs) (now t) (now q) ≡ true) × (longest-answer ≤ length (now out)) ⌝ }
-    ensures { λ r. ⌜ Did (notice-next len tag used at (view h (now (cs .entry)) (now (t .entry)) (now (q .entry)))) r (now (cs .entry)) (now (t .entry)) (now (q .exit)) (now (out .entry)) (now (out .exit)) ⌝ }
-{
-    let told = calls::notice_tested(h, cs, t, q, len, tag);
-    let reply = Reply::Noticed {
-        verdict: ticks::low(told.verdict),
-        eligibility: told.number,
-    };
-    ticks::answered(at, told.hub, used, reply, out)
 }
 
 // Nothing is taken or written.
-pub fn waits(at: u32, phase: Phase, h: Hub, status: Status) -> Stepped
+pub(crate) fn waits(at: u32, phase: Phase, h: Hub, status: Status) -> Stepped
     ensures { λ r. ⌜ r ≡ nothing-done (cursor-at at phase h) status ⌝ }
 {
     Stepped {
@@ -158,130 +80,6 @@ pub fn waits(at: u32, phase: Phase, h: Hub, status: Status) -> Stepped
         wrote: 0,
         status: status,
     }
-}
-
-// A malformed record: `ER` with its offset, and nothing more.
-fn broken_step(at: u32, h: Hub, out: &mut [u8]) -> Stepped
-    requires { ⌜ longest-answer ≤ length (now out) ⌝ }
-    ensures { λ r. ⌜ (r ≡ record { cursor = cursor-at at Finished h; used = 0; wrote = length (answer-bytes (Broken at)); status = Done }) × (now (out .exit) ≡ over (answer-bytes (Broken at)) (now (out .entry))) ⌝ }
-{
-    let wrote = answers::write(Reply::Broken { offset: at }, out);
-    Stepped {
-        cursor: Cursor {
-            at: at,
-            phase: Phase::Finished,
-            hub: h,
-        },
-        used: 0,
-        wrote: wrote,
-        status: Status::Done,
-    }
-}
-
-// `TK`: its ticks begin.
-fn begin_ticks(h: Hub, ticks: u16, at: u32, used: usize) -> Stepped
-    ensures { λ r. ⌜ r ≡ record { cursor = cursor-at at (Ticking ticks ticks) h; used = used; wrote = 0; status = GoOn } ⌝ }
-{
-    Stepped {
-        cursor: Cursor {
-            at: at,
-            phase: Phase::Ticking {
-                asked: ticks,
-                left: ticks,
-            },
-            hub: h,
-        },
-        used: used,
-        wrote: 0,
-        status: Status::GoOn,
-    }
-}
-
-// A record read at offset `at`.
-fn record_step(
-    f: Found,
-    at: u32,
-    h: Hub,
-    cs: &mut [u32],
-    t: &mut [u32],
-    q: &mut [u32],
-    out: &mut [u8],
-) -> Stepped
-    requires { ⌜ (sound-hub h (now cs) (now t) (now q) ≡ true) × (longest-answer ≤ length (now out)) × (f .taken ≤ trace-limit - at) ⌝ }
-    ensures { λ r. ⌜ Did (found-next f at (view h (now (cs .entry)) (now (t .entry)) (now (q .entry)))) r (now (cs .exit)) (now (t .exit)) (now (q .exit)) (now (out .entry)) (now (out .exit)) ⌝ }
-    ensures { λ r. ⌜ weight (r .cursor .phase) ≤ 65536 ⌝ }
-{
-    let used = f.taken;
-    let to = at + used as u32;
-    let what = f.what;
-    match what {
-        Record::Link {
-            levels,
-            largest,
-            silence,
-            d1,
-            d2,
-            d3,
-            d4,
-            d5,
-            d6,
-            d7,
-            d8,
-        } => {
-            let l = named::link_named(levels, largest, silence, d1, d2, d3, d4, d5, d6, d7, d8);
-            link_step(h, cs, t, q, l, to, used, out)
-        }
-        Record::Admit { level, gap, size } => {
-            let x = named::connection_named(level, gap, size);
-            admit_step(h, cs, t, q, x, to, used, out)
-        }
-        Record::Offer {
-            connection,
-            len,
-            tag,
-        } => offer_step(
-            h,
-            cs,
-            t,
-            q,
-            connection as u32,
-            len as u32,
-            tag,
-            to,
-            used,
-            out,
-        ),
-        Record::Notice { len, tag } => notice_step(h, cs, t, q, len as u32, tag, to, used, out),
-        Record::Ticks { ticks } => begin_ticks(h, ticks, to, used),
-        Record::Malformed => broken_step(at, h, out),
-    }
-}
-
-// A step where a record is to be read, at offset `at`.
-fn read_step(
-    at: u32,
-    h: Hub,
-    cs: &mut [u32],
-    t: &mut [u32],
-    q: &mut [u32],
-    window: &[u8],
-    last: bool,
-    out: &mut [u8],
-) -> Stepped
-    requires { ⌜ (sound-hub h (now cs) (now t) (now q) ≡ true) × (longest-answer ≤ length (now out)) ⌝ }
-    ensures { λ r. ⌜ Did (read-next at (view h (now (cs .entry)) (now (t .entry)) (now (q .entry))) (now (window .entry)) last) r (now (cs .exit)) (now (t .exit)) (now (q .exit)) (now (out .entry)) (now (out .exit)) ⌝ }
-    ensures { λ r. ⌜ Facts (cursor-at at Reading h) (length (now (window .entry))) last (length (now (out .entry))) r ⌝ }
-{
-    if last {
-        if window.len() == 0 {
-            return waits(at, Phase::Finished, h, Status::Done);
-        }
-        return record_step(read_at(window, at), at, h, cs, t, q, out);
-    }
-    if window.len() < LONGEST_RECORD {
-        return waits(at, Phase::Reading, h, Status::MoreBytes);
-    }
-    record_step(read_at(window, at), at, h, cs, t, q, out)
 }
 
 // One step on a hub and tables that are sound, with room for an answer.
@@ -302,8 +100,8 @@ pub fn step_tested(
     let h = c.hub;
     let p = c.phase;
     match p {
-        Phase::Reading => read_step(at, h, cs, t, q, window, last, out),
-        Phase::Ticking { asked, left } => ticks::tick_step(at, h, asked, left, cs, t, q, out),
+        Phase::Reading => reading::read_step(at, h, cs, t, q, window, last, out),
+        Phase::Ticking { asked, left } => ticking::tick_step(at, h, asked, left, cs, t, q, out),
         Phase::Finished => waits(at, Phase::Finished, h, Status::Done),
     }
 }

@@ -14,10 +14,10 @@ use Rattle.rules.specs.Limits.{max-notices, notice-number}
 use Rattle.rules.specs.Model.{notice-packet}
 use Rattle.rules.proofs.Tests.{and-true, and-intro}
 use Rattle.tables.specs.Table.{formed}
-use Rattle.tables.specs.Places.{packet-of, five-of, rows, table-of, row-at}
+use Rattle.tables.specs.Places.{packet-width, packet-of, packet-in, numbers-of, rows, table-of, row-at}
 use Rattle.tables.specs.Notices.{notices-length, notice-of, notices, written-notices, marked, notices-formed}
-use Rattle.tables.proofs.TableLaws.{formed-length, written-back, read-back, formed-back}
-use Rattle.tables.proofs.PlacesLaws.{rows-from, rows-end}
+use Rattle.tables.proofs.TableLaws.{formed-length, formed-written, ends-in-front, read-back, formed-back}
+use Rattle.tables.proofs.PlacesLaws.{numbers-back, rows-from, rows-end}
 
 -- ---- a marked row is its notice's packet
 
@@ -43,19 +43,19 @@ same-notices : (ns : List Notice) → map notice-of (map notice-packet ns) ≡ n
 same-notices [] = refl
 same-notices (n ∷ ns) = ap (λ (l : List Notice). n ∷ l) (same-notices ns)
 
-all-len : (ns : List Notice) → All (λ n. 0 < n .len) ns → All (λ p. 0 < five-of p .b) (map notice-packet ns)
+all-len : (ns : List Notice) → All (λ n. 0 < n .len) ns → All (λ p. 0 < p .len) (map notice-packet ns)
 all-len [] h = tt
 all-len (n ∷ ns) h = (h .0, all-len ns (h .1))
 
 -- ---- what is read of a formed table is written back
 
 module _ (q : List ℕ) (f : notices-formed q ≡ true) where
-  parts : (formed packet-of notices-length q ≡ true) × (each marked (rows q) ≡ true)
+  parts : (formed packet-width notices-length q ≡ true) × (each marked (rows q) ≡ true)
   unfolding notices-formed
-  parts = and-true (formed packet-of notices-length q) (each marked (rows q)) f
+  parts = and-true (formed packet-width notices-length q) (each marked (rows q)) f
 
   pub notices-length-is : length q ≡ notices-length
-  notices-length-is = formed-length packet-of notices-length q (parts .0)
+  notices-length-is = formed-length packet-width notices-length q (parts .0)
 
   pub rows-marked : each marked (rows q) ≡ true
   rows-marked = parts .1
@@ -65,7 +65,7 @@ module _ (q : List ℕ) (f : notices-formed q ≡ true) where
 
   pub notices-table : q ≡ table-of notices-length (rows q)
   unfolding rows table-of
-  notices-table = written-back packet-of five-of (λ a b c d e. refl) notices-length q (parts .0)
+  notices-table = formed-written packet-width packet-in numbers-of numbers-back notices-length q (parts .0)
 
   pub notices-back : q ≡ written-notices (notices q)
   notices-back = notices-table ∙ ap (table-of notices-length) (sym notice-rows)
@@ -78,7 +78,7 @@ module _ (q : List ℕ) (f : notices-formed q ≡ true) where
 module _ (ns : List Notice) (pos : All (λ n. 0 < n .len) ns) (few : length ns ≤ max-notices) where
   rows-back : rows (written-notices ns) ≡ map notice-packet ns
   unfolding rows table-of
-  rows-back = read-back packet-of five-of (λ x. refl) (map notice-packet ns) (notices-length - 5 * length (map notice-packet ns)) (all-len ns pos)
+  rows-back = read-back packet-width numbers-of (λ p. refl) (omega arith) packet-in (λ p. refl) ends-in-front (map notice-packet ns) (notices-length - 5 * length (map notice-packet ns)) (all-len ns pos)
 
   pub notices-again : notices (written-notices ns) ≡ ns
   notices-again = ap (map notice-of) rows-back ∙ same-notices ns
@@ -86,8 +86,8 @@ module _ (ns : List Notice) (pos : All (λ n. 0 < n .len) ns) (few : length ns �
   pub written-formed : notices-formed (written-notices ns) ≡ true
   unfolding notices-formed rows table-of
   written-formed =
-      and-intro (formed packet-of notices-length (written-notices ns)) (each marked (rows (written-notices ns)))
-      (formed-back packet-of five-of (λ x. refl) (map notice-packet ns) notices-length (all-len ns pos) (omega (arith, length-map ns notice-packet)))
+      and-intro (formed packet-width notices-length (written-notices ns)) (each marked (rows (written-notices ns)))
+      (formed-back packet-width numbers-of (λ p. refl) (omega arith) packet-in (λ p. refl) (map notice-packet ns) notices-length (all-len ns pos) (omega (arith, length-map ns notice-packet)))
       (ap (each marked) rows-back ∙ all-marked ns)
 
 -- ---- the first row

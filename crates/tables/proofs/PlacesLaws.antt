@@ -4,24 +4,35 @@ use mathlib.Core.Bool.{Bool, true, false, cond}
 use mathlib.Core.List.{List, [], _∷_, _++_, append-assoc}
 use mathlib.Core.Option.{none, some}
 use Prim.Native.Nat.{ℕ, zero, suc, _+_, _*_, _-_, _≤_, _<_}
-use native.Mathlib.Nat.{le-of-suc-le-suc}
+use native.Mathlib.Nat.{le-of-suc-le-suc, add-zero}
 use native.Mathlib.Omega.{arith}
 use native.Mathlib.Numerals.{add-one}
 use lib.Dec.{ltb, eqb}
-use borrow.Author.Tests.{ltb-true, ltb-false, eqb-true, eq-eqb, ne-eqb}
-use lib.ListN.{length, getD, set, take, drop, replicate, length-drop}
-use lib.Seq.{drop-cons, drop-length, getD-drop, paste-zero, paste-suc, take-paste, drop-paste, length-paste, drop-drop, take-at, drop-at}
+use borrow.Author.Tests.{ltb-true, ltb-false, eq-eqb, ne-eqb}
+use lib.ListN.{length, getD, set, take, drop, replicate, length-drop, length-map}
+use lib.Seq.{sets-eq, drop-cons, drop-length, getD-drop, paste-zero, paste-suc, take-paste, drop-paste, length-paste, drop-drop, take-at, drop-at}
 use Rattle.rules.specs.declared.Packet.{Packet}
 use Rattle.rules.specs.Service.{first, without}
-use Rattle.rules.proofs.Tests.{and-true}
-use Rattle.tables.specs.Table.{write, padded, zeros, formed}
-use Rattle.tables.specs.Places.{put, shifted, cut, place, rows, places, table-of, places-length, five-of, packet-of, no-packet, row-at}
-use Rattle.tables.proofs.TableLaws.{zeros-rep, drop-write, written-back, read-at, held-end, held-stop, held-more, length-write, write-append, take-rows, drop-rows, put-eq, five-more, length-padded, put-last}
+use Rattle.limits.specs.Zeros.{zeros}
+use Rattle.limits.proofs.ZeroLaws.{zeros-rep, zero-at, zeros-more}
+use Rattle.tables.specs.Table.{row-in, in-front, used, write, padded, formed}
+use Rattle.tables.specs.Places.{packet-width, put, shifted, cut, place, rows, places, table-of, places-length, numbers-of, packet-in, no-packet, row-at}
+use Rattle.tables.proofs.TableLaws.{listed-row, number-in, drop-write, formed-written, read-at, used-end, held-stop, held-more, length-write, write-append, take-rows, drop-rows, length-padded, put-last}
+
+-- ---- a row
+
+pub numbers-back : (r : List ℕ) → length r ≡ packet-width → numbers-of (packet-in r) ≡ r
+numbers-back r e = listed-row packet-width r e
+
+row-numbers : (t : List ℕ) (i : ℕ) → packet-in (row-in packet-width t i) ≡ row-at t i
+row-numbers t i =
+    let n = number-in packet-width t i in
+    rw (n 0 (omega arith), n 1 (omega arith), n 2 (omega arith), n 3 (omega arith), n 4 (omega arith), add-zero (5 * i))
 
 -- a packet put behind the rows
 put-behind : (n : ℕ) (ps : List Packet) (p : Packet) → 5 * length ps + 5 ≤ n → put (table-of n ps) (length ps) p ≡ table-of n (ps ++ p ∷ [])
 unfolding table-of
-put-behind n ps p h = put-last packet-of five-of n ps p h
+put-behind n ps p h = put-last packet-width numbers-of (λ p. refl) n ps p h
 
 length-cut : {A : Type 0} (xs : List A) (i : ℕ) → i < length xs → length (cut i xs) + 1 ≡ length xs
 length-cut [] i h = absurd (omega arith)
@@ -36,11 +47,11 @@ cut-rows size ps i l h =
     let n : ℕ = size - 5 * length ps in
     let m : ℕ = 5 * (length ps - i - 1) in
     let z : List ℕ = replicate n 0 in
-    let t : List ℕ = write five-of ps ++ z in
+    let t : List ℕ = write numbers-of ps ++ z in
     let ys : List Packet = drop (suc i) ps in
     let s : List ℕ = shifted t (5 * i) m in
-    let lt : length t ≡ size = length-padded packet-of five-of size ps h in
-    let ly : length (write five-of ys) ≡ m = omega (arith, length-write packet-of five-of ys, length-drop (suc i) ps) in
+    let lt : length t ≡ size = length-padded packet-width numbers-of (λ p. refl) size ps h in
+    let ly : length (write numbers-of ys) ≡ m = omega (arith, length-write packet-width numbers-of (λ p. refl) ys, length-drop (suc i) ps) in
     let a : 5 * (length ps - 1) ≡ 5 * i + m = omega arith in
     let b : 5 * (length ps - 1) + 5 ≡ 5 * length ps = omega arith in
     let k1 : 5 * i ≤ length t = omega arith in
@@ -50,23 +61,23 @@ cut-rows size ps i l h =
     let k6 : 5 + n ≡ size - 5 * length (cut i ps) = omega (arith, length-cut ps i l) in
     let k2 : m ≤ length (drop (5 * i + 5) t) = omega (arith, length-drop (5 * i + 5) t) in
     let ls : length s ≡ length t = length-paste t (5 * i) (drop (5 * i + 5) t) m (omega arith) k2 in
-    let front : take (5 * (length ps - 1)) s ≡ write five-of (cut i ps) =
+    let front : take (5 * (length ps - 1)) s ≡ write numbers-of (cut i ps) =
     ap (λ (j : ℕ). take j s) a ∙ take-paste t (5 * i) (drop (5 * i + 5) t) m k1 k2
-    ∙ ap (λ (l : List ℕ). l ++ take m (drop (5 * i + 5) t)) (take-rows five-of z ps i (omega arith))
-    ∙ ap (λ (l : List ℕ). write five-of (take i ps) ++ take m l) (ap (λ (j : ℕ). drop j t) k3 ∙ drop-rows five-of z ps (suc i) l)
-    ∙ ap (λ (l : List ℕ). write five-of (take i ps) ++ l) (take-at (write five-of ys) z m ly)
-    ∙ sym (write-append packet-of five-of (take i ps) ys) in
+    ∙ ap (λ (l : List ℕ). l ++ take m (drop (5 * i + 5) t)) (take-rows packet-width numbers-of (λ p. refl) z ps i (omega arith))
+    ∙ ap (λ (l : List ℕ). write numbers-of (take i ps) ++ take m l) (ap (λ (j : ℕ). drop j t) k3 ∙ drop-rows packet-width numbers-of (λ p. refl) z ps (suc i) l)
+    ∙ ap (λ (l : List ℕ). write numbers-of (take i ps) ++ l) (take-at (write numbers-of ys) z m ly)
+    ∙ sym (write-append packet-width numbers-of (λ p. refl) (take i ps) ys) in
     let back : drop (5 * (length ps - 1) + 5) s ≡ z =
     ap (λ (j : ℕ). drop j s) k4 ∙ sym (drop-drop 5 (5 * i + m) s)
     ∙ ap (drop 5) (drop-paste t (5 * i) (drop (5 * i + 5) t) m k1 k2)
     ∙ drop-drop 5 (5 * i + m) t
     ∙ ap (λ (j : ℕ). drop j t) k5
-    ∙ drop-at (write five-of ps) z (5 * length ps) (length-write packet-of five-of ps) in
-    put-eq s (length ps - 1) (five-of no-packet) (omega arith)
+    ∙ drop-at (write numbers-of ps) z (5 * length ps) (length-write packet-width numbers-of (λ p. refl) ps) in
+    sets-eq (numbers-of no-packet) s (5 * (length ps - 1)) (omega arith)
     ∙ ap (λ (l : List ℕ). l ++ (0 ∷ 0 ∷ 0 ∷ 0 ∷ 0 ∷ []) ++ drop (5 * (length ps - 1) + 5) s) front
-    ∙ ap (λ (l : List ℕ). write five-of (cut i ps) ++ (0 ∷ 0 ∷ 0 ∷ 0 ∷ 0 ∷ []) ++ l) back
-    ∙ append-assoc (write five-of (cut i ps)) (0 ∷ 0 ∷ 0 ∷ 0 ∷ 0 ∷ []) z
-    ∙ ap (λ (l : List ℕ). write five-of (cut i ps) ++ l) (five-more n (size - 5 * length (cut i ps)) k6)
+    ∙ ap (λ (l : List ℕ). write numbers-of (cut i ps) ++ (0 ∷ 0 ∷ 0 ∷ 0 ∷ 0 ∷ []) ++ l) back
+    ∙ append-assoc (write numbers-of (cut i ps)) (0 ∷ 0 ∷ 0 ∷ 0 ∷ 0 ∷ []) z
+    ∙ ap (λ (l : List ℕ). write numbers-of (cut i ps) ++ l) (zeros-more 5 n (size - 5 * length (cut i ps)) k6)
 
 pub cut-table : (size : ℕ) (t : List ℕ) (held i : ℕ) → t ≡ table-of size (rows t) → held ≡ length (rows t) → i < held → 5 * held ≤ size
     → put (shifted t (5 * i) (5 * (held - i - 1))) (held - 1) no-packet ≡ table-of size (cut i (rows t))
@@ -78,7 +89,7 @@ cut-table size t held i e n l h =
 -- the places table among the tables, by its length
 pub is-places : (t : List ℕ) (ps : List Packet) → length t ≡ places-length → table-of (length t) ps ≡ places ps
 unfolding table-of places
-is-places t ps e = ap (λ (n : ℕ). padded five-of n ps) e
+is-places t ps e = ap (λ (n : ℕ). padded packet-width numbers-of n ps) e
 
 -- ---- the first row of a connection
 
@@ -119,21 +130,22 @@ module _ (c : ℕ) where
 
 -- ---- loops over the rows
 
+rows-used : (t : List ℕ) → length (rows t) ≡ length (used in-front packet-width t)
+unfolding rows
+rows-used t = length-map (used in-front packet-width t) packet-in
+
 pub row-is : (t : List ℕ) (i : ℕ) → i < length (rows t) → getD (rows t) i no-packet ≡ row-at t i
 unfolding rows
-row-is t i h = read-at packet-of no-packet t i h
+row-is t i h = read-at in-front packet-width packet-in t i (omega (arith, rows-used t)) ∙ row-numbers t i
 
 pub rows-end : (t : List ℕ) → 5 * length (rows t) ≤ length t
-unfolding rows
-rows-end t = held-end packet-of t
+rows-end t = omega (arith, used-end in-front packet-width t, rows-used t)
 
 pub rows-stop : (t : List ℕ) (i : ℕ) → i ≤ length (rows t) → getD t (5 * i + 1) 0 ≡ 0 → i ≡ length (rows t)
-unfolding rows
-rows-stop t i h z = sym (held-stop packet-of t i h z)
+rows-stop t i h z = let k = held-stop packet-width t (omega arith) i (omega (arith, rows-used t)) z in omega (arith, rows-used t)
 
 pub rows-more : (t : List ℕ) (i : ℕ) → 5 * i + 5 ≤ length t → (getD t (5 * i + 1) 0 ≡ 0 → ⊥) → i ≤ length (rows t) → i < length (rows t)
-unfolding rows
-rows-more t i l z h = held-more packet-of t i l z h
+rows-more t i l z h = let k = held-more packet-width t (omega arith) i (omega arith) z (omega (arith, rows-used t)) in omega (arith, rows-used t)
 
 -- the rows from i on are row i and those behind it
 pub rows-from : (t : List ℕ) (i : ℕ) → i < length (rows t) → drop i (rows t) ≡ row-at t i ∷ drop (suc i) (rows t)
@@ -148,22 +160,6 @@ module _ (c : ℕ) (t : List ℕ) (i : ℕ) (h : i < length (rows t)) where
 
 pub place-end : (c : ℕ) (t : List ℕ) → place c (drop (length (rows t)) (rows t)) ≡ 0
 place-end c t = rw (drop-length (rows t))
-
--- ---- zeros
-
-pub zero-at : (l : List ℕ) (i : ℕ) → zeros l ≡ true → getD l i 0 ≡ 0
-zero-at [] i h = refl
-zero-at (x ∷ l) zero h = eqb-true x 0 (and-true (eqb x 0) (zeros l) h .0)
-zero-at (x ∷ l) (suc i) h = zero-at l i (and-true (eqb x 0) (zeros l) h .1)
-
-pub zeros-stop : (t : List ℕ) (i : ℕ) → i < length t → (getD t i 0 ≡ 0 → ⊥) → false ≡ zeros (drop i t)
-zeros-stop t i h n = rw (drop-cons t i 0 h, ne-eqb (getD t i 0) 0 n)
-
-pub zeros-next : (t : List ℕ) (i : ℕ) → i < length t → getD t i 0 ≡ 0 → zeros (drop (i + 1) t) ≡ zeros (drop i t)
-zeros-next t i h n = rw (add-one i, drop-cons t i 0 h, eq-eqb (getD t i 0) 0 n)
-
-pub zeros-end : (t : List ℕ) → true ≡ zeros (drop (length t) t)
-zeros-end t = rw (drop-length t)
 
 -- ---- shifting
 
@@ -181,16 +177,15 @@ shift-step t k j h = rw (add-one, shifted-beyond t k j h) (paste-suc t k (drop (
 
 -- ---- the shape of the table
 
-pub not-formed : {A : Type 0} (make : ℕ → ℕ → ℕ → ℕ → ℕ → A) (n : ℕ) (t : List ℕ) → (length t ≡ n → ⊥) → false ≡ formed make n t
-not-formed make n t h = rw (ne-eqb (length t) n h)
+pub not-formed : (n : ℕ) (t : List ℕ) → (length t ≡ n → ⊥) → false ≡ formed packet-width n t
+not-formed n t h = rw (ne-eqb (length t) n h)
 
-pub rows-formed : (n m : ℕ) (t : List ℕ) → length t ≡ n → m ≡ length (rows t) → zeros (drop (5 * m) t) ≡ formed packet-of n t
-unfolding rows
-rows-formed n m t h e = rw (eq-eqb (length t) n h, e)
+pub rows-formed : (n m : ℕ) (t : List ℕ) → length t ≡ n → m ≡ length (rows t) → zeros (drop (5 * m) t) ≡ formed packet-width n t
+rows-formed n m t h e = rw (eq-eqb (length t) n h, e ∙ rows-used t)
 
-pub table-back : (t : List ℕ) → formed packet-of places-length t ≡ true → t ≡ places (rows t)
+pub table-back : (t : List ℕ) → formed packet-width places-length t ≡ true → t ≡ places (rows t)
 unfolding rows places
-table-back t h = written-back packet-of five-of (λ a b c d e. refl) places-length t h
+table-back t h = formed-written packet-width packet-in numbers-of numbers-back places-length t h
 
 pub first-none : (c : ℕ) (ps : List Packet) → length ps ≤ place c ps → first c ps ≡ none
 first-none c [] l = refl
@@ -218,7 +213,7 @@ unused-behind : (t : List ℕ) → t ≡ places (rows t) → zeros (drop (5 * le
 unfolding places
 unused-behind t e =
     ap (λ (l : List ℕ). zeros (drop (5 * length (rows t)) l)) e
-    ∙ ap zeros (drop-write packet-of five-of (rows t) (replicate (places-length - 5 * length (rows t)) 0))
+    ∙ ap zeros (drop-write packet-width numbers-of (λ p. refl) (rows t) (replicate (places-length - 5 * length (rows t)) 0))
     ∙ zeros-rep (places-length - 5 * length (rows t))
 
 pub unused-above : (t : List ℕ) (i : ℕ) → t ≡ places (rows t) → (getD t (5 * i + 1) 0 ≡ 0 → ⊥) → i < length (rows t)

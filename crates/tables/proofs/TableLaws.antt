@@ -1,215 +1,371 @@
--- Laws of reading and writing a table. Assumes nothing.
+-- Laws of reading and writing a table, for rows of any width. Assumes nothing.
 use mathlib.Core.Path.{_≡_, refl, sym, ap, _∙_}
-use mathlib.Core.Bool.{Bool, true, false, cond}
-use mathlib.Core.List.{List, [], _∷_, _++_}
-use Prim.Native.Nat.{ℕ, zero, suc, _+_, _*_, _-_, _≤_, _<_}
-use native.Mathlib.Nat.{le-of-suc-le-suc}
+use mathlib.Core.Bool.{Bool, true, false, cond, _&&_}
+use mathlib.Core.Logic.{_⊎_, inl, inr}
+use mathlib.Core.List.{List, [], _∷_, _++_, map, append-assoc, append-nil}
+use Prim.Native.Nat.{ℕ, zero, suc, _+_, _*_, _-_, _/_, _≤_, _<_, suc-le-suc}
+use native.Mathlib.Nat.{le-of-suc-le-suc, mul-zero, mul-suc, mul-le-mul-left, mul-div-le, mul-div-right, mul-add-div, mul-sub, le-trans}
 use native.Mathlib.Omega.{arith}
-use native.Mathlib.Numerals.{unary-clauses}
 use lib.Dec.{eqb}
-use borrow.Author.Tests.{eqb-true, eqb-false, eq-eqb, ne-eqb}
-use lib.ListN.{length, getD, take, drop, replicate, length-append, length-drop, length-replicate}
-use lib.Seq.{sets, sets-eq, take-at, drop-at, drop-drop}
-use Rattle.rules.specs.Words.{All}
-use Rattle.rules.proofs.Tests.{and-true}
-use Rattle.tables.specs.declared.Five.{Five}
-use Rattle.tables.specs.Table.{put-numbers, read, write, padded, zeros, formed}
+use borrow.Author.Tests.{eqb-true, eq-eqb, ne-eqb}
+use lib.ListN.{length, getD, set, take, drop, replicate, length-append, length-drop, length-set, length-map, length-replicate, take-append-drop, drop-of-length-le, List·getD-map}
+use lib.Seq.{sets, sets-eq, set-split, take-at, drop-at, drop-drop, drop-cons, length-take-le, getD-take, getD-drop}
+use Rattle.rules.specs.Words.{All, each}
+use Rattle.rules.proofs.Tests.{never, and-true, and-intro, not-true-false}
+use Rattle.rules.proofs.Sums.{split, cond-is}
+use Rattle.limits.specs.Zeros.{zeros}
+use Rattle.limits.proofs.ZeroLaws.{zeros-are, zeros-rep, zero-at, zeros-left, drop-zeros, zeros-parts, zeros-join}
+use Rattle.tables.specs.Table.{row-in, rows-in, whole, until, in-front, by-number, used, read, formed, write, padded}
 
-pub zeros-are : (t : List ℕ) → zeros t ≡ true → t ≡ replicate (length t) 0
-zeros-are [] h = refl
-zeros-are (x ∷ t) h =
-    let k = and-true (eqb x 0) (zeros t) h in
-    rw (eqb-true x 0 (k .0)) (ap (λ (l : List ℕ). 0 ∷ l) (zeros-are t (k .1)))
+-- ---- a row, number by number
 
-pub zeros-rep : (n : ℕ) → zeros (replicate n 0) ≡ true
-zeros-rep zero = refl
-zeros-rep (suc n) = zeros-rep n
+abbrev pub listed : ℕ → (ℕ → ℕ) → List ℕ
+listed zero f = []
+listed (suc n) f = f 0 ∷ listed n (λ k. f (suc k))
 
-module _ {A : Type 0} (make : ℕ → ℕ → ℕ → ℕ → ℕ → A) (parts : A → Five) where
-  pub length-write : (xs : List A) → length (write parts xs) ≡ 5 * length xs
-  length-write [] = refl
-  length-write (x ∷ xs) = omega (arith, length-write xs)
+listed-all : (r : List ℕ) → listed (length r) (λ k. getD r k 0) ≡ r
+listed-all [] = refl
+listed-all (x ∷ r) = ap (λ (l : List ℕ). x ∷ l) (listed-all r)
 
-  pub write-append : (xs ys : List A) → write parts (xs ++ ys) ≡ write parts xs ++ write parts ys
-  write-append [] ys = refl
-  write-append (x ∷ xs) ys = rw (write-append xs ys)
+pub listed-row : (w : ℕ) (r : List ℕ) → length r ≡ w → listed w (λ k. getD r k 0) ≡ r
+listed-row w r e = ap (λ (n : ℕ). listed n (λ k. getD r k 0)) (sym e) ∙ listed-all r
 
-  -- what is behind some rows
-  pub drop-write : (xs : List A) (r : List ℕ) → drop (5 * length xs) (write parts xs ++ r) ≡ r
-  drop-write [] r = refl
-  drop-write (x ∷ xs) r = simp unary-clauses (drop-write xs r)
+-- ---- rows of a table
 
-module _ {A : Type 0} (make : ℕ → ℕ → ℕ → ℕ → ℕ → A) (parts : A → Five)
-    (back : (a b c d e : ℕ) → parts (make a b c d e) ≡ record { a = a; b = b; c = c; d = d; e = e }) where
-  -- a table is the rows read of it, and what is behind them
-  pub read-split : (t : List ℕ) → t ≡ write parts (read make t) ++ drop (5 * length (read make t)) t
-  read-split [] = refl
-  read-split (a ∷ []) = refl
-  read-split (a ∷ b ∷ []) = refl
-  read-split (a ∷ b ∷ c ∷ []) = refl
-  read-split (a ∷ b ∷ c ∷ d ∷ []) = refl
-  read-split (a ∷ b ∷ c ∷ d ∷ e ∷ t) = go (eqb b 0) (read-split t)
+module _ (w : ℕ) where
+  next-row : (n : ℕ) (t : List ℕ) → drop (w * n) (drop w t) ≡ drop (w * suc n) t
+  next-row n t = let e : w + w * n ≡ w * suc n = omega (arith, mul-suc w n) in drop-drop (w * n) w t ∙ ap (λ (k : ℕ). drop k t) e
+
+  pub length-rows : (n : ℕ) (t : List ℕ) → length (rows-in w n t) ≡ n
+  length-rows zero t = refl
+  length-rows (suc n) t = ap suc (length-rows n (drop w t))
+
+  -- a row lies where its number says
+  pub rows-in-at : (n : ℕ) (t : List ℕ) (i : ℕ) → i < n → getD (rows-in w n t) i [] ≡ row-in w t i
+  rows-in-at zero t i h = absurd (omega arith)
+  rows-in-at (suc n) t zero h = ap (λ (k : ℕ). take w (drop k t)) (sym (mul-zero w))
+  rows-in-at (suc n) t (suc i) h = rows-in-at n (drop w t) i (le-of-suc-le-suc h) ∙ ap (take w) (next-row i t)
+
+  zero-rows : (n : ℕ) (t : List ℕ) → zeros t ≡ true → each zeros (rows-in w n t) ≡ true
+  zero-rows zero t h = refl
+  zero-rows (suc n) t h = let k = zeros-parts w t h in and-intro (zeros (take w t)) (each zeros (rows-in w n (drop w t))) (k .0) (zero-rows n (drop w t) (k .1))
+
+  rows-zero : (n : ℕ) (t : List ℕ) → length t ≡ w * n → each zeros (rows-in w n t) ≡ true → zeros t ≡ true
+  rows-zero zero t e h = none t (e ∙ mul-zero w)
     where
-      go : (u : Bool) → t ≡ write parts (read make t) ++ drop (5 * length (read make t)) t
-          → a ∷ b ∷ c ∷ d ∷ e ∷ t ≡ write parts (cond u [] (make a b c d e ∷ read make t)) ++ drop (5 * length (cond u [] (make a b c d e ∷ read make t))) (a ∷ b ∷ c ∷ d ∷ e ∷ t)
+      none : (t : List ℕ) → length t ≡ 0 → zeros t ≡ true
+      none [] z = refl
+      none (x ∷ t) z = absurd (omega arith)
+  rows-zero (suc n) t e h =
+      let k = and-true (zeros (take w t)) (each zeros (rows-in w n (drop w t))) h in
+      zeros-join w t (k .0) (rows-zero n (drop w t) (omega (arith, length-drop w t, mul-suc w n)) (k .1))
+
+  pub take-first : (n k : ℕ) (t : List ℕ) → k ≤ n → take k (rows-in w n t) ≡ rows-in w k t
+  take-first n zero t h = refl
+  take-first zero (suc k) t h = absurd (omega arith)
+  take-first (suc n) (suc k) t h = ap (λ (l : List (List ℕ)). take w t ∷ l) (take-first n k (drop w t) (le-of-suc-le-suc h))
+
+  drop-first : (n k : ℕ) (t : List ℕ) → k ≤ n → drop k (rows-in w n t) ≡ rows-in w (n - k) (drop (w * k) t)
+  drop-first n zero t h =
+      let e : n ≡ n - 0 = omega arith in
+      ap (λ (m : ℕ). rows-in w m t) e ∙ ap (λ (m : ℕ). rows-in w (n - 0) (drop m t)) (sym (mul-zero w))
+  drop-first zero (suc k) t h = absurd (omega arith)
+  drop-first (suc n) (suc k) t h =
+      let e : n - k ≡ suc n - suc k = omega arith in
+      drop-first n k (drop w t) (le-of-suc-le-suc h)
+      ∙ ap (λ (m : ℕ). rows-in w m (drop (w * k) (drop w t))) e
+      ∙ ap (rows-in w (suc n - suc k)) (next-row k t)
+
+  pub length-row : (t : List ℕ) (i : ℕ) → w * i + w ≤ length t → length (row-in w t i) ≡ w
+  length-row t i h = length-take-le w (drop (w * i) t) (omega (arith, length-drop (w * i) t))
+
+  pub number-in : (t : List ℕ) (i k : ℕ) → k < w → getD (row-in w t i) k 0 ≡ getD t (w * i + k) 0
+  number-in t i k h = getD-take w (drop (w * i) t) k 0 h ∙ getD-drop (w * i) t k 0
+
+  -- the rows fit into the table
+  pub rows-fit : (t : List ℕ) (n : ℕ) → n ≤ length t / w → w * n ≤ length t
+  rows-fit t n h = le-trans (mul-le-mul-left w h) (mul-div-le (length t) w)
+
+-- ---- the rows in use
+
+module _ (ends : List (List ℕ) → Bool) where
+  until-first : (rs : List (List ℕ)) → until ends rs ≡ take (length (until ends rs)) rs
+  until-first [] = refl
+  until-first (r ∷ rs) = go (ends (r ∷ rs)) (until-first rs)
+    where
+      go : (u : Bool) → until ends rs ≡ take (length (until ends rs)) rs → cond u [] (r ∷ until ends rs) ≡ take (length (cond u [] (r ∷ until ends rs))) (r ∷ rs)
       go true h = refl
-      go false h = rw (back a b c d e) (simp unary-clauses (ap (λ (l : List ℕ). a ∷ b ∷ c ∷ d ∷ e ∷ l) h))
+      go false h = ap (λ (l : List (List ℕ)). r ∷ l) h
 
-  -- writing what was read of a formed table gives it back
-  pub written-back : (n : ℕ) (t : List ℕ) → formed make n t ≡ true → t ≡ padded parts n (read make t)
-  written-back n t h =
-      let k = and-true (eqb (length t) n) (zeros (drop (5 * length (read make t)) t)) h in
-      let e : length (drop (5 * length (read make t)) t) ≡ n - 5 * length (read make t) = omega (arith, length-drop (5 * length (read make t)) t, eqb-true (length t) n (k .0)) in
-      read-split t ∙ ap (λ (l : List ℕ). write parts (read make t) ++ l) (zeros-are _ (k .1) ∙ ap (λ (m : ℕ). replicate m 0) e)
-
-pub formed-length : {A : Type 0} (make : ℕ → ℕ → ℕ → ℕ → ℕ → A) (n : ℕ) (t : List ℕ) → formed make n t ≡ true → length t ≡ n
-formed-length make n t h = eqb-true (length t) n (and-true (eqb (length t) n) (zeros (drop (5 * length (read make t)) t)) h .0)
-
-module _ {A : Type 0} (make : ℕ → ℕ → ℕ → ℕ → ℕ → A) where
-  read-zeros : (n : ℕ) → read make (replicate n 0) ≡ []
-  read-zeros zero = refl
-  read-zeros (suc zero) = refl
-  read-zeros (suc (suc zero)) = refl
-  read-zeros (suc (suc (suc zero))) = refl
-  read-zeros (suc (suc (suc (suc zero)))) = refl
-  read-zeros (suc (suc (suc (suc (suc n))))) = refl
-
-module _ {A : Type 0} (make : ℕ → ℕ → ℕ → ℕ → ℕ → A) (parts : A → Five)
-    (again : (x : A) → make (parts x .a) (parts x .b) (parts x .c) (parts x .d) (parts x .e) ≡ x) where
-  -- reading what was written gives it back
-  pub read-back : (xs : List A) (n : ℕ) → All (λ x. 0 < parts x .b) xs → read make (write parts xs ++ replicate n 0) ≡ xs
-  read-back [] n h = read-zeros make n
-  read-back (x ∷ xs) n h =
-      rw (ne-eqb (parts x .b) 0 (λ e. omega arith)) (rw (again x, read-back xs n (h .1)))
-
-  pub formed-back : (xs : List A) (n : ℕ) → All (λ x. 0 < parts x .b) xs → 5 * length xs ≤ n → formed make n (padded parts n xs) ≡ true
-  formed-back xs n h l =
-      let e : length (padded parts n xs) ≡ n = omega (arith, length-append (write parts xs) (replicate (n - 5 * length xs) 0), length-write make parts xs, length-replicate {A = ℕ} (n - 5 * length xs) 0) in
-      rw (eq-eqb _ _ e, read-back xs (n - 5 * length xs) h, drop-write make parts xs (replicate (n - 5 * length xs) 0)) (zeros-rep (n - 5 * length xs))
-
--- a row that is read lies where its number says
-module _ {A : Type 0} (make : ℕ → ℕ → ℕ → ℕ → ℕ → A) (none : A) where
-  pub read-at : (t : List ℕ) (i : ℕ) → i < length (read make t)
-      → getD (read make t) i none ≡ make (getD t (5 * i) 0) (getD t (5 * i + 1) 0) (getD t (5 * i + 2) 0) (getD t (5 * i + 3) 0) (getD t (5 * i + 4) 0)
-  read-at [] i h = absurd (omega arith)
-  read-at (a ∷ []) i h = absurd (omega arith)
-  read-at (a ∷ b ∷ []) i h = absurd (omega arith)
-  read-at (a ∷ b ∷ c ∷ []) i h = absurd (omega arith)
-  read-at (a ∷ b ∷ c ∷ d ∷ []) i h = absurd (omega arith)
-  read-at (a ∷ b ∷ c ∷ d ∷ e ∷ t) i h = go (eqb b 0) i h (read-at t)
+  until-le : (rs : List (List ℕ)) → length (until ends rs) ≤ length rs
+  until-le [] = omega arith
+  until-le (r ∷ rs) = go (ends (r ∷ rs)) (until-le rs)
     where
-      go : (u : Bool) (i : ℕ) → i < length (cond u [] (make a b c d e ∷ read make t))
-          → ((j : ℕ) → j < length (read make t) → getD (read make t) j none ≡ make (getD t (5 * j) 0) (getD t (5 * j + 1) 0) (getD t (5 * j + 2) 0) (getD t (5 * j + 3) 0) (getD t (5 * j + 4) 0))
-          → getD (cond u [] (make a b c d e ∷ read make t)) i none ≡ make (getD (a ∷ b ∷ c ∷ d ∷ e ∷ t) (5 * i) 0) (getD (a ∷ b ∷ c ∷ d ∷ e ∷ t) (5 * i + 1) 0) (getD (a ∷ b ∷ c ∷ d ∷ e ∷ t) (5 * i + 2) 0) (getD (a ∷ b ∷ c ∷ d ∷ e ∷ t) (5 * i + 3) 0) (getD (a ∷ b ∷ c ∷ d ∷ e ∷ t) (5 * i + 4) 0)
-      go true i h ih = absurd (omega arith)
-      go false zero h ih = refl
-      go false (suc i) h ih = simp unary-clauses (simp unary-clauses at (ih i (le-of-suc-le-suc h)))
-
--- ---- how far the rows go
-
-module _ {A : Type 0} (make : ℕ → ℕ → ℕ → ℕ → ℕ → A) where
-  pub held-end : (t : List ℕ) → 5 * length (read make t) ≤ length t
-  held-end [] = omega arith
-  held-end (a ∷ []) = omega arith
-  held-end (a ∷ b ∷ []) = omega arith
-  held-end (a ∷ b ∷ c ∷ []) = omega arith
-  held-end (a ∷ b ∷ c ∷ d ∷ []) = omega arith
-  held-end (a ∷ b ∷ c ∷ d ∷ e ∷ t) = go (eqb b 0) (held-end t)
-    where
-      go : (u : Bool) → 5 * length (read make t) ≤ length t → 5 * length (cond u [] (make a b c d e ∷ read make t)) ≤ length (a ∷ b ∷ c ∷ d ∷ e ∷ t)
+      go : (u : Bool) → length (until ends rs) ≤ length rs → length (cond u [] (r ∷ until ends rs)) ≤ length (r ∷ rs)
       go true h = omega arith
       go false h = omega arith
 
-  pub held-stop : (t : List ℕ) (i : ℕ) → i ≤ length (read make t) → getD t (5 * i + 1) 0 ≡ 0 → length (read make t) ≡ i
-  held-stop [] i h z = omega arith
-  held-stop (a ∷ []) i h z = omega arith
-  held-stop (a ∷ b ∷ []) i h z = omega arith
-  held-stop (a ∷ b ∷ c ∷ []) i h z = omega arith
-  held-stop (a ∷ b ∷ c ∷ d ∷ []) i h z = omega arith
-  held-stop (a ∷ b ∷ c ∷ d ∷ e ∷ t) i h z = go (eqb b 0) refl i h z (held-stop t)
+  -- the place where they end is the first
+  until-stop : (rs : List (List ℕ)) (i : ℕ) → i ≤ length (until ends rs) → (i < length rs → ends (drop i rs) ≡ true) → length (until ends rs) ≡ i
+  until-stop [] i h z = omega arith
+  until-stop (r ∷ rs) i h z = go (ends (r ∷ rs)) refl i h z (until-stop rs)
     where
-      go : (u : Bool) → eqb b 0 ≡ u → (i : ℕ) → i ≤ length (cond u [] (make a b c d e ∷ read make t)) → getD (a ∷ b ∷ c ∷ d ∷ e ∷ t) (5 * i + 1) 0 ≡ 0
-          → ((j : ℕ) → j ≤ length (read make t) → getD t (5 * j + 1) 0 ≡ 0 → length (read make t) ≡ j)
-          → length (cond u [] (make a b c d e ∷ read make t)) ≡ i
+      go : (u : Bool) → ends (r ∷ rs) ≡ u → (i : ℕ) → i ≤ length (cond u [] (r ∷ until ends rs)) → (i < length (r ∷ rs) → ends (drop i (r ∷ rs)) ≡ true)
+          → ((j : ℕ) → j ≤ length (until ends rs) → (j < length rs → ends (drop j rs) ≡ true) → length (until ends rs) ≡ j)
+          → length (cond u [] (r ∷ until ends rs)) ≡ i
       go true q i h z ih = omega arith
-      go false q zero h z ih = absurd (eqb-false b 0 q z)
-      go false q (suc i) h z ih = ap suc (ih i (le-of-suc-le-suc h) (simp unary-clauses (simp unary-clauses at z)))
+      go false q zero h z ih = never (sym q ∙ z (omega arith))
+      go false q (suc i) h z ih = ap suc (ih i (le-of-suc-le-suc h) (λ l. z (suc-le-suc l)))
 
-  pub held-more : (t : List ℕ) (i : ℕ) → 5 * i + 5 ≤ length t → (getD t (5 * i + 1) 0 ≡ 0 → ⊥) → i ≤ length (read make t) → i < length (read make t)
-  held-more [] i l z h = absurd (omega arith)
-  held-more (a ∷ []) i l z h = absurd (omega arith)
-  held-more (a ∷ b ∷ []) i l z h = absurd (omega arith)
-  held-more (a ∷ b ∷ c ∷ []) i l z h = absurd (omega arith)
-  held-more (a ∷ b ∷ c ∷ d ∷ []) i l z h = absurd (omega arith)
-  held-more (a ∷ b ∷ c ∷ d ∷ e ∷ t) i l z h = go (eqb b 0) refl i l z h (held-more t)
+  until-end : (rs : List (List ℕ)) → length (until ends rs) < length rs → ends (drop (length (until ends rs)) rs) ≡ true
+  until-end [] h = absurd (omega arith)
+  until-end (r ∷ rs) h = go (ends (r ∷ rs)) refl h (until-end rs)
     where
-      go : (u : Bool) → eqb b 0 ≡ u → (i : ℕ) → 5 * i + 5 ≤ length (a ∷ b ∷ c ∷ d ∷ e ∷ t) → (getD (a ∷ b ∷ c ∷ d ∷ e ∷ t) (5 * i + 1) 0 ≡ 0 → ⊥)
-          → i ≤ length (cond u [] (make a b c d e ∷ read make t))
-          → ((j : ℕ) → 5 * j + 5 ≤ length t → (getD t (5 * j + 1) 0 ≡ 0 → ⊥) → j ≤ length (read make t) → j < length (read make t))
-          → i < length (cond u [] (make a b c d e ∷ read make t))
-      go true q zero l z h ih = absurd (z (eqb-true b 0 q))
-      go true q (suc i) l z h ih = absurd (omega arith)
-      go false q zero l z h ih = omega arith
-      go false q (suc i) l z h ih = let k = ih i (omega arith) (λ y. z (simp unary-clauses (simp unary-clauses at y))) (omega arith) in omega arith
+      go : (u : Bool) → ends (r ∷ rs) ≡ u → length (cond u [] (r ∷ until ends rs)) < length (r ∷ rs)
+          → (length (until ends rs) < length rs → ends (drop (length (until ends rs)) rs) ≡ true)
+          → ends (drop (length (cond u [] (r ∷ until ends rs))) (r ∷ rs)) ≡ true
+      go true q h ih = q
+      go false q h ih = ih (le-of-suc-le-suc h)
 
--- ---- rows taken from and put into a written table
+  module _ (w : ℕ) (t : List ℕ) where
+    used-le : length (used ends w t) ≤ length t / w
+    used-le = omega (arith, until-le (whole w t), length-rows w (length t / w) t)
 
-module _ {A : Type 0} (parts : A → Five) (r : List ℕ) where
-  pub take-rows : (xs : List A) (i : ℕ) → i ≤ length xs → take (5 * i) (write parts xs ++ r) ≡ write parts (take i xs)
-  take-rows xs zero h = refl
-  take-rows [] (suc i) h = absurd (omega arith)
-  take-rows (x ∷ xs) (suc i) h = simp unary-clauses (ap (λ (l : List ℕ). parts x .a ∷ parts x .b ∷ parts x .c ∷ parts x .d ∷ parts x .e ∷ l) (take-rows xs i (le-of-suc-le-suc h)))
+    used-first : used ends w t ≡ rows-in w (length (used ends w t)) t
+    used-first = until-first (whole w t) ∙ take-first w (length t / w) (length (used ends w t)) t used-le
 
-  pub drop-rows : (xs : List A) (i : ℕ) → i ≤ length xs → drop (5 * i) (write parts xs ++ r) ≡ write parts (drop i xs) ++ r
-  drop-rows xs zero h = refl
-  drop-rows [] (suc i) h = absurd (omega arith)
-  drop-rows (x ∷ xs) (suc i) h = simp unary-clauses (drop-rows xs i (le-of-suc-le-suc h))
+    pub used-end : w * length (used ends w t) ≤ length t
+    used-end = rows-fit w t (length (used ends w t)) used-le
 
--- how many rows there are does not hang on what they stand for
-module _ {A B : Type 0} (make : ℕ → ℕ → ℕ → ℕ → ℕ → A) (other : ℕ → ℕ → ℕ → ℕ → ℕ → B) where
-  pub read-same : (t : List ℕ) → length (read make t) ≡ length (read other t)
-  read-same [] = refl
-  read-same (a ∷ []) = refl
-  read-same (a ∷ b ∷ []) = refl
-  read-same (a ∷ b ∷ c ∷ []) = refl
-  read-same (a ∷ b ∷ c ∷ d ∷ []) = refl
-  read-same (a ∷ b ∷ c ∷ d ∷ e ∷ t) = go (eqb b 0) (read-same t)
+    pub used-at : (i : ℕ) → i < length (used ends w t) → getD (used ends w t) i [] ≡ row-in w t i
+    used-at i h = ap (λ (rs : List (List ℕ)). getD rs i []) used-first ∙ rows-in-at w (length (used ends w t)) t i h
+
+  -- a row that is read lies where its number says
+  pub read-at : {A : Type 0} (w : ℕ) (make : List ℕ → A) (t : List ℕ) (i : ℕ) → i < length (used ends w t) → getD (read ends w make t) i (make []) ≡ make (row-in w t i)
+  read-at w make t i h = List·getD-map make (used ends w t) i [] ∙ ap make (used-at w t i h)
+
+whole-at : (w : ℕ) (t : List ℕ) (i : ℕ) → i < length t / w → drop i (whole w t) ≡ row-in w t i ∷ drop (suc i) (whole w t)
+whole-at w t i h =
+    drop-cons (whole w t) i [] (omega (arith, length-rows w (length t / w) t))
+    ∙ ap (λ (r : List ℕ). r ∷ drop (suc i) (whole w t)) (rows-in-at w (length t / w) t i h)
+
+-- ---- where they come first
+
+module _ (w : ℕ) (t : List ℕ) (wide : 2 ≤ w) where
+  ends-here : (i : ℕ) → i < length t / w → in-front (drop i (whole w t)) ≡ eqb (getD t (w * i + 1) 0) 0
+  ends-here i h = ap in-front (whole-at w t i h) ∙ ap (λ (n : ℕ). eqb n 0) (number-in w t i 1 (omega arith))
+
+  pub held-stop : (i : ℕ) → i ≤ length (used in-front w t) → getD t (w * i + 1) 0 ≡ 0 → length (used in-front w t) ≡ i
+  held-stop i h z = until-stop in-front (whole w t) i h (λ l. ends-here i (omega (arith, length-rows w (length t / w) t)) ∙ eq-eqb (getD t (w * i + 1) 0) 0 z)
+
+  pub held-more : (i : ℕ) → i < length t / w → (getD t (w * i + 1) 0 ≡ 0 → ⊥) → i ≤ length (used in-front w t) → i < length (used in-front w t)
+  held-more i l z h = go (split (length (used in-front w t)) i)
     where
-      go : (u : Bool) → length (read make t) ≡ length (read other t) → length (cond u [] (make a b c d e ∷ read make t)) ≡ length (cond u [] (other a b c d e ∷ read other t))
-      go true h = refl
-      go false h = ap suc h
+      go : (length (used in-front w t) ≤ i) ⊎ (i < length (used in-front w t)) → i < length (used in-front w t)
+      go (inr k) = k
+      go (inl k) =
+          let e : length (used in-front w t) ≡ i = omega arith in
+          absurd (z (eqb-true (getD t (w * i + 1) 0) 0 (sym (ends-here i l) ∙ ap (λ (j : ℕ). in-front (drop j (whole w t))) (sym e) ∙ until-end in-front (whole w t) (omega (arith, length-rows w (length t / w) t)))))
 
--- ---- a row put into a table
+pub formed-length : (w n : ℕ) (t : List ℕ) → formed w n t ≡ true → length t ≡ n
+formed-length w n t h = eqb-true (length t) n (and-true (eqb (length t) n) (zeros (drop (w * length (used in-front w t)) t)) h .0)
 
--- the numbers of a row as a list
-abbrev pub listed : Five → List ℕ
-listed f = f .a ∷ f .b ∷ f .c ∷ f .d ∷ f .e ∷ []
+-- ---- where each stands at its number
 
-put-sets : (t : List ℕ) (i : ℕ) (f : Five) → put-numbers t i f ≡ sets t (5 * i) (listed f)
-put-sets t i f = simp unary-clauses
+zero-row-at : (rs : List (List ℕ)) (i : ℕ) → each zeros rs ≡ true → zeros (getD rs i []) ≡ true
+zero-row-at [] i h = refl
+zero-row-at (r ∷ rs) zero h = and-true (zeros r) (each zeros rs) h .0
+zero-row-at (r ∷ rs) (suc i) h = zero-row-at rs i (and-true (zeros r) (each zeros rs) h .1)
 
-pub put-eq : (t : List ℕ) (i : ℕ) (f : Five) → 5 * i + 5 ≤ length t → put-numbers t i f ≡ take (5 * i) t ++ listed f ++ drop (5 * i + 5) t
-put-eq t i f h = put-sets t i f ∙ sets-eq (listed f) t (5 * i) h
+module _ (w : ℕ) (t : List ℕ) where
+  abbrev count : ℕ
+  count = length (used by-number w t)
 
-zeros-more : (n : ℕ) → 5 ≤ n → replicate {A = ℕ} n 0 ≡ 0 ∷ 0 ∷ 0 ∷ 0 ∷ 0 ∷ replicate (n - 5) 0
-zeros-more n h = let e : n ≡ suc (suc (suc (suc (suc (n - 5))))) = omega arith in ap (λ (m : ℕ). replicate {A = ℕ} m 0) e
+  -- behind the last row there are zeros
+  zero-behind : each zeros (drop count (whole w t)) ≡ true
+  zero-behind = go (split (length (whole w t)) count)
+    where
+      go : (length (whole w t) ≤ count) ⊎ (count < length (whole w t)) → each zeros (drop count (whole w t)) ≡ true
+      go (inl h) = ap (each zeros) (drop-of-length-le (whole w t) h)
+      go (inr h) = until-end by-number (whole w t) h
 
-pub five-more : (n m : ℕ) → 5 + n ≡ m → 0 ∷ 0 ∷ 0 ∷ 0 ∷ 0 ∷ replicate n 0 ≡ replicate {A = ℕ} m 0
-five-more n m e = let k : m - 5 ≡ n = omega arith in sym (zeros-more m (omega arith) ∙ ap (λ (j : ℕ). 0 ∷ 0 ∷ 0 ∷ 0 ∷ 0 ∷ replicate {A = ℕ} j 0) k)
+  pub row-behind : (i : ℕ) → i < length t / w → count ≤ i → zeros (row-in w t i) ≡ true
+  row-behind i l h =
+      let e : count + (i - count) ≡ i = omega arith in
+      ap zeros (sym (getD-drop count (whole w t) (i - count) [] ∙ ap (λ (k : ℕ). getD (whole w t) k []) e ∙ rows-in-at w (length t / w) t i l))
+      ∙ zero-row-at (drop count (whole w t)) (i - count) zero-behind
 
-module _ {A : Type 0} (make : ℕ → ℕ → ℕ → ℕ → ℕ → A) (parts : A → Five) (size : ℕ) where
-  pub length-padded : (xs : List A) → 5 * length xs ≤ size → length (padded parts size xs) ≡ size
-  length-padded xs h = omega (arith, length-append (write parts xs) (replicate (size - 5 * length xs) 0), length-write make parts xs, length-replicate {A = ℕ} (size - 5 * length xs) 0)
+  -- the last one has other numbers
+  pub row-last : (i : ℕ) → count ≡ suc i → zeros (row-in w t i) ≡ false
+  row-last i e =
+      let l : i < length t / w = omega (arith, used-le by-number w t) in
+      let d : drop (suc i) (whole w t) ≡ drop count (whole w t) = ap (λ (j : ℕ). drop j (whole w t)) (sym e) in
+      not-true-false (zeros (row-in w t i))
+      (λ z.
+      omega (
+        arith,
+        until-stop by-number (whole w t) i (omega arith)
+            (λ _. ap by-number (whole-at w t i l) ∙ and-intro (zeros (row-in w t i)) (each zeros (drop (suc i) (whole w t))) z (ap (each zeros) d ∙ zero-behind)),
+      ))
 
-  -- a row put behind the others
-  pub put-last : (xs : List A) (x : A) → 5 * length xs + 5 ≤ size → put-numbers (padded parts size xs) (length xs) (parts x) ≡ padded parts size (xs ++ x ∷ [])
-  put-last xs x h =
-      let n : ℕ = size - 5 * length xs in
-      let z : List ℕ = replicate n 0 in
-      let e : n - 5 ≡ size - 5 * length (xs ++ x ∷ []) = omega (arith, length-append xs (x ∷ [])) in
-      let w : length (write parts xs) ≡ 5 * length xs = length-write make parts xs in
-      put-eq (write parts xs ++ z) (length xs) (parts x) (omega (arith, length-append (write parts xs) z, w, length-replicate {A = ℕ} n 0))
-      ∙ ap (λ (l : List ℕ). l ++ listed (parts x) ++ drop (5 * length xs + 5) (write parts xs ++ z)) (take-at (write parts xs) z (5 * length xs) w)
-      ∙ ap (λ (l : List ℕ). write parts xs ++ listed (parts x) ++ l) (sym (drop-drop 5 (5 * length xs) (write parts xs ++ z)) ∙ ap (drop 5) (drop-at (write parts xs) z (5 * length xs) w ∙ zeros-more n (omega arith)))
-      ∙ ap (λ (m : ℕ). write parts xs ++ listed (parts x) ++ replicate m 0) e
-      ∙ ap (λ (l : List ℕ). l ++ replicate (size - 5 * length (xs ++ x ∷ [])) 0) (sym (write-append make parts xs (x ∷ [])))
+  -- in a table of whole rows only, all is zero behind them
+  pub numbers-behind : (n : ℕ) → 0 < w → length t ≡ w * n → zeros (drop (w * count) t) ≡ true
+  numbers-behind n p e =
+      let m : length t / w ≡ n = ap (λ (j : ℕ). j / w) e ∙ mul-div-right n p in
+      rows-zero w (n - count) (drop (w * count) t) (omega (arith, length-drop (w * count) t, mul-sub w n count))
+      (ap (each zeros) (sym (drop-first w n count t (omega (arith, used-le by-number w t)))) ∙ ap (λ (j : ℕ). each zeros (drop count (rows-in w j t))) (sym m) ∙ zero-behind)
+
+-- ---- a table is the rows read of it, and what is behind them
+
+module _ {A : Type 0} (w : ℕ) (make : List ℕ → A) (parts : A → List ℕ) (back : (r : List ℕ) → length r ≡ w → parts (make r) ≡ r) where
+  write-rows : (n : ℕ) (t : List ℕ) → w * n ≤ length t → write parts (map make (rows-in w n t)) ++ drop (w * n) t ≡ t
+  write-rows zero t h = ap (λ (k : ℕ). drop k t) (mul-zero w)
+  write-rows (suc n) t h =
+      let ws : List ℕ = write parts (map make (rows-in w n (drop w t))) in
+      append-assoc (parts (make (take w t))) ws (drop (w * suc n) t)
+      ∙ ap (λ (l : List ℕ). parts (make (take w t)) ++ (ws ++ l)) (sym (next-row w n t))
+      ∙ ap (λ (l : List ℕ). parts (make (take w t)) ++ l) (write-rows n (drop w t) (omega (arith, mul-suc w n, length-drop w t)))
+      ∙ ap (λ (l : List ℕ). l ++ drop w t) (back (take w t) (length-take-le w t (omega (arith, mul-suc w n))))
+      ∙ take-append-drop w t
+
+  -- writing what was read of a table with zeros behind its rows gives it back
+  pub written-back : (ends : List (List ℕ) → Bool) (n : ℕ) (t : List ℕ) → length t ≡ n → zeros (drop (w * length (used ends w t)) t) ≡ true → t ≡ padded w parts n (read ends w make t)
+  written-back ends n t h z =
+      let k : ℕ = length (used ends w t) in
+      sym
+      (ap (λ (m : ℕ). write parts (read ends w make t) ++ replicate (n - w * m) 0) (length-map (used ends w t) make)
+      ∙ ap (λ (l : List ℕ). write parts (read ends w make t) ++ l) (sym (zeros-are (drop (w * k) t) z ∙ zeros-left (length (drop (w * k) t)) (n - w * k) (omega (arith, length-drop (w * k) t))))
+      ∙ ap (λ (rs : List (List ℕ)). write parts (map make rs) ++ drop (w * k) t) (used-first ends w t)
+      ∙ write-rows k t (used-end ends w t))
+
+  pub formed-written : (n : ℕ) (t : List ℕ) → formed w n t ≡ true → t ≡ padded w parts n (read in-front w make t)
+  formed-written n t h =
+      let k = and-true (eqb (length t) n) (zeros (drop (w * length (used in-front w t)) t)) h in
+      written-back in-front n t (eqb-true (length t) n (k .0)) (k .1)
+
+-- ---- what is written is read back
+
+-- rows end behind the last that is used, where all behind it is zero
+pub record Ends (ends : List (List ℕ) → Bool) : Type 0 where
+  pub not-at : (r : List ℕ) (rs : List (List ℕ)) → 0 < getD r 1 0 → ends (r ∷ rs) ≡ false
+  pub at-zeros : (r : List ℕ) (rs : List (List ℕ)) → each zeros (r ∷ rs) ≡ true → ends (r ∷ rs) ≡ true
+
+pub ends-in-front : Ends in-front
+ends-in-front = record {
+  not-at = λ r rs h. ne-eqb (getD r 1 0) 0 (λ e. omega arith);
+  at-zeros = λ r rs h. eq-eqb (getD r 1 0) 0 (zero-at r 1 (and-true (zeros r) (each zeros rs) h .0));
+}
+
+pub ends-by-number : Ends by-number
+ends-by-number = record {
+  not-at = λ r rs h. not-true-false (zeros r && each zeros rs) (λ e. omega (arith, zero-at r 1 (and-true (zeros r) (each zeros rs) e .0)));
+  at-zeros = λ r rs h. h;
+}
+
+module _ {ends : List (List ℕ) → Bool} (E : Ends ends) where
+  until-zeros : (zs : List (List ℕ)) → each zeros zs ≡ true → until ends zs ≡ []
+  until-zeros [] h = refl
+  until-zeros (z ∷ zs) h = cond-is [] (z ∷ until ends zs) (E .at-zeros z zs h)
+
+  until-all : (rs zs : List (List ℕ)) → All (λ r. 0 < getD r 1 0) rs → each zeros zs ≡ true → until ends (rs ++ zs) ≡ rs
+  until-all [] zs h z = until-zeros zs z
+  until-all (r ∷ rs) zs h z = cond-is [] (r ∷ until ends (rs ++ zs)) (E .not-at r (rs ++ zs) (h .0)) ∙ ap (λ (l : List (List ℕ)). r ∷ l) (until-all rs zs (h .1) z)
+
+all-parts : {A : Type 0} (parts : A → List ℕ) (xs : List A) → All (λ x. 0 < getD (parts x) 1 0) xs → All (λ r. 0 < getD r 1 0) (map parts xs)
+all-parts parts [] h = tt
+all-parts parts (x ∷ xs) h = (h .0, all-parts parts xs (h .1))
+
+module _ {A : Type 0} (w : ℕ) (parts : A → List ℕ) (wide : (x : A) → length (parts x) ≡ w) where
+  pub length-write : (xs : List A) → length (write parts xs) ≡ w * length xs
+  length-write [] = sym (mul-zero w)
+  length-write (x ∷ xs) = omega (arith, length-append (parts x) (write parts xs), wide x, length-write xs, mul-suc w (length xs))
+
+  pub write-append : (xs ys : List A) → write parts (xs ++ ys) ≡ write parts xs ++ write parts ys
+  write-append [] ys = refl
+  write-append (x ∷ xs) ys = ap (λ (l : List ℕ). parts x ++ l) (write-append xs ys) ∙ sym (append-assoc (parts x) (write parts xs) (write parts ys))
+
+  -- what is behind some rows
+  pub drop-write : (xs : List A) (r : List ℕ) → drop (w * length xs) (write parts xs ++ r) ≡ r
+  drop-write xs r = drop-at (write parts xs) r (w * length xs) (length-write xs)
+
+  module _ (r : List ℕ) (xs : List A) (i : ℕ) (h : i ≤ length xs) where
+    parted : write parts xs ++ r ≡ write parts (take i xs) ++ (write parts (drop i xs) ++ r)
+    parted =
+        ap (λ (ys : List A). write parts ys ++ r) (sym (take-append-drop i xs))
+        ∙ ap (λ (l : List ℕ). l ++ r) (write-append (take i xs) (drop i xs))
+        ∙ append-assoc (write parts (take i xs)) (write parts (drop i xs)) r
+
+    length-taken : length (write parts (take i xs)) ≡ w * i
+    length-taken = length-write (take i xs) ∙ ap (λ (k : ℕ). w * k) (length-take-le i xs h)
+
+    pub take-rows : take (w * i) (write parts xs ++ r) ≡ write parts (take i xs)
+    take-rows = ap (take (w * i)) parted ∙ take-at (write parts (take i xs)) (write parts (drop i xs) ++ r) (w * i) length-taken
+
+    pub drop-rows : drop (w * i) (write parts xs ++ r) ≡ write parts (drop i xs) ++ r
+    drop-rows = ap (drop (w * i)) parted ∙ drop-at (write parts (take i xs)) (write parts (drop i xs) ++ r) (w * i) length-taken
+
+  module _ (size : ℕ) where
+    pub length-padded : (xs : List A) → w * length xs ≤ size → length (padded w parts size xs) ≡ size
+    length-padded xs h = omega (arith, length-append (write parts xs) (replicate (size - w * length xs) 0), length-write xs, length-replicate {A = ℕ} (size - w * length xs) 0)
+
+    -- a row in place of another
+    pub put-at : (xs : List A) (i : ℕ) (x : A) → i < length xs → w * length xs ≤ size → sets (padded w parts size xs) (w * i) (parts x) ≡ padded w parts size (set xs i x)
+    put-at xs i x l h =
+        let z : List ℕ = replicate (size - w * length xs) 0 in
+        let e : w * i + length (parts x) ≡ w * suc i = omega (arith, wide x, mul-suc w i) in
+        sets-eq (parts x) (write parts xs ++ z) (w * i) (omega (arith, length-padded xs h, wide x, mul-suc w i, mul-le-mul-left w l))
+        ∙ ap (λ (l : List ℕ). l ++ parts x ++ drop (w * i + length (parts x)) (write parts xs ++ z)) (take-rows z xs i (omega arith))
+        ∙ ap (λ (l : List ℕ). write parts (take i xs) ++ parts x ++ l) (ap (λ (k : ℕ). drop k (write parts xs ++ z)) e ∙ drop-rows z xs (suc i) l)
+        ∙ sym (append-assoc (write parts (take i xs) ++ parts x) (write parts (drop (suc i) xs)) z)
+        ∙ ap (λ (l : List ℕ). l ++ z) (append-assoc (write parts (take i xs)) (parts x) (write parts (drop (suc i) xs)) ∙ sym (write-append (take i xs) (x ∷ drop (suc i) xs)))
+        ∙ ap (λ (ys : List A). write parts ys ++ z) (sym (set-split xs i x l))
+        ∙ ap (λ (k : ℕ). write parts (set xs i x) ++ replicate (size - w * k) 0) (sym (length-set xs i x))
+
+    -- a row put behind the others
+    pub put-last : (xs : List A) (x : A) → w * length xs + w ≤ size → sets (padded w parts size xs) (w * length xs) (parts x) ≡ padded w parts size (xs ++ x ∷ [])
+    put-last xs x h =
+        let n : ℕ = size - w * length xs in
+        let z : List ℕ = replicate n 0 in
+        let e : n - w ≡ size - w * length (xs ++ x ∷ []) = omega (arith, ap (λ (k : ℕ). w * k) (length-append xs (x ∷ [])), mul-suc w (length xs)) in
+        sets-eq (parts x) (write parts xs ++ z) (w * length xs) (omega (arith, length-padded xs (omega arith), wide x))
+        ∙ ap (λ (l : List ℕ). l ++ parts x ++ drop (w * length xs + length (parts x)) (write parts xs ++ z)) (take-at (write parts xs) z (w * length xs) (length-write xs))
+        ∙ ap (λ (k : ℕ). write parts xs ++ parts x ++ drop (w * length xs + k) (write parts xs ++ z)) (wide x)
+        ∙ ap (λ (l : List ℕ). write parts xs ++ parts x ++ l) (sym (drop-drop w (w * length xs) (write parts xs ++ z)) ∙ ap (drop w) (drop-write xs z) ∙ drop-zeros w n ∙ zeros-left _ _ e)
+        ∙ ap (λ (l : List ℕ). l ++ replicate (size - w * length (xs ++ x ∷ [])) 0) (ap (λ (l : List ℕ). write parts xs ++ l) (sym (append-nil (parts x))) ∙ sym (write-append xs (x ∷ [])))
+
+  module _ (some-width : 0 < w) where
+    first-written : (xs : List A) (n : ℕ) (r : List ℕ) → rows-in w (length xs + n) (write parts xs ++ r) ≡ map parts xs ++ rows-in w n r
+    first-written [] n r = let e : 0 + n ≡ n = omega arith in ap (λ (k : ℕ). rows-in w k r) e
+    first-written (x ∷ xs) n r =
+        let e : suc (length xs) + n ≡ suc (length xs + n) = omega arith in
+        let t : List ℕ = parts x ++ (write parts xs ++ r) in
+        ap (λ (k : ℕ). rows-in w k (parts x ++ write parts xs ++ r)) e
+        ∙ ap (rows-in w (suc (length xs + n))) (append-assoc (parts x) (write parts xs) r)
+        ∙ ap (λ (l : List ℕ). l ∷ rows-in w (length xs + n) (drop w t)) (take-at (parts x) (write parts xs ++ r) w (wide x))
+        ∙ ap (λ (l : List ℕ). parts x ∷ rows-in w (length xs + n) l) (drop-at (parts x) (write parts xs ++ r) w (wide x))
+        ∙ ap (λ (rs : List (List ℕ)). parts x ∷ rs) (first-written xs n r)
+
+    pub whole-written : (xs : List A) (r : List ℕ) → whole w (write parts xs ++ r) ≡ map parts xs ++ whole w r
+    whole-written xs r =
+        ap (λ (k : ℕ). rows-in w (k / w) (write parts xs ++ r)) (length-append (write parts xs) r ∙ ap (λ (k : ℕ). k + length r) (length-write xs))
+        ∙ ap (λ (k : ℕ). rows-in w k (write parts xs ++ r)) (mul-add-div some-width (length xs) (length r))
+        ∙ first-written xs (length r / w) r
+
+    module _ (make : List ℕ → A) (again : (x : A) → make (parts x) ≡ x) where
+      made-again : (xs : List A) → map make (map parts xs) ≡ xs
+      made-again [] = refl
+      made-again (x ∷ xs) = rw (again x, made-again xs)
+
+      -- reading what was written gives it back
+      pub read-back : {ends : List (List ℕ) → Bool} → Ends ends → (xs : List A) (n : ℕ) → All (λ x. 0 < getD (parts x) 1 0) xs → read ends w make (write parts xs ++ replicate n 0) ≡ xs
+      read-back {ends} E xs n h =
+          ap (map make)
+          (ap (until ends) (whole-written xs (replicate n 0))
+          ∙ until-all E (map parts xs) (whole w (replicate n 0)) (all-parts parts xs h) (zero-rows w (length (replicate {A = ℕ} n 0) / w) (replicate n 0) (zeros-rep n)))
+          ∙ made-again xs
+
+      pub formed-back : (xs : List A) (n : ℕ) → All (λ x. 0 < getD (parts x) 1 0) xs → w * length xs ≤ n → formed w n (padded w parts n xs) ≡ true
+      formed-back xs n h l =
+          let t : List ℕ = padded w parts n xs in
+          let e : length (used in-front w t) ≡ length xs = sym (length-map (used in-front w t) make) ∙ ap length (read-back ends-in-front xs (n - w * length xs) h) in
+          rw (eq-eqb (length t) n (length-padded n xs l), e, drop-write xs (replicate (n - w * length xs) 0)) (zeros-rep (n - w * length xs))

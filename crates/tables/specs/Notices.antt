@@ -10,11 +10,11 @@ use Rattle.rules.specs.declared.Notice.{Notice}
 use Rattle.rules.specs.Model.{notice-packet}
 use Rattle.rules.specs.Words.{each}
 use Rattle.tables.specs.Table.{formed}
-use Rattle.tables.specs.Places.{packet-of, rows, table-of}
+use Rattle.tables.specs.Places.{packet-width, rows, table-of}
 
--- the numbers of the table: five for each place
+-- the numbers of the table: a row for each place
 abbrev pub notices-length : ℕ
-notices-length = 5 * max-notices
+notices-length = packet-width * max-notices
 
 -- what a row stands for
 abbrev pub notice-of : Packet → Notice
@@ -31,4 +31,4 @@ abbrev pub marked : Packet → Bool
 marked p = eqb (p .connection) notice-number && eqb (p .eligibility) (p .arrival)
 
 unfoldable pub notices-formed : List ℕ → Bool
-notices-formed q = formed packet-of notices-length q && each marked (rows q)
+notices-formed q = formed packet-width notices-length q && each marked (rows q)

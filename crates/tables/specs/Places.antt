@@ -5,42 +5,51 @@ use mathlib.Core.Bool.{cond}
 use mathlib.Core.List.{List, [], _∷_, _++_}
 use lib.Dec.{eqb}
 use lib.ListN.{getD, take, drop}
-use lib.Seq.{paste}
+use lib.Seq.{paste, sets}
 use Rattle.rules.specs.Limits.{max-reserved}
 use Rattle.rules.specs.declared.Packet.{Packet}
-use Rattle.tables.specs.declared.Five.{Five}
-use Rattle.tables.specs.Table.{put-numbers, read, padded}
+use Rattle.tables.specs.Table.{in-front, read, padded}
 
--- the numbers of the table: five for each place
+abbrev pub packet-width : ℕ
+packet-width = 5
+
+-- the numbers of the table: a row for each place
 abbrev pub places-length : ℕ
-places-length = 5 * max-reserved
+places-length = packet-width * max-reserved
+
+-- ---- a row
 
 abbrev pub packet-of : ℕ → ℕ → ℕ → ℕ → ℕ → Packet
 packet-of a b c d e = record { connection = a; len = b; tag = c; arrival = d; eligibility = e }
 
-abbrev pub five-of : Packet → Five
-five-of p = record { a = p .connection; b = p .len; c = p .tag; d = p .arrival; e = p .eligibility }
+abbrev pub packet-in : List ℕ → Packet
+packet-in r = packet-of (getD r 0 0) (getD r 1 0) (getD r 2 0) (getD r 3 0) (getD r 4 0)
+
+abbrev pub numbers-of : Packet → List ℕ
+numbers-of p = p .connection ∷ p .len ∷ p .tag ∷ p .arrival ∷ p .eligibility ∷ []
 
 abbrev pub no-packet : Packet
 no-packet = packet-of 0 0 0 0 0
-
-unfoldable pub rows : List ℕ → List Packet
-rows t = read packet-of t
-
--- packets as a table of n numbers, and as the places table
-unfoldable pub table-of : ℕ → List Packet → List ℕ
-table-of n ps = padded five-of n ps
-
-unfoldable pub places : List Packet → List ℕ
-places ps = padded five-of places-length ps
 
 -- row i of a table, used or not
 abbrev pub row-at : List ℕ → ℕ → Packet
 row-at t i = packet-of (getD t (5 * i) 0) (getD t (5 * i + 1) 0) (getD t (5 * i + 2) 0) (getD t (5 * i + 3) 0) (getD t (5 * i + 4) 0)
 
+-- ---- a table
+
+unfoldable pub rows : List ℕ → List Packet
+rows t = read in-front packet-width packet-in t
+
+-- packets as a table of n numbers, and as the places table
+unfoldable pub table-of : ℕ → List Packet → List ℕ
+table-of n ps = padded packet-width numbers-of n ps
+
+unfoldable pub places : List Packet → List ℕ
+places ps = padded packet-width numbers-of places-length ps
+
 -- the table with p as row i
 abbrev pub put : List ℕ → ℕ → Packet → List ℕ
-put t i p = put-numbers t i (five-of p)
+put t i p = sets t (5 * i) (numbers-of p)
 
 -- n numbers from k + 5 on, moved down to k
 abbrev pub shifted : List ℕ → ℕ → ℕ → List ℕ

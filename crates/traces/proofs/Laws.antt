@@ -3,7 +3,7 @@ use native.Mathlib.Omega.{arith}
 use Rattle.fields.specs.Laws.{Reads-back-what-is-written, Writes-back-what-was-read, Tells-records-apart, Has-the-length-of, Looks-no-further-than}
 use Rattle.fields.proofs.FormatLaws.{rows-written, apart}
 use Rattle.fields.proofs.WindowLaws.{rows-same}
-use Rattle.traces.specs.Trace.{trace, trace-table}
+use Rattle.traces.specs.Trace.{trace, trace-table, longest-record}
 use Rattle.traces.proofs.TraceLaws.{trace-back, trace-fair, trace-length, trace-within}
 
 pub trace-reads-back : Reads-back-what-is-written trace
@@ -18,5 +18,5 @@ trace-tells-apart = apart trace trace-back
 pub trace-has-lengths : Has-the-length-of trace trace-table
 trace-has-lengths = trace-length
 
-pub trace-looks-no-further : Looks-no-further-than 22 trace
-trace-looks-no-further bs rest h = rows-same 22 bs rest h (trace .rows) (omega arith) trace-within
+pub trace-looks-no-further : Looks-no-further-than longest-record trace
+trace-looks-no-further bs rest h = rows-same longest-record bs rest h (trace .rows) (omega arith) trace-within

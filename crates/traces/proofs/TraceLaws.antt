@@ -10,7 +10,7 @@ use Rattle.fields.specs.Numbers.{little, number, put-fields, get-fields, sum, F
 use Rattle.fields.specs.Kinds.{bytes}
 use Rattle.traces.specs.Kinds.{LK, CN, PK, NQ, TK}
 use Rattle.fields.specs.Formats.{starts, read-rows, laid}
-use Rattle.traces.specs.Trace.{trace, trace-table, link-from, zeros, link-layout, link-row, admit-row, offer-row, notice-row, ticks-row, trace-layout}
+use Rattle.traces.specs.Trace.{trace, trace-table, longest-record, link-from, zeros, link-layout, link-row, admit-row, offer-row, notice-row, ticks-row, trace-layout}
 use Rattle.fields.specs.Laws.{Reads-back-what-is-written, Has-the-length-of}
 use Rattle.traces.specs.declared.Record.the-variants.{Link, Admit, Offer, Notice, Ticks, Malformed}
 use Rattle.fields.proofs.NumberLaws.{one-byte, length-get}
@@ -116,7 +116,7 @@ trace-length (Ticks ticks) h = length-bytes TK (ticks ∷ [])
 trace-length Malformed h = absurd (omega arith)
 
 -- The longest trace record is a link of eight levels.
-pub trace-within : All-within 22 (trace .rows)
+pub trace-within : All-within longest-record (trace .rows)
 unfolding All-within sum
 trace-within = (
   λ b a. let r = allowed-range b a in let e = sum-link b in omega arith,

@@ -8,6 +8,7 @@ use lib.Dec.{eqb}
 use Rattle.fields.specs.Numbers.{pick, number, get-fields}
 use Rattle.fields.specs.Kinds.{Kind}
 use Rattle.traces.specs.Kinds.{LK, CN, PK, NQ, TK}
+use Rattle.fields.specs.Drafts.{longest}
 use Rattle.fields.specs.Formats.{Row, Format, read-rows, laid}
 use Rattle.traces.specs.declared.Record.{Record}
 use Rattle.traces.specs.declared.Record.the-variants.{Link, Admit, Offer, Notice, Ticks, Malformed}
@@ -106,6 +107,10 @@ trace-table (Offer connection len tag) = 9
 trace-table (Notice len tag) = 8
 trace-table (Ticks ticks) = 4
 trace-table Malformed = 0
+
+-- .. and the longest of them.
+abbrev pub longest-record : ℕ
+longest-record = longest
 
 -- Of a link with n levels, the k-th bound that the bytes hold, counted from 0, and the link; both as the code reads them.
 abbrev pub bound-in : List ℕ → ℕ → ℕ → ℕ

@@ -24,6 +24,9 @@ const NQ: [u8; 2] = *b"NQ";
 
 const TK: [u8; 2] = *b"TK";
 
+// The bytes of the longest trace record, which no record of another format passes.
+pub const LONGEST_RECORD: usize = fields::LONGEST;
+
 // A trace record with its numbers, or malformed. Bounds past `levels` are 0.
 pub enum Record {
     Link {

@@ -11,11 +11,11 @@ use Rattle.calls.proofs.admit_tested.Statement.{statement}
 use Rattle.calls.proofs.admit_tested.Tie as tie
 use Rattle.calls.specs.declared.Ruling.{Ruling}
 
-held-requires : tie.Need-held-requires
-held-requires c κs = search needs
+standing-requires : tie.Need-standing-requires
+standing-requires c κs = let z = c .before .before .before .before in A.none-free (z .args .h) (z .args .cs .now) (z .args .t .now) (z .args .q .now) (z .pre)
 
 admit-verdict-requires : tie.Need-admit-verdict-requires
-admit-verdict-requires c κs = let z = c .before .before .before .before .before .before in (z .pre, c .before .held .ensures ∙ M.members-rows (z .args .cs .now))
+admit-verdict-requires c κs = let z = c .before .before .before .before .before .before in (z .pre, c .before .standing .ensures)
 
 no-packet-requires : tie.Need-no-packet-requires
 no-packet-requires c κs = search needs
@@ -35,8 +35,8 @@ add-member-requires c κs =
     let z = c .before .before .before .before .before .before .before .before .before .before .before in
     let a = z .args in
     let v = c .before .before .before .before .admit-verdict in
-    let k = c .before .before .before .before .before .before .held in
-    let e = k .ensures ∙ M.members-rows (a .cs .now) in
+    let k = c .before .before .before .before .before .before .standing in
+    let e = k .ensures in
     (A.members-kept (a .h) (a .cs .now) (a .t .now) (a .q .now) (z .pre), e, A.admit-room (a .h) (a .cs .now) (a .t .now) (a .q .now) (a .x) (k .result) (sym (ap (λ (y : Ruling). y .verdict) (v .ensures)) ∙ omega (arith, c .before .if1 .left)) e, A.members-size (a .h) (a .cs .now) (a .t .now) (a .q .now) (z .pre))
 
 cast-say : tie.Need-cast-say
@@ -44,8 +44,8 @@ cast-say c =
     let z = c .before .before .before .before .before .before .before .before .before .before .before .before .before .before in
     let a = z .args in
     let v = c .before .before .before .before .before .before .before .admit-verdict in
-    let k = c .before .before .before .before .before .before .before .before .before .held in
-    omega (arith, A.admit-room (a .h) (a .cs .now) (a .t .now) (a .q .now) (a .x) (k .result) (sym (ap (λ (y : Ruling). y .verdict) (v .ensures)) ∙ omega (arith, c .before .before .before .before .if1 .left)) (k .ensures ∙ M.members-rows (a .cs .now)))
+    let k = c .before .before .before .before .before .before .before .before .before .standing in
+    omega (arith, A.admit-room (a .h) (a .cs .now) (a .t .now) (a .q .now) (a .x) (k .result) (sym (ap (λ (y : Ruling). y .verdict) (v .ensures)) ∙ omega (arith, c .before .before .before .before .if1 .left)) (k .ensures))
 
 say-requires : tie.Need-say-requires
 say-requires c κs = search needs
@@ -58,18 +58,18 @@ returns-2 c =
     let z = c .before .before .before .before .before .before .before .before .before .before .before .before .before .before .before in
     let a = z .args in
     let v = c .before .before .before .before .before .before .before .before .admit-verdict in
-    let k = c .before .before .before .before .before .before .before .before .before .before .held in
+    let k = c .before .before .before .before .before .before .before .before .before .before .standing in
     let m = c .before .before .before .add-member in
     A.acts (a .h) (a .cs .now) (a .t .now) (a .q .now) (z .pre) (admit (a .x)) (c .say .result) (m .last .0) (a .t .now) (a .q .now)
     (sym (ap (λ (y : Ruling). y .verdict) (v .ensures)) ∙ omega (arith, c .before .before .before .before .before .if1 .left))
-    (c .say .ensures ∙ ap (refusal (a .h) 0) (k .ensures ∙ M.members-rows (a .cs .now) ∙ sym (M.connections-length (a .cs .now))))
+    (c .say .ensures ∙ ap (refusal (a .h) 0) (k .ensures ∙ sym (M.connections-length (a .cs .now))))
     (m .ensures) (A.places-kept (a .h) (a .cs .now) (a .t .now) (a .q .now) (z .pre)) (A.notices-kept (a .h) (a .cs .now) (a .t .now) (a .q .now) (z .pre))
 
 pub admit-tested-spec : {M : Type 1} → statement M
 admit-tested-spec =
     tie.close
     (tie.spec
-    held-requires
+    standing-requires
     admit-verdict-requires
     no-packet-requires
     same-length

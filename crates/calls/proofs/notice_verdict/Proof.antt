@@ -4,7 +4,7 @@ use native.Mathlib.Omega.{arith}
 use mathlib.Core.Path.{_≡_, sym}
 use lib.ListN.{length, length-map}
 use Rattle.rules.proofs.Tests.{within-intro}
-use Rattle.sound.proofs.ChainLaws.{too-low, too-high}
+use Rattle.limits.proofs.ChainLaws.{too-low, too-high}
 use Rattle.tables.specs.Places.{rows}
 use Rattle.tables.specs.Notices.{notice-of}
 use Rattle.service.specs.View.{view}

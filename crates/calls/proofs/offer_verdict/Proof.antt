@@ -2,7 +2,7 @@ use Rattle.calls.proofs.ActLaws as A
 use Rattle.calls.proofs.VerdictLaws as W
 use Rattle.lines.proofs.MemberLaws as M
 use Rattle.lines.proofs.FigureLaws as F
-use Rattle.sound.proofs.ChainLaws as C
+use Rattle.limits.proofs.ChainLaws as C
 use native.Mathlib.Omega.{arith}
 use mathlib.Core.Path.{_≡_, sym, ap, _∙_}
 use lib.ListN.{length}
@@ -26,8 +26,8 @@ returns c =
     let s = view (a .h) (a .cs .now) (a .t .now) (a .q .now) in
     sym (W.offer-unset s st (a .c) (a .len) (a .tag) (c .if1 .taken))
 
-held-requires : tie.Need-held-requires
-held-requires c κs = search needs
+standing-requires : tie.Need-standing-requires
+standing-requires c κs = let z = c .before .before .before .before .before .before in A.none-free (z .args .h) (z .args .cs .now) (z .args .t .now) (z .args .q .now) (z .pre)
 
 returns-2 : tie.Need-returns-2
 returns-2 c =
@@ -35,13 +35,13 @@ returns-2 c =
     let ok = c .before .before .before .before .before .before .before .before .pre in
     let st = A.tested (a .h) (a .cs .now) (a .t .now) (a .q .now) ok .state in
     let s = view (a .h) (a .cs .now) (a .t .now) (a .q .now) in
-    let n : c .before .held .result ≡ length (connections (a .cs .now)) = c .before .held .ensures ∙ M.members-rows (a .cs .now) ∙ sym (M.connections-length (a .cs .now)) in
+    let n : c .before .standing .result ≡ length (connections (a .cs .now)) = c .before .standing .ensures ∙ sym (M.connections-length (a .cs .now)) in
     sym (W.offer-nobody s st (a .c) (a .len) (a .tag) (c .before .before .if1 .left) (omega arith))
 
 connection-at-requires : tie.Need-connection-at-requires
 connection-at-requires c κs =
     let a = c .before .before .before .before .before .before .before .before .args in
-    omega (arith, c .before .held .ensures, M.members-rows (a .cs .now))
+    omega (arith, c .before .standing .ensures)
 
 returns-3 : tie.Need-returns-3
 returns-3 c =
@@ -49,7 +49,7 @@ returns-3 c =
     let ok = c .before .before .before .before .before .before .before .before .before .before .pre in
     let st = A.tested (a .h) (a .cs .now) (a .t .now) (a .q .now) ok .state in
     let s = view (a .h) (a .cs .now) (a .t .now) (a .q .now) in
-    let n : c .before .before .before .held .result ≡ length (connections (a .cs .now)) = c .before .before .before .held .ensures ∙ M.members-rows (a .cs .now) ∙ sym (M.connections-length (a .cs .now)) in
+    let n : c .before .before .before .standing .result ≡ length (connections (a .cs .now)) = c .before .before .before .standing .ensures ∙ sym (M.connections-length (a .cs .now)) in
     sym (W.offer-length s st (a .c) (a .len) (a .tag) (c .before .before .before .before .if1 .left) (omega arith) (C.too-low 1 (nth (connections (a .cs .now)) (a .c) .size) (a .len) (search needs)))
 
 returns-4 : tie.Need-returns-4
@@ -58,14 +58,14 @@ returns-4 c =
     let ok = c .before .before .before .before .before .before .before .before .before .before .before .before .pre in
     let st = A.tested (a .h) (a .cs .now) (a .t .now) (a .q .now) ok .state in
     let s = view (a .h) (a .cs .now) (a .t .now) (a .q .now) in
-    let n : c .before .before .before .before .before .held .result ≡ length (connections (a .cs .now)) = c .before .before .before .before .before .held .ensures ∙ M.members-rows (a .cs .now) ∙ sym (M.connections-length (a .cs .now)) in
+    let n : c .before .before .before .before .before .standing .result ≡ length (connections (a .cs .now)) = c .before .before .before .before .before .standing .ensures ∙ sym (M.connections-length (a .cs .now)) in
     let e : c .before .before .before .connection-at .result .size ≡ nth (connections (a .cs .now)) (a .c) .size = ap (λ (x : Connection). x .size) (c .before .before .before .connection-at .ensures) in
     sym (W.offer-length s st (a .c) (a .len) (a .tag) (c .before .before .before .before .before .before .if1 .left) (omega arith) (C.too-high 1 (nth (connections (a .cs .now)) (a .c) .size) (a .len) (omega arith) (omega arith)))
 
 reserve-requires : tie.Need-reserve-requires
 reserve-requires c κs =
     let a = c .before .before .before .before .before .before .before .before .before .before .before .before .args in
-    let n : c .before .before .before .before .before .held .result ≡ length (connections (a .cs .now)) = c .before .before .before .before .before .held .ensures ∙ M.members-rows (a .cs .now) ∙ sym (M.connections-length (a .cs .now)) in
+    let n : c .before .before .before .before .before .standing .result ≡ length (connections (a .cs .now)) = c .before .before .before .before .before .standing .ensures ∙ sym (M.connections-length (a .cs .now)) in
     F.figure-at (a .h .link) (connections (a .cs .now)) (A.figures-in-limits (a .h) (a .cs .now) (a .t .now) (a .q .now) (c .before .before .before .before .before .before .before .before .before .before .before .before .pre) (c .before .before .before .before .before .before .if1 .left)) (a .c) (c .before .before .before .connection-at .result) (omega arith) (c .before .before .before .connection-at .ensures) .0
 
 held-by-requires : tie.Need-held-by-requires
@@ -79,7 +79,7 @@ returns-5 c =
     let ok = c .before .before .before .before .before .before .before .before .before .before .before .before .before .before .before .pre in
     let st = A.tested (a .h) (a .cs .now) (a .t .now) (a .q .now) ok .state in
     let s = view (a .h) (a .cs .now) (a .t .now) (a .q .now) in
-    let n : c .before .before .before .before .before .before .before .before .held .result ≡ length (connections (a .cs .now)) = c .before .before .before .before .before .before .before .before .held .ensures ∙ M.members-rows (a .cs .now) ∙ sym (M.connections-length (a .cs .now)) in
+    let n : c .before .before .before .before .before .before .before .before .standing .result ≡ length (connections (a .cs .now)) = c .before .before .before .before .before .before .before .before .standing .ensures ∙ sym (M.connections-length (a .cs .now)) in
     let e : c .before .before .before .before .before .before .connection-at .result .size ≡ nth (connections (a .cs .now)) (a .c) .size = ap (λ (x : Connection). x .size) (c .before .before .before .before .before .before .connection-at .ensures) in
     let r : c .before .before .reserve .result ≡ reservation (a .h .link) (nth (connections (a .cs .now)) (a .c)) = c .before .before .reserve .ensures .0 ∙ ap (reservation (a .h .link)) (c .before .before .before .before .before .before .connection-at .ensures) in
     let k : c .before .held-by .result ≡ length (of (a .c) (rows (a .t .now))) = c .before .held-by .ensures in
@@ -91,7 +91,7 @@ returns-6 c =
     let ok = c .before .before .before .before .before .before .before .before .before .before .before .before .before .before .before .before .before .pre in
     let st = A.tested (a .h) (a .cs .now) (a .t .now) (a .q .now) ok .state in
     let s = view (a .h) (a .cs .now) (a .t .now) (a .q .now) in
-    let n : c .before .before .before .before .before .before .before .before .before .before .held .result ≡ length (connections (a .cs .now)) = c .before .before .before .before .before .before .before .before .before .before .held .ensures ∙ M.members-rows (a .cs .now) ∙ sym (M.connections-length (a .cs .now)) in
+    let n : c .before .before .before .before .before .before .before .before .before .before .standing .result ≡ length (connections (a .cs .now)) = c .before .before .before .before .before .before .before .before .before .before .standing .ensures ∙ sym (M.connections-length (a .cs .now)) in
     let e : c .before .before .before .before .before .before .before .before .connection-at .result .size ≡ nth (connections (a .cs .now)) (a .c) .size = ap (λ (x : Connection). x .size) (c .before .before .before .before .before .before .before .before .connection-at .ensures) in
     let r : c .before .before .before .before .reserve .result ≡ reservation (a .h .link) (nth (connections (a .cs .now)) (a .c)) = c .before .before .before .before .reserve .ensures .0 ∙ ap (reservation (a .h .link)) (c .before .before .before .before .before .before .before .before .connection-at .ensures) in
     let k : c .before .before .before .held-by .result ≡ length (of (a .c) (rows (a .t .now))) = c .before .before .before .held-by .ensures in
@@ -103,7 +103,7 @@ returns-7 c =
     let ok = c .before .before .before .before .before .before .before .before .before .before .before .before .before .before .before .before .before .pre in
     let st = A.tested (a .h) (a .cs .now) (a .t .now) (a .q .now) ok .state in
     let s = view (a .h) (a .cs .now) (a .t .now) (a .q .now) in
-    let n : c .before .before .before .before .before .before .before .before .before .before .held .result ≡ length (connections (a .cs .now)) = c .before .before .before .before .before .before .before .before .before .before .held .ensures ∙ M.members-rows (a .cs .now) ∙ sym (M.connections-length (a .cs .now)) in
+    let n : c .before .before .before .before .before .before .before .before .before .before .standing .result ≡ length (connections (a .cs .now)) = c .before .before .before .before .before .before .before .before .before .before .standing .ensures ∙ sym (M.connections-length (a .cs .now)) in
     let e : c .before .before .before .before .before .before .before .before .connection-at .result .size ≡ nth (connections (a .cs .now)) (a .c) .size = ap (λ (x : Connection). x .size) (c .before .before .before .before .before .before .before .before .connection-at .ensures) in
     let r : c .before .before .before .before .reserve .result ≡ reservation (a .h .link) (nth (connections (a .cs .now)) (a .c)) = c .before .before .before .before .reserve .ensures .0 ∙ ap (reservation (a .h .link)) (c .before .before .before .before .before .before .before .before .connection-at .ensures) in
     let k : c .before .before .before .held-by .result ≡ length (of (a .c) (rows (a .t .now))) = c .before .before .before .held-by .ensures in
@@ -114,7 +114,7 @@ offer-verdict-spec =
     tie.close
     (tie.spec
     returns
-    held-requires
+    standing-requires
     returns-2
     connection-at-requires
     returns-3

@@ -1,4 +1,4 @@
-use Rattle.pace.proofs.EveryLaws as E
+use Rattle.limits.proofs.EveryLaws as E
 use Prim.Native.Nat.{_≤_, _-_}
 use native.Mathlib.Omega.{arith}
 use mathlib.Core.Path.{_≡_, refl, sym, ap, _∙_}

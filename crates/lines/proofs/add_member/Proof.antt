@@ -1,12 +1,11 @@
 use mathlib.Core.Path.{_∙_}
-use native.Mathlib.Omega.{arith}
 use Rattle.lines.proofs.MemberLaws as L
 use borrow.Author.Needs.{needs}
 use Rattle.lines.proofs.add_member.Statement.{statement}
 use Rattle.lines.proofs.add_member.Tie as tie
 
-put-five-requires : tie.Need-put-five-requires
-put-five-requires c κs = search needs
+put-member-requires : tie.Need-put-member-requires
+put-member-requires c κs = search needs
 
 same-length : tie.Need-same-length
 same-length c = search needs
@@ -14,7 +13,7 @@ same-length c = search needs
 returns : tie.Need-returns
 returns c =
     let a = c .before .before .before .before .before .args in
-    c .before .before .put-five .ensures ∙ L.add-last (a .cs .now) (a .n) (a .x) (search needs) (search needs) (omega arith)
+    c .before .before .put-member .ensures ∙ L.add-last (a .cs .now) (search needs) (search needs) (a .n) (a .x) (search needs) (search needs)
 
 pub add-member-spec : {M : Type 1} → statement M
-add-member-spec = tie.close (tie.spec put-five-requires same-length returns)
+add-member-spec = tie.close (tie.spec put-member-requires same-length returns)

@@ -1,5 +1,3 @@
-use mathlib.Core.Path.{ap}
-use Rattle.log.specs.declared.Cursor.{Cursor}
 use borrow.Author.Needs.{needs}
 use Rattle.mtredovim.proofs.first.Statement.{statement}
 use Rattle.mtredovim.proofs.first.Tie as tie

@@ -3,7 +3,7 @@ use mathlib.Core.Path.{_≡_, sym, _∙_}
 use Prim.Native.Nat.{_≤_}
 use lib.ListN.{length}
 use borrow.Author.Tests.{not-true, not-false}
-use Rattle.log.specs.Steps.{longest-answer}
+use Rattle.answers.specs.Answers.{longest-answer}
 use Rattle.mtredovim.specs.declared.End.the-variants.{On}
 use Rattle.mtredovim.specs.Turns.{window, load, Right}
 use Rattle.mtredovim.specs.Runs.{Made}

@@ -6,8 +6,8 @@ use mathlib.Core.Bool.{true, false}
 use Prim.Native.Nat.{ℕ, _+_, _*_, _-_, _/_, _≤_, _<_}
 use lib.ListN.{length}
 use Rattle.calls.specs.Acts.{sound-hub}
-use Rattle.log.specs.declared.Status.the-variants.{GoOn}
-use Rattle.log.specs.Steps.{is-go}
+use Rattle.steps.specs.declared.Status.the-variants.{GoOn}
+use Rattle.steps.specs.Steps.{is-go}
 use Rattle.replay.proofs.RunLaws.{Made, made-none, made-sound, made-more, made-on, run-stopped, run-ended}
 use Rattle.replay.proofs.run.Statement.{statement}
 use Rattle.replay.proofs.run.Tie as tie

@@ -1,7 +1,7 @@
 use mathlib.Core.Path.{ap}
 use Rattle.service.specs.declared.Hub.{Hub}
-use Rattle.log.specs.declared.Phase.the-variants.{Reading}
-use Rattle.ticks.specs.Tie.{cursor-at}
+use Rattle.steps.specs.declared.Phase.the-variants.{Reading}
+use Rattle.steps.specs.Tie.{cursor-at}
 use borrow.Author.Needs.{needs}
 use Rattle.replay.proofs.start.Statement.{statement}
 use Rattle.replay.proofs.start.Tie as tie

@@ -1,5 +1,5 @@
 use lib.ListN.{length-drop}
-use Rattle.ticks.proofs.WriteLaws.{part-all, part-back}
+use Rattle.fields.proofs.PartLaws.{part-all, part-back}
 use borrow.Author.Needs.{needs}
 use Rattle.replay.proofs.step_at.Statement.{statement}
 use Rattle.replay.proofs.step_at.Tie as tie

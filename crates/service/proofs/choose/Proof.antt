@@ -32,7 +32,7 @@ loop-holds c =
 lead-with-requires : tie.Need-lead-with-requires Inv-loop μ-loop
 lead-with-requires c κs =
     let s = c .before .before .before .before .before in
-    (s .pre .0, omega (arith, rows-end (s .args .t .now), c .before .before .count .ensures), c .before .loop .inv .2)
+    (omega (arith, rows-end (s .args .t .now), c .before .before .count .ensures), c .before .loop .inv .2)
 
 add-i : tie.Need-add-i Inv-loop μ-loop
 add-i c = search needs

@@ -6,8 +6,8 @@ use borrow.Author.Needs.{needs}
 use Rattle.service.proofs.send.Statement.{statement}
 use Rattle.service.proofs.send.Tie as tie
 
-one-less-requires : tie.Need-one-less-requires
-one-less-requires c κs = search needs
+without-requires : tie.Need-without-requires
+without-requires c κs = search needs
 
 with-line-requires : tie.Need-with-line-requires
 with-line-requires c κs = search needs
@@ -22,7 +22,7 @@ returns : tie.Need-returns
 returns c =
     let s = c .before .before .before .before .before .before .before .before in
     let k = L.still (s .args .g) (s .args .t .now) (s .args .q .now) (s .pre .table) (s .pre .notices) (search needs) in
-    let g = c .before .before .with-line .ensures ∙ ap (L.lined (s .args .g) (0, 0)) (c .before .before .before .one-less .ensures) in
+    let g = c .before .before .with-line .ensures ∙ ap (L.lined (s .args .g) (0, 0)) (c .before .before .before .without .ensures) in
     (c .pass .ensures ∙ L.passes false g (c .before .no-packet .ensures) ∙ k .0, k .1, k .2)
 
 depart-notice-requires : tie.Need-depart-notice-requires
@@ -71,7 +71,7 @@ pub send-spec : {M : Type 1} → statement M
 send-spec =
     tie.close
     (tie.spec
-    one-less-requires
+    without-requires
     with-line-requires
     no-packet-requires
     pass-requires

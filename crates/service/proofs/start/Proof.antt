@@ -28,7 +28,7 @@ returns-3 c =
     c .with-line .ensures ∙ L.takes-packet (a .h) (a .cs .now) (a .t .now) (a .q .now) (b .result) (i .before .before .if1 .left) (search needs) (b .ensures) (c .before .if3 .taken)
 
 row-requires : tie.Need-row-requires
-row-requires c κs = let s = c .before .before .before .before .before .before .before .before .before in omega (arith, notices-length-is (s .args .q .now) (s .pre .3))
+row-requires c κs = let s = c .before .before .before .before .before .before .before .before .before in omega (arith, notices-length-is (s .args .q .now) (s .pre .2))
 
 with-line-requires-2 : tie.Need-with-line-requires-2
 with-line-requires-2 c κs = search needs
@@ -42,7 +42,7 @@ returns-4 c =
     let a = s .args in
     c .with-line2 .ensures
     ∙ ap (λ (p : Packet). L.lined (a .h) (p .connection, p .len) 0) (r .ensures)
-    ∙ L.takes-notice (a .h) (a .cs .now) (a .t .now) (a .q .now) (b .result) (i .before .before .if1 .left) (search needs) (b .ensures) (c .before .before .if3 .left) (s .pre .3)
+    ∙ L.takes-notice (a .h) (a .cs .now) (a .t .now) (a .q .now) (b .result) (i .before .before .if1 .left) (search needs) (b .ensures) (c .before .before .if3 .left) (s .pre .2)
 
 pub start-spec : {M : Type 1} → statement M
 start-spec = tie.close (tie.spec returns returns-2 choose-requires with-line-requires returns-3 row-requires with-line-requires-2 returns-4)

@@ -1,4 +1,4 @@
-use Rattle.sound.proofs.ChainLaws as C
+use Rattle.limits.proofs.ChainLaws as C
 use borrow.Author.Tests.{eq-eqb, ne-eqb}
 use borrow.Author.Needs.{needs}
 use Rattle.sound.proofs.blank_ok.Statement.{statement}

@@ -1,5 +1,5 @@
 use borrow.Author.Needs.{needs}
-use Rattle.pace.proofs.EveryLaws as E
+use Rattle.limits.proofs.EveryLaws as E
 use Rattle.lines.proofs.MemberLaws as M
 use borrow.Author.Tests.{not-true, not-false}
 use Prim.Native.Nat.{ℕ, _≤_, _-_}

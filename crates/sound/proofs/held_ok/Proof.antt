@@ -1,5 +1,5 @@
 use borrow.Author.Needs.{needs}
-use Rattle.sound.proofs.ChainLaws as C
+use Rattle.limits.proofs.ChainLaws as C
 use Rattle.sound.proofs.StateLaws as S
 use borrow.Author.Tests.{not-true, not-false, le-leb, lt-leb}
 use native.Mathlib.Omega.{arith}

@@ -2,7 +2,7 @@ use borrow.Author.Needs.{needs}
 use Rattle.tables.proofs.PlacesLaws as P
 use native.Mathlib.Omega.{arith}
 use mathlib.Core.Path.{_∙_}
-use Rattle.tables.specs.Places.{packet-of, places-length}
+use Rattle.tables.specs.Places.{places-length}
 use Rattle.sound.specs.SoundTables.{places-formed}
 use borrow.Author.Needs.{needs}
 use Rattle.sound.proofs.places_ok.Statement.{statement}
@@ -10,7 +10,7 @@ use Rattle.sound.proofs.places_ok.Tie as tie
 
 returns : tie.Need-returns
 unfolding places-formed
-returns c = let a = c .before .before .args in P.not-formed packet-of places-length (a .t .now) (c .if1 .taken)
+returns c = let a = c .before .before .args in P.not-formed places-length (a .t .now) (c .if1 .taken)
 
 held-requires : tie.Need-held-requires
 held-requires c κs = search needs

@@ -1,9 +1,8 @@
 use Rattle.tables.proofs.PlacesLaws as P
-use Rattle.sound.proofs.ChainLaws as C
+use Rattle.limits.proofs.ChainLaws as C
 use borrow.Author.Tests.{not-true, not-false}
 use native.Mathlib.Omega.{arith}
 use mathlib.Core.Path.{sym, _∙_}
-use Rattle.tables.specs.Places.{packet-of}
 use Rattle.tables.specs.Notices.{notices-length, notices-formed}
 use borrow.Author.Needs.{needs}
 use Rattle.sound.proofs.queue_ok.Statement.{statement}
@@ -11,7 +10,7 @@ use Rattle.sound.proofs.queue_ok.Tie as tie
 
 returns : tie.Need-returns
 unfolding notices-formed
-returns c = C.fails _ _ (sym (P.not-formed packet-of notices-length (c .before .before .args .q .now) (c .if1 .taken)))
+returns c = C.fails _ _ (sym (P.not-formed notices-length (c .before .before .args .q .now) (c .if1 .taken)))
 
 held-requires : tie.Need-held-requires
 held-requires c κs = search needs

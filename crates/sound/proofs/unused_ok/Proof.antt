@@ -1,4 +1,4 @@
-use Rattle.sound.proofs.ChainLaws as C
+use Rattle.limits.proofs.ChainLaws as C
 use borrow.Author.Tests.{not-true, not-false, eq-eqb, ne-eqb}
 use mathlib.Core.Path.{refl, sym, _∙_}
 use borrow.Author.Needs.{needs}

@@ -1,8 +1,8 @@
-use Rattle.ticks.proofs.CallLaws.{did-kept}
-use Rattle.steps.proofs.FactLaws.{waits-facts, tick-facts, next-phase, facts-phase}
-use Rattle.log.specs.declared.Phase.the-variants.{Finished}
-use Rattle.log.specs.declared.Status.the-variants.{Done}
 use Rattle.service.specs.View.{view}
+use Rattle.steps.specs.declared.Phase.the-variants.{Finished}
+use Rattle.steps.specs.declared.Status.the-variants.{Done}
+use Rattle.steps.proofs.CallLaws.{did-kept}
+use Rattle.steps.proofs.FactLaws.{waits-facts, tick-facts, next-phase, facts-phase}
 use mathlib.Core.Path.{refl}
 use mathlib.Core.List.{[]}
 use native.Mathlib.Omega.{arith}

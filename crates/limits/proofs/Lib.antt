@@ -1,0 +1,4 @@
+pub mod ChainLaws
+pub mod EveryLaws
+pub mod ZeroLaws
+pub mod LimitLaws

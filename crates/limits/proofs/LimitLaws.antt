@@ -1,0 +1,102 @@
+-- The limits of links and connections, test by test in the order of the code. Assumes nothing.
+use Prim.Native.Nat.{ℕ, suc, _+_, _-_, _≤_, _<_}
+use native.Mathlib.Omega.{arith}
+use native.Mathlib.Numerals.{add-one}
+use mathlib.Core.Path.{_≡_, refl, sym, ap, _∙_}
+use mathlib.Core.Bool.{Bool, true, false, _&&_}
+use mathlib.Core.List.{List, [], _∷_}
+use lib.Dec.{leb, eqb}
+use lib.ListN.{length, getD, drop}
+use lib.Seq.{drop-cons}
+use borrow.Author.Tests.{le-leb, lt-leb}
+use Rattle.rules.specs.declared.Link.{Link}
+use Rattle.rules.specs.declared.Connection.{Connection}
+use Rattle.rules.specs.Words.{within}
+use Rattle.rules.specs.Limits.{max-levels, max-largest, max-silence, max-bound, max-gap}
+use Rattle.rules.specs.Admission.{rising, cost, link-within, level-within, figures-within}
+use Rattle.rules.proofs.Tests.{within-intro}
+use Rattle.limits.specs.Zeros.{zeros}
+use Rattle.limits.proofs.ChainLaws.{fails, goes-on, too-low, too-high}
+
+-- ---- a connection
+
+module _ (l : Link) (x : Connection) where
+  pub level-low : x .level < 1 → false ≡ level-within l x
+  unfolding level-within
+  level-low h = sym (too-low 1 (l .levels) (x .level) h)
+
+  pub level-rest : 1 ≤ x .level → leb (x .level) (l .levels) ≡ level-within l x
+  unfolding level-within
+  level-rest h = goes-on (leb 1 (x .level)) _ _ (le-leb 1 (x .level) h) refl
+
+  pub gap-low : x .gap < 1 → false ≡ figures-within l x
+  unfolding figures-within
+  gap-low h = fails (within 1 max-gap (x .gap)) _ (too-low 1 max-gap (x .gap) h)
+
+  module _ (g : 1 ≤ x .gap) where
+    pub gap-high : max-gap < x .gap → false ≡ figures-within l x
+    unfolding figures-within
+    gap-high h = fails (within 1 max-gap (x .gap)) _ (too-high 1 max-gap (x .gap) g h)
+
+    module _ (h : x .gap ≤ max-gap) where
+      pub size-low : x .size < 1 → false ≡ figures-within l x
+      unfolding figures-within
+      size-low k = goes-on (within 1 max-gap (x .gap)) _ false (within-intro 1 max-gap (x .gap) g h) (sym (too-low 1 (l .largest) (x .size) k))
+
+      pub size-rest : 1 ≤ x .size → leb (x .size) (l .largest) ≡ figures-within l x
+      unfolding figures-within
+      size-rest k = goes-on (within 1 max-gap (x .gap)) _ _ (within-intro 1 max-gap (x .gap) g h) (goes-on (leb 1 (x .size)) _ _ (le-leb 1 (x .size) k) refl)
+
+-- ---- a link
+
+module _ (l : Link) where
+  pub levels-out : within 1 max-levels (l .levels) ≡ false → false ≡ link-within l
+  unfolding link-within
+  levels-out e = fails (within 1 max-levels (l .levels)) _ e
+
+  module _ (n : within 1 max-levels (l .levels) ≡ true) where
+    pub largest-out : within 1 max-largest (l .largest) ≡ false → false ≡ link-within l
+    unfolding link-within
+    largest-out e = goes-on (within 1 max-levels (l .levels)) _ false n (fails (within 1 max-largest (l .largest)) _ e)
+
+    module _ (e : within 1 max-largest (l .largest) ≡ true) where
+      behind : (r : Bool) → r ≡ (leb (l .silence) max-silence && rising (cost l (l .largest)) (l .levels) (l .bounds)) → r ≡ link-within l
+      unfolding link-within
+      behind r h = goes-on (within 1 max-levels (l .levels)) _ r n (goes-on (within 1 max-largest (l .largest)) _ r e h)
+
+      pub silence-out : max-silence < l .silence → false ≡ link-within l
+      silence-out h = behind false (fails (leb (l .silence) max-silence) _ (lt-leb (l .silence) max-silence h))
+
+      pub bounds-rest : l .silence ≤ max-silence → (r : Bool) → r ≡ rising (l .largest + l .silence) (l .levels) (l .bounds) → r ≡ link-within l
+      unfolding cost
+      bounds-rest k r h = behind r (goes-on (leb (l .silence) max-silence) _ r (le-leb (l .silence) max-silence k) h)
+
+-- past the n-th bound: zeros, whatever came before
+rising-zeros : (low : ℕ) (ds : List ℕ) → rising low 0 ds ≡ zeros ds
+rising-zeros low [] = refl
+rising-zeros low (d ∷ ds) = ap (λ (b : Bool). eqb d 0 && b) (rising-zeros low ds)
+
+module _ (low n i : ℕ) (ds : List ℕ) (h : i < n) (k : i < length ds) where
+  here : rising low (n - i) (drop i ds) ≡ (leb low (getD ds i 0) && (leb (getD ds i 0) max-bound && rising (suc (getD ds i 0)) (n - (i + 1)) (drop (i + 1) ds)))
+  here =
+      let e : n - i ≡ suc (n - (i + 1)) = omega arith in
+      rw (e, drop-cons ds i 0 k) (rw (add-one i))
+
+  pub bound-low : getD ds i 0 < low → false ≡ rising low (n - i) (drop i ds)
+  bound-low l = fails (leb low (getD ds i 0)) _ (lt-leb low (getD ds i 0) l) ∙ sym here
+
+  pub bound-high : low ≤ getD ds i 0 → max-bound < getD ds i 0 → false ≡ rising low (n - i) (drop i ds)
+  bound-high l m = goes-on (leb low (getD ds i 0)) _ false (le-leb low (getD ds i 0) l) (fails (leb (getD ds i 0) max-bound) _ (lt-leb (getD ds i 0) max-bound m)) ∙ sym here
+
+  pub bound-next : low ≤ getD ds i 0 → getD ds i 0 ≤ max-bound → rising (getD ds i 0 + 1) (n - (i + 1)) (drop (i + 1) ds) ≡ rising low (n - i) (drop i ds)
+  bound-next l m =
+      goes-on (leb low (getD ds i 0)) _ _ (le-leb low (getD ds i 0) l) (goes-on (leb (getD ds i 0) max-bound) _ _ (le-leb (getD ds i 0) max-bound m) (ap (λ (j : ℕ). rising j (n - (i + 1)) (drop (i + 1) ds)) (add-one (getD ds i 0))))
+      ∙ sym here
+
+pub bounds-start : (low n : ℕ) (ds : List ℕ) → rising low (n - 0) (drop 0 ds) ≡ rising low n ds
+bounds-start low n ds = let e : n - 0 ≡ n = omega arith in rw e
+
+pub bounds-end : (low n i : ℕ) (ds : List ℕ) → i ≡ n → zeros (drop n ds) ≡ rising low (n - i) (drop i ds)
+bounds-end low n i ds e =
+    let z : n - i ≡ 0 = omega arith in
+    rw (z, e) (sym (rising-zeros low (drop n ds)))

@@ -1,0 +1,67 @@
+-- Laws of numbers that are all 0. Assumes nothing.
+use Prim.Native.Nat.{ℕ, zero, suc, _+_, _-_, _<_}
+use native.Mathlib.Omega.{arith}
+use native.Mathlib.Numerals.{add-one}
+use mathlib.Core.Path.{_≡_, refl, ap, _∙_}
+use mathlib.Core.Bool.{true, false}
+use mathlib.Core.List.{List, [], _∷_, _++_}
+use lib.Dec.{eqb}
+use borrow.Author.Tests.{eqb-true, eq-eqb, ne-eqb}
+use lib.ListN.{length, getD, take, drop, replicate, replicate-append-replicate}
+use lib.Seq.{drop-cons, drop-length}
+use Rattle.rules.proofs.Tests.{and-true, and-intro}
+use Rattle.limits.specs.Zeros.{zeros}
+
+pub zeros-are : (t : List ℕ) → zeros t ≡ true → t ≡ replicate (length t) 0
+zeros-are [] h = refl
+zeros-are (x ∷ t) h =
+    let k = and-true (eqb x 0) (zeros t) h in
+    rw (eqb-true x 0 (k .0)) (ap (λ (l : List ℕ). 0 ∷ l) (zeros-are t (k .1)))
+
+pub zeros-rep : (n : ℕ) → zeros (replicate n 0) ≡ true
+zeros-rep zero = refl
+zeros-rep (suc n) = zeros-rep n
+
+pub zero-at : (l : List ℕ) (i : ℕ) → zeros l ≡ true → getD l i 0 ≡ 0
+zero-at [] i h = refl
+zero-at (x ∷ l) zero h = eqb-true x 0 (and-true (eqb x 0) (zeros l) h .0)
+zero-at (x ∷ l) (suc i) h = zero-at l i (and-true (eqb x 0) (zeros l) h .1)
+
+-- ---- so many zeros
+
+pub zeros-left : (m n : ℕ) → m ≡ n → replicate {A = ℕ} m 0 ≡ replicate n 0
+zeros-left m n e = ap (λ (k : ℕ). replicate {A = ℕ} k 0) e
+
+pub zeros-more : (k n m : ℕ) → k + n ≡ m → replicate k 0 ++ replicate n 0 ≡ replicate {A = ℕ} m 0
+zeros-more k n m e = replicate-append-replicate k n 0 ∙ zeros-left (k + n) m e
+
+pub drop-zeros : (k n : ℕ) → drop k (replicate {A = ℕ} n 0) ≡ replicate (n - k) 0
+drop-zeros zero n = zeros-left n (n - 0) (omega arith)
+drop-zeros (suc k) zero = zeros-left 0 (0 - suc k) (omega arith)
+drop-zeros (suc k) (suc n) = drop-zeros k n ∙ zeros-left (n - k) (suc n - suc k) (omega arith)
+
+-- ---- the first k, and the rest
+
+pub zeros-parts : (k : ℕ) (l : List ℕ) → zeros l ≡ true → (zeros (take k l) ≡ true) × (zeros (drop k l) ≡ true)
+zeros-parts zero l h = (refl, h)
+zeros-parts (suc k) [] h = (refl, refl)
+zeros-parts (suc k) (x ∷ l) h =
+    let a = and-true (eqb x 0) (zeros l) h in
+    let b = zeros-parts k l (a .1) in
+    (and-intro (eqb x 0) (zeros (take k l)) (a .0) (b .0), b .1)
+
+pub zeros-join : (k : ℕ) (l : List ℕ) → zeros (take k l) ≡ true → zeros (drop k l) ≡ true → zeros l ≡ true
+zeros-join zero l h i = i
+zeros-join (suc k) [] h i = refl
+zeros-join (suc k) (x ∷ l) h i = let a = and-true (eqb x 0) (zeros (take k l)) h in and-intro (eqb x 0) (zeros l) (a .0) (zeros-join k l (a .1) i)
+
+-- ---- one by one, from the i-th on
+
+pub zeros-stop : (t : List ℕ) (i : ℕ) → i < length t → (getD t i 0 ≡ 0 → ⊥) → false ≡ zeros (drop i t)
+zeros-stop t i h n = rw (drop-cons t i 0 h, ne-eqb (getD t i 0) 0 n)
+
+pub zeros-next : (t : List ℕ) (i : ℕ) → i < length t → getD t i 0 ≡ 0 → zeros (drop (i + 1) t) ≡ zeros (drop i t)
+zeros-next t i h n = rw (add-one i, drop-cons t i 0 h, eq-eqb (getD t i 0) 0 n)
+
+pub zeros-end : (t : List ℕ) → true ≡ zeros (drop (length t) t)
+zeros-end t = rw (drop-length t)

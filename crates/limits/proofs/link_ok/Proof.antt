@@ -1,0 +1,42 @@
+use borrow.Author.Needs.{needs}
+use Rattle.limits.proofs.LimitLaws as L
+use Rattle.limits.proofs.ChainLaws as C
+use Rattle.rules.specs.Limits.{max-levels, max-largest}
+use Rattle.rules.proofs.Tests.{within-intro}
+use borrow.Author.Needs.{needs}
+use Rattle.limits.proofs.link_ok.Statement.{statement}
+use Rattle.limits.proofs.link_ok.Tie as tie
+
+returns : tie.Need-returns
+returns c = let a = c .before .before .args in L.levels-out (a .l) (C.too-low 1 max-levels (a .l .levels) (search needs))
+
+returns-2 : tie.Need-returns-2
+returns-2 c = let a = c .before .before .before .before .args in L.levels-out (a .l) (C.too-high 1 max-levels (a .l .levels) (search needs) (search needs))
+
+returns-3 : tie.Need-returns-3
+returns-3 c = let a = c .before .before .before .before .before .before .args in L.largest-out (a .l) (within-intro 1 max-levels (a .l .levels) (search needs) (search needs)) (C.too-low 1 max-largest (a .l .largest) (search needs))
+
+returns-4 : tie.Need-returns-4
+returns-4 c = let a = c .before .before .before .before .before .before .before .before .args in L.largest-out (a .l) (within-intro 1 max-levels (a .l .levels) (search needs) (search needs)) (C.too-high 1 max-largest (a .l .largest) (search needs) (search needs))
+
+returns-5 : tie.Need-returns-5
+returns-5 c = let a = c .before .before .before .before .before .before .before .before .before .before .args in L.silence-out (a .l) (within-intro 1 max-levels (a .l .levels) (search needs) (search needs)) (within-intro 1 max-largest (a .l .largest) (search needs) (search needs)) (search needs)
+
+add-bounds-ok : tie.Need-add-bounds-ok
+add-bounds-ok c = search needs
+
+cast-bounds-ok : tie.Need-cast-bounds-ok
+cast-bounds-ok c = search needs
+
+bounds-ok-requires : tie.Need-bounds-ok-requires
+bounds-ok-requires c κs = search needs
+
+returns-6 : tie.Need-returns-6
+returns-6 c =
+    let a = c .before .before .before .before .before .before .before .before .before .before .before .before .before .before .args in
+    L.bounds-rest (a .l) (within-intro 1 max-levels (a .l .levels) (search needs) (search needs)) (within-intro 1 max-largest (a .l .largest) (search needs) (search needs)) (search needs) (c .bounds-ok .result) (c .bounds-ok .ensures)
+
+pub link-ok-spec : {M : Type 1} → statement M
+link-ok-spec =
+    tie.close
+    (tie.spec returns returns-2 returns-3 returns-4 returns-5 add-bounds-ok cast-bounds-ok bounds-ok-requires returns-6)

@@ -1,0 +1,157 @@
+// The limits of the code and the lengths of its tables, each once, and the tests of a link and of a connection against them. The limits of the rules stand in
+// `crates/rules/specs/Limits.antt`; the contracts of the code tie these to those.
+ghost use mathlib.Core.Path.{_≡_};
+ghost use Prim.Native.Nat.{_≤_};
+ghost use lib.ListN.{length, drop};
+ghost use Rattle.rules.specs.Limits.{max-levels};
+ghost use Rattle.rules.specs.Admission.{rising, link-within, level-within, figures-within};
+ghost use Rattle.rules.specs.SoundTest.{connection-sound};
+ghost use Rattle.limits.specs.Zeros.{zeros};
+use rules::Connection;
+use rules::Link;
+
+// ---- the limits of document 01, "Link, connections, places", and of document 02, R-1 and R-4
+
+// Levels of a link.
+pub const MAX_LEVELS: u32 = 8;
+
+// Units of the largest packet.
+const MAX_LARGEST: u32 = 2048;
+
+// Ticks of silence after each packet.
+const MAX_SILENCE: u32 = 64;
+
+// Ticks of a delay bound.
+const MAX_BOUND: u32 = 32768;
+
+// Ticks of a gap.
+const MAX_GAP: u32 = 65535;
+
+// Connections.
+pub const MAX_CONNECTIONS: usize = 64;
+
+// Packets that all reservations together may reach.
+pub const MAX_RESERVED: u64 = 512;
+
+// Notices that wait.
+pub const MAX_NOTICES: usize = 64;
+
+// What notices bear where a connection's number would stand.
+pub const NOTICE_NUMBER: u32 = 254;
+
+// The connection that a refused admission gives.
+pub const NO_CONNECTION: u32 = 255;
+
+// The clock's end.
+pub const CLOCK_END: u32 = 4000000000;
+
+// ---- the tables
+
+// The numbers of a row of the table of connections, and of all its rows.
+pub const MEMBER_WIDTH: usize = 5;
+
+pub const MEMBERS: usize = MEMBER_WIDTH * MAX_CONNECTIONS;
+
+// The numbers of a row of the places table and of the table of notices, and of all their rows.
+pub const PACKET_WIDTH: usize = 5;
+
+pub const PLACES: usize = PACKET_WIDTH * (MAX_RESERVED as usize);
+
+pub const NOTICES: usize = PACKET_WIDTH * MAX_NOTICES;
+
+// All numbers from `from` on are 0.
+pub fn zero_from(t: &[u32], from: usize) -> bool
+    requires { ⌜ from ≤ length (now t) ⌝ }
+    ensures { λ r. ⌜ r ≡ zeros (drop from (now (t .entry))) ⌝ }
+{
+    let mut i: usize = from;
+    while i < t.len() {
+        if t[i] != 0 {
+            return false;
+        }
+        i += 1;
+    }
+    true
+}
+
+// ---- a link and a connection within their limits
+
+// Bounds that rise strictly from `lowest` on, n of them, none above its limit, and zeros behind.
+fn bounds_ok(lowest: u32, n: usize, bounds: [u32; MAX_LEVELS as usize]) -> bool
+    requires { ⌜ n ≤ max-levels ⌝ }
+    ensures { λ r. ⌜ r ≡ rising lowest n bounds ⌝ }
+{
+    let mut low = lowest;
+    let mut i: usize = 0;
+    while i < n {
+        let d = bounds[i];
+        if d < low {
+            return false;
+        }
+        if MAX_BOUND < d {
+            return false;
+        }
+        low = d + 1;
+        i += 1;
+    }
+    zero_from(&bounds, n)
+}
+
+// The limits of a link.
+pub fn link_ok(l: Link) -> bool
+    ensures { λ r. ⌜ r ≡ link-within l ⌝ }
+{
+    if l.levels < 1 {
+        return false;
+    }
+    if MAX_LEVELS < l.levels {
+        return false;
+    }
+    if l.largest < 1 {
+        return false;
+    }
+    if MAX_LARGEST < l.largest {
+        return false;
+    }
+    if MAX_SILENCE < l.silence {
+        return false;
+    }
+    let bounds = l.bounds;
+    bounds_ok(l.largest + l.silence, l.levels as usize, bounds)
+}
+
+// Level 1 to n.
+pub fn level_ok(l: Link, x: Connection) -> bool
+    ensures { λ r. ⌜ r ≡ level-within l x ⌝ }
+{
+    if x.level < 1 {
+        return false;
+    }
+    x.level <= l.levels
+}
+
+// Gap and size within their limits.
+pub fn figures_ok(l: Link, x: Connection) -> bool
+    ensures { λ r. ⌜ r ≡ figures-within l x ⌝ }
+{
+    if x.gap < 1 {
+        return false;
+    }
+    if MAX_GAP < x.gap {
+        return false;
+    }
+    if x.size < 1 {
+        return false;
+    }
+    x.size <= l.largest
+}
+
+// Level, gap and size within their limits.
+pub fn connection_ok(l: Link, x: Connection) -> bool
+    ensures { λ r. ⌜ r ≡ connection-sound l x ⌝ }
+{
+    if !level_ok(l, x) {
+        return false;
+    }
+    figures_ok(l, x)
+}

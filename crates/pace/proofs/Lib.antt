@@ -1,2 +1,0 @@
-pub mod EveryLaws
-pub mod PaceLaws

@@ -1,0 +1,104 @@
+-- How many ticks are quiet, in each case that the code tells apart. Assumes nothing.
+use Prim.Native.Nat.{ℕ, zero, suc, _+_, _*_, _-_, _≤_, _<_, min}
+use native.Mathlib.Omega.{arith}
+use mathlib.Core.Path.{_≡_, refl, ap, _∙_}
+use mathlib.Core.Bool.{true}
+use mathlib.Core.List.{List, [], _∷_}
+use lib.ListN.{length, getD, drop}
+use lib.Seq.{drop-length}
+use borrow.Author.Tests.{eq-eqb, ne-eqb}
+use Rattle.rules.specs.Limits.{clock-end}
+use Rattle.rules.specs.declared.Packet.{Packet}
+use Rattle.rules.specs.declared.Notice.{Notice}
+use Rattle.rules.specs.Model.{State}
+use Rattle.rules.specs.SoundTest.{sound}
+use Rattle.rules.proofs.SoundExact.{exact}
+use Rattle.tables.specs.Places.{rows}
+use Rattle.tables.proofs.PlacesLaws.{rows-from}
+use Rattle.service.specs.Quiet.{first-eligible, quiet-for, quiet-ticks}
+use Rattle.service.proofs.QuietLaws.{Quiets, quiets}
+
+-- ---- the first eligibility, row by row
+
+pub first-eligible-le : (ps : List Packet) → first-eligible ps ≤ clock-end
+first-eligible-le [] = omega arith
+first-eligible-le (p ∷ ps) = omega (arith, first-eligible-le ps)
+
+-- `first` of the rows before row i, and those from there on
+abbrev pub Seen : List ℕ → ℕ → ℕ → Type 0
+Seen t first i = min first (first-eligible (drop i (rows t))) ≡ first-eligible (rows t)
+
+module _ (t : List ℕ) where
+  pub seen-none : Seen t clock-end 0
+  seen-none = omega (arith, first-eligible-le (rows t))
+
+  -- at the end
+  pub seen-all : (first i : ℕ) → first ≤ clock-end → i ≡ length (rows t) → Seen t first i → first ≡ first-eligible (rows t)
+  seen-all first i l e s =
+      let k : first-eligible (drop i (rows t)) ≡ clock-end = rw e (ap first-eligible (drop-length (rows t))) in
+      omega arith
+
+  module _ (i : ℕ) (h : i < length (rows t)) where
+    next-row : first-eligible (drop i (rows t)) ≡ min (getD t (5 * i + 4) 0) (first-eligible (drop (suc i) (rows t)))
+    next-row = ap first-eligible (rows-from t i h)
+
+    pub seen-more : (first : ℕ) → Seen t first i → Seen t (min first (getD t (5 * i + 4) 0)) (i + 1)
+    seen-more first s =
+        let e : i + 1 ≡ suc i = omega arith in
+        rw e (omega (arith, next-row))
+
+    -- a row that is eligible: nothing to wait for
+    pub seen-now : (first clock : ℕ) → Seen t first i → getD t (5 * i + 4) 0 ≤ clock → 0 ≡ first-eligible (rows t) - clock
+    seen-now first clock s l = omega (arith, next-row)
+
+-- ---- the line
+
+module _ (u silent : ℕ) (held : List Packet) (ns : List Notice) (clock : ℕ) where
+  pub in-service-for : (u ≡ 0 → ⊥) → u - 1 ≡ quiet-for u silent held ns clock
+  in-service-for n = go u n
+    where
+      go : (v : ℕ) → (v ≡ 0 → ⊥) → v - 1 ≡ quiet-for v silent held ns clock
+      go zero n = absurd (n refl)
+      go (suc v) n = omega arith
+
+  -- the rest of a silence
+  pub silent-for : u ≡ 0 → (silent ≡ 0 → ⊥) → silent ≡ quiet-for u silent held ns clock
+  silent-for z n = rw z (go silent n)
+    where
+      go : (q : ℕ) → (q ≡ 0 → ⊥) → q ≡ quiet-for 0 q held ns clock
+      go zero n = absurd (n refl)
+      go (suc q) n = refl
+
+  -- a notice that waits starts at once
+  pub notice-waits : u ≡ 0 → silent ≡ 0 → (length ns ≡ 0 → ⊥) → 0 ≡ quiet-for u silent held ns clock
+  notice-waits z y n = rw (z, y) (go ns n)
+    where
+      go : (ms : List Notice) → (length ms ≡ 0 → ⊥) → 0 ≡ quiet-for 0 0 held ms clock
+      go [] n = absurd (n refl)
+      go (m ∷ ms) n = refl
+
+  pub idle-for : u ≡ 0 → silent ≡ 0 → length ns ≡ 0 → first-eligible held - clock ≡ quiet-for u silent held ns clock
+  idle-for z y n = rw (z, y) (go ns n)
+    where
+      go : (ms : List Notice) → length ms ≡ 0 → first-eligible held - clock ≡ quiet-for 0 0 held ms clock
+      go [] n = refl
+      go (m ∷ ms) n = absurd (omega arith)
+
+-- ---- those that are passed over
+
+module _ (s : State) (ok : sound s ≡ true) (left : ℕ) where
+  pub none-without-link : s .link .levels ≡ 0 → 0 ≡ quiet-ticks left s
+  unfolding quiet-ticks
+  none-without-link z = rw (ok, eq-eqb (s .link .levels) 0 z)
+
+  module _ (n : s .link .levels ≡ 0 → ⊥) where
+    pub clock-in-time : s .clock ≤ clock-end
+    clock-in-time = exact s .0 ok .with-one n .clock-le
+
+    pub some-quiet : (k : ℕ) → k ≡ min (min (quiet-for (s .to-go) (s .silent) (s .held) (s .notices) (s .clock)) (clock-end - s .clock)) left → k ≡ quiet-ticks left s
+    unfolding quiet-ticks
+    some-quiet k e = rw (ok, ne-eqb (s .link .levels) 0 n) e
+
+-- they are no more than are left, and the clock does not pass its end
+pub quiet-room : (left : ℕ) (s : State) {k : ℕ} → k ≡ quiet-ticks left s → (k ≡ 0 → ⊥) → Quiets left s k
+quiet-room left s e n = rw e (quiets left s (λ z. n (e ∙ z)))

@@ -1,0 +1,161 @@
+-- Ticks in which nothing starts and nothing departs: what the rules answer to each, and the state after it. Assumes nothing.
+use Prim.Native.Nat.{ℕ, zero, suc, _+_, _-_, _≤_, _<_, min}
+use native.Mathlib.Omega.{arith}
+use mathlib.Core.Path.{_≡_, refl, ap, _∙_, subst}
+use mathlib.Core.Bool.{Bool, true, false, not, cond, _&&_}
+use mathlib.Core.List.{List, [], _∷_}
+use mathlib.Core.Logic.{_⊎_, inl, inr}
+use mathlib.Core.Option.{none}
+use lib.Dec.{eqb}
+use borrow.Author.Tests.{ne-eqb, lt-leb, eqb-false, not-true}
+use Rattle.rules.specs.Words.{All}
+use Rattle.rules.specs.Limits.{clock-end}
+use Rattle.rules.specs.declared.Packet.{Packet}
+use Rattle.rules.specs.declared.Notice.{Notice}
+use Rattle.rules.specs.Model.{State, tick, Answer}
+use Rattle.rules.specs.SoundState.{Sound, Idle, Serves}
+use Rattle.rules.specs.SoundTest.{sound}
+use Rattle.rules.specs.Service.{choice, level-of, tick-answer, ticked}
+use Rattle.rules.specs.Calls.{verdicts, verdict, settle, answer}
+use Rattle.rules.proofs.Tests.{and-true}
+use Rattle.rules.proofs.Lists.{all-map}
+use Rattle.rules.proofs.SoundExact.{exact}
+use Rattle.rules.proofs.SoundKept.{kept}
+use Rattle.service.specs.Quiet.{passed, first-eligible, quiet-for, quiet-ticks}
+
+-- none of some packets is eligible before the tick t
+abbrev None-before : ℕ → List Packet → Type 0
+None-before t ps = All (λ p. t ≤ p .eligibility) ps
+
+-- for k ticks the line is idle, no packet is eligible and no notice waits, or the line is silent, or something is in service and keeps a unit to go
+abbrev Still : State → ℕ → Type 0
+Still s k = ((s .to-go ≡ 0) × (s .silent ≡ 0) × None-before (s .clock + k) (s .held) × (s .notices ≡ [])) ⊎ (((s .to-go ≡ 0) × (k ≤ s .silent)) ⊎ (k < s .to-go))
+
+-- a sound hub with a link of which that holds, up to the clock's end
+pub record Quiet (s : State) (k : ℕ) : Type 0 where
+  pub sound-state : Sound s
+  pub set : s .link .levels ≡ 0 → ⊥
+  pub in-time : s .clock + k ≤ clock-end
+  pub still : Still s k
+
+-- ---- one tick
+
+module _ (level : ℕ → ℕ) (t : ℕ) where
+  none-chosen : (ps : List Packet) → None-before (suc t) ps → choice level t ps ≡ none
+  none-chosen [] h = refl
+  none-chosen (p ∷ ps) h = rw (lt-leb (p .eligibility) t (omega (arith, h .0))) (none-chosen ps (h .1))
+
+-- the clock moves on, and nothing departs
+abbrev quiet-answer : State → Answer
+quiet-answer s = tick-answer none (passed s 1)
+
+module _ (s : State) (k : ℕ) (Q : Quiet s (suc k)) where
+  tick-good : verdict tick s ≡ 0
+  unfolding verdicts
+  tick-good =
+      rw (exact s .1 (Q .sound-state), ne-eqb (s .link .levels) 0 (Q .set), lt-leb clock-end (s .clock) (omega (arith, Q .in-time)))
+
+  not-serving : s .to-go ≡ 0 → s .serving ≡ 0
+  not-serving z = go (Q .sound-state .with-one (Q .set) .line)
+    where
+      go : Idle s ⊎ Serves s 0 → s .serving ≡ 0
+      go (inl i) = i .1
+      go (inr (inl v)) = absurd (omega (arith, v .some-to-go))
+      go (inr (inr v)) = absurd (omega (arith, v .some-to-go))
+
+  line-quiet : Still s (suc k) → ticked s ≡ quiet-answer s
+  line-quiet (inl (z, y, h, n)) =
+      let e : 0 - 1 ≡ 0 = omega arith in
+      let f = none-chosen (level-of s) (s .clock) (s .held) (all-map (λ p b. omega arith) (s .held) h) in
+      rw (z, y, not-serving z, f, n, e)
+  line-quiet (inr (inl (z, l))) = go (s .silent) refl
+    where
+      go : (q : ℕ) → s .silent ≡ q → ticked s ≡ quiet-answer s
+      go zero e = absurd (omega arith)
+      go (suc q) e = let f : 0 - 1 ≡ 0 = omega arith in rw (z, e, not-serving z, f)
+  line-quiet (inr (inr l)) = go (s .to-go) refl
+    where
+      none-silent : s .silent ≡ 0
+      none-silent = Q .sound-state .with-one (Q .set) .silent-alone (omega arith)
+
+      go : (u : ℕ) → s .to-go ≡ u → ticked s ≡ quiet-answer s
+      go zero e = absurd (omega arith)
+      go (suc zero) e = absurd (omega arith)
+      go (suc (suc u)) e =
+          let f : suc (suc u) - 1 ≡ suc u = omega arith in
+          let g : 0 - 1 ≡ 0 = omega arith in
+          rw (e, f, none-silent, g)
+
+  pub one-quiet-tick : answer tick s ≡ quiet-answer s
+  one-quiet-tick = ap (settle tick s) tick-good ∙ line-quiet (Q .still)
+
+  still-then : Still s (suc k) → Still (passed s 1) k
+  still-then (inl (z, y, h, n)) = inl (omega arith, omega arith, all-map (λ p b. omega arith) (s .held) h, n)
+  still-then (inr (inl (z, l))) = inr (inl (omega arith, omega arith))
+  still-then (inr (inr l)) = inr (inr (omega arith))
+
+  pub quiet-then : Quiet (passed s 1) k
+  quiet-then = record {
+    sound-state = subst (λ (a : Answer). Sound (a .next)) one-quiet-tick (kept tick s (Q .sound-state));
+    set = Q .set;
+    in-time = omega (arith, Q .in-time);
+    still = still-then (Q .still);
+  }
+
+-- ---- many
+
+pub pass-none : (s : State) → passed s 0 ≡ s
+pass-none s =
+    let e : s .clock + 0 ≡ s .clock = omega arith in
+    let f : s .to-go - 0 ≡ s .to-go = omega arith in
+    let g : s .silent - 0 ≡ s .silent = omega arith in
+    rw (e, f, g)
+
+pub pass-one-more : (s : State) (k : ℕ) → passed (passed s 1) k ≡ passed s (suc k)
+pass-one-more s k =
+    let e : s .clock + 1 + k ≡ s .clock + suc k = omega arith in
+    let f : s .to-go - 1 - k ≡ s .to-go - suc k = omega arith in
+    let g : s .silent - 1 - k ≡ s .silent - suc k = omega arith in
+    rw (e, f, g)
+
+-- ---- those that are passed over at once
+
+-- the first eligibility is no later than any
+all-later : (t : ℕ) (ps : List Packet) → t ≤ first-eligible ps → None-before t ps
+all-later t [] h = tt
+all-later t (p ∷ ps) h = (omega arith, all-later t ps (omega arith))
+
+still-for : (s : State) (k : ℕ) → 0 < k → k ≤ quiet-for (s .to-go) (s .silent) (s .held) (s .notices) (s .clock) → Still s k
+still-for s k p h = go (s .to-go) refl (s .silent) refl (s .notices) refl h
+  where
+    go : (u : ℕ) → s .to-go ≡ u → (q : ℕ) → s .silent ≡ q → (ns : List Notice) → s .notices ≡ ns → k ≤ quiet-for u q (s .held) ns (s .clock) → Still s k
+    go zero e zero f [] i l = inl (e, f, all-later (s .clock + k) (s .held) (omega arith), i)
+    go zero e zero f (n ∷ ns) i l = absurd (omega arith)
+    go zero e (suc q) f ns i l = inr (inl (e, omega arith))
+    go (suc u) e q f ns i l = inr (inr (omega arith))
+
+-- they are no more than are left, and nothing happens in them
+pub record Quiets (left : ℕ) (s : State) (k : ℕ) : Type 0 where
+  pub few : k ≤ left
+  pub quiet : Quiet s k
+
+pub quiets : (left : ℕ) (s : State) → (quiet-ticks left s ≡ 0 → ⊥) → Quiets left s (quiet-ticks left s)
+unfolding quiet-ticks
+quiets left s n = go (sound s && not (eqb (s .link .levels) 0)) refl n
+  where
+    k : ℕ
+    k = min (min (quiet-for (s .to-go) (s .silent) (s .held) (s .notices) (s .clock)) (clock-end - s .clock)) left
+
+    go : (b : Bool) → (sound s && not (eqb (s .link .levels) 0)) ≡ b → (cond b k 0 ≡ 0 → ⊥) → Quiets left s (cond b k 0)
+    go true e z =
+        let a = and-true (sound s) _ e in
+        record {
+          few = omega arith;
+          quiet = record {
+            sound-state = exact s .0 (a .0);
+            set = eqb-false _ _ (not-true _ (a .1));
+            in-time = omega arith;
+            still = still-for s k (omega arith) (omega arith);
+          };
+        }
+    go false e z = absurd (z refl)

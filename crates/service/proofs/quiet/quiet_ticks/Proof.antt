@@ -1,0 +1,44 @@
+use native.Mathlib.Omega.{arith}
+use Rattle.service.specs.View.{view}
+use Rattle.service.proofs.QuietCases.{none-without-link, clock-in-time, some-quiet}
+use borrow.Author.Needs.{needs}
+use Rattle.service.proofs.quiet.quiet_ticks.Statement.{statement}
+use Rattle.service.proofs.quiet.quiet_ticks.Tie as tie
+
+returns : tie.Need-returns
+returns c =
+    let s = c .before .before .before .before .before in
+    let a = s .args in
+    none-without-link (view (a .h) (a .cs .now) (a .t .now) (a .q .now)) (s .pre .0) (a .left) (search needs)
+
+quiet-for-requires : tie.Need-quiet-for-requires
+quiet-for-requires c κs = search needs
+
+sub-least : tie.Need-sub-least
+sub-least c =
+    let s = c .before .before .before .before .before .before .before in
+    let a = s .args in
+    clock-in-time (view (a .h) (a .cs .now) (a .t .now) (a .q .now)) (s .pre .0) (a .left) (c .before .before .if1 .left)
+
+least-requires : tie.Need-least-requires
+least-requires c κs = search needs
+
+cast-result : tie.Need-cast-result
+cast-result c = search needs
+
+returns-2 : tie.Need-returns-2
+returns-2 c =
+    let s = c .before .before .before .before .before .before .before .before .before in
+    let a = s .args in
+    some-quiet (view (a .h) (a .cs .now) (a .t .now) (a .q .now)) (s .pre .0) (a .left) (c .before .before .before .before .if1 .left) _ (omega (arith, c .before .least .ensures, c .before .before .before .quiet-for .ensures))
+
+returns-3 : tie.Need-returns-3
+returns-3 c =
+    let s = c .before .before .before .before .before .before .before .before .before in
+    let a = s .args in
+    some-quiet (view (a .h) (a .cs .now) (a .t .now) (a .q .now)) (s .pre .0) (a .left) (c .before .before .before .before .if1 .left) _ (omega (arith, c .before .least .ensures, c .before .before .before .quiet-for .ensures))
+
+pub quiet-ticks-spec : {M : Type 1} → statement M
+quiet-ticks-spec =
+    tie.close
+    (tie.spec returns quiet-for-requires sub-least least-requires cast-result returns-2 returns-3)

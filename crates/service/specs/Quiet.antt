@@ -1,0 +1,39 @@
+-- QUIET TICKS: those in which nothing starts and nothing departs, so that many can be passed over at once. Document 01, "One tick"; document 02, R-1
+-- and R-4. Assumes nothing.
+use Prim.Native.Nat.{ℕ, zero, suc, _+_, _-_, min}
+use mathlib.Core.Bool.{not, cond, _&&_}
+use mathlib.Core.List.{List, [], _∷_}
+use lib.Dec.{eqb}
+use Rattle.rules.specs.declared.Packet.{Packet}
+use Rattle.rules.specs.declared.Notice.{Notice}
+use Rattle.rules.specs.Limits.{clock-end}
+use Rattle.rules.specs.Model.{State, with-clock, with-line}
+use Rattle.rules.specs.SoundTest.{sound}
+use Rattle.service.specs.declared.Hub.{Hub}
+use Rattle.service.specs.View.{view, hub-of}
+
+-- the state k ticks on, where nothing starts and nothing departs in them: what is in service, if anything is, has k units fewer to go, and a silence k ticks
+abbrev pub passed : State → ℕ → State
+passed s k = with-line (with-clock s (s .clock + k)) (s .serving) (s .to-go - k) (s .silent - k)
+
+-- .. and the hub
+abbrev pub passed-hub : Hub → ℕ → Hub
+passed-hub h k = hub-of (passed (view h [] [] []) k)
+
+-- the first tick at which one of some packets is eligible; the clock's end where that is earlier
+abbrev pub first-eligible : List Packet → ℕ
+first-eligible [] = clock-end
+first-eligible (p ∷ ps) = min (p .eligibility) (first-eligible ps)
+
+-- the ticks in which nothing starts and nothing departs: until a packet is eligible, if no notice waits, or the rest of a silence, or all but the last unit
+-- of what is in service
+abbrev pub quiet-for : ℕ → ℕ → List Packet → List Notice → ℕ → ℕ
+quiet-for zero zero held [] clock = first-eligible held - clock
+quiet-for zero zero held (n ∷ ns) clock = 0
+quiet-for zero (suc silent) held ns clock = suc silent
+quiet-for (suc to-go) silent held ns clock = to-go
+
+-- of `left` ticks those that are passed over at once: none without a link, and none beyond the clock's end
+unfoldable pub quiet-ticks : ℕ → State → ℕ
+quiet-ticks left s =
+    cond (sound s && not (eqb (s .link .levels) 0)) (min (min (quiet-for (s .to-go) (s .silent) (s .held) (s .notices) (s .clock)) (clock-end - s .clock)) left) 0

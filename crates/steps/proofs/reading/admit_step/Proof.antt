@@ -1,0 +1,71 @@
+use Rattle.rules.proofs.Results.{answers-fit}
+use Rattle.service.specs.View.{view}
+use Rattle.calls.proofs.ActLaws.{is-sound}
+use native.Mathlib.Omega.{arith}
+use Rattle.service.specs.declared.Told.{Told}
+use Rattle.steps.proofs.CallLaws.{did-call}
+use mathlib.Core.Path.{ap, _∙_}
+use Prim.Native.Nat.{_%_}
+use Rattle.rules.specs.Model.{admit}
+use Rattle.answers.specs.declared.Reply.the-variants.{Admitted}
+use Rattle.answers.proofs.WriteLaws.{admitted-low}
+use borrow.Author.Needs.{needs}
+use Rattle.steps.proofs.reading.admit_step.Statement.{statement}
+use Rattle.steps.proofs.reading.admit_step.Tie as tie
+
+admit-tested-requires : tie.Need-admit-tested-requires
+admit-tested-requires c κs = search needs
+
+low-requires : tie.Need-low-requires
+low-requires c κs = search needs
+
+low-requires-2 : tie.Need-low-requires-2
+low-requires-2 c κs = search needs
+
+low-requires-3 : tie.Need-low-requires-3
+low-requires-3 c κs = search needs
+
+cast-t17 : tie.Need-cast-t17
+cast-t17 c =
+    let z = c .before .before .before .before .before .before .before .before .before .before .before .before .before in
+    let a = z .args in
+    let k = c .before .before .before .before .before .before .before .admit-tested in
+    let f = answers-fit (admit (a .x)) (view (a .h) (a .cs .now) (a .t .now) (a .q .now)) (is-sound (a .h) (a .cs .now) (a .t .now) (a .q .now) (z .pre .0)) in
+    omega (arith, f .units, ap (λ (y : Told). y .short .units) (k .ensures .answers))
+
+answered-requires : tie.Need-answered-requires
+answered-requires c κs = search needs
+
+same-length : tie.Need-same-length
+same-length c = search needs
+
+same-length-2 : tie.Need-same-length-2
+same-length-2 c = search needs
+
+returns : tie.Need-returns
+returns c =
+    let a = c .before .before .before .before .before .before .before .before .before .before .before .before .before .before .before .before .before .args in
+    let k = c .before .before .before .before .before .before .before .before .before .before .before .admit-tested in
+    let w = c .before .before .answered .ensures in
+    let v = c .before .before .before .before .before .before .before .low in
+    let m = c .before .before .before .before .before .before .low2 in
+    let l = c .before .before .before .before .before .low3 in
+    let e = k .ensures .answers in
+    did-call (admit (a .x)) (a .h) (a .cs .now) (a .t .now) (a .q .now) _ _ _ _ _ (k .result) (k .ensures) (a .at) (a .used) _ (Admitted (v .result) (m .result) (l .result) (k .result .short .units)) _
+    (admitted-low _ _ _ _ _ _ _ _ (v .ensures ∙ ap (λ (y : Told). y .verdict % 256) e) (m .ensures ∙ ap (λ (y : Told). y .number % 256) e)
+    (l .ensures ∙ ap (λ (y : Told). y .short .level % 256) e) (ap (λ (y : Told). y .short .units) e))
+    (w .0) (w .1)
+
+pub admit-step-spec : {M : Type 1} → statement M
+admit-step-spec =
+    tie.close
+    (tie.spec
+    admit-tested-requires
+    low-requires
+    low-requires-2
+    low-requires-3
+    cast-t17
+    answered-requires
+    same-length
+    same-length-2
+    returns)

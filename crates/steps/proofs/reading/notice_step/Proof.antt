@@ -1,0 +1,46 @@
+use Rattle.service.specs.declared.Told.{Told}
+use Rattle.steps.proofs.CallLaws.{did-call}
+use mathlib.Core.Path.{ap, _∙_}
+use Prim.Native.Nat.{_%_}
+use Rattle.rules.specs.Model.{notice}
+use Rattle.answers.specs.declared.Reply.the-variants.{Noticed}
+use Rattle.answers.proofs.WriteLaws.{noticed-low}
+use borrow.Author.Needs.{needs}
+use Rattle.steps.proofs.reading.notice_step.Statement.{statement}
+use Rattle.steps.proofs.reading.notice_step.Tie as tie
+
+notice-tested-requires : tie.Need-notice-tested-requires
+notice-tested-requires c κs = search needs
+
+low-requires : tie.Need-low-requires
+low-requires c κs = search needs
+
+answered-requires : tie.Need-answered-requires
+answered-requires c κs = search needs
+
+same-length : tie.Need-same-length
+same-length c = search needs
+
+same-length-2 : tie.Need-same-length-2
+same-length-2 c = search needs
+
+returns : tie.Need-returns
+returns c =
+    let a = c .before .before .before .before .before .before .before .before .before .before .before .before .before .args in
+    let k = c .before .before .before .before .before .before .before .notice-tested in
+    let w = c .before .before .answered .ensures in
+    let v = c .before .before .before .before .low .ensures ∙ ap (λ (x : Told). x .verdict % 256) (k .ensures .answers) in
+    let n = ap (λ (x : Told). x .number) (k .ensures .answers) in
+    did-call (notice (a .len) (a .tag)) (a .h) (a .cs .now) (a .t .now) (a .q .now) _ _ _ _ _ (k .result) (k .ensures) (a .at) (a .used) _ (Noticed (c .before .before .before .before .low .result) (k .result .number)) _
+    (noticed-low _ _ _ _ v n) (w .0) (w .1)
+
+pub notice-step-spec : {M : Type 1} → statement M
+notice-step-spec =
+    tie.close
+    (tie.spec
+    notice-tested-requires
+    low-requires
+    answered-requires
+    same-length
+    same-length-2
+    returns)

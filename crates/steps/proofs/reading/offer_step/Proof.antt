@@ -1,0 +1,50 @@
+use Rattle.service.specs.declared.Told.{Told}
+use Rattle.steps.proofs.CallLaws.{did-call}
+use mathlib.Core.Path.{ap, _∙_}
+use Prim.Native.Nat.{_%_}
+use Rattle.rules.specs.Model.{offer}
+use Rattle.answers.specs.declared.Reply.the-variants.{Offered}
+use Rattle.answers.proofs.WriteLaws.{offered-low}
+use borrow.Author.Needs.{needs}
+use Rattle.steps.proofs.reading.offer_step.Statement.{statement}
+use Rattle.steps.proofs.reading.offer_step.Tie as tie
+
+offer-tested-requires : tie.Need-offer-tested-requires
+offer-tested-requires c κs = search needs
+
+low-requires : tie.Need-low-requires
+low-requires c κs = search needs
+
+answered-requires : tie.Need-answered-requires
+answered-requires c κs = search needs
+
+same-length : tie.Need-same-length
+same-length c = search needs
+
+same-length-2 : tie.Need-same-length-2
+same-length-2 c = search needs
+
+same-length-3 : tie.Need-same-length-3
+same-length-3 c = search needs
+
+returns : tie.Need-returns
+returns c =
+    let a = c .before .before .before .before .before .before .before .before .before .before .before .before .before .before .before .before .args in
+    let k = c .before .before .before .before .before .before .before .before .before .offer-tested in
+    let w = c .before .before .answered .ensures in
+    let v = c .before .before .before .before .low .ensures ∙ ap (λ (x : Told). x .verdict % 256) (k .ensures .answers) in
+    let n = ap (λ (x : Told). x .number) (k .ensures .answers) in
+    did-call (offer (a .c) (a .len) (a .tag)) (a .h) (a .cs .now) (a .t .now) (a .q .now) _ _ _ _ _ (k .result) (k .ensures) (a .at) (a .used) _ (Offered (c .before .before .before .before .low .result) (k .result .number)) _
+    (offered-low _ _ _ _ v n) (w .0) (w .1)
+
+pub offer-step-spec : {M : Type 1} → statement M
+offer-step-spec =
+    tie.close
+    (tie.spec
+    offer-tested-requires
+    low-requires
+    answered-requires
+    same-length
+    same-length-2
+    same-length-3
+    returns)

@@ -1,0 +1,78 @@
+use Rattle.steps.proofs.CallLaws.{did-refused, did-tick}
+use borrow.Author.Needs.{needs}
+use Rattle.steps.proofs.ticking.one_tick.Statement.{statement}
+use Rattle.steps.proofs.ticking.one_tick.Tie as tie
+
+tick-tested-requires : tie.Need-tick-tested-requires
+tick-tested-requires c κs = search needs
+
+without-requires : tie.Need-without-requires
+without-requires c κs = search needs
+
+cast-done : tie.Need-cast-done
+cast-done c = search needs
+
+low-requires : tie.Need-low-requires
+low-requires c κs = search needs
+
+answered-requires : tie.Need-answered-requires
+answered-requires c κs = search needs
+
+same-length : tie.Need-same-length
+same-length c = search needs
+
+same-length-2 : tie.Need-same-length-2
+same-length-2 c = search needs
+
+same-length-3 : tie.Need-same-length-3
+same-length-3 c = search needs
+
+returns : tie.Need-returns
+returns c =
+    let a = c .before .before .before .before .before .before .before .before .before .before .before .before .before .before .before .before .before .before .before .before .args in
+    let k = c .before .before .answered .ensures in
+    let w = c .before .before .before .before .before .before .before .before .before .before .before .before .before .tick-tested in
+    let n = c .before .before .before .before .before .without in
+    did-refused (a .at) (a .asked) (a .left) (a .h) (a .cs .now) (a .t .now) (a .q .now) (w .result) _ _ (w .ensures) _ _ _ (c .before .before .before .before .before .before .if1 .taken) (c .before .before .before .before .low .result) (n .result) (c .before .before .before .before .low .ensures) (n .ensures) (k .0) (k .1)
+
+put-departure-requires : tie.Need-put-departure-requires
+put-departure-requires c κs = search needs
+
+sub-rest : tie.Need-sub-rest
+sub-rest c = search needs
+
+same-length-4 : tie.Need-same-length-4
+same-length-4 c = search needs
+
+same-length-5 : tie.Need-same-length-5
+same-length-5 c = search needs
+
+same-length-6 : tie.Need-same-length-6
+same-length-6 c = search needs
+
+returns-2 : tie.Need-returns-2
+returns-2 c =
+    let a = c .before .before .before .before .before .before .before .before .before .before .before .before .before .before .before .before .before .before .args in
+    let k = c .before .before .put-departure .ensures in
+    let w = c .before .before .before .before .before .before .before .before .before .before .before .tick-tested in
+    did-tick (a .at) (a .asked) (a .left) (a .h) (a .cs .now) (a .t .now) (a .q .now) (w .result) _ _ (w .ensures) _ _ _ (c .before .before .before .before .if1 .left) (rw (k .0)) (k .1)
+
+pub one-tick-spec : {M : Type 1} → statement M
+one-tick-spec =
+    tie.close
+    (tie.spec
+    tick-tested-requires
+    without-requires
+    cast-done
+    low-requires
+    answered-requires
+    same-length
+    same-length-2
+    same-length-3
+    returns
+    put-departure-requires
+    sub-rest
+    same-length-4
+    same-length-5
+    same-length-6
+    returns-2)

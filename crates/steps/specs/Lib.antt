@@ -1,0 +1,3 @@
+-- Read in this order: Steps, Tie.
+pub mod Steps
+pub mod Tie

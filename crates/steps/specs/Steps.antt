@@ -1,0 +1,139 @@
+-- One step of a replay and many, by the rules: at most one answer record a step. Assumes nothing.
+use Prim.Native.Nat.{ℕ, zero, suc, _+_, _*_, _-_}
+use mathlib.Core.Bool.{Bool, true, false}
+use mathlib.Core.List.{List, [], _++_}
+use lib.Dec.{ltb, eqb}
+use lib.ListN.{length, drop}
+use Rattle.rules.specs.Model.{State, Call, tick, fresh}
+use Rattle.rules.specs.Calls.{answer}
+use Rattle.service.specs.Quiet.{passed, quiet-ticks}
+use Rattle.fields.specs.Numbers.{pick}
+use Rattle.traces.specs.declared.Record.{Record}
+use Rattle.traces.specs.declared.Found.{Found}
+use Rattle.traces.specs.Trace.{longest-record}
+use Rattle.answers.specs.declared.Reply.the-variants.{Ticked, Broken}
+use Rattle.answers.specs.Answers.{answer-bytes}
+use Rattle.log.specs.Log.{trace-limit, Asked, one-call, some-ticks, unread, asks, call-log, read-at, tick-log, all-done-verdict, ticks-log, ticks-end, log-from}
+use Rattle.steps.specs.declared.Phase.{Phase}
+use Rattle.steps.specs.declared.Phase.the-variants.{Reading, Ticking, Finished}
+use Rattle.steps.specs.declared.Status.{Status}
+use Rattle.steps.specs.declared.Status.the-variants.{GoOn, MoreBytes, MoreRoom, NotSound, Done}
+
+-- a place in the trace: its offset, what comes next, and the state of the rules there
+pub record Point : Type 0 where
+  pub at : ℕ
+  pub phase : Phase
+  pub state : State
+
+abbrev pub point : ℕ → Phase → State → Point
+point at p s = record { at = at; phase = p; state = s }
+
+-- where every replay begins
+abbrev pub beginning : Point
+beginning = point 0 Reading fresh
+
+-- what a step does: the place after it, the bytes of the window that it took, those that it wrote
+pub record Next : Type 0 where
+  pub point : Point
+  pub used : ℕ
+  pub bytes : List ℕ
+  pub status : Status
+
+-- nothing happens
+abbrev pub still : Point → Status → Next
+still p k = record { point = p; used = 0; bytes = []; status = k }
+
+-- a step is made
+abbrev pub goes : ℕ → Phase → State → ℕ → List ℕ → Next
+goes at p s used bytes = record { point = point at p s; used = used; bytes = bytes; status = GoOn }
+
+-- a step with a record of k bytes that ends at offset `to`: a call is made and answered
+abbrev pub call-next : Call → ℕ → ℕ → State → Next
+call-next c k to s = goes to Reading (answer c s .next) k (call-log c (answer c s))
+
+-- a step with what a record of k bytes at offset `at` asks: a `TK` begins, a malformed record ends the log
+abbrev pub asked-next : Asked → ℕ → ℕ → State → Next
+asked-next (one-call c) k at s = call-next c k (at + k) s
+asked-next (some-ticks n) k at s = goes (at + k) (Ticking n n) s k []
+asked-next unread k at s = record { point = point at Finished s; used = 0; bytes = answer-bytes (Broken at); status = Done }
+
+abbrev pub record-next : Record → ℕ → ℕ → State → Next
+record-next r k at s = asked-next (asks r) k at s
+
+abbrev pub found-next : Found → ℕ → State → Next
+found-next f at s = record-next (f .what) (f .taken) at s
+
+-- a step where a record is to be read: the window w must hold the longest one, or be the last
+unfoldable pub read-next : ℕ → State → List ℕ → Bool → Next
+read-next at s w last =
+    pick last
+    (pick (eqb (length w) 0) (still (point at Finished s) Done) (found-next (read-at at w) at s))
+    (pick (ltb (length w) longest-record) (still (point at Reading s) MoreBytes) (found-next (read-at at w) at s))
+
+-- ---- a step of a `TK`
+
+-- one tick, where `left` of `asked` are still to run
+unfoldable pub one-tick : ℕ → ℕ → ℕ → State → Next
+one-tick at asked left s =
+    pick (eqb (answer tick s .verdict) 0)
+    (goes at (Ticking asked (left - 1)) (answer tick s .next) 0 (tick-log (answer tick s)))
+    (goes at Reading (answer tick s .next) 0 (answer-bytes (Ticked (answer tick s .verdict) (asked - left))))
+
+-- quiet ticks, or one tick, or the `TA`
+unfoldable pub tick-next : ℕ → ℕ → ℕ → State → Next
+tick-next at asked left s =
+    pick (eqb left 0)
+    (goes at Reading s 0 (answer-bytes (Ticked (all-done-verdict asked s) asked)))
+    (pick (eqb (quiet-ticks left s) 0)
+    (one-tick at asked left s)
+    (goes at (Ticking asked (left - quiet-ticks left s)) (passed s (quiet-ticks left s)) 0 []))
+
+abbrev pub phase-next : Phase → ℕ → State → List ℕ → Bool → Next
+phase-next Reading at s w last = read-next at s w last
+phase-next (Ticking asked left) at s w last = tick-next at asked left s
+phase-next Finished at s w last = still (point at Finished s) Done
+
+-- ONE STEP on the window w, which starts at the point's offset; `last`: nothing comes behind it
+unfoldable pub next : Point → List ℕ → Bool → Next
+next p w last = phase-next (p .phase) (p .at) (p .state) w last
+
+-- ---- many steps
+
+abbrev pub is-go : Status → Bool
+is-go GoOn = true
+is-go MoreBytes = false
+is-go MoreRoom = false
+is-go NotSound = false
+is-go Done = false
+
+-- one more, unless the last one stopped
+abbrev pub joined : Next → Next → Next
+joined m n = record { point = n .point; used = m .used + n .used; bytes = m .bytes ++ n .bytes; status = n .status }
+
+unfoldable pub onward : List ℕ → Bool → Next → Next
+onward w last m = pick (is-go (m .status)) (joined m (next (m .point) (drop (m .used) w) last)) m
+
+-- k steps, or fewer where one stops
+unfoldable pub steps : ℕ → Point → List ℕ → Bool → Next
+steps zero p w last = still p GoOn
+steps (suc k) p w last = onward w last (steps k p w last)
+
+-- ---- what is still to come, where rest is the trace from the point on
+
+abbrev pub phase-log : Phase → ℕ → State → List ℕ → List ℕ
+phase-log Reading at s rest = log-from at s rest
+phase-log (Ticking asked left) at s rest = ticks-log asked left s ++ log-from at (ticks-end left s) rest
+phase-log Finished at s rest = []
+
+abbrev pub to-come : Point → List ℕ → List ℕ
+to-come p rest = phase-log (p .phase) (p .at) (p .state) rest
+
+-- ---- a bound on the steps that are left
+
+abbrev pub weight : Phase → ℕ
+weight Reading = 0
+weight (Ticking asked left) = suc left
+weight Finished = 0
+
+abbrev pub work : ℕ → Phase → ℕ
+work at p = 65_537 * (trace-limit - at) + weight p

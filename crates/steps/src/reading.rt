@@ -1,0 +1,249 @@
+// A step where a record is read: its call is made and answered, its ticks begin, or it ends the log.
+ghost use mathlib.Core.Path.{_≡_};
+ghost use mathlib.Core.Bool.{true};
+ghost use Prim.Native.Nat.{_-_, _≤_};
+ghost use lib.ListN.{length};
+ghost use Rattle.rules.specs.Model.{link, admit, offer, notice};
+ghost use Rattle.service.specs.View.{view};
+ghost use Rattle.calls.specs.Acts.{sound-hub};
+ghost use Rattle.fields.specs.Formats.{over};
+ghost use Rattle.answers.specs.declared.Reply.the-variants.{Broken};
+ghost use Rattle.answers.specs.Answers.{answer-bytes, longest-answer};
+ghost use Rattle.log.specs.Log.{trace-limit, read-at};
+ghost use Rattle.steps.specs.declared.Phase.the-variants.{Reading, Ticking, Finished};
+ghost use Rattle.steps.specs.declared.Status.the-variants.{GoOn, Done};
+ghost use Rattle.steps.specs.Steps.{call-next, found-next, read-next, weight};
+ghost use Rattle.steps.specs.Tie.{cursor-at, Did, Facts};
+use super::Cursor;
+use super::Phase;
+use super::Status;
+use super::Stepped;
+use super::answered;
+use super::waits;
+use answers::Reply;
+use answers::low;
+use log::TRACE_LIMIT;
+use rules::Connection;
+use rules::Link;
+use service::Hub;
+use traces::Found;
+use traces::LONGEST_RECORD;
+use traces::Record;
+
+// The record that the bytes start with, at offset `at` of the trace: malformed where it would end beyond the limit.
+fn read_at(s: &[u8], at: u32) -> Found
+    ensures { λ r. ⌜ (r ≡ read-at at (now (s .entry))) × (r .taken ≤ trace-limit - at) ⌝ }
+{
+    let f = traces::read(s);
+    let place = at as usize;
+    if TRACE_LIMIT < place {
+        return Found {
+            what: Record::Malformed,
+            taken: 0,
+        };
+    }
+    if TRACE_LIMIT - place < f.taken {
+        return Found {
+            what: Record::Malformed,
+            taken: 0,
+        };
+    }
+    f
+}
+
+// `LK`, which took `used` bytes and ends at offset `at`.
+fn link_step(
+    h: Hub,
+    cs: &[u32],
+    t: &[u32],
+    q: &[u32],
+    l: Link,
+    at: u32,
+    used: usize,
+    out: &mut [u8],
+) -> Stepped
+    requires { ⌜ (sound-hub h (now cs) (now t) (now q) ≡ true) × (longest-answer ≤ length (now out)) ⌝ }
+    ensures { λ r. ⌜ Did (call-next (link l) used at (view h (now (cs .entry)) (now (t .entry)) (now (q .entry)))) r (now (cs .entry)) (now (t .entry)) (now (q .entry)) (now (out .entry)) (now (out .exit)) ⌝ }
+{
+    let told = calls::link_tested(h, cs, t, q, l);
+    let reply = Reply::Linked {
+        verdict: low(told.verdict),
+    };
+    answered(at, told.hub, used, reply, out)
+}
+
+// `CN`, the same.
+fn admit_step(
+    h: Hub,
+    cs: &mut [u32],
+    t: &[u32],
+    q: &[u32],
+    x: Connection,
+    at: u32,
+    used: usize,
+    out: &mut [u8],
+) -> Stepped
+    requires { ⌜ (sound-hub h (now cs) (now t) (now q) ≡ true) × (longest-answer ≤ length (now out)) ⌝ }
+    ensures { λ r. ⌜ Did (call-next (admit x) used at (view h (now (cs .entry)) (now (t .entry)) (now (q .entry)))) r (now (cs .exit)) (now (t .entry)) (now (q .entry)) (now (out .entry)) (now (out .exit)) ⌝ }
+{
+    let told = calls::admit_tested(h, cs, t, q, x);
+    let short = told.short;
+    let reply = Reply::Admitted {
+        verdict: low(told.verdict),
+        connection: low(told.number),
+        level: low(short.level),
+        units: short.units as u32,
+    };
+    answered(at, told.hub, used, reply, out)
+}
+
+// `PK`, the same.
+fn offer_step(
+    h: Hub,
+    cs: &mut [u32],
+    t: &mut [u32],
+    q: &[u32],
+    c: u32,
+    len: u32,
+    tag: u32,
+    at: u32,
+    used: usize,
+    out: &mut [u8],
+) -> Stepped
+    requires { ⌜ (sound-hub h (now cs) (now t) (now q) ≡ true) × (longest-answer ≤ length (now out)) ⌝ }
+    ensures { λ r. ⌜ Did (call-next (offer c len tag) used at (view h (now (cs .entry)) (now (t .entry)) (now (q .entry)))) r (now (cs .exit)) (now (t .exit)) (now (q .entry)) (now (out .entry)) (now (out .exit)) ⌝ }
+{
+    let told = calls::offer_tested(h, cs, t, q, c, len, tag);
+    let reply = Reply::Offered {
+        verdict: low(told.verdict),
+        eligibility: told.number,
+    };
+    answered(at, told.hub, used, reply, out)
+}
+
+// `NQ`, the same.
+fn notice_step(
+    h: Hub,
+    cs: &[u32],
+    t: &[u32],
+    q: &mut [u32],
+    len: u32,
+    tag: u32,
+    at: u32,
+    used: usize,
+    out: &mut [u8],
+) -> Stepped
+    requires { ⌜ (sound-hub h (now cs) (now t) (now q) ≡ true) × (longest-answer ≤ length (now out)) ⌝ }
+    ensures { λ r. ⌜ Did (call-next (notice len tag) used at (view h (now (cs .entry)) (now (t .entry)) (now (q .entry)))) r (now (cs .entry)) (now (t .entry)) (now (q .exit)) (now (out .entry)) (now (out .exit)) ⌝ }
+{
+    let told = calls::notice_tested(h, cs, t, q, len, tag);
+    let reply = Reply::Noticed {
+        verdict: low(told.verdict),
+        eligibility: told.number,
+    };
+    answered(at, told.hub, used, reply, out)
+}
+
+// A malformed record: `ER` with its offset, and nothing more.
+fn broken_step(at: u32, h: Hub, out: &mut [u8]) -> Stepped
+    requires { ⌜ longest-answer ≤ length (now out) ⌝ }
+    ensures { λ r. ⌜ (r ≡ record { cursor = cursor-at at Finished h; used = 0; wrote = length (answer-bytes (Broken at)); status = Done }) × (now (out .exit) ≡ over (answer-bytes (Broken at)) (now (out .entry))) ⌝ }
+{
+    let wrote = answers::write(Reply::Broken { offset: at }, out);
+    Stepped {
+        cursor: Cursor {
+            at: at,
+            phase: Phase::Finished,
+            hub: h,
+        },
+        used: 0,
+        wrote: wrote,
+        status: Status::Done,
+    }
+}
+
+// `TK`: its ticks begin.
+fn begin_ticks(h: Hub, ticks: u16, at: u32, used: usize) -> Stepped
+    ensures { λ r. ⌜ r ≡ record { cursor = cursor-at at (Ticking ticks ticks) h; used = used; wrote = 0; status = GoOn } ⌝ }
+{
+    Stepped {
+        cursor: Cursor {
+            at: at,
+            phase: Phase::Ticking {
+                asked: ticks,
+                left: ticks,
+            },
+            hub: h,
+        },
+        used: used,
+        wrote: 0,
+        status: Status::GoOn,
+    }
+}
+
+// A record read at offset `at`.
+fn record_step(
+    f: Found,
+    at: u32,
+    h: Hub,
+    cs: &mut [u32],
+    t: &mut [u32],
+    q: &mut [u32],
+    out: &mut [u8],
+) -> Stepped
+    requires { ⌜ (sound-hub h (now cs) (now t) (now q) ≡ true) × (longest-answer ≤ length (now out)) × (f .taken ≤ trace-limit - at) ⌝ }
+    ensures { λ r. ⌜ Did (found-next f at (view h (now (cs .entry)) (now (t .entry)) (now (q .entry)))) r (now (cs .exit)) (now (t .exit)) (now (q .exit)) (now (out .entry)) (now (out .exit)) ⌝ }
+    ensures { λ r. ⌜ weight (r .cursor .phase) ≤ 65536 ⌝ }
+{
+    let used = f.taken;
+    let to = at + used as u32;
+    let what = f.what;
+    match what {
+        Record::Link { .. } => {
+            let l = named::link_of(what);
+            link_step(h, cs, t, q, l, to, used, out)
+        }
+        Record::Admit { .. } => {
+            let x = named::connection_of(what);
+            admit_step(h, cs, t, q, x, to, used, out)
+        }
+        Record::Offer {
+            connection,
+            len,
+            tag,
+        } => {
+            let c = connection as u32;
+            offer_step(h, cs, t, q, c, len as u32, tag, to, used, out)
+        }
+        Record::Notice { len, tag } => notice_step(h, cs, t, q, len as u32, tag, to, used, out),
+        Record::Ticks { ticks } => begin_ticks(h, ticks, to, used),
+        Record::Malformed => broken_step(at, h, out),
+    }
+}
+
+// A step where a record is to be read, at offset `at`.
+pub(crate) fn read_step(
+    at: u32,
+    h: Hub,
+    cs: &mut [u32],
+    t: &mut [u32],
+    q: &mut [u32],
+    window: &[u8],
+    last: bool,
+    out: &mut [u8],
+) -> Stepped
+    requires { ⌜ (sound-hub h (now cs) (now t) (now q) ≡ true) × (longest-answer ≤ length (now out)) ⌝ }
+    ensures { λ r. ⌜ Did (read-next at (view h (now (cs .entry)) (now (t .entry)) (now (q .entry))) (now (window .entry)) last) r (now (cs .exit)) (now (t .exit)) (now (q .exit)) (now (out .entry)) (now (out .exit)) ⌝ }
+    ensures { λ r. ⌜ Facts (cursor-at at Reading h) (length (now (window .entry))) last (length (now (out .entry))) r ⌝ }
+{
+    if last {
+        if window.len() == 0 {
+            return waits(at, Phase::Finished, h, Status::Done);
+        }
+        return record_step(read_at(window, at), at, h, cs, t, q, out);
+    }
+    if window.len() < LONGEST_RECORD {
+        return waits(at, Phase::Reading, h, Status::MoreBytes);
+    }
+    record_step(read_at(window, at), at, h, cs, t, q, out)
+}

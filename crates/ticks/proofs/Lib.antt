@@ -1,3 +1,0 @@
-pub mod WriteLaws
-pub mod CallLaws
-pub mod QuietLaws
