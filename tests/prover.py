@@ -6,7 +6,17 @@ import shutil
 import subprocess
 import sys
 
+# What is told of an error that another one brings.
+FOLLOWS = re.compile(r"was not admitted \(it has holes|cannot be unfolded because it was not admitted")
+CAUSE = re.compile(r"\S*: error: |note: \S*: it is not proved that ")
 JOBS = int(os.environ.get("RT_JOBS", min(4, os.cpu_count() or 1)))
+
+
+def quick_folder():
+    """Where copies are made the quickest: in memory, where there is ample room. A check copies what was proved of every library that it is given."""
+    memory = "/dev/shm"
+    is_ample = os.access(memory, os.W_OK) and shutil.disk_usage(memory).free > JOBS << 30
+    return memory if is_ample else None
 
 
 def needs(project):
@@ -16,9 +26,10 @@ def needs(project):
     return {name.strip(): rest.split() for name, rest in (line.split(":") for line in lines if ":" in line)}
 
 
-def run(words, folder):
+def run(words, folder, room=None):
     """Runs the prover. Status 0: proved; 1: refused, by the prover or by the compiler; 3: it could not tell. Any other is a failure of the toolchain."""
-    done = subprocess.run(words, cwd=folder, stdout=subprocess.PIPE, stderr=subprocess.STDOUT, text=True, check=False)
+    env = dict(os.environ, TMPDIR=room) if room else None
+    done = subprocess.run(words, cwd=folder, env=env, stdout=subprocess.PIPE, stderr=subprocess.STDOUT, text=True, check=False)
     if done.returncode not in (0, 1, 3):
         sys.exit(f"{' '.join(words)}: status {done.returncode}\n{done.stdout[-2000:]}")
     return done
@@ -29,14 +40,37 @@ def is_refused(said):
     return re.search("^logic=not-proved", said, re.MULTILINE) is not None
 
 
-def check(project, crate, folder, kept):
-    """Checks a folder as the crate that it is a copy of, in a project whose crates are proved. What has not changed since an earlier check is taken from `kept`."""
+def is_cause(line):
+    """Whether a line that the prover said tells an error, and not one that follows from others."""
+    return bool(CAUSE.match(line)) and not FOLLOWS.search(line)
+
+
+def check(project, crate, folder, kept, room=None):
+    """Checks a folder as the crate that it is a copy of, in a project whose crates are proved. What has not changed since an earlier check is taken from `kept`.
+
+    The prover's own copies are made in `room`.
+    """
     rlib = os.path.join(project, "target", "rlib")
     local = [need for need in needs(project)[crate] if os.path.isdir(os.path.join(project, "crates", need))]
     kit = [need for need in needs(project)[crate] if need not in local]
     words = [word for need in local for word in ("--extern", f"{need}={rlib}/{need}.rlib")]
     deps = ["--deps", ",".join(kit)] if kit else []
-    return run(["rt", "check", folder, *deps, "-L", f"dependency={rlib}", *words, "--incremental", kept], project)
+    return run(["rt", "check", folder, *deps, "-L", f"dependency={rlib}", *words, "--incremental", kept], project, room)
+
+
+def keep(project, crate, kept):
+    """Puts what the proof of a library has left (target/rlib) where a check with --incremental looks for it. A program's proof leaves nothing.
+
+    Where the toolchain keeps it otherwise, nothing is found there, and the next check over `kept` is one from nothing.
+    """
+    rlib = os.path.join(project, "target", "rlib", f"{crate}.rlib")
+    proved = os.path.join(rlib, "toolchain", "checked")
+    if not os.path.isdir(proved):
+        return
+    with open(os.path.join(rlib, "format"), encoding="utf-8") as file:
+        build = re.search("^rattle-build (.*)$", file.read(), re.MULTILINE)
+    if build:
+        shutil.copytree(proved, os.path.join(kept, build.group(1).replace("/", "_")))
 
 
 def copied(project, crate, folder):

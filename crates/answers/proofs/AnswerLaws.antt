@@ -6,56 +6,50 @@ use mathlib.Core.Option.{some}
 use native.Mathlib.Omega.{arith}
 use borrow.Author.Tests.{eqb-true}
 use lib.ListN.{getD}
-use Rattle.fields.specs.Numbers.{little, number, put-fields, get-fields, sum, Fit}
+use Rattle.fields.specs.Numbers.{little, number, put-fields, get-fields, sum}
 use Rattle.fields.specs.Kinds.{bytes}
 use Rattle.answers.specs.Kinds.{LA, CA, PA, NA, DP, TA, ER}
-use Rattle.fields.specs.Formats.{starts, read-rows, laid}
-use Rattle.answers.specs.Answers.{answers, answer-table, answer-layout, linked-row, admitted-row, offered-row, noticed-row, departed-row, ticked-row, broken-row, longest-answer}
+use Rattle.fields.specs.Formats.{starts, read-kinds, laid}
+use Rattle.answers.specs.Answers.{answers, answer-table, answer-layout, longest-answer}
 use Rattle.fields.specs.Laws.{Reads-back-what-is-written, Has-the-length-of}
 use Rattle.answers.specs.declared.Reply.the-variants.{Linked, Admitted, Offered, Noticed, Departed, Ticked, Broken, Malformed}
 use Rattle.fields.proofs.NumberLaws.{one-byte}
 use Rattle.fields.proofs.MarkLaws.{distinct, absent}
 use Rattle.fields.proofs.WindowLaws.{All-within}
-use Rattle.fields.proofs.FormatLaws.{All-fair, two-letters, plain-fair, row-back, length-bytes}
+use Rattle.fields.proofs.FormatLaws.{All-fair, two-letters, plain-fair, kind-back, length-bytes}
 
-pub answer-marks : distinct (answers .rows) ≡ true
+pub answer-marks : distinct (answers .kinds) ≡ true
 unfolding distinct absent number
 answer-marks = refl
 
 pub answer-back : Reads-back-what-is-written answers
-unfolding read-rows starts laid bytes put-fields little Fit
-answer-back (Linked verdict) rest w = row-back linked-row (verdict ∷ []) rest _ refl (w .typed, tt) refl refl
-answer-back (Admitted verdict connection level units) rest w =
-    let t = w .typed in
-    row-back admitted-row (verdict ∷ connection ∷ level ∷ units ∷ []) rest _ refl (t .0, (t .1, (t .2, (t .3, tt)))) refl refl
-answer-back (Offered verdict eligibility) rest w =
-    let t = w .typed in row-back offered-row (verdict ∷ eligibility ∷ []) rest _ refl (t .0, (t .1, tt)) refl refl
-answer-back (Noticed verdict eligibility) rest w =
-    let t = w .typed in row-back noticed-row (verdict ∷ eligibility ∷ []) rest _ refl (t .0, (t .1, tt)) refl refl
+unfolding read-kinds starts laid bytes put-fields little
+answer-back (Linked verdict) rest w = kind-back LA (verdict ∷ []) rest _ refl w refl refl
+answer-back (Admitted verdict connection level units) rest w = kind-back CA (verdict ∷ connection ∷ level ∷ units ∷ []) rest _ refl w refl refl
+answer-back (Offered verdict eligibility) rest w = kind-back PA (verdict ∷ eligibility ∷ []) rest _ refl w refl refl
+answer-back (Noticed verdict eligibility) rest w = kind-back NA (verdict ∷ eligibility ∷ []) rest _ refl w refl refl
 answer-back (Departed connection tag arrival eligibility finish) rest w =
-    let t = w .typed in
-    row-back departed-row (connection ∷ tag ∷ arrival ∷ eligibility ∷ finish ∷ []) rest _ refl (t .0, (t .1, (t .2, (t .3, (t .4, tt))))) refl refl
-answer-back (Ticked verdict ticks) rest w =
-    let t = w .typed in row-back ticked-row (verdict ∷ ticks ∷ []) rest _ refl (t .0, (t .1, tt)) refl refl
-answer-back (Broken offset) rest w = row-back broken-row (14 ∷ offset ∷ []) rest _ refl (omega arith, (w .typed, tt)) refl refl
-answer-back Malformed rest w = absurd (omega (arith, w .some-byte))
+    kind-back DP (connection ∷ tag ∷ arrival ∷ eligibility ∷ finish ∷ []) rest _ refl w refl refl
+answer-back (Ticked verdict ticks) rest w = kind-back TA (verdict ∷ ticks ∷ []) rest _ refl w refl refl
+answer-back (Broken offset) rest w = kind-back ER (14 ∷ offset ∷ []) rest _ refl w refl refl
+answer-back Malformed rest w = absurd w
 
-pub answers-fair : All-fair answer-layout (answers .rows)
+pub answers-fair : All-fair answer-layout (answers .kinds)
 unfolding All-fair get-fields
 answers-fair = (
-  plain-fair linked-row (two-letters 0x4C 0x41 (omega arith) (omega arith)) (λ b c. refl) (λ bs a. refl),
+  plain-fair LA (two-letters 0x4C 0x41 (omega arith) (omega arith)) (λ b c. refl) (λ bs a. refl),
   (
-    plain-fair admitted-row (two-letters 0x43 0x41 (omega arith) (omega arith)) (λ b c. refl) (λ bs a. refl),
+    plain-fair CA (two-letters 0x43 0x41 (omega arith) (omega arith)) (λ b c. refl) (λ bs a. refl),
     (
-      plain-fair offered-row (two-letters 0x50 0x41 (omega arith) (omega arith)) (λ b c. refl) (λ bs a. refl),
+      plain-fair PA (two-letters 0x50 0x41 (omega arith) (omega arith)) (λ b c. refl) (λ bs a. refl),
       (
-        plain-fair noticed-row (two-letters 0x4E 0x41 (omega arith) (omega arith)) (λ b c. refl) (λ bs a. refl),
+        plain-fair NA (two-letters 0x4E 0x41 (omega arith) (omega arith)) (λ b c. refl) (λ bs a. refl),
         (
-          plain-fair departed-row (two-letters 0x44 0x50 (omega arith) (omega arith)) (λ b c. refl) (λ bs a. refl),
+          plain-fair DP (two-letters 0x44 0x50 (omega arith) (omega arith)) (λ b c. refl) (λ bs a. refl),
           (
-            plain-fair ticked-row (two-letters 0x54 0x41 (omega arith) (omega arith)) (λ b c. refl) (λ bs a. refl),
+            plain-fair TA (two-letters 0x54 0x41 (omega arith) (omega arith)) (λ b c. refl) (λ bs a. refl),
             (
-              plain-fair broken-row (two-letters 0x45 0x52 (omega arith) (omega arith)) (λ b c. refl)
+              plain-fair ER (two-letters 0x45 0x52 (omega arith) (omega arith)) (λ b c. refl)
                   (λ bs a. ap (λ v. some (ER, v ∷ number 4 bs 3 ∷ [])) (sym (one-byte bs 2 ∙ eqb-true (getD bs 2 0) 14 a))),
               tt,
             ),
@@ -78,7 +72,7 @@ answer-length (Broken offset) h = length-bytes ER (14 ∷ offset ∷ [])
 answer-length Malformed h = absurd (omega arith)
 
 -- The longest answer is a departure.
-pub answers-within : All-within longest-answer (answers .rows)
+pub answers-within : All-within longest-answer (answers .kinds)
 unfolding All-within sum
 answers-within = (
   λ b a. omega arith,

@@ -1,4 +1,4 @@
--- Answers that are written: their lengths, the room that holds them, and their numbers of one byte. Assumes nothing.
+-- Answers that are written: their lengths, the room that holds them, and their numbers of one byte.
 use Prim.Native.Nat.{ℕ, zero, suc, _%_, _≤_}
 use native.Mathlib.Omega.{arith}
 use mathlib.Core.Path.{_≡_, refl}
@@ -7,7 +7,7 @@ use lib.ListN.{length}
 use borrow.Author.Tests.{le-ltb}
 use Rattle.fields.specs.Numbers.{little, put-fields}
 use Rattle.fields.specs.Kinds.{bytes}
-use Rattle.fields.specs.Formats.{laid, over, length-after, room-after}
+use Rattle.fields.specs.Formats.{laid, fitting, over}
 use Rattle.answers.specs.declared.Reply.{Reply}
 use Rattle.answers.specs.declared.Reply.the-variants.{Linked, Admitted, Offered, Noticed, Departed, Ticked, Broken, Malformed}
 use Rattle.answers.specs.Answers.{answer-bytes, answer-table, longest-answer}
@@ -31,12 +31,12 @@ answer-short r = go (length (answer-bytes r)) refl
     go (suc n) e = omega (arith, answers-have-lengths r (omega arith), table-short r)
 
 -- a room that holds the longest answer holds each
-pub length-written : (r : Reply) (o : List ℕ) → longest-answer ≤ length o → length-after (answer-bytes r) o ≡ length (answer-bytes r)
-unfolding length-after
+pub length-written : (r : Reply) (o : List ℕ) → longest-answer ≤ length o → length (fitting (answer-bytes r) o) ≡ length (answer-bytes r)
+unfolding fitting
 length-written r o h = rw (le-ltb (length o) (length (answer-bytes r)) (omega (arith, answer-short r)))
 
-pub room-written : (r : Reply) (o : List ℕ) → longest-answer ≤ length o → room-after (answer-bytes r) o ≡ over (answer-bytes r) o
-unfolding room-after
+pub room-written : (r : Reply) (o : List ℕ) → longest-answer ≤ length o → over (fitting (answer-bytes r) o) o ≡ over (answer-bytes r) o
+unfolding fitting
 room-written r o h = rw (le-ltb (length o) (length (answer-bytes r)) (omega (arith, answer-short r)))
 
 -- a number of one byte is written as its low byte

@@ -2,11 +2,12 @@
 ghost use mathlib.Core.Path.{_≡_};
 ghost use mathlib.Core.Option.{none};
 ghost use Prim.Native.Nat.{_%_};
-ghost use lib.ListN.{getD};
+ghost use lib.ListN.{length, getD};
 ghost use Rattle.fields.specs.Drafts.{Holds};
-ghost use Rattle.fields.specs.Formats.{whole, read-row, mark-among, length-after, room-after};
+ghost use Rattle.fields.specs.Formats.{whole, read-kind, mark-among, fitting, over};
 ghost use Rattle.answers.specs.declared.Reply.the-variants.{Departed};
-ghost use Rattle.answers.specs.Answers.{answers, admitted-row, broken-row, departed-row, found-reply, read-answer, answer-bytes};
+ghost use Rattle.answers.specs.Kinds.{CA, DP, ER};
+ghost use Rattle.answers.specs.Answers.{answers, found-reply, read-answer, answer-bytes};
 use fields::Draft;
 use fields::read::four;
 use fields::read::known;
@@ -98,7 +99,7 @@ fn whole_of(s: &[u8], size: usize, what: Reply) -> FoundReply
 
 // The mark that the bytes start with, as a number; 0 where it is none of an answer's.
 fn mark_of(s: &[u8]) -> u16
-    ensures { λ r. ⌜ r ≡ mark-among (answers .rows) (now (s .entry)) ⌝ }
+    ensures { λ r. ⌜ r ≡ mark-among (answers .kinds) (now (s .entry)) ⌝ }
 {
     let mark = known(s, ER, 0);
     let mark = known(s, TA, mark);
@@ -111,7 +112,7 @@ fn mark_of(s: &[u8]) -> u16
 
 // The answer to a malformed record: the verdict before its offset is 14.
 fn read_broken(s: &[u8]) -> FoundReply
-    ensures { λ r. ⌜ r ≡ found-reply (read-row broken-row (getD (now (s .entry)) 2 0) (now (s .entry))) ⌝ }
+    ensures { λ r. ⌜ r ≡ found-reply (read-kind ER (getD (now (s .entry)) 2 0) (now (s .entry))) ⌝ }
 {
     let verdict = one(s, 2);
     match verdict {
@@ -122,7 +123,7 @@ fn read_broken(s: &[u8]) -> FoundReply
 
 // The answer to an admission: the level that was short and its units stand behind the connection.
 fn read_admitted(s: &[u8]) -> FoundReply
-    ensures { λ r. ⌜ r ≡ found-reply (read-row admitted-row (getD (now (s .entry)) 2 0) (now (s .entry))) ⌝ }
+    ensures { λ r. ⌜ r ≡ found-reply (read-kind CA (getD (now (s .entry)) 2 0) (now (s .entry))) ⌝ }
 {
     let admitted = Reply::Admitted {
         verdict: one(s, 2),
@@ -135,7 +136,7 @@ fn read_admitted(s: &[u8]) -> FoundReply
 
 // A packet's departure.
 fn read_departed(s: &[u8]) -> FoundReply
-    ensures { λ r. ⌜ r ≡ found-reply (read-row departed-row (getD (now (s .entry)) 2 0) (now (s .entry))) ⌝ }
+    ensures { λ r. ⌜ r ≡ found-reply (read-kind DP (getD (now (s .entry)) 2 0) (now (s .entry))) ⌝ }
 {
     let departed = Reply::Departed {
         connection: one(s, 2),
@@ -232,7 +233,7 @@ fn draft(r: Reply) -> Draft
 
 // Writes an answer at the start of the room lent, and answers its length: 0, with no byte changed, where it is malformed or does not fit.
 pub fn write(r: Reply, room: &mut [u8]) -> usize
-    ensures { λ n. ⌜ (n ≡ length-after (answer-bytes r) (now (room .entry))) × (now (room .exit) ≡ room-after (answer-bytes r) (now (room .entry))) ⌝ }
+    ensures { λ n. ⌜ (n ≡ length (fitting (answer-bytes r) (now (room .entry)))) × (now (room .exit) ≡ over (fitting (answer-bytes r) (now (room .entry))) (now (room .entry))) ⌝ }
 {
     draft(r).into_room(room)
 }

@@ -3,8 +3,8 @@
 use libc::STDOUT_FILENO;
 use rules::Connection;
 use rules::Link;
-use service::Hub;
-use service::Told;
+use state::Hub;
+use state::Told;
 
 // What the caller keeps beside a hub: three tables, zeros at first. Only the hub's calls write to them: each call is handed the hub and gives one back, and is
 // lent the tables, `&mut` where it may change them.
@@ -47,11 +47,17 @@ fn show(call: &[u8], r: Told) -> Hub {
 }
 
 // So many ticks, one call each. A tick answers with at most one packet, and is refused only where no link is set or the clock has ended.
-fn ticks(before: Hub, cs: &Connections, t: &mut Places, q: &mut Notices, n: u32) -> Hub {
+fn ticks(
+    before: Hub,
+    members: &Connections,
+    places: &mut Places,
+    notices: &mut Notices,
+    n: u32,
+) -> Hub {
     let mut h = before;
     let mut i: u32 = 0;
     while i < n {
-        let r = hub::tick(h, cs, t, q);
+        let r = hub::tick(h, members, places, notices);
         if r.gone {
             show_departure(r);
         }
@@ -63,7 +69,7 @@ fn ticks(before: Hub, cs: &Connections, t: &mut Places, q: &mut Notices, n: u32)
 
 // A link, and lines that ask to be admitted. A line says its level, the gap that it keeps between packets and their largest size; the number that it is given
 // names it in its offers.
-fn open(fresh: Hub, cs: &mut Connections, t: &Places, q: &Notices) -> Hub {
+fn open(fresh: Hub, members: &mut Connections, places: &Places, notices: &Notices) -> Hub {
     // packets of up to 4 units, a tick of silence after each; bound 10 for level 1, which is the most urgent, 20 for level 2, and 0 past the levels
     let line = Link {
         levels: 2,
@@ -81,30 +87,33 @@ fn open(fresh: Hub, cs: &mut Connections, t: &Places, q: &Notices) -> Hub {
         gap: 20,
         size: 4,
     };
-    let h = show(b"link", hub::link(fresh, cs, t, q, line));
-    let h = show(b"admit", hub::admit(h, cs, t, q, urgent));
-    let h = show(b"admit", hub::admit(h, cs, t, q, patient));
-    show(b"admit", hub::admit(h, cs, t, q, urgent))
+    let h = show(b"link", hub::link(fresh, members, places, notices, line));
+    let h = show(b"admit", hub::admit(h, members, places, notices, urgent));
+    let h = show(b"admit", hub::admit(h, members, places, notices, patient));
+    show(b"admit", hub::admit(h, members, places, notices, urgent))
 }
 
 // Offers: a connection, a length, a tag. What is in a packet stays with the caller, who finds it again by the tag. A notice has no connection.
-fn send(opened: Hub, cs: &mut Connections, t: &mut Places, q: &mut Notices) -> Hub {
-    let h = show(b"offer", hub::offer(opened, cs, t, q, 1, 4, 100));
-    let h = ticks(h, cs, t, q, 1);
-    let h = show(b"offer", hub::offer(h, cs, t, q, 0, 3, 90));
-    let h = show(b"offer", hub::offer(h, cs, t, q, 0, 3, 91));
-    let h = show(b"notice", hub::notice(h, cs, t, q, 2, 7));
-    let h = ticks(h, cs, t, q, 7);
-    let h = show(b"offer", hub::offer(h, cs, t, q, 0, 4, 92));
-    ticks(h, cs, t, q, 12)
+fn send(opened: Hub, members: &mut Connections, places: &mut Places, notices: &mut Notices) -> Hub {
+    let h = show(
+        b"offer",
+        hub::offer(opened, members, places, notices, 1, 4, 100),
+    );
+    let h = ticks(h, members, places, notices, 1);
+    let h = show(b"offer", hub::offer(h, members, places, notices, 0, 3, 90));
+    let h = show(b"offer", hub::offer(h, members, places, notices, 0, 3, 91));
+    let h = show(b"notice", hub::notice(h, members, places, notices, 2, 7));
+    let h = ticks(h, members, places, notices, 7);
+    let h = show(b"offer", hub::offer(h, members, places, notices, 0, 4, 92));
+    ticks(h, members, places, notices, 12)
 }
 
 fn main() {
-    let mut cs: Connections = [0; hub::CONNECTIONS];
-    let mut t: Places = [0; hub::PLACES];
-    let mut q: Notices = [0; hub::NOTICES];
-    let h = open(hub::fresh_hub(), &mut cs, &t, &q);
-    let h = send(h, &mut cs, &mut t, &mut q);
+    let mut members: Connections = [0; hub::CONNECTIONS];
+    let mut places: Places = [0; hub::PLACES];
+    let mut notices: Notices = [0; hub::NOTICES];
+    let h = open(hub::fresh_hub(), &mut members, &places, &notices);
+    let h = send(h, &mut members, &mut places, &mut notices);
     write(b"clock: ", h.clock as u64);
     io::write_all(STDOUT_FILENO, b"\n");
 }

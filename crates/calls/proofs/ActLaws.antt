@@ -1,190 +1,108 @@
--- What a sound hub gives a call, and how a refusal and each call done meet the contract. Assumes nothing.
-use Prim.Native.Nat.{ℕ, suc, _+_, _*_, _-_, _≤_, _<_}
+-- How a refusal and each call done meet the contract, on a sound hub.
+use Prim.Native.Nat.{ℕ, _+_, _*_, _-_, _≤_, _<_}
 use native.Mathlib.Omega.{arith}
 use mathlib.Core.Path.{_≡_, refl, sym, ap, _∙_}
-use mathlib.Core.Bool.{Bool, true, false, cond, not, _&&_}
+use mathlib.Core.Bool.{Bool, true, false, cond, not}
 use mathlib.Core.List.{List, [], _∷_, _++_}
 use lib.Dec.{eqb}
-use borrow.Author.Tests.{ne-eqb}
 use lib.ListN.{length, getD, set, drop, length-append, length-map, List·getD-map}
 use lib.Seq.{getD-append-seam, drop-length}
 use Rattle.rules.specs.declared.Link.{Link}
 use Rattle.rules.specs.declared.Connection.{Connection}
 use Rattle.rules.specs.declared.Past.{Past}
 use Rattle.rules.specs.declared.Packet.{Packet}
-use Rattle.rules.specs.Words.{All, sum}
+use Rattle.rules.specs.declared.Short.{Short}
+use Rattle.rules.specs.Words.{sum}
 use Rattle.rules.specs.Limits.{max-connections, clock-end, beyond-32-bits, notice-number}
-use Rattle.rules.specs.Model.{State, Call, link, admit, offer, notice, Short, no-short, nth, figures, notice-packet}
-use Rattle.rules.specs.Admission.{reservation, reserved, level-test}
+use Rattle.rules.specs.Model.{Call, link, admit, offer, notice, tick, no-short, no-past, nth, past, figures, notice-packet}
+use Rattle.rules.specs.Admission.{reservation, reserved}
 use Rattle.rules.specs.Service.{next-eligibility, remember, of, ticked}
-use Rattle.rules.specs.SoundState.{Sound-with-link, Sound}
-use Rattle.rules.specs.SoundTest.{nothing-used, sound, line-sound, rows-sound, notices-sound, admissions-sound}
-use Rattle.rules.specs.Calls.{verdict, done, refused-number, refused-short, settle, eligibility-now, placed}
-use Rattle.rules.proofs.Lists.{all-map}
+use Rattle.rules.specs.Calls.{verdict, refused-number, refused-short, eligibility-now, placed}
 use Rattle.rules.proofs.Rows.{map-append}
-use Rattle.rules.proofs.Tests.{and-true}
-use Rattle.rules.proofs.Sums.{sum-eq, cond-is}
+use Rattle.rules.proofs.Sums.{sum-eq}
+use Rattle.rules.proofs.Spacing.{by-gap-alone}
 use Rattle.rules.proofs.Standing.{nth-old, stands-below}
 use Rattle.rules.proofs.Line.{tick-leaves}
-use Rattle.rules.proofs.SoundExact.{exact}
 use Rattle.rules.proofs.Bounds.{rows-fit-places, eligibilities-fit-32}
 use Rattle.rules.proofs.SoundKept.{done-sound}
 use Rattle.rules.proofs.Verdicts.{admit-done, Offer-done, offer-done, notice-done}
-use Rattle.tables.specs.Table.{formed}
-use Rattle.tables.specs.Places.{places-length, packet-width, rows, places, table-of, no-packet}
-use Rattle.tables.specs.Notices.{notices-length, notice-of, notices, notices-formed}
-use Rattle.tables.proofs.TableLaws.{formed-length}
-use Rattle.tables.proofs.PlacesLaws.{table-back}
-use Rattle.tables.proofs.NoticeLaws.{notices-length-is, notice-rows, notices-table, notices-back}
-use Rattle.lines.specs.declared.Member.{Member}
-use Rattle.lines.specs.Members.{members-length, no-member, member-in, members, None-free, connections, pasts, connection-of, past-of, written-members, members-formed}
-use Rattle.lines.specs.Within.{Within, short-of, shortage-of, gap-only}
-use Rattle.lines.specs.declared.Shortage.{Shortage}
-use Rattle.lines.proofs.MemberLaws.{member-is, connections-length}
-use Rattle.lines.proofs.FigureLaws.{sum-more}
-use Rattle.lines.proofs.WrittenLaws.{writable, members-written, members-long}
-use Rattle.sound.specs.SoundTables.{places-formed, sound-tables}
-use Rattle.service.specs.declared.Hub.{Hub}
-use Rattle.service.specs.declared.Told.{Told}
-use Rattle.service.specs.View.{view, told-of, refusal, refusal-short}
+use Rattle.tables.specs.Places.{places-length, rows, written-places, table-of, no-packet}
+use Rattle.tables.specs.Notices.{notices-length, notice-of, notices-in}
+use Rattle.tables.proofs.NoticeLaws.{notice-rows}
+use Rattle.connections.specs.declared.Member.{Member}
+use Rattle.connections.specs.Members.{no-member, member-in, members-in, connections-in, pasts-in, connection-of, past-of, written-members}
+use Rattle.connections.specs.Within.{gap-only}
+use Rattle.connections.proofs.MemberLaws.{member-is, connections-length}
+use Rattle.connections.proofs.FigureLaws.{sum-more}
+use Rattle.state.specs.declared.Hub.{Hub}
+use Rattle.state.specs.declared.Told.{Told}
+use Rattle.state.specs.View.{Tables, tables, view, written, sound-hub}
+use Rattle.state.specs.Told.{refusal}
+use Rattle.state.specs.Does.{Does}
+use Rattle.state.proofs.SoundLaws.{shapes, formed-tables, is-sound, members-kept, places-kept, notices-kept, tables-kept, notices-size, line-holds, others}
+use Rattle.state.proofs.DoesLaws.{refuses, acts}
 use Rattle.service.specs.Ready.{Ready}
+use Rattle.service.specs.Gives.{Gives}
 use Rattle.service.proofs.ReadyLaws.{ready}
-use Rattle.calls.specs.declared.Ruling.{Ruling}
-use Rattle.calls.specs.Acts.{sound-hub, members-of, places-of, notices-of, ruling-of, Acts}
+use Rattle.calls.specs.declared.verdicts.Ruling.{Ruling}
+use Rattle.calls.specs.Rulings.{ruling-of}
 
--- ---- what a sound hub says
+module _ (h : Hub) (t : Tables) (ok : sound-hub h t ≡ true) where
+  -- ---- a call that is refused as its verdict says
 
-pub record Tested (h : Hub) (cs t q : List ℕ) : Type 0 where
-  pub state : sound (view h cs t q) ≡ true
-  pub members-shape : members-formed cs ≡ true
-  pub places-shape : formed packet-width places-length t ≡ true
-  pub notices-shape : notices-formed q ≡ true
+  pub refused : (k : Call) (v n : ℕ) (r : Told) → v ≡ verdict k (view h t) → (v ≡ 0 → ⊥) → refused-short k (view h t) v ≡ no-short → n ≡ refused-number k
+      → r ≡ refusal h v n → Does k h t r t
+  refused k v n r e z q f g =
+      refuses k h t ok v (v - 1) n r (sym e) (omega (arith, z)) f
+      (g ∙ ap (λ (u : Short). record { verdict = v; number = n; short = u; gone = false; packet = no-packet; hub = h }) (sym q))
 
-module _ (h : Hub) (cs t q : List ℕ) (ok : sound-hub h cs t q ≡ true) where
-  pub tested : Tested h cs t q
-  unfolding sound-hub sound-tables places-formed
-  tested =
-      let a = and-true (places-formed t) _ ok in
-      let b = and-true (members-formed cs) _ (a .1) in
-      let c = and-true (notices-formed q) (sound (view h cs t q)) (b .1) in
-      record { state = c .1; members-shape = b .0; places-shape = a .0; notices-shape = c .0 }
+  -- ---- a link
 
-  pub is-sound : Sound (view h cs t q)
-  is-sound = exact (view h cs t q) .0 (tested .state)
-
-  -- the tables are what is written of what is read
-  pub members-kept : cs ≡ members-of (view h cs t q)
-  members-kept = members-written cs (tested .members-shape)
-
-  pub places-kept : t ≡ places-of (view h cs t q)
-  places-kept = table-back t (tested .places-shape)
-
-  pub notices-kept : q ≡ notices-of (view h cs t q)
-  notices-kept = notices-back q (tested .notices-shape)
-
-  pub none-free : None-free cs
-  none-free = writable (view h cs t q) is-sound .used
-
-  pub members-size : length cs ≡ members-length
-  members-size = members-long cs (tested .members-shape)
-
-  pub places-size : length t ≡ places-length
-  places-size = formed-length packet-width places-length t (tested .places-shape)
-
-  -- a refusal: the rules leave the state, and writing what was read gives the tables back
-  pub refuses : (k : Call) (v w n : ℕ) (r : Told) → verdict k (view h cs t q) ≡ v → v ≡ suc w → n ≡ refused-number k
-      → r ≡ refusal-short h v n (refused-short k (view h cs t q) v) → Acts k h cs t q r cs t q
-  refuses k v w n r e f g i =
-      let s = view h cs t q in
-      let j : suc w ≡ verdict k s = sym f ∙ sym e in
-      record {
-        answers =
-            i ∙ ap (λ (u : ℕ). refusal-short h u n (refused-short k s u)) f ∙ ap (λ (m : ℕ). refusal-short h (suc w) m (refused-short k s (suc w))) g
-            ∙ ap (λ (u : ℕ). told-of (settle k s u)) j;
-        connections = members-kept ∙ ap (λ (u : ℕ). members-of (settle k s u .next)) j;
-        table = places-kept ∙ ap (λ (u : ℕ). places-of (settle k s u .next)) j;
-        queue = notices-kept ∙ ap (λ (u : ℕ). notices-of (settle k s u .next)) j;
-      }
-
-  -- a call done
-  pub acts : (k : Call) (r : Told) (cs′ t′ q′ : List ℕ) → verdict k (view h cs t q) ≡ 0
-      → r ≡ told-of (done k (view h cs t q)) → cs′ ≡ members-of (done k (view h cs t q) .next) → t′ ≡ places-of (done k (view h cs t q) .next)
-      → q′ ≡ notices-of (done k (view h cs t q) .next)
-      → Acts k h cs t q r cs′ t′ q′
-  acts k r cs′ t′ q′ e a b c d = record {
-    answers = a ∙ ap (λ (w : ℕ). told-of (settle k (view h cs t q) w)) (sym e);
-    connections = b ∙ ap (λ (w : ℕ). members-of (settle k (view h cs t q) w .next)) (sym e);
-    table = c ∙ ap (λ (w : ℕ). places-of (settle k (view h cs t q) w .next)) (sym e);
-    queue = d ∙ ap (λ (w : ℕ). notices-of (settle k (view h cs t q) w .next)) (sym e);
-  }
+  pub linked : (l : Link) (r : Told) (g : Hub) → verdict (link l) (view h t) ≡ 0
+      → g ≡ record { link = l; clock = h .clock; serving = h .serving; «to_go» = h .«to_go»; silent = h .silent } → r ≡ refusal g 0 0 → Does (link l) h t r t
+  linked l r g e f i = acts (link l) h t ok r t e (i ∙ ap (λ (k : Hub). refusal k 0 0) f) (tables-kept h t ok)
 
   -- ---- a tick
 
-  module _ (n : h .link .levels ≡ 0 → ⊥) where
-    linked : Sound-with-link (view h cs t q)
-    linked = is-sound .with-one n
+  pub ready-to-tick : (h .link .levels ≡ 0 → ⊥) → h .clock < clock-end → Ready h (t .places) (t .notices)
+  ready-to-tick n r =
+      let f = shapes t (formed-tables h t ok) in
+      ready h (t .members) (t .places) (t .notices) (f .places-shape) (f .notices-shape) (others h t ok n) (line-holds h t ok n) r
 
-    -- each row names a connection, which has another number than the notices
-    others : All (λ p. p .connection ≡ notice-number → ⊥) (rows t)
-    others = all-map (λ p f e. omega (arith, linked .few, stands-below (connections cs) (p .connection) (f .standing))) (rows t) (linked .fit)
-
-    -- the line's clause of the test
-    line-holds : line-sound (view h cs t q) ≡ true
-    unfolding sound
-    line-holds =
-        let s = view h cs t q in
-        let a = and-true (admissions-sound s) _ (sym (cond-is (nothing-used s) _ (ne-eqb (h .link .levels) 0 n)) ∙ tested .state) in
-        let b = and-true (rows-sound s) (notices-sound s && line-sound s) (a .1) in
-        and-true (notices-sound s) (line-sound s) (b .1) .1
-
-    pub ready-to-tick : h .clock < clock-end → Ready h t q
-    ready-to-tick r = ready h cs t q (tested .places-shape) (tested .notices-shape) others line-holds r
-
-    -- ---- the figures
-
-    pub figures-in-limits : Within (h .link) (connections cs)
-    figures-in-limits = record { link-in = linked .link-in; figures-in = linked .figures-in }
-
-    pub few-members-of : (k : ℕ) → k ≡ length (members cs) → k ≤ max-connections
-    few-members-of k e = omega (arith, linked .few, connections-length cs)
-
-  pub tick-members : cs ≡ members-of (ticked (view h cs t q) .next)
-  tick-members =
-      let l = tick-leaves (view h cs t q) in
-      members-kept ∙ ap (λ (xs : List Connection). written-members xs (pasts cs)) (sym (l .connections)) ∙ ap (written-members (ticked (view h cs t q) .next .connections)) (sym (l .pasts))
+  pub tick-acts : (r : Told) (p n : List ℕ) → verdict tick (view h t) ≡ 0 → Gives (ticked (view h t)) r p n → Does tick h t r (tables (t .members) p n)
+  tick-acts r p n e g =
+      let l = tick-leaves (view h t) in
+      let m : t .members ≡ written (ticked (view h t) .next) .members
+      = members-kept h t ok ∙ ap (λ (xs : List Connection). written-members xs (pasts-in (t .members))) (sym (l .connections)) ∙ ap (written-members (ticked (view h t) .next .connections)) (sym (l .pasts)) in
+      acts tick h t ok r (tables (t .members) p n) e (g .0) (λ i. tables (m i) (g .1 i) (g .2 i))
 
 -- ---- an admission
 
-pub admit-room : (h : Hub) (cs t q : List ℕ) (x : Connection) (n : ℕ) → verdict (admit x) (view h cs t q) ≡ 0 → n ≡ length (members cs) → n < max-connections
-admit-room h cs t q x n e f = omega (arith, admit-done (view h cs t q) x e .few, connections-length cs)
+pub admit-room : (h : Hub) (t : Tables) (x : Connection) (n : ℕ) → verdict (admit x) (view h t) ≡ 0 → n ≡ length (members-in (t .members)) → n < max-connections
+admit-room h t x n e f = omega (arith, admit-done (view h t) x e .few, connections-length (t .members))
 
--- what is ruled: a verdict with nothing short, or 8 with what the level test says
-pub ruled-as : (x : Connection) (s : State) (v : ℕ) → verdict (admit x) s ≡ v → (v ≡ 8 → ⊥) → record { verdict = v; short = shortage-of no-short } ≡ ruling-of (admit x) s
-ruled-as x s v e n =
-    ap (λ (t : Short). record { verdict = v; short = shortage-of t }) (sym (cond-is (level-test (s .link) (s .connections ++ x ∷ [])) no-short (ne-eqb v 8 n)))
-    ∙ ap (λ (w : ℕ). record { verdict = w; short = shortage-of (refused-short (admit x) s w) }) (sym e)
-
-pub ruled-short : (x : Connection) (s : State) (t : Shortage) → verdict (admit x) s ≡ 8 → short-of t ≡ level-test (s .link) (s .connections ++ x ∷ [])
-    → record { verdict = 8; short = t } ≡ ruling-of (admit x) s
-ruled-short x s t e f =
-    ap (λ (u : Short). record { verdict = 8; short = shortage-of u }) f
-    ∙ ap (λ (w : ℕ). record { verdict = w; short = shortage-of (refused-short (admit x) s w) }) (sym e)
-
-module _ (h : Hub) (cs t q : List ℕ) (ok : sound-hub h cs t q ≡ true) where
-  -- an admission that is refused as it was ruled
-  pub admit-refuses : (x : Connection) (v : Ruling) (p : Packet) → v ≡ ruling-of (admit x) (view h cs t q) → (v .verdict ≡ 0 → ⊥) → p ≡ no-packet
-      → Acts (admit x) h cs t q (record { verdict = v .verdict; number = 255; short = v .short; gone = false; packet = p; hub = h }) cs t q
-  admit-refuses x v p e n f =
-      let s = view h cs t q in
+module _ (h : Hub) (t : Tables) (ok : sound-hub h t ≡ true) (x : Connection) where
+  -- refused as it was ruled
+  pub admit-refuses : (v : Ruling) (p : Packet) → v ≡ ruling-of (admit x) (view h t) → (v .verdict ≡ 0 → ⊥) → p ≡ no-packet
+      → Does (admit x) h t (record { verdict = v .verdict; number = 255; short = v .short; gone = false; packet = p; hub = h }) t
+  admit-refuses v p e n f =
+      let s = view h t in
       let i : v .verdict ≡ verdict (admit x) s = ap (λ (y : Ruling). y .verdict) e in
-      let j : v .short ≡ shortage-of (refused-short (admit x) s (v .verdict))
-      = ap (λ (y : Ruling). y .short) e ∙ ap (λ (w : ℕ). shortage-of (refused-short (admit x) s w)) (sym i) in
-      refuses h cs t q ok (admit x) (v .verdict) (v .verdict - 1) 255 _ (sym i) (omega (arith, n)) refl
-      (ap (λ (u : Shortage). record { verdict = v .verdict; number = 255; short = u; gone = false; packet = p; hub = h }) j
-      ∙ ap (λ (u : Packet). record { verdict = v .verdict; number = 255; short = shortage-of (refused-short (admit x) s (v .verdict)); gone = false; packet = u; hub = h }) f)
+      let j : v .short ≡ refused-short (admit x) s (v .verdict)
+      = ap (λ (y : Ruling). y .short) e ∙ ap (refused-short (admit x) s) (sym i) in
+      refuses (admit x) h t ok (v .verdict) (v .verdict - 1) 255 _ (sym i) (omega (arith, n)) refl
+      (λ k. record { verdict = v .verdict; number = 255; short = j k; gone = false; packet = f k; hub = h })
+
+  -- done: a row for the newcomer
+  pub admit-acts : (r : Told) (n : ℕ) (m : List ℕ) → verdict (admit x) (view h t) ≡ 0 → n ≡ length (members-in (t .members)) → r ≡ refusal h 0 n
+      → m ≡ written-members (connections-in (t .members) ++ x ∷ []) (pasts-in (t .members) ++ no-past ∷ [])
+      → Does (admit x) h t r (tables m (t .places) (t .notices))
+  admit-acts r n m e f g i =
+      acts (admit x) h t ok r (tables m (t .places) (t .notices)) e
+      (g ∙ ap (refusal h 0) (f ∙ sym (connections-length (t .members))))
+      (λ k. tables (i k) (places-kept h t ok k) (notices-kept h t ok k))
 
 -- reservations with a newcomer
-
 pub reserved-newcomer : (l : Link) (cs : List Connection) (x : Connection) (a b : ℕ) → a ≡ reserved l cs → b ≡ reservation l x → a + b ≡ reserved l (cs ++ x ∷ [])
 reserved-newcomer l cs x a b e f =
     sum-more (length cs) a b (λ (c : ℕ). reservation l (nth (cs ++ x ∷ []) c))
@@ -212,68 +130,58 @@ bit-le a b = go (eqb a b)
 pub all-counted : (c : ℕ) (ps : List Packet) (n i : ℕ) → i ≡ length ps → n + length (of c (drop i ps)) ≡ length (of c ps) → n ≡ length (of c ps)
 all-counted c ps n i e h = omega (arith, ap (λ (l : List Packet). length (of c l)) (ap (λ (j : ℕ). drop j ps) e ∙ drop-length ps))
 
-module _ (h : Hub) (cs t q : List ℕ) (ok : sound-hub h cs t q ≡ true) (c len tag : ℕ) (good : verdict (offer c len tag) (view h cs t q) ≡ 0) where
-  did : Offer-done (view h cs t q) c len
-  did = offer-done (view h cs t q) c len tag good
+module _ (h : Hub) (t : Tables) (ok : sound-hub h t ≡ true) (c len tag : ℕ) (good : verdict (offer c len tag) (view h t) ≡ 0) where
+  did : Offer-done (view h t) c len
+  did = offer-done (view h t) c len tag good
 
-  pub offer-below : c < length (members cs)
-  offer-below = omega (arith, stands-below (connections cs) c (did .standing), connections-length cs)
+  pub offer-below : c < length (members-in (t .members))
+  offer-below = omega (arith, stands-below (connections-in (t .members)) c (did .standing), connections-length (t .members))
 
   -- the places are enough for one more
-  pub offer-room : 5 * length (rows t) + 5 ≤ places-length
+  pub offer-room : 5 * length (rows (t .places)) + 5 ≤ places-length
   offer-room =
       omega (
         arith,
-        rows-fit-places (placed (view h cs t q) c len tag) (done-sound (offer c len tag) (view h cs t q) (is-sound h cs t q ok) good),
-        length-append (rows t) (record { connection = c; len = len; tag = tag; arrival = h .clock; eligibility = eligibility-now (view h cs t q) c } ∷ []),
+        rows-fit-places (placed (view h t) c len tag) (done-sound (offer c len tag) (view h t) (is-sound h t ok) good),
+        length-append (rows (t .places)) (record { connection = c; len = len; tag = tag; arrival = h .clock; eligibility = eligibility-now (view h t) c } ∷ []),
       )
 
   -- the eligibility of the row read
-  pub offer-eligibility : (m : Member) (e : ℕ) → m ≡ member-in cs c → e ≡ next-eligibility (gap-only (m .gap)) (record { sent = not (eqb (m .sent) 0); last = m .last }) (h .clock) → e ≡ eligibility-now (view h cs t q) c
-  unfolding next-eligibility
+  pub offer-eligibility : (m : Member) (e : ℕ) → m ≡ member-in (t .members) c → e ≡ next-eligibility (gap-only (m .gap)) (record { sent = not (eqb (m .sent) 0); last = m .last }) (h .clock) → e ≡ eligibility-now (view h t) c
   offer-eligibility m e i j =
       j
-      ∙ ap (λ (m : Member). next-eligibility (connection-of m) (past-of m) (h .clock)) (i ∙ sym (member-is cs c offer-below))
-      ∙ ap (λ (x : Connection). next-eligibility x (past-of (getD (members cs) c no-member)) (h .clock)) (sym (List·getD-map connection-of (members cs) c no-member))
-      ∙ ap (λ (y : Past). next-eligibility (figures (view h cs t q) c) y (h .clock)) (sym (List·getD-map past-of (members cs) c no-member))
+      ∙ by-gap-alone (gap-only (m .gap)) (past-of m) (h .clock) (connection-of m) refl
+      ∙ ap (λ (m : Member). next-eligibility (connection-of m) (past-of m) (h .clock)) (i ∙ sym (member-is (t .members) c offer-below))
+      ∙ ap (λ (x : Connection). next-eligibility x (past-of (getD (members-in (t .members)) c no-member)) (h .clock)) (sym (List·getD-map connection-of (members-in (t .members)) c no-member))
+      ∙ ap (λ (y : Past). next-eligibility (figures (view h t) c) y (h .clock)) (sym (List·getD-map past-of (members-in (t .members)) c no-member))
 
-  pub offer-fits : eligibility-now (view h cs t q) c < beyond-32-bits
-  offer-fits = eligibilities-fit-32 (view h cs t q) (is-sound h cs t q ok) .1 c .1
+  pub offer-fits : eligibility-now (view h t) c < beyond-32-bits
+  offer-fits = eligibilities-fit-32 (view h t) (is-sound h t ok) .1 c .1
 
-  pub offer-acts : (r : Told) (e : ℕ) (cs′ t′ : List ℕ) → e ≡ eligibility-now (view h cs t q) c → r ≡ refusal h 0 e
-      → cs′ ≡ written-members (connections cs) (set (pasts cs) c (record { sent = true; last = e }))
-      → t′ ≡ places (rows t ++ record { connection = c; len = len; tag = tag; arrival = h .clock; eligibility = e } ∷ [])
-      → Acts (offer c len tag) h cs t q r cs′ t′ q
-  unfolding remember
-  offer-acts r e cs′ t′ i j k l =
-      acts h cs t q ok (offer c len tag) r cs′ t′ q good
-      (j ∙ ap (refusal h 0) i)
-      (k ∙ ap (λ (u : ℕ). written-members (connections cs) (set (pasts cs) c (record { sent = true; last = u }))) i)
-      (l ∙ ap (λ (u : ℕ). places (rows t ++ record { connection = c; len = len; tag = tag; arrival = h .clock; eligibility = u } ∷ [])) i)
-      (notices-kept h cs t q ok)
+  pub offer-acts : (r : Told) (e : ℕ) (m p : List ℕ) → e ≡ eligibility-now (view h t) c → r ≡ refusal h 0 e
+      → m ≡ written-members (connections-in (t .members)) (set (pasts-in (t .members)) c (remember (past (view h t) c) e))
+      → p ≡ written-places (rows (t .places) ++ record { connection = c; len = len; tag = tag; arrival = h .clock; eligibility = e } ∷ [])
+      → Does (offer c len tag) h t r (tables m p (t .notices))
+  offer-acts r e m p i j k l =
+      let m′ = k ∙ ap (λ (u : ℕ). written-members (connections-in (t .members)) (set (pasts-in (t .members)) c (remember (past (view h t) c) u))) i in
+      let p′ = l ∙ ap (λ (u : ℕ). written-places (rows (t .places) ++ record { connection = c; len = len; tag = tag; arrival = h .clock; eligibility = u } ∷ [])) i in
+      acts (offer c len tag) h t ok r (tables m p (t .notices)) good (j ∙ ap (refusal h 0) i) (λ n. tables (m′ n) (p′ n) (notices-kept h t ok n))
 
 -- ---- a notice
 
-module _ (h : Hub) (cs t q : List ℕ) (ok : sound-hub h cs t q ≡ true) where
-  pub notices-size : length q ≡ notices-length
-  notices-size = notices-length-is q (tested h cs t q ok .notices-shape)
+module _ (h : Hub) (t : Tables) (ok : sound-hub h t ≡ true) (len tag : ℕ) (good : verdict (notice len tag) (view h t) ≡ 0) where
+  abbrev note : Packet
+  note = record { connection = notice-number; len = len; tag = tag; arrival = h .clock; eligibility = h .clock }
 
-  pub notices-as-table : q ≡ table-of (length q) (rows q)
-  notices-as-table = notices-table q (tested h cs t q ok .notices-shape) ∙ ap (λ (n : ℕ). table-of n (rows q)) (sym notices-size)
+  -- a place is left
+  pub notice-room : 5 * length (rows (t .notices)) + 5 ≤ length (t .notices)
+  notice-room = omega (arith, notices-size h t ok, notice-done (view h t) len tag good .room, length-map (rows (t .notices)) notice-of)
 
-  module _ (len tag : ℕ) (good : verdict (notice len tag) (view h cs t q) ≡ 0) where
-    abbrev note : Packet
-    note = record { connection = notice-number; len = len; tag = tag; arrival = h .clock; eligibility = h .clock }
-
-    -- a place is left
-    pub notice-room : 5 * length (rows q) + 5 ≤ length q
-    notice-room = omega (arith, notices-size, notice-done (view h cs t q) len tag good .room, length-map (rows q) notice-of)
-
-    pub notice-acts : (r : Told) (q′ : List ℕ) → r ≡ refusal h 0 (h .clock) → q′ ≡ table-of (length q) (rows q ++ note ∷ [])
-        → Acts (notice len tag) h cs t q r cs t q′
-    notice-acts r q′ j l =
-        acts h cs t q ok (notice len tag) r cs t q′ good j (members-kept h cs t q ok) (places-kept h cs t q ok)
-        (l
-        ∙ ap (λ (n : ℕ). table-of n (rows q ++ note ∷ [])) notices-size
-        ∙ ap (λ (ps : List Packet). table-of notices-length (ps ++ note ∷ [])) (sym (notice-rows q (tested h cs t q ok .notices-shape)))
-        ∙ ap (table-of notices-length) (sym (map-append notice-packet (notices q) (record { len = len; tag = tag; arrival = h .clock } ∷ []))))
+  pub notice-acts : (r : Told) (q : List ℕ) → r ≡ refusal h 0 (h .clock) → q ≡ table-of (length (t .notices)) (rows (t .notices) ++ note ∷ [])
+      → Does (notice len tag) h t r (tables (t .members) (t .places) q)
+  notice-acts r q j l =
+      let k = l
+      ∙ ap (λ (n : ℕ). table-of n (rows (t .notices) ++ note ∷ [])) (notices-size h t ok)
+      ∙ ap (λ (ps : List Packet). table-of notices-length (ps ++ note ∷ [])) (sym (notice-rows (t .notices) (shapes t (formed-tables h t ok) .notices-shape)))
+      ∙ ap (table-of notices-length) (sym (map-append notice-packet (notices-in (t .notices)) (record { len = len; tag = tag; arrival = h .clock } ∷ []))) in
+      acts (notice len tag) h t ok r (tables (t .members) (t .places) q) good j (λ i. tables (members-kept h t ok i) (places-kept h t ok i) (k i))

@@ -1,142 +1,205 @@
--- The verdict of each call on a sound state, test by test in the order of the table. Assumes nothing.
+-- The verdict of a call on a sound state: the first number of its causes; the rows in front of its table decided first, and then the others.
 use Prim.Native.Nat.{ℕ, _≤_, _<_}
-use mathlib.Core.Path.{_≡_}
-use mathlib.Core.Bool.{true, false}
-use mathlib.Core.List.{[], _∷_, _++_}
+use native.Mathlib.Omega.{arith}
+use mathlib.Core.Path.{_≡_, refl, sym, ap, _∙_, subst}
+use mathlib.Core.Logic.{_⊎_, inl, inr}
+use mathlib.Core.Bool.{Bool, true, false, cond, not}
+use mathlib.Core.List.{List, [], _∷_, _++_}
+use lib.Dec.{leb, ltb, eqb}
 use lib.ListN.{length}
-use borrow.Author.Tests.{le-leb, lt-leb, lt-ltb, le-ltb, eq-eqb, ne-eqb}
-use Rattle.rules.specs.Words.{within}
-use Rattle.rules.specs.Limits.{max-connections, max-reserved, clock-end, max-notices}
-use Rattle.rules.specs.declared.Link.{Link}
+use borrow.Author.Tests.{eq-eqb, ne-eqb, lt-ltb, le-ltb, not-false}
 use Rattle.rules.specs.declared.Connection.{Connection}
-use Rattle.rules.specs.Model.{State, link, admit, offer, notice, tick, figures}
-use Rattle.rules.specs.Admission.{link-within, level-within, figures-within, stands, reservation, reserved, passes}
+use Rattle.rules.specs.declared.Short.{Short}
+use Rattle.rules.specs.Words.{All, within, first-number}
+use Rattle.rules.specs.Limits.{max-largest, max-connections, max-reserved}
+use Rattle.rules.specs.Model.{State, Call, admit, offer, no-short, nth, figures}
+use Rattle.rules.specs.Admission.{stands, reservation, reserved, level-test, passes}
 use Rattle.rules.specs.Service.{of}
 use Rattle.rules.specs.SoundTest.{sound}
-use Rattle.rules.specs.Calls.{verdicts, verdict}
+use Rattle.rules.specs.Calls.{no-link-set, clock-ended, causes, verdicts, verdict, refused-short}
+use Rattle.rules.proofs.Tests.{passed, never, never-number, within-intro}
+use Rattle.rules.proofs.Sums.{cond-is, split}
+use Rattle.rules.proofs.Standing.{stands-below}
+use Rattle.rules.proofs.Results.{level-test-tells}
+use Rattle.limits.proofs.ChainLaws.{too-low, too-high}
+use Rattle.tables.specs.Places.{rows}
+use Rattle.connections.specs.Members.{members-in, None-free, connections-in}
+use Rattle.connections.specs.Within.{Within}
+use Rattle.connections.proofs.MemberLaws.{connections-length, connection-none}
+use Rattle.connections.proofs.FigureLaws.{link-limits, figure-limits}
+use Rattle.state.specs.declared.Hub.{Hub}
+use Rattle.state.specs.View.{Tables, view, sound-hub}
+use Rattle.state.proofs.SoundLaws.{sound-view, none-free, figures-in-limits, few-members-of}
+use Rattle.calls.specs.Rulings.{ruling-of, early-admit, early-offer}
 
-module _ (s : State) (ok : sound s ≡ true) where
-  -- ---- link
+pub by-causes : (k : Call) (s : State) → sound s ≡ true → first-number (causes k s) ≡ verdict k s
+unfolding verdicts
+by-causes k s ok = rw ok
 
-  module _ (l : Link) where
-    pub link-set-already : (s .link .levels ≡ 0 → ⊥) → verdict (link l) s ≡ 3
-    unfolding verdicts
-    link-set-already n = rw (ok, ne-eqb (s .link .levels) 0 n)
+-- rows in front, decided first: what they give where they give something, and what the rows behind them give where they do not
+pub front-gives : (front behind : List (ℕ × Bool)) → (first-number front ≡ 0 → ⊥) → first-number front ≡ first-number (front ++ behind)
+front-gives [] behind h = absurd (h refl)
+front-gives (r ∷ rs) behind h = step (r .1) h (front-gives rs behind)
+  where
+    step : (b : Bool) → (cond b (r .0) (first-number rs) ≡ 0 → ⊥) → ((first-number rs ≡ 0 → ⊥) → first-number rs ≡ first-number (rs ++ behind))
+        → cond b (r .0) (first-number rs) ≡ cond b (r .0) (first-number (rs ++ behind))
+    step true h f = refl
+    step false h f = f h
 
-    pub link-broken : s .link .levels ≡ 0 → link-within l ≡ false → verdict (link l) s ≡ 4
-    unfolding verdicts
-    link-broken z e = rw (ok, eq-eqb (s .link .levels) 0 z, e)
+none-in-front : (rs behind : List (ℕ × Bool)) → All (λ r. r .1 ≡ false) rs → first-number behind ≡ first-number (rs ++ behind)
+none-in-front [] behind k = refl
+none-in-front (r ∷ rs) behind k = none-in-front rs behind (k .1) ∙ sym (cond-is (r .0) (first-number (rs ++ behind)) (k .0))
 
-    pub link-good : s .link .levels ≡ 0 → link-within l ≡ true → verdict (link l) s ≡ 0
-    unfolding verdicts
-    link-good z e = rw (ok, eq-eqb (s .link .levels) 0 z, e)
+pub behind-gives : (front behind : List (ℕ × Bool)) → All (λ r. 0 < r .0) front → first-number front ≡ 0 → first-number behind ≡ first-number (front ++ behind)
+behind-gives front behind a e = none-in-front front behind (passed front a e)
 
-  -- ---- tick
+pub zero-then : (v w : ℕ) → v ≡ w → v ≡ 0 → w ≡ 0
+zero-then v w e z = sym e ∙ z
 
-  pub tick-unset : s .link .levels ≡ 0 → verdict tick s ≡ 2
-  unfolding verdicts
-  tick-unset z = rw (ok, eq-eqb (s .link .levels) 0 z)
+-- ---- connection c stands where its row has a size
 
-  module _ (n : s .link .levels ≡ 0 → ⊥) where
-    pub tick-ended : clock-end ≤ s .clock → verdict tick s ≡ 13
-    unfolding verdicts
-    tick-ended h = rw (ok, ne-eqb (s .link .levels) 0 n, le-leb clock-end (s .clock) h)
+module _ (t : List ℕ) (free : None-free t) (c : ℕ) where
+  pub size-tells : eqb (nth (connections-in t) c .size) 0 ≡ not (stands (connections-in t) c)
+  unfolding stands
+  size-tells = go (split (length (connections-in t)) c)
+    where
+      go : (length (connections-in t) ≤ c) ⊎ (c < length (connections-in t)) → eqb (nth (connections-in t) c .size) 0 ≡ not (ltb c (length (connections-in t)))
+      go (inl h) =
+          ap (λ (x : Connection). eqb (x .size) 0) (connection-none t c (omega (arith, connections-length t)))
+          ∙ ap not (sym (le-ltb c (length (connections-in t)) h))
+      go (inr h) = ne-eqb (nth (connections-in t) c .size) 0 (λ e. omega (arith, free c h)) ∙ ap not (sym (lt-ltb c (length (connections-in t)) h))
 
-    pub tick-good : s .clock < clock-end → verdict tick s ≡ 0
-    unfolding verdicts
-    tick-good h = rw (ok, ne-eqb (s .link .levels) 0 n, lt-leb clock-end (s .clock) h)
+-- ---- a length that does not fit
 
-  -- ---- admit
+pub too-short : (largest len : ℕ) → len < 1 → true ≡ not (within 1 largest len)
+too-short largest len h = ap not (sym (too-low 1 largest len h))
 
-  module _ (x : Connection) where
-    pub admit-unset : s .link .levels ≡ 0 → verdict (admit x) s ≡ 2
-    unfolding verdicts
-    admit-unset z = rw (ok, eq-eqb (s .link .levels) 0 z)
+pub too-long : (largest len : ℕ) → 1 ≤ len → ltb largest len ≡ not (within 1 largest len)
+too-long largest len h = go (split len largest)
+  where
+    go : (len ≤ largest) ⊎ (largest < len) → ltb largest len ≡ not (within 1 largest len)
+    go (inl k) = le-ltb largest len k ∙ ap not (sym (within-intro 1 largest len h k))
+    go (inr k) = lt-ltb largest len k ∙ ap not (sym (too-high 1 largest len h k))
 
-    module _ (n : s .link .levels ≡ 0 → ⊥) where
-      pub admit-level : level-within (s .link) x ≡ false → verdict (admit x) s ≡ 5
-      unfolding verdicts
-      admit-level e = rw (ok, ne-eqb (s .link .levels) 0 n, e)
+-- ---- an offer: what needs no walk over the places, then the rest
 
-      module _ (v : level-within (s .link) x ≡ true) where
-        pub admit-figures : figures-within (s .link) x ≡ false → verdict (admit x) s ≡ 6
-        unfolding verdicts
-        admit-figures e = rw (ok, ne-eqb (s .link .levels) 0 n, v, e)
+module _ (h : Hub) (t : Tables) (ok : sound-hub h t ≡ true) (c len tag : ℕ) (x : Connection) (is : x ≡ nth (connections-in (t .members)) c) where
+  abbrev offered : State
+  offered = view h t
 
-        module _ (f : figures-within (s .link) x ≡ true) where
-          pub admit-many : max-connections ≤ length (s .connections) → verdict (admit x) s ≡ 7
-          unfolding verdicts
-          admit-many h = rw (ok, ne-eqb (s .link .levels) 0 n, v, f, le-leb max-connections (length (s .connections)) h)
+  known : eqb (x .size) 0 ≡ not (stands (connections-in (t .members)) c)
+  known = ap (λ (y : Connection). eqb (y .size) 0) is ∙ size-tells (t .members) (none-free h t ok) c
 
-          module _ (h : length (s .connections) < max-connections) where
-            pub admit-short : passes (s .link) (s .connections ++ x ∷ []) ≡ false → verdict (admit x) s ≡ 8
-            unfolding verdicts
-            admit-short e = rw (ok, ne-eqb (s .link .levels) 0 n, v, f, lt-leb max-connections (length (s .connections)) h, e)
+  abbrev in-front : List (ℕ × Bool)
+  in-front = no-link-set offered ∷ (10, not (stands (offered .connections) c)) ∷ (11, not (within 1 (figures offered c .size) len)) ∷ []
 
-            module _ (p : passes (s .link) (s .connections ++ x ∷ []) ≡ true) where
-              pub admit-reserved : max-reserved < reserved (s .link) (s .connections ++ x ∷ []) → verdict (admit x) s ≡ 9
-              unfolding verdicts
-              admit-reserved k = rw (ok, ne-eqb (s .link .levels) 0 n, v, f, lt-leb max-connections (length (s .connections)) h, p, lt-ltb max-reserved _ k)
+  abbrev rest : List (ℕ × Bool)
+  rest = (12, leb (reservation (h .link) (figures offered c)) (length (of c (rows (t .places))))) ∷ clock-ended offered ∷ []
 
-              pub admit-good : reserved (s .link) (s .connections ++ x ∷ []) ≤ max-reserved → verdict (admit x) s ≡ 0
-              unfolding verdicts
-              admit-good k = rw (ok, ne-eqb (s .link .levels) 0 n, v, f, lt-leb max-connections (length (s .connections)) h, p, le-ltb max-reserved _ k)
+  front-is : early-offer (h .link) x len ≡ in-front
+  front-is i = no-link-set offered ∷ (10, known i) ∷ (11, not (within 1 (is i .size) len)) ∷ []
 
-  -- ---- offer
+  pub offer-early : (v : ℕ) → v ≡ first-number (early-offer (h .link) x len) → (v ≡ 0 → ⊥) → v ≡ verdict (offer c len tag) offered
+  offer-early v e n =
+      let f = e ∙ ap first-number front-is in
+      f ∙ front-gives in-front rest (λ z. n (f ∙ z)) ∙ by-causes (offer c len tag) offered (sound-view h t ok)
 
-  module _ (c len tag : ℕ) where
-    pub offer-unset : s .link .levels ≡ 0 → verdict (offer c len tag) s ≡ 2
-    unfolding verdicts
-    offer-unset z = rw (ok, eq-eqb (s .link .levels) 0 z)
+  module _ (none : first-number (early-offer (h .link) x len) ≡ 0) where
+    unrefused : first-number in-front ≡ 0
+    unrefused = ap first-number (sym front-is) ∙ none
 
-    module _ (n : s .link .levels ≡ 0 → ⊥) where
-      pub offer-nobody : length (s .connections) ≤ c → verdict (offer c len tag) s ≡ 10
-      unfolding verdicts stands
-      offer-nobody h = rw (ok, ne-eqb (s .link .levels) 0 n, le-ltb c (length (s .connections)) h)
+    tests : All (λ (r : ℕ × Bool). r .1 ≡ false) in-front
+    tests = passed in-front (omega arith, (omega arith, (omega arith, tt))) unrefused
 
-      module _ (h : c < length (s .connections)) where
-        pub offer-length : within 1 (figures s c .size) len ≡ false → verdict (offer c len tag) s ≡ 11
-        unfolding verdicts stands
-        offer-length e = rw (ok, ne-eqb (s .link .levels) 0 n, lt-ltb c (length (s .connections)) h, e)
+    pub offer-late : (r : ℕ) → r ≡ first-number ((12, leb (reservation (h .link) x) (length (of c (rows (t .places))))) ∷ clock-ended offered ∷ []) → r ≡ verdict (offer c len tag) offered
+    offer-late r e =
+        e
+        ∙ ap (λ (y : Connection). first-number ((12, leb (reservation (h .link) y) (length (of c (rows (t .places))))) ∷ clock-ended offered ∷ [])) is
+        ∙ behind-gives in-front rest (omega arith, (omega arith, (omega arith, tt))) unrefused
+        ∙ by-causes (offer c len tag) offered (sound-view h t ok)
 
-        module _ (w : within 1 (figures s c .size) len ≡ true) where
-          pub offer-full : reservation (s .link) (figures s c) ≤ length (of c (s .held)) → verdict (offer c len tag) s ≡ 12
-          unfolding verdicts stands
-          offer-full k = rw (ok, ne-eqb (s .link .levels) 0 n, lt-ltb c (length (s .connections)) h, w, le-leb (reservation (s .link) (figures s c)) (length (of c (s .held))) k)
+    -- the connection stands, so it has a gap
+    pub offer-gap : 1 ≤ x .gap
+    offer-gap =
+        let w = figures-in-limits h t ok (λ e. never (sym (tests .0) ∙ eq-eqb (h .link .levels) 0 e)) in
+        let s = stands-below (connections-in (t .members)) c (not-false _ (tests .1 .0)) in
+        subst (λ (y : Connection). 1 ≤ y .gap) (sym is) (figure-limits (h .link) (nth (connections-in (t .members)) c) (w .figures-in c s) .some-gap)
 
-          module _ (k : length (of c (s .held)) < reservation (s .link) (figures s c)) where
-            pub offer-ended : clock-end ≤ s .clock → verdict (offer c len tag) s ≡ 13
-            unfolding verdicts stands
-            offer-ended e =
-                rw (ok, ne-eqb (s .link .levels) 0 n, lt-ltb c (length (s .connections)) h, w, lt-leb (reservation (s .link) (figures s c)) (length (of c (s .held))) k, le-leb clock-end (s .clock) e)
+-- ---- an admission: what needs no sum, then the level test, then the reservations
 
-            pub offer-good : s .clock < clock-end → verdict (offer c len tag) s ≡ 0
-            unfolding verdicts stands
-            offer-good e =
-                rw (ok, ne-eqb (s .link .levels) 0 n, lt-ltb c (length (s .connections)) h, w, lt-leb (reservation (s .link) (figures s c)) (length (of c (s .held))) k, lt-leb clock-end (s .clock) e)
+module _ (h : Hub) (t : Tables) (ok : sound-hub h t ≡ true) (x : Connection) (n : ℕ) (is : n ≡ length (members-in (t .members))) where
+  abbrev asked : State
+  asked = view h t
 
-  -- ---- notice
+  abbrev together : List Connection
+  together = connections-in (t .members) ++ x ∷ []
 
-  module _ (len tag : ℕ) where
-    pub notice-unset : s .link .levels ≡ 0 → verdict (notice len tag) s ≡ 2
-    unfolding verdicts
-    notice-unset z = rw (ok, eq-eqb (s .link .levels) 0 z)
+  abbrev front : List (ℕ × Bool)
+  front = early-admit (h .link) (length (connections-in (t .members))) x
 
-    module _ (n : s .link .levels ≡ 0 → ⊥) where
-      pub notice-length : within 1 (s .link .largest) len ≡ false → verdict (notice len tag) s ≡ 11
-      unfolding verdicts
-      notice-length e = rw (ok, ne-eqb (s .link .levels) 0 n, e)
+  abbrev behind : List (ℕ × Bool)
+  behind = (8, not (passes (h .link) together)) ∷ (9, ltb max-reserved (reserved (h .link) together)) ∷ []
 
-      module _ (w : within 1 (s .link .largest) len ≡ true) where
-        pub notice-ended : clock-end ≤ s .clock → verdict (notice len tag) s ≡ 13
-        unfolding verdicts
-        notice-ended h = rw (ok, ne-eqb (s .link .levels) 0 n, w, le-leb clock-end (s .clock) h)
+  same-front : early-admit (h .link) n x ≡ front
+  same-front = ap (λ (k : ℕ). early-admit (h .link) k x) (is ∙ sym (connections-length (t .members)))
 
-        module _ (h : s .clock < clock-end) where
-          pub notice-full : max-notices ≤ length (s .notices) → verdict (notice len tag) s ≡ 15
-          unfolding verdicts
-          notice-full k = rw (ok, ne-eqb (s .link .levels) 0 n, w, lt-leb clock-end (s .clock) h, le-leb max-notices (length (s .notices)) k)
+  -- a verdict other than 8 says nothing of a level
+  ruled-as : (v : ℕ) (s : Short) → s ≡ no-short → verdict (admit x) asked ≡ v → (v ≡ 8 → ⊥) → record { verdict = v; short = s } ≡ ruling-of (admit x) asked
+  ruled-as v s q e n =
+      (λ i. record { verdict = v; short = q i })
+      ∙ (λ i. record { verdict = v; short = sym (cond-is (level-test (h .link) together) no-short (ne-eqb v 8 n)) i })
+      ∙ ap (λ (w : ℕ). record { verdict = w; short = refused-short (admit x) asked w }) (sym e)
 
-          pub notice-good : length (s .notices) < max-notices → verdict (notice len tag) s ≡ 0
-          unfolding verdicts
-          notice-good k = rw (ok, ne-eqb (s .link .levels) 0 n, w, lt-leb clock-end (s .clock) h, lt-leb max-notices (length (s .notices)) k)
+  -- none of the early numbers is 8
+  not-eight : first-number front ≡ 8 → ⊥
+  not-eight = never-number 8 front ((λ e. absurd (omega arith)), ((λ e. absurd (omega arith)), ((λ e. absurd (omega arith)), ((λ e. absurd (omega arith)), tt)))) (omega arith)
+
+  pub admit-early : (v : ℕ) (s : Short) → v ≡ first-number (early-admit (h .link) n x) → (v ≡ 0 → ⊥) → s ≡ no-short → record { verdict = v; short = s } ≡ ruling-of (admit x) asked
+  admit-early v s e z q =
+      let f = e ∙ ap first-number same-front in
+      ruled-as v s q (sym (f ∙ front-gives front behind (λ y. z (f ∙ y)) ∙ by-causes (admit x) asked (sound-view h t ok))) (λ y. not-eight (sym f ∙ y))
+
+  module _ (none : first-number (early-admit (h .link) n x) ≡ 0) where
+    none-early : first-number front ≡ 0
+    none-early = ap first-number (sym same-front) ∙ none
+
+    all-false : All (λ (r : ℕ × Bool). r .1 ≡ false) front
+    all-false = passed front (omega arith, (omega arith, (omega arith, (omega arith, tt)))) none-early
+
+    by-sums : first-number behind ≡ verdict (admit x) asked
+    by-sums = behind-gives front behind (omega arith, (omega arith, (omega arith, (omega arith, tt)))) none-early ∙ by-causes (admit x) asked (sound-view h t ok)
+
+    link-is-set : h .link .levels ≡ 0 → ⊥
+    link-is-set e = never (sym (all-false .0) ∙ eq-eqb (h .link .levels) 0 e)
+
+    -- the sums can be made
+    pub admit-within : Within (h .link) (connections-in (t .members))
+    admit-within = figures-in-limits h t ok link-is-set
+
+    pub admit-few : n ≤ max-connections
+    admit-few = few-members-of h t ok link-is-set n is
+
+    pub admit-figures : (1 ≤ x .gap) × (x .size ≤ max-largest)
+    admit-figures =
+        let f = figure-limits (h .link) x (not-false _ (all-false .1 .1 .0)) in
+        (f .some-gap, omega (arith, f .size-le, link-limits (h .link) (admit-within .link-in) .largest-le))
+
+    module _ (s : Short) (e : s ≡ level-test (h .link) together) where
+      pub admit-short : (s .level ≡ 0 → ⊥) → record { verdict = 8; short = s } ≡ ruling-of (admit x) asked
+      admit-short z =
+          let f : passes (h .link) together ≡ false = ap (λ (u : Short). eqb (u .level) 0) (sym e) ∙ ne-eqb (s .level) 0 z in
+          let v : 8 ≡ verdict (admit x) asked = sym (cond-is 8 (cond (ltb max-reserved (reserved (h .link) together)) 9 0) (ap not f)) ∙ by-sums in
+          (λ i. record { verdict = 8; short = e i }) ∙ ap (λ (w : ℕ). record { verdict = w; short = refused-short (admit x) asked w }) v
+
+      -- no level is short: all that is left is the reservations
+      pub admit-room : (r a : ℕ) → s .level ≡ 0 → a ≡ reserved (h .link) together → r ≡ cond (ltb max-reserved a) 9 0 → record { verdict = r; short = s } ≡ ruling-of (admit x) asked
+      admit-room r a z g k =
+          let f : passes (h .link) together ≡ true = ap (λ (u : Short). eqb (u .level) 0) (sym e) ∙ eq-eqb (s .level) 0 z in
+          let u = level-test-tells (h .link) together in
+          let q : s .units ≡ 0 = ap (λ (u : Short). u .units) e ∙ u .1 .1 (u .0 .0 (ap (λ (u : Short). u .level) (sym e) ∙ z)) in
+          let j = k ∙ ap (λ (b : ℕ). cond (ltb max-reserved b) 9 0) g in
+          ruled-as r s (λ i. record { level = z i; units = q i }) (sym (j ∙ sym (cond-is 8 (cond (ltb max-reserved (reserved (h .link) together)) 9 0) (ap not f)) ∙ by-sums)) (λ y. nine (ltb max-reserved (reserved (h .link) together)) (sym j ∙ y))
+        where
+          nine : (b : Bool) → _≡_ {A = ℕ} (cond b 9 0) 8 → ⊥
+          nine true e = omega arith
+          nine false e = omega arith

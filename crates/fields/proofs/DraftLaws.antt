@@ -11,7 +11,7 @@ use Rattle.fields.specs.Numbers.{little, put-fields, sum}
 use Rattle.fields.proofs.NumberLaws.{length-put}
 use Rattle.fields.specs.Kinds.{Kind, bytes}
 use Rattle.fields.specs.Drafts.{longest, held, Holds, Adds, Adds-all}
-use Rattle.fields.specs.Formats.{length-after, room-after}
+use Rattle.fields.specs.Formats.{fitting, over}
 use Rattle.fields.specs.declared.Draft.{Draft}
 
 pub little-one : (v : ℕ) → v < 256 → little 1 v ≡ v ∷ []
@@ -73,7 +73,7 @@ before {d} {e} {r} {w} {v} {ws} {xs} f g =
       count = omega (arith, f .count, g .count);
     }
 
-pub drafted : {d r : Draft} (k : Kind) (xs : List ℕ) → Holds d (k .mark) → Adds-all d r (k .widths (getD xs 0 0)) xs
+pub drafted : {d r : Draft} {R : Type 0} (k : Kind R) (xs : List ℕ) → Holds d (k .mark) → Adds-all d r (k .widths (getD xs 0 0)) xs
     → length (k .mark) + sum (k .widths (getD xs 0 0)) ≤ longest
     → Holds r (bytes k xs)
 unfolding bytes
@@ -94,7 +94,7 @@ head-held {d} {r} a b v h f =
       within = omega (arith, f .count, h .count);
     }
 
-pub drafted-behind : {d r : Draft} {ws : List ℕ} (k : Kind) (v : ℕ) (xs : List ℕ) → v < 256 → k .widths v ≡ 1 ∷ ws → Holds d (k .mark ++ v ∷ [])
+pub drafted-behind : {d r : Draft} {ws : List ℕ} {R : Type 0} (k : Kind R) (v : ℕ) (xs : List ℕ) → v < 256 → k .widths v ≡ 1 ∷ ws → Holds d (k .mark ++ v ∷ [])
     → Adds-all d r ws xs
     → length (k .mark) + (1 + sum ws) ≤ longest
     → Holds r (bytes k (v ∷ xs))
@@ -134,10 +134,11 @@ copied (suc k) (x ∷ s) (y ∷ l) h j = ap (λ r. x ∷ r) (copied k s l (omega
 pub count-held : (d : Draft) → d .len ≤ length (d .bytes) → length (held d) ≡ d .len
 count-held d h = length-take-le (d .len) (d .bytes) h
 
-pub no-room : (bs room : List ℕ) → length room < length bs → (0 ≡ length-after bs room) × (room ≡ room-after bs room)
-unfolding length-after room-after
+-- What of a draft's bytes is written, and what the room holds then.
+pub no-room : (bs room : List ℕ) → length room < length bs → (0 ≡ length (fitting bs room)) × (room ≡ over (fitting bs room) room)
+unfolding fitting
 no-room bs room h = rw (lt-ltb (length room) (length bs) h) (refl, refl)
 
-pub room-enough : (bs room : List ℕ) → length bs ≤ length room → (length bs ≡ length-after bs room) × (bs ++ drop (length bs) room ≡ room-after bs room)
-unfolding length-after room-after
+pub room-enough : (bs room : List ℕ) → length bs ≤ length room → (length bs ≡ length (fitting bs room)) × (over bs room ≡ over (fitting bs room) room)
+unfolding fitting
 room-enough bs room h = rw (le-ltb (length room) (length bs) h) (refl, refl)

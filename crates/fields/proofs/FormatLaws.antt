@@ -1,6 +1,6 @@
 -- Reading and writing in any format: what one law says of every kind.
 use mathlib.Core.Path.{_≡_, refl, sym, ap, _∙_}
-use mathlib.Core.Bool.{Bool, true, false}
+use mathlib.Core.Bool.{Bool, true, false, cond}
 use mathlib.Core.List.{List, [], _∷_, _++_, append-assoc}
 use mathlib.Core.Option.{Option, some, none}
 use Prim.Native.Nat.{ℕ, _+_, _<_, _≤_}
@@ -9,15 +9,19 @@ use borrow.Author.Tests.{eqb-true, le-ltb, ltb-false}
 use lib.ListN.{length, getD, take, drop, length-append, length-drop}
 use lib.Seq.{drop-at, take-add}
 use lib.Dec.{ltb, eqb}
-use Rattle.fields.specs.Numbers.{pick, put-fields, get-fields, sum, Fit, Bytes}
+use Rattle.fields.specs.Numbers.{put-fields, get-fields, sum, Fit, Bytes}
 use Rattle.fields.specs.Kinds.{Kind, bytes, size}
-use Rattle.fields.specs.Formats.{Row, Format, starts, whole, read-row, read-rows, laid}
+use Rattle.fields.specs.Formats.{Format, starts, whole, read-kind, read-kinds, laid}
 use Rattle.fields.specs.Laws.{read-in, Reads-back-what-is-written, Tells-records-apart}
 use Rattle.fields.proofs.NumberLaws.{length-put}
 use Rattle.fields.proofs.FieldLaws.{fields-on, fields-back, put-back, bytes-left}
 use Rattle.fields.proofs.MarkLaws.{both}
 
-pub length-bytes : (k : Kind) (xs : List ℕ) → length (bytes k xs) ≡ length (k .mark) + sum (k .widths (getD xs 0 0))
+-- The record that the numbers xs make.
+abbrev pub made-of : {R : Type 0} → Kind R → List ℕ → R
+made-of k xs = k .make (λ i. getD xs i 0)
+
+pub length-bytes : {R : Type 0} (k : Kind R) (xs : List ℕ) → length (bytes k xs) ≡ length (k .mark) + sum (k .widths (getD xs 0 0))
 unfolding bytes
 length-bytes k xs = length-append (k .mark) (put-fields (k .widths (getD xs 0 0)) xs) ∙ ap (λ n. length (k .mark) + n) (length-put (k .widths (getD xs 0 0)) xs)
 
@@ -50,7 +54,7 @@ pub of-whole : {R : Type 0} (n : ℕ) (x r : R) (m : ℕ) (bs : List ℕ) → wh
 unfolding whole
 of-whole {R} n x r m bs = go (ltb (length bs) n) refl
   where
-    go : (t : Bool) → ltb (length bs) n ≡ t → pick {A = Option (R × ℕ)} t none (some (x, n)) ≡ some (r, m) → (n ≤ length bs) × (x ≡ r) × (n ≡ m)
+    go : (t : Bool) → ltb (length bs) n ≡ t → cond {A = Option (R × ℕ)} t none (some (x, n)) ≡ some (r, m) → (n ≤ length bs) × (x ≡ r) × (n ≡ m)
     go true e h = let z : _≡_ {A = ℕ} 0 1 = cc in absurd (omega arith)
     go false e h = (ltb-false (length bs) n e, ap (λ p. p .0) (some-same h), ap (λ p. p .1) (some-same h))
 
@@ -59,7 +63,7 @@ unfolding whole
 whole-is n r bs h = rw (le-ltb (length bs) n h)
 
 -- The fields behind a mark.
-fields-of : (k : Kind) (xs rest : List ℕ) → length (k .mark) ≡ 2 → Fit (k .widths (getD xs 0 0)) xs
+fields-of : {R : Type 0} (k : Kind R) (xs rest : List ℕ) → length (k .mark) ≡ 2 → Fit (k .widths (getD xs 0 0)) xs
     → get-fields (k .widths (getD xs 0 0)) (bytes k xs ++ rest) 2 ≡ xs
 unfolding bytes
 fields-of k xs rest two fit =
@@ -69,82 +73,80 @@ fields-of k xs rest two fit =
     ∙ ap (λ l. get-fields ws l 0) (ap (λ l. drop 2 l) (append-assoc (k .mark) fields rest) ∙ drop-at (k .mark) (fields ++ rest) 2 two)
     ∙ fields-back ws xs rest fit
 
-module _ {R : Type 0} (row : Row R) where
-  allowed-is : (b : ℕ) (bs : List ℕ) → row .kind .allows b ≡ true
-      → read-row row b bs ≡ whole (size (row .kind) b) (row .make (get-fields (row .kind .widths b) bs 2)) bs
-  unfolding read-row
+module _ {R : Type 0} (k : Kind R) where
+  allowed-is : (b : ℕ) (bs : List ℕ) → k .allows b ≡ true
+      → read-kind k b bs ≡ whole (size k b) (made-of k (get-fields (k .widths b) bs 2)) bs
+  unfolding read-kind
   allowed-is b bs h = rw h
 
   -- A record of a kind is read back from its bytes, whatever stands behind them. `b` is the byte behind the mark.
-  pub row-back : (xs rest : List ℕ) (b : ℕ) → length (row .kind .mark) ≡ 2 → Fit (row .kind .widths (getD xs 0 0)) xs
-      → row .kind .allows b ≡ true
-      → row .kind .widths b ≡ row .kind .widths (getD xs 0 0)
-      → read-row row b (bytes (row .kind) xs ++ rest) ≡ some (row .make xs, length (bytes (row .kind) xs))
-  row-back xs rest b two fit allowed same =
-      let k = row .kind in
+  pub kind-back : (xs rest : List ℕ) (b : ℕ) → length (k .mark) ≡ 2 → Fit (k .widths (getD xs 0 0)) xs
+      → k .allows b ≡ true
+      → k .widths b ≡ k .widths (getD xs 0 0)
+      → read-kind k b (bytes k xs ++ rest) ≡ some (made-of k xs, length (bytes k xs))
+  kind-back xs rest b two fit allowed same =
       let ws = k .widths (getD xs 0 0) in
       let bs = bytes k xs ++ rest in
       let len : length (bytes k xs) ≡ 2 + sum ws = omega (arith, length-bytes k xs) in
       allowed-is b bs allowed
-      ∙ ap (λ vs. whole (2 + sum vs) (row .make (get-fields vs bs 2)) bs) same
-      ∙ whole-is (2 + sum ws) (row .make (get-fields ws bs 2)) bs (simp length-append (omega arith))
+      ∙ ap (λ vs. whole (2 + sum vs) (made-of k (get-fields vs bs 2)) bs) same
+      ∙ whole-is (2 + sum ws) (made-of k (get-fields ws bs 2)) bs (simp length-append (omega arith))
       ∙ rw (fields-of k xs rest two fit, len)
 
-  -- What a kind's row reads, and where it stands.
+  -- What is read of a kind, and where it stands.
   pub record Read-as (bs : List ℕ) (r : R) (n : ℕ) : Type 0 where
-    pub allowed : row .kind .allows (getD bs 2 0) ≡ true
-    pub there : size (row .kind) (getD bs 2 0) ≤ length bs
-    pub made : row .make (get-fields (row .kind .widths (getD bs 2 0)) bs 2) ≡ r
-    pub count : size (row .kind) (getD bs 2 0) ≡ n
+    pub allowed : k .allows (getD bs 2 0) ≡ true
+    pub there : size k (getD bs 2 0) ≤ length bs
+    pub made : made-of k (get-fields (k .widths (getD bs 2 0)) bs 2) ≡ r
+    pub count : size k (getD bs 2 0) ≡ n
 
-  pub of-row : (bs : List ℕ) (r : R) (n : ℕ) → read-row row (getD bs 2 0) bs ≡ some (r, n) → Read-as bs r n
-  unfolding read-row
-  of-row bs r n = go (row .kind .allows (getD bs 2 0)) refl
+  pub of-kind : (bs : List ℕ) (r : R) (n : ℕ) → read-kind k (getD bs 2 0) bs ≡ some (r, n) → Read-as bs r n
+  unfolding read-kind
+  of-kind bs r n = go (k .allows (getD bs 2 0)) refl
     where
       b : ℕ
       b = getD bs 2 0
 
       x : R
-      x = row .make (get-fields (row .kind .widths b) bs 2)
+      x = made-of k (get-fields (k .widths b) bs 2)
 
-      go : (t : Bool) → row .kind .allows b ≡ t → pick t (whole (size (row .kind) b) x bs) none ≡ some (r, n) → Read-as bs r n
+      go : (t : Bool) → k .allows b ≡ t → cond t (whole (size k b) x bs) none ≡ some (r, n) → Read-as bs r n
       go true e h =
-          let w = of-whole (size (row .kind) b) x r n bs h in
+          let w = of-whole (size k b) x r n bs h in
           record { allowed = e; there = w .0; made = w .1; count = w .2 }
       go false e h = let z : _≡_ {A = ℕ} 0 1 = cc in absurd (omega arith)
 
--- What a row must be for its records to be written as they were read: its mark has two letters, and its records have its kind and its numbers as their layout.
-pub record Fair {R : Type 0} (layout : R → Option (Kind × List ℕ)) (row : Row R) : Type 0 where
-  pub letters : Letters (row .kind .mark)
-  pub same-widths : (bs : List ℕ) → row .kind .allows (getD bs 2 0) ≡ true
-      → row .kind .widths (getD (get-fields (row .kind .widths (getD bs 2 0)) bs 2) 0 0) ≡ row .kind .widths (getD bs 2 0)
-  pub same-layout : (bs : List ℕ) → row .kind .allows (getD bs 2 0) ≡ true
-      → layout (row .make (get-fields (row .kind .widths (getD bs 2 0)) bs 2)) ≡ some (row .kind, get-fields (row .kind .widths (getD bs 2 0)) bs 2)
+-- What a kind must be for its records to be written as they were read: its mark has two letters, and its records have it and their numbers as their layout.
+pub record Fair {R : Type 0} (layout : R → Option (Kind R × List ℕ)) (k : Kind R) : Type 0 where
+  pub letters : Letters (k .mark)
+  pub same-widths : (bs : List ℕ) → k .allows (getD bs 2 0) ≡ true
+      → k .widths (getD (get-fields (k .widths (getD bs 2 0)) bs 2) 0 0) ≡ k .widths (getD bs 2 0)
+  pub same-layout : (bs : List ℕ) → k .allows (getD bs 2 0) ≡ true
+      → layout (made-of k (get-fields (k .widths (getD bs 2 0)) bs 2)) ≡ some (k, get-fields (k .widths (getD bs 2 0)) bs 2)
 
 pub two-letters : (a b : ℕ) → 0 < a → 0 < b → Letters (a ∷ b ∷ [])
 two-letters a b h k = record { two = refl; first = h; second = k }
 
 -- A kind whose widths are the same whatever it holds, and whose records have its numbers as their layout.
-pub plain-fair : {R : Type 0} {layout : R → Option (Kind × List ℕ)} (row : Row R) → Letters (row .kind .mark)
-    → ((b c : ℕ) → row .kind .widths b ≡ row .kind .widths c)
-    → ((bs : List ℕ) → row .kind .allows (getD bs 2 0) ≡ true
-    → layout (row .make (get-fields (row .kind .widths (getD bs 2 0)) bs 2)) ≡ some (row .kind, get-fields (row .kind .widths (getD bs 2 0)) bs 2))
-    → Fair layout row
-plain-fair row letters widths layouts =
+pub plain-fair : {R : Type 0} {layout : R → Option (Kind R × List ℕ)} (k : Kind R) → Letters (k .mark)
+    → ((b c : ℕ) → k .widths b ≡ k .widths c)
+    → ((bs : List ℕ) → k .allows (getD bs 2 0) ≡ true
+    → layout (made-of k (get-fields (k .widths (getD bs 2 0)) bs 2)) ≡ some (k, get-fields (k .widths (getD bs 2 0)) bs 2))
+    → Fair layout k
+plain-fair k letters widths layouts =
     record { letters = letters; same-widths = λ bs a. widths _ _; same-layout = layouts }
 
-unfoldable pub All-fair : {R : Type 0} → (R → Option (Kind × List ℕ)) → List (Row R) → Type 0
+unfoldable pub All-fair : {R : Type 0} → (R → Option (Kind R × List ℕ)) → List (Kind R) → Type 0
 All-fair layout [] = Unit {0}
-All-fair layout (row ∷ rows) = Fair layout row × All-fair layout rows
+All-fair layout (k ∷ ks) = Fair layout k × All-fair layout ks
 
-module _ {R : Type 0} (layout : R → Option (Kind × List ℕ)) where
-  row-written : (row : Row R) → Fair layout row → (bs : List ℕ) (r : R) (n : ℕ) → Bytes bs → starts (row .kind .mark) bs ≡ true
-      → read-row row (getD bs 2 0) bs ≡ some (r, n)
+module _ {R : Type 0} (layout : R → Option (Kind R × List ℕ)) where
+  kind-written : (k : Kind R) → Fair layout k → (bs : List ℕ) (r : R) (n : ℕ) → Bytes bs → starts (k .mark) bs ≡ true
+      → read-kind k (getD bs 2 0) bs ≡ some (r, n)
       → laid (layout r) ≡ take n bs
   unfolding laid bytes
-  row-written row fair bs r n bytes-only begins h =
-      let a = of-row row bs r n h in
-      let k = row .kind in
+  kind-written k fair bs r n bytes-only begins h =
+      let a = of-kind k bs r n h in
       let ws = k .widths (getD bs 2 0) in
       let there : sum ws ≤ length (drop 2 bs) = simp length-drop (omega (arith, a .there)) in
       ap (λ q. laid (layout q)) (sym (a .made))
@@ -157,17 +159,17 @@ module _ {R : Type 0} (layout : R → Option (Kind × List ℕ)) where
       ∙ ap (λ m. take m bs) (a .count)
 
   -- Whatever was read is written as the bytes that were read.
-  pub rows-written : (rows : List (Row R)) → All-fair layout rows → (bs : List ℕ) (r : R) (n : ℕ) → Bytes bs
-      → read-rows rows bs ≡ some (r, n)
+  pub kinds-written : (ks : List (Kind R)) → All-fair layout ks → (bs : List ℕ) (r : R) (n : ℕ) → Bytes bs
+      → read-kinds ks bs ≡ some (r, n)
       → laid (layout r) ≡ take n bs
-  unfolding read-rows All-fair
-  rows-written [] fair bs r n b = λ h. let z : _≡_ {A = ℕ} 0 1 = cc in absurd (omega arith)
-  rows-written (row ∷ rows) fair bs r n b = go (starts (row .kind .mark) bs) refl (rows-written rows (fair .1) bs r n b)
+  unfolding read-kinds All-fair
+  kinds-written [] fair bs r n b = λ h. let z : _≡_ {A = ℕ} 0 1 = cc in absurd (omega arith)
+  kinds-written (k ∷ ks) fair bs r n b = go (starts (k .mark) bs) refl (kinds-written ks (fair .1) bs r n b)
     where
-      go : (t : Bool) → starts (row .kind .mark) bs ≡ t → (read-rows rows bs ≡ some (r, n) → laid (layout r) ≡ take n bs)
-          → pick t (read-row row (getD bs 2 0) bs) (read-rows rows bs) ≡ some (r, n)
+      go : (t : Bool) → starts (k .mark) bs ≡ t → (read-kinds ks bs ≡ some (r, n) → laid (layout r) ≡ take n bs)
+          → cond t (read-kind k (getD bs 2 0) bs) (read-kinds ks bs) ≡ some (r, n)
           → laid (layout r) ≡ take n bs
-      go true e more h = row-written row (fair .0) bs r n b e h
+      go true e more h = kind-written k (fair .0) bs r n b e h
       go false e more h = more h
 
 -- Two records with the same bytes are both what those bytes are read as.

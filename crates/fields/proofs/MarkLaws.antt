@@ -1,26 +1,22 @@
 -- Reading by the mark's number, as the code does, is reading by the mark's bytes, as specs/Formats says.
 use mathlib.Core.Path.{_≡_, refl, sym, ap, _∙_}
-use mathlib.Core.Bool.{Bool, true, false}
+use mathlib.Core.Bool.{Bool, true, false, cond, not, _&&_}
 use mathlib.Core.List.{List, [], _∷_}
 use mathlib.Core.Option.{Option, none}
 use Prim.Native.Nat.{ℕ}
 use native.Mathlib.Omega.{arith}
-use borrow.Author.Tests.{eq-eqb, ne-eqb}
+use borrow.Author.Tests.{eq-eqb, ne-eqb, not-true}
 use lib.ListN.{getD}
 use lib.Dec.{eqb}
-use Rattle.fields.specs.Numbers.{pick, number}
+use Rattle.fields.specs.Numbers.{number}
 use Rattle.fields.proofs.NumberLaws.{one-byte}
-use Rattle.fields.specs.Formats.{Row, starts, read-row, read-rows, mark-among}
+use Rattle.fields.specs.Kinds.{Kind}
+use Rattle.fields.specs.Formats.{starts, read-kind, read-kinds, mark-among}
 
--- Both parts of a test of the form `pick a b false`.
-pub both : (a b : Bool) → pick a b false ≡ true → (a ≡ true) × (b ≡ true)
+-- Both parts of a test that holds.
+pub both : (a b : Bool) → (a && b) ≡ true → (a ≡ true) × (b ≡ true)
 both true b h = (refl, h)
 both false b h = let z : _≡_ {A = ℕ} 0 1 = cc in absurd (omega arith)
-
--- The part that a test of the form `pick a false b` leaves.
-pub neither : (a b : Bool) → pick a false b ≡ true → (a ≡ false) × (b ≡ true)
-neither false b h = (refl, h)
-neither true b h = let z : _≡_ {A = ℕ} 0 1 = cc in absurd (omega arith)
 
 -- What the letters that the bytes start with, `f` and `g`, tell of a mark.
 module _ (mark bs : List ℕ) {f : ℕ} (first : f ≡ number 1 bs 0) where
@@ -45,47 +41,49 @@ module _ (mark bs : List ℕ) {f : ℕ} (first : f ≡ number 1 bs 0) where
 
 module _ {R : Type 0} where
   -- A kind's mark as a number.
-  abbrev pub key : Row R → ℕ
-  key row = number 2 (row .kind .mark) 0
+  abbrev pub key : Kind R → ℕ
+  key k = number 2 (k .mark) 0
 
-  unfoldable pub read-numbered : List (Row R) → ℕ → List ℕ → Option (R × ℕ)
+  unfoldable pub read-numbered : List (Kind R) → ℕ → List ℕ → Option (R × ℕ)
   read-numbered [] m bs = none
-  read-numbered (row ∷ rows) m bs = pick (eqb m (key row)) (read-row row (getD bs 2 0) bs) (read-numbered rows m bs)
+  read-numbered (k ∷ ks) m bs = cond (eqb m (key k)) (read-kind k (getD bs 2 0) bs) (read-numbered ks m bs)
 
   -- Whether m is no kind's number.
-  unfoldable pub absent : ℕ → List (Row R) → Bool
+  unfoldable pub absent : ℕ → List (Kind R) → Bool
   absent m [] = true
-  absent m (row ∷ rows) = pick (eqb (key row) m) false (absent m rows)
+  absent m (k ∷ ks) = not (eqb (key k) m) && absent m ks
 
   -- Whether the kinds' numbers differ from one another and from 0.
-  unfoldable pub distinct : List (Row R) → Bool
+  unfoldable pub distinct : List (Kind R) → Bool
   distinct [] = true
-  distinct (row ∷ rows) = pick (eqb 0 (key row)) false (pick (absent (key row) rows) (distinct rows) false)
+  distinct (k ∷ ks) = not (eqb 0 (key k)) && (absent (key k) ks && distinct ks)
 
-  other : (m : ℕ) (rows : List (Row R)) (bs : List ℕ) → eqb 0 m ≡ false → absent m rows ≡ true → eqb (mark-among rows bs) m ≡ false
+  other : (m : ℕ) (ks : List (Kind R)) (bs : List ℕ) → eqb 0 m ≡ false → absent m ks ≡ true → eqb (mark-among ks bs) m ≡ false
   unfolding mark-among absent
   other m [] bs z h = z
-  other m (row ∷ rows) bs z h = go (starts (row .kind .mark) bs) (neither (eqb (key row) m) (absent m rows) h .0) (other m rows bs z (neither (eqb (key row) m) (absent m rows) h .1))
+  other m (k ∷ ks) bs z h =
+      let b = both (not (eqb (key k) m)) (absent m ks) h in
+      go (starts (k .mark) bs) (not-true (eqb (key k) m) (b .0)) (other m ks bs z (b .1))
     where
-      go : (t : Bool) → eqb (key row) m ≡ false → eqb (mark-among rows bs) m ≡ false → eqb (pick t (key row) (mark-among rows bs)) m ≡ false
+      go : (t : Bool) → eqb (key k) m ≡ false → eqb (mark-among ks bs) m ≡ false → eqb (cond t (key k) (mark-among ks bs)) m ≡ false
       go true e f = e
       go false e f = f
 
-  pub by-number : (rows : List (Row R)) (bs : List ℕ) → distinct rows ≡ true → read-rows rows bs ≡ read-numbered rows (mark-among rows bs) bs
-  unfolding read-rows mark-among read-numbered distinct
+  pub by-number : (ks : List (Kind R)) (bs : List ℕ) → distinct ks ≡ true → read-kinds ks bs ≡ read-numbered ks (mark-among ks bs) bs
+  unfolding read-kinds mark-among read-numbered distinct
   by-number [] bs d = refl
-  by-number (row ∷ rows) bs d =
-      let n = neither (eqb 0 (key row)) (pick (absent (key row) rows) (distinct rows) false) d in
-      let b = both (absent (key row) rows) (distinct rows) (n .1) in
-      go (starts (row .kind .mark) bs) (other (key row) rows bs (n .0) (b .0)) (by-number rows bs (b .1))
+  by-number (k ∷ ks) bs d =
+      let n = both (not (eqb 0 (key k))) (absent (key k) ks && distinct ks) d in
+      let b = both (absent (key k) ks) (distinct ks) (n .1) in
+      go (starts (k .mark) bs) (other (key k) ks bs (not-true (eqb 0 (key k)) (n .0)) (b .0)) (by-number ks bs (b .1))
     where
-      go : (t : Bool) → eqb (mark-among rows bs) (key row) ≡ false → read-rows rows bs ≡ read-numbered rows (mark-among rows bs) bs
-          → pick t (read-row row (getD bs 2 0) bs) (read-rows rows bs)
-          ≡ read-numbered (row ∷ rows) (pick t (key row) (mark-among rows bs)) bs
-      go true e h = rw (eq-eqb (key row) (key row) refl)
+      go : (t : Bool) → eqb (mark-among ks bs) (key k) ≡ false → read-kinds ks bs ≡ read-numbered ks (mark-among ks bs) bs
+          → cond t (read-kind k (getD bs 2 0) bs) (read-kinds ks bs)
+          ≡ read-numbered (k ∷ ks) (cond t (key k) (mark-among ks bs)) bs
+      go true e h = rw (eq-eqb (key k) (key k) refl)
       go false e h = rw (e, h)
 
   -- The same at the number that the code found.
-  pub numbered : (rows : List (Row R)) (bs : List ℕ) (mark m : ℕ) → distinct rows ≡ true → mark ≡ mark-among rows bs → mark ≡ m
-      → read-rows rows bs ≡ read-numbered rows m bs
-  numbered rows bs mark m d e k = by-number rows bs d ∙ ap (λ i. read-numbered rows i bs) (sym e ∙ k)
+  pub numbered : (ks : List (Kind R)) (bs : List ℕ) (mark m : ℕ) → distinct ks ≡ true → mark ≡ mark-among ks bs → mark ≡ m
+      → read-kinds ks bs ≡ read-numbered ks m bs
+  numbered ks bs mark m d e k = by-number ks bs d ∙ ap (λ i. read-numbered ks i bs) (sym e ∙ k)

@@ -1,16 +1,16 @@
 -- Laws of a choice, and of numbers in bytes: specs/Numbers.
 use mathlib.Core.Path.{_≡_, refl, ap, _∙_}
-use mathlib.Core.Bool.{Bool, true, false}
+use mathlib.Core.Bool.{Bool, true, false, cond}
 use mathlib.Core.List.{List, [], _∷_}
 use Prim.Native.Nat.{ℕ, zero, suc, _+_, _*_, _/_, _<_, _≤_}
 use native.Mathlib.Omega.{arith}
 use lib.ListN.{length, getD, replicate, length-replicate, length-append, drop, List·getD-eq-default}
-use Rattle.fields.specs.Numbers.{pick, little, number, put-fields, get-fields, sum}
+use Rattle.fields.specs.Numbers.{little, number, put-fields, get-fields, sum}
 
 -- A property of a choice.
-pub pick-by : {A : Type 0} (P : A → Type 0) (b : Bool) (x y : A) → (b ≡ true → P x) → (b ≡ false → P y) → P (pick b x y)
-pick-by P true x y f g = f refl
-pick-by P false x y f g = g refl
+pub cond-by : {A : Type 0} (P : A → Type 0) (b : Bool) (x y : A) → (b ≡ true → P x) → (b ≡ false → P y) → P (cond b x y)
+cond-by P true x y f g = f refl
+cond-by P false x y f g = g refl
 
 pub one-byte : (bs : List ℕ) (at : ℕ) → number 1 bs at ≡ getD bs at 0
 unfolding number

@@ -1,4 +1,4 @@
--- A part of a list that reaches to its end, as a part of a buffer is lent and given back. Assumes nothing.
+-- A part of a list that reaches to its end, as a part of a buffer is lent and given back.
 use Prim.Native.Nat.{ℕ, _-_}
 use native.Mathlib.Omega.{arith}
 use mathlib.Core.Path.{_≡_}

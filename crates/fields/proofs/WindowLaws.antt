@@ -1,15 +1,15 @@
 -- Reading does not look past the record.
 use mathlib.Core.Path.{_≡_, refl, sym, ap, _∙_}
-use mathlib.Core.Bool.{Bool, true, false}
+use mathlib.Core.Bool.{Bool, true, false, cond}
 use mathlib.Core.List.{List, [], _∷_, _++_}
 use mathlib.Core.Option.{some, none}
 use Prim.Native.Nat.{ℕ, zero, suc, _+_, _≤_}
 use native.Mathlib.Omega.{arith}
 use lib.ListN.{length, getD, length-append, List·getD-append}
-use Rattle.fields.specs.Numbers.{pick, number, get-fields, sum}
-use Rattle.fields.specs.Kinds.{size}
-use Rattle.fields.specs.Formats.{Row, starts, whole, read-row, read-rows}
-use Rattle.fields.proofs.FormatLaws.{whole-is}
+use Rattle.fields.specs.Numbers.{number, get-fields, sum}
+use Rattle.fields.specs.Kinds.{Kind, size}
+use Rattle.fields.specs.Formats.{starts, whole, read-kind, read-kinds}
+use Rattle.fields.proofs.FormatLaws.{made-of, whole-is}
 
 number-same : (w : ℕ) (bs rest : List ℕ) (at : ℕ) → at + w ≤ length bs → number w (bs ++ rest) at ≡ number w bs at
 unfolding number
@@ -27,37 +27,37 @@ starts-same : (mark bs rest : List ℕ) → 2 ≤ length bs → starts mark (bs 
 unfolding starts
 starts-same mark bs rest h = rw (List·getD-append bs rest 0 0 (omega arith), List·getD-append bs rest 0 1 (omega arith))
 
--- No record of a row has more bytes than these.
-unfoldable pub All-within : {R : Type 0} → ℕ → List (Row R) → Type 0
+-- No record of a kind has more bytes than these.
+unfoldable pub All-within : {R : Type 0} → ℕ → List (Kind R) → Type 0
 All-within longest [] = Unit {0}
-All-within longest (row ∷ rows) = ((b : ℕ) → row .kind .allows b ≡ true → size (row .kind) b ≤ longest) × All-within longest rows
+All-within longest (k ∷ ks) = ((b : ℕ) → k .allows b ≡ true → size k b ≤ longest) × All-within longest ks
 
 module _ {R : Type 0} (longest : ℕ) (bs rest : List ℕ) (long : longest ≤ length bs) where
-  row-same : (row : Row R) (b : ℕ) → (row .kind .allows b ≡ true → size (row .kind) b ≤ longest) → read-row row b (bs ++ rest) ≡ read-row row b bs
-  unfolding read-row
-  row-same row b within = go (row .kind .allows b) refl
+  kind-same : (k : Kind R) (b : ℕ) → (k .allows b ≡ true → size k b ≤ longest) → read-kind k b (bs ++ rest) ≡ read-kind k b bs
+  unfolding read-kind
+  kind-same k b within = go (k .allows b) refl
     where
       made : List ℕ → R
-      made l = row .make (get-fields (row .kind .widths b) l 2)
+      made l = made-of k (get-fields (k .widths b) l 2)
 
-      go : (t : Bool) → row .kind .allows b ≡ t
-          → pick t (whole (size (row .kind) b) (made (bs ++ rest)) (bs ++ rest)) none ≡ pick t (whole (size (row .kind) b) (made bs) bs) none
+      go : (t : Bool) → k .allows b ≡ t
+          → cond t (whole (size k b) (made (bs ++ rest)) (bs ++ rest)) none ≡ cond t (whole (size k b) (made bs) bs) none
       go false e = refl
       go true e =
-          let n = size (row .kind) b in
-          let k = within e in
+          let n = size k b in
+          let fits = within e in
           whole-is n (made (bs ++ rest)) (bs ++ rest) (simp length-append (omega arith))
-          ∙ ap (λ xs. some (row .make xs, n)) (fields-same (row .kind .widths b) bs rest 2 (omega arith))
+          ∙ ap (λ xs. some (made-of k xs, n)) (fields-same (k .widths b) bs rest 2 (omega arith))
           ∙ sym (whole-is n (made bs) bs (omega arith))
 
-  pub rows-same : (rows : List (Row R)) → 3 ≤ longest → All-within longest rows → read-rows rows (bs ++ rest) ≡ read-rows rows bs
-  unfolding read-rows All-within
-  rows-same [] three within = refl
-  rows-same (row ∷ rows) three within =
+  pub kinds-same : (ks : List (Kind R)) → 3 ≤ longest → All-within longest ks → read-kinds ks (bs ++ rest) ≡ read-kinds ks bs
+  unfolding read-kinds All-within
+  kinds-same [] three within = refl
+  kinds-same (k ∷ ks) three within =
       let b = getD bs 2 0 in
       rw (
-        starts-same (row .kind .mark) bs rest (omega arith),
+        starts-same (k .mark) bs rest (omega arith),
         List·getD-append bs rest 0 2 (omega arith),
-        row-same row b (within .0 b),
-        rows-same rows three (within .1),
+        kind-same k b (within .0 b),
+        kinds-same ks three (within .1),
       )

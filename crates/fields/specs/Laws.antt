@@ -1,28 +1,29 @@
 -- The laws of the formats, each stated once for all kinds. Their proofs, of traces and of answers, are in proofs/Laws of those crates.
 use mathlib.Core.Path.{_≡_}
 use mathlib.Core.List.{List, _++_}
-use mathlib.Core.Option.{Option, some}
+use mathlib.Core.Option.{Option, some, none}
 use Prim.Native.Nat.{ℕ, _<_, _≤_}
-use lib.ListN.{length, take}
-use Rattle.fields.specs.Numbers.{Bytes}
-use Rattle.fields.specs.Formats.{Format, read-rows, laid}
+use lib.ListN.{length, getD, take}
+use Rattle.fields.specs.Numbers.{Fit, Bytes}
+use Rattle.fields.specs.Kinds.{Kind}
+use Rattle.fields.specs.Formats.{Format, read-kinds, laid}
 
 -- The bytes of a record, none where it is not written; and what a list of bytes is read as.
 abbrev pub bytes-in : {R : Type 0} → Format R → R → List ℕ
 bytes-in F r = laid (F .layout r)
 
 abbrev pub read-in : {R : Type 0} → Format R → List ℕ → Option (R × ℕ)
-read-in F bs = read-rows (F .rows) bs
+read-in F bs = read-kinds (F .kinds) bs
 
--- A record that the code can be handed, and that is written.
-pub record Written {R : Type 0} (F : Format R) (r : R) : Type 0 where
-  pub typed : F .typed r
-  pub some-byte : 0 < length (bytes-in F r)
+-- A record, by its layout, that is written, and whose numbers fit their fields, as all do that the code can be handed.
+abbrev pub Written : {R : Type 0} → Option (Kind R × List ℕ) → Type 0
+Written none = ⊥
+Written (some (k, xs)) = Fit (k .widths (getD xs 0 0)) xs
 
 -- "Reading what is written gives the record back", with any bytes behind it, and takes the record's bytes and no other.
 abbrev pub Reads-back-what-is-written : {R : Type 0} → Format R → Type 0
 Reads-back-what-is-written {R} F =
-    (r : R) (rest : List ℕ) → Written F r → read-in F (bytes-in F r ++ rest) ≡ some (r, length (bytes-in F r))
+    (r : R) (rest : List ℕ) → Written (F .layout r) → read-in F (bytes-in F r ++ rest) ≡ some (r, length (bytes-in F r))
 
 -- "Writing what was read gives the bytes back."
 abbrev pub Writes-back-what-was-read : {R : Type 0} → Format R → Type 0
@@ -31,7 +32,7 @@ Writes-back-what-was-read {R} F =
 
 -- No two different records have the same bytes.
 abbrev pub Tells-records-apart : {R : Type 0} → Format R → Type 0
-Tells-records-apart {R} F = (r q : R) → Written F r → Written F q → bytes-in F r ≡ bytes-in F q → r ≡ q
+Tells-records-apart {R} F = (r q : R) → Written (F .layout r) → Written (F .layout q) → bytes-in F r ≡ bytes-in F q → r ≡ q
 
 -- A record's length is the one of the table.
 abbrev pub Has-the-length-of : {R : Type 0} → Format R → (R → ℕ) → Type 0

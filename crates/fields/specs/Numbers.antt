@@ -1,13 +1,8 @@
 -- Document 01, "Trace and answer records": "numbers after it are little-endian".
-use mathlib.Core.Bool.{Bool, true, false}
+use mathlib.Core.Bool.{Bool, cond}
 use mathlib.Core.List.{List, [], _∷_, _++_}
 use Prim.Native.Nat.{ℕ, zero, suc, _+_, _*_, _/_, _%_, _<_, _^_}
 use lib.ListN.{getD, drop}
-
--- The first of two answers if the test holds, else the second.
-abbrev pub pick : {A : Type 0} → Bool → A → A → A
-pick true a b = a
-pick false a b = b
 
 -- The number v in w bytes, the low byte first.
 unfoldable pub little : ℕ → ℕ → List ℕ
@@ -29,10 +24,10 @@ unfoldable pub get-fields : List ℕ → List ℕ → ℕ → List ℕ
 get-fields [] bs at = []
 get-fields (w ∷ ws) bs at = number w bs at ∷ get-fields ws bs (at + w)
 
--- All the widths together.
+-- All of some numbers together.
 unfoldable pub sum : List ℕ → ℕ
 sum [] = 0
-sum (w ∷ ws) = w + sum ws
+sum (x ∷ xs) = x + sum xs
 
 -- Each number fits its width, and there are as many numbers as widths.
 unfoldable pub Fit : List ℕ → List ℕ → Type 0

@@ -5,8 +5,8 @@ pub mod read; // read.rt: the marks and the numbers of a record, read from bytes
 ghost use mathlib.Core.Path.{_≡_};
 ghost use mathlib.Core.List.{_∷_, []};
 ghost use Prim.Native.Nat.{_+_, _<_, _≤_};
-ghost use lib.ListN.{getD, take, replicate};
-ghost use Rattle.fields.specs.Formats.{length-after, room-after};
+ghost use lib.ListN.{length, getD, take, replicate};
+ghost use Rattle.fields.specs.Formats.{fitting, over};
 ghost use Rattle.fields.specs.Drafts.{longest, held, Holds, Adds, Adds-all};
 
 // The bytes of the longest record of any format, a link of eight levels.
@@ -87,7 +87,7 @@ impl Draft {
     // The bytes into the room lent, if they fit; their number, or 0.
     pub fn into_room(self, room: &mut [u8]) -> usize
         requires { ⌜ self .len ≤ longest ⌝ }
-        ensures { λ r. ⌜ (r ≡ length-after (held self) (now (room .entry))) × (now (room .exit) ≡ room-after (held self) (now (room .entry))) ⌝ }
+        ensures { λ r. ⌜ (r ≡ length (fitting (held self) (now (room .entry)))) × (now (room .exit) ≡ over (fitting (held self) (now (room .entry))) (now (room .entry))) ⌝ }
     {
         let n = self.len;
         if room.len() < n {

@@ -1,7 +1,8 @@
 // The marks and the numbers of a record, read from bytes. A byte past the end counts as 0, so that a cut record needs one test of its length.
 ghost use mathlib.Core.Path.{_≡_};
+ghost use mathlib.Core.Bool.{cond};
 ghost use Prim.Native.Nat.{_<_};
-ghost use Rattle.fields.specs.Numbers.{pick, number};
+ghost use Rattle.fields.specs.Numbers.{number};
 ghost use Rattle.fields.specs.Formats.{starts};
 
 // The byte at a place.
@@ -36,7 +37,7 @@ pub fn four(s: &[u8], at: usize) -> u32
 
 // The mark that the bytes start with, as a number, its first letter low, where it is the one handed in; else the number handed in.
 pub fn known(s: &[u8], mark: [u8; 2], otherwise: u16) -> u16
-    ensures { λ r. ⌜ r ≡ pick (starts mark (now (s .entry))) (number 2 mark 0) otherwise ⌝ }
+    ensures { λ r. ⌜ r ≡ cond (starts mark (now (s .entry))) (number 2 mark 0) otherwise ⌝ }
 {
     if one(s, 0) != mark[0] {
         return otherwise;

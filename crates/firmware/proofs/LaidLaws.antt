@@ -1,4 +1,4 @@
--- The table that the rows are laid out in: what is read of it, and a row more. Assumes nothing.
+-- The table that the rows are laid out in: what is read of it, and a row more.
 use Prim.Native.Nat.{ℕ, zero, suc, _+_, _≤_, _<_}
 use native.Mathlib.Omega.{arith}
 use native.Mathlib.Numerals.{add-one}
@@ -8,9 +8,9 @@ use lib.ListN.{length, replicate, length-append}
 use Rattle.rules.specs.declared.Connection.{Connection}
 use Rattle.rules.specs.Limits.{max-connections}
 use Rattle.rules.specs.Model.{no-past, nth}
-use Rattle.lines.specs.Members.{members-length, members, connections, pasts, written-members}
-use Rattle.lines.proofs.MemberLaws.{connections-length}
-use Rattle.lines.proofs.WrittenLaws.{connections-back, pasts-back, members-formed-back, members-long}
+use Rattle.connections.specs.Members.{members-length, members-in, connections-in, pasts-in, written-members}
+use Rattle.connections.proofs.MemberLaws.{connections-length}
+use Rattle.connections.proofs.WrittenLaws.{connections-back, pasts-back, members-formed-back, members-long}
 use Rattle.firmware.specs.Questions.{row-asked, first-rows}
 use Rattle.firmware.specs.Laid.{no-pasts, laid-out}
 use Rattle.firmware.proofs.AskedLaws.{length-first, nth-first}
@@ -37,13 +37,13 @@ module _ (rows : List ℕ) (n : ℕ) (few : n ≤ max-connections) (sized : (i :
   fit : length (first-rows n rows) ≤ max-connections
   fit = omega (arith, length-first rows n)
 
-  pub connections-laid : connections t ≡ first-rows n rows
-  connections-laid = ap connections e ∙ connections-back (first-rows n rows) (no-pasts n) each-past used fit
+  pub connections-laid : connections-in t ≡ first-rows n rows
+  connections-laid = ap connections-in e ∙ connections-back (first-rows n rows) (no-pasts n) each-past used fit
 
-  pasts-laid : pasts t ≡ no-pasts n
-  pasts-laid = ap pasts e ∙ pasts-back (first-rows n rows) (no-pasts n) each-past used fit
+  pasts-laid : pasts-in t ≡ no-pasts n
+  pasts-laid = ap pasts-in e ∙ pasts-back (first-rows n rows) (no-pasts n) each-past used fit
 
-  pub count-laid : n ≡ length (members t)
+  pub count-laid : n ≡ length (members-in t)
   count-laid = sym (length-first rows n) ∙ ap (λ (xs : List Connection). length xs) (sym connections-laid) ∙ connections-length t
 
   pub length-laid : length t ≡ members-length
@@ -51,10 +51,10 @@ module _ (rows : List ℕ) (n : ℕ) (few : n ≤ max-connections) (sized : (i :
       ap (λ (u : List ℕ). length u) e
       ∙ members-long (laid-out n rows) (members-formed-back (first-rows n rows) (no-pasts n) each-past used fit)
 
-  pub written-laid : t ≡ written-members (connections t) (pasts t)
+  pub written-laid : t ≡ written-members (connections-in t) (pasts-in t)
   written-laid = e ∙ rw (connections-laid, pasts-laid)
 
   -- with row n behind the others
   pub next-laid : (x : Connection) → x ≡ row-asked rows n
-      → written-members (connections t ++ x ∷ []) (pasts t ++ no-past ∷ []) ≡ laid-out (n + 1) rows
+      → written-members (connections-in t ++ x ∷ []) (pasts-in t ++ no-past ∷ []) ≡ laid-out (n + 1) rows
   next-laid x k = rw (connections-laid, pasts-laid, k, add-one n)

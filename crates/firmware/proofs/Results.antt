@@ -1,4 +1,4 @@
--- THE PROOFS of the statements in specs/Promises, each under its name in small letters. Assumes nothing.
+-- THE PROOFS of the statements in specs/Promises, each under its name in small letters.
 use Prim.Native.Nat.{ℕ, _+_, _<_}
 use native.Mathlib.Omega.{arith}
 use mathlib.Core.Path.{_≡_, refl, sym, ap, _∙_, subst}
@@ -13,7 +13,8 @@ use Rattle.rules.specs.declared.Link.{Link}
 use Rattle.rules.specs.declared.Connection.{Connection}
 use Rattle.rules.specs.Words.{within}
 use Rattle.rules.specs.Limits.{max-levels, max-connections}
-use Rattle.rules.specs.Model.{State, admit, offer, Short, no-short, Answer, no-connection, nth, past, figures}
+use Rattle.rules.specs.declared.Short.{Short}
+use Rattle.rules.specs.Model.{State, admit, offer, no-short, Answer, no-connection, nth, past, figures}
 use Rattle.rules.specs.Admission.{link-within, level-within, figures-within, cost, level-sum, level-test, passes}
 use Rattle.rules.specs.Service.{next-eligibility}
 use Rattle.rules.specs.SoundState.{Sound}
@@ -27,11 +28,10 @@ use Rattle.rules.proofs.Verdicts.{settled}
 use Rattle.rules.proofs.Figures.{link-facts}
 use Rattle.rules.proofs.SoundExact.{exact}
 use Rattle.rules.proofs.Results.{answer-verdict, level-test-tells, short-is-told}
-use Rattle.firmware.specs.Questions.{next-asked, link-asked, rows-asked, row-asked, all-rows, row-within}
-use Rattle.firmware.specs.Questions.{testable, well-asked, short-asked, short-level, short-units}
+use Rattle.firmware.specs.Questions.{next-asked, link-asked, rows-asked, row-asked, all-rows, testable, well-asked, short-asked}
 use Rattle.firmware.specs.Promises.{Same-eligibility-as-an-offer, Refused-exactly, Holds-exactly, No-units-exactly}
 use Rattle.firmware.specs.Promises.{Names-the-lowest, No-rows-hold, Same-test-as-an-admission}
-use Rattle.firmware.proofs.AskedLaws.{length-first, nth-first, Asked, asked, refuses, answers, is-level}
+use Rattle.firmware.proofs.AskedLaws.{row-ok, length-first, nth-first, Asked, asked, refuses, answers, is-level}
 
 -- ---- (a)
 
@@ -52,9 +52,9 @@ same-eligibility-as-an-offer s c len tag flag e =
 
 module _ (lk rows : List ℕ) (e : well-asked lk rows ≡ true) where
   -- what the rules say of the level test, said of the answer
-  tells : (short-level lk rows ≡ 0 ↔ No-level-fails (link-asked lk) (all-rows rows))
-      × (short-units lk rows ≡ 0 ↔ No-level-fails (link-asked lk) (all-rows rows))
-      × ((short-level lk rows ≡ 0 → ⊥) → R.Names-the-lowest (link-asked lk) (all-rows rows) (short-asked lk rows))
+  tells : (short-asked lk rows .level ≡ 0 ↔ No-level-fails (link-asked lk) (all-rows rows))
+      × (short-asked lk rows .units ≡ 0 ↔ No-level-fails (link-asked lk) (all-rows rows))
+      × ((short-asked lk rows .level ≡ 0 → ⊥) → R.Names-the-lowest (link-asked lk) (all-rows rows) (short-asked lk rows))
   tells =
       subst
       (λ (t : Short). (t .level ≡ 0 ↔ No-level-fails (link-asked lk) (all-rows rows))
@@ -74,7 +74,7 @@ holds-exactly lk rows e = tells lk rows e .0
 pub no-units-exactly : No-units-exactly
 no-units-exactly lk rows = (λ u e. tells lk rows e .1 .0 u, go (well-asked lk rows) refl)
   where
-    go : (b : Bool) → well-asked lk rows ≡ b → (well-asked lk rows ≡ true → No-level-fails (link-asked lk) (all-rows rows)) → short-units lk rows ≡ 0
+    go : (b : Bool) → well-asked lk rows ≡ b → (well-asked lk rows ≡ true → No-level-fails (link-asked lk) (all-rows rows)) → short-asked lk rows .units ≡ 0
     go true e h = tells lk rows e .1 .1 (h e)
     go false e h = ap (λ (t : Short). t .units) (refuses lk rows e)
 
@@ -130,7 +130,7 @@ module _ (lk rows : List ℕ) (s : State) (x : Connection) (same-rows : all-rows
 
   newcomer-in : (level-within (link-asked lk) x ≡ true) × (figures-within (link-asked lk) x ≡ true)
   newcomer-in =
-      let r = every-true (rows-asked rows) (row-within (link-asked lk) rows) (A .rows-in) (length (s .connections)) (omega (arith, count)) in
+      let r = every-true (rows-asked rows) (row-ok (link-asked lk) rows) (A .rows-in) (length (s .connections)) (omega (arith, count)) in
       and-true (level-within (link-asked lk) x) (figures-within (link-asked lk) x)
       (subst (λ (y : Connection). (level-within (link-asked lk) y && figures-within (link-asked lk) y) ≡ true) newcomer r)
 
@@ -149,24 +149,24 @@ module _ (lk rows : List ℕ) (s : State) (x : Connection) (S : Sound s) (same-l
   same-test : short-asked lk rows ≡ level-test (s .link) (s .connections ++ x ∷ [])
   same-test = answers lk rows e ∙ rw (same-link, same-rows)
 
-  passed : short-level lk rows ≡ 0 → passes (s .link) (s .connections ++ x ∷ []) ≡ true
+  passed : short-asked lk rows .level ≡ 0 → passes (s .link) (s .connections ++ x ∷ []) ≡ true
   passed z = eq-eqb _ 0 (ap (λ (t : Short). t .level) (sym same-test) ∙ z)
 
-  fails : (short-level lk rows ≡ 0 → ⊥) → passes (s .link) (s .connections ++ x ∷ []) ≡ false
+  fails : (short-asked lk rows .level ≡ 0 → ⊥) → passes (s .link) (s .connections ++ x ∷ []) ≡ false
   fails n = ne-eqb _ 0 (λ z. n (ap (λ (t : Short). t .level) same-test ∙ z))
 
-  eight-if : answer (admit x) s .verdict ≡ 8 ↔ (short-level lk rows ≡ 0 → ⊥)
+  eight-if : answer (admit x) s .verdict ≡ 8 ↔ (short-asked lk rows .level ≡ 0 → ⊥)
   eight-if = (
     λ v z. not-eight s x (passed z) (sym (answer-verdict (admit x) s) ∙ v),
     λ n. answer-verdict (admit x) s ∙ gets-eight lk rows s x same-rows (asked (link-asked lk) rows e) S same-link (fails n),
   )
 
-  none : short-level lk rows ≡ 0 → no-short ≡ short-asked lk rows
+  none : short-asked lk rows .level ≡ 0 → no-short ≡ short-asked lk rows
   none z = let u = tells lk rows e .1 .1 (tells lk rows e .0 .0 z) in sym (rw (z, u))
 
-  same-short : (short-level lk rows ≡ 0) ⊎ (short-level lk rows ≡ 0 → ⊥) → answer (admit x) s .short ≡ short-asked lk rows
+  same-short : (short-asked lk rows .level ≡ 0) ⊎ (short-asked lk rows .level ≡ 0 → ⊥) → answer (admit x) s .short ≡ short-asked lk rows
   same-short (inl z) = short-is-told (admit x) s .0 (λ v. eight-if .0 v z) ∙ none z
   same-short (inr n) = short-is-told (admit x) s .1 x refl (eight-if .1 n) .0 ∙ sym same-test
 
 pub same-test-as-an-admission : Same-test-as-an-admission
-same-test-as-an-admission lk rows s x S l r e = (eight-if lk rows s x S l r e, same-short lk rows s x S l r e (same (short-level lk rows) 0))
+same-test-as-an-admission lk rows s x S l r e = (eight-if lk rows s x S l r e, same-short lk rows s x S l r e (same (short-asked lk rows .level) 0))

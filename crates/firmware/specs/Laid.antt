@@ -1,9 +1,9 @@
--- The table of connections that the code lays the rows out in, so that the hub's own level test reads them. Assumes nothing.
+-- The table of connections that the code lays the rows out in, so that the hub's own level test reads them.
 use Prim.Native.Nat.{ℕ, zero, suc}
 use mathlib.Core.List.{List, [], _∷_, _++_}
 use Rattle.rules.specs.declared.Past.{Past}
 use Rattle.rules.specs.Model.{no-past}
-use Rattle.lines.specs.Members.{written-members}
+use Rattle.connections.specs.Members.{written-members}
 use Rattle.firmware.specs.Questions.{first-rows}
 
 -- of n connections no packet was accepted yet

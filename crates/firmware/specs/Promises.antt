@@ -1,5 +1,4 @@
 -- THE STATEMENTS of the questions, apart from their proofs: each is proved in proofs/Results under the same name in small letters.
--- Assumes nothing.
 use Prim.Native.Nat.{ℕ}
 use mathlib.Core.Path.{_≡_}
 use mathlib.Core.Bool.{true, not}
@@ -13,7 +12,7 @@ use Rattle.rules.specs.SoundState.{Sound}
 use Rattle.rules.specs.Calls.{answer}
 use Rattle.rules.specs.Promises as R
 use Rattle.rules.specs.Promises.{No-level-fails}
-use Rattle.firmware.specs.Questions.{next-asked, link-asked, all-rows, well-asked, not-well-asked, short-level, short-units}
+use Rattle.firmware.specs.Questions.{next-asked, link-asked, all-rows, well-asked, short-asked}
 
 -- ---- (a) is the eligibility that the hub gives
 
@@ -29,26 +28,26 @@ Same-eligibility-as-an-offer =
 
 -- 255 exactly where the question is not well asked: no level has that number
 abbrev pub Refused-exactly : Type 0
-Refused-exactly = (lk rows : List ℕ) → short-level lk rows ≡ not-well-asked .level ↔ (well-asked lk rows ≡ true → ⊥)
+Refused-exactly = (lk rows : List ℕ) → short-asked lk rows .level ≡ 255 ↔ (well-asked lk rows ≡ true → ⊥)
 
 -- 0 exactly where every level's sum is at most its bound
 abbrev pub Holds-exactly : Type 0
-Holds-exactly = (lk rows : List ℕ) → well-asked lk rows ≡ true → short-level lk rows ≡ 0 ↔ No-level-fails (link-asked lk) (all-rows rows)
+Holds-exactly = (lk rows : List ℕ) → well-asked lk rows ≡ true → short-asked lk rows .level ≡ 0 ↔ No-level-fails (link-asked lk) (all-rows rows)
 
 -- the units are 0 exactly where no level fails or the question is not well asked (document 02, R-2)
 abbrev pub No-units-exactly : Type 0
-No-units-exactly = (lk rows : List ℕ) → short-units lk rows ≡ 0 ↔ (well-asked lk rows ≡ true → No-level-fails (link-asked lk) (all-rows rows))
+No-units-exactly = (lk rows : List ℕ) → short-asked lk rows .units ≡ 0 ↔ (well-asked lk rows ≡ true → No-level-fails (link-asked lk) (all-rows rows))
 
 -- else the level is the lowest whose sum is above its bound, and the units are that level's sum less its bound
 abbrev pub Names-the-lowest : Type 0
 Names-the-lowest =
     (lk rows : List ℕ) → well-asked lk rows ≡ true
-    → (short-level lk rows ≡ 0 → ⊥)
-    → R.Names-the-lowest (link-asked lk) (all-rows rows) (record { level = short-level lk rows; units = short-units lk rows })
+    → (short-asked lk rows .level ≡ 0 → ⊥)
+    → R.Names-the-lowest (link-asked lk) (all-rows rows) (short-asked lk rows)
 
 -- a good `LK` and no rows: nothing is short
 abbrev pub No-rows-hold : Type 0
-No-rows-hold = (lk : List ℕ) → link-within (link-asked lk) ≡ true → (short-level lk [] ≡ 0) × (short-units lk [] ≡ 0)
+No-rows-hold = (lk : List ℕ) → link-within (link-asked lk) ≡ true → (short-asked lk [] .level ≡ 0) × (short-asked lk [] .units ≡ 0)
 
 -- ---- (b) is the question that an admission asks
 
@@ -61,5 +60,5 @@ Same-test-as-an-admission =
     → link-asked lk ≡ s .link
     → all-rows rows ≡ s .connections ++ x ∷ []
     → well-asked lk rows ≡ true
-    → (answer (admit x) s .verdict ≡ 8 ↔ (short-level lk rows ≡ 0 → ⊥))
-    × (answer (admit x) s .short ≡ record { level = short-level lk rows; units = short-units lk rows })
+    → (answer (admit x) s .verdict ≡ 8 ↔ (short-asked lk rows .level ≡ 0 → ⊥))
+    × (answer (admit x) s .short ≡ short-asked lk rows)

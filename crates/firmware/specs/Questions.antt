@@ -1,19 +1,23 @@
--- THE QUESTIONS, answered by the rules' own definitions. Document 01, "Two questions from C firmware"; document 02, R-2. Assumes nothing.
+-- THE QUESTIONS, answered by the rules' own definitions. Document 01, "Two questions from C firmware"; document 02, R-2.
 use Prim.Native.Nat.{ℕ, zero, suc, _*_, _/_}
 use mathlib.Core.Bool.{Bool, cond, not, _&&_}
 use mathlib.Core.List.{List, [], _∷_, _++_}
 use lib.Dec.{eqb, leb}
-use lib.ListN.{length, take, drop}
+use lib.ListN.{length, getD}
 use Rattle.rules.specs.declared.Link.{Link}
 use Rattle.rules.specs.declared.Connection.{Connection}
 use Rattle.rules.specs.Words.{every}
 use Rattle.rules.specs.Limits.{max-connections}
-use Rattle.rules.specs.Model.{Short, no-link}
-use Rattle.rules.specs.Admission.{link-within, level-within, figures-within, level-test}
+use Rattle.rules.specs.declared.Short.{Short}
+use Rattle.rules.specs.Model.{no-link}
+use Rattle.rules.specs.Admission.{link-within, level-test}
+use Rattle.rules.specs.SoundTest.{connection-sound}
 use Rattle.rules.specs.Service.{next-eligibility}
-use Rattle.traces.specs.Kinds.{CN}
+use Rattle.fields.specs.Numbers.{get-fields}
+use Rattle.fields.specs.Formats.{starts}
+use Rattle.traces.specs.Kinds.{LK, CN}
 use Rattle.traces.specs.Trace.{read-trace}
-use Rattle.named.specs.Named.{link-of, connection-of}
+use Rattle.named.specs.Named.{link-named, connection-named}
 
 -- ---- (a)
 
@@ -27,7 +31,7 @@ next-asked flag last gap now = next-eligibility (record { level = 0; gap = gap; 
 -- "one whole `LK` record": the link that it names. No link, which is within no limits, where the bytes are malformed, of another kind, or more
 -- than the record
 unfoldable pub link-asked : List ℕ → Link
-link-asked lk = cond (eqb (read-trace lk .taken) (length lk)) (link-of (read-trace lk .what)) no-link
+link-asked lk = cond (starts (LK .mark) lk && eqb (read-trace lk .taken) (length lk)) (link-named (get-fields (LK .widths (getD lk 2 0)) lk 2)) no-link
 
 -- "a table of 5-byte rows laid out as in `CN` after its mark": how many, row i, and the connections of the first n
 abbrev pub row-bytes : ℕ
@@ -37,7 +41,7 @@ abbrev pub rows-asked : List ℕ → ℕ
 rows-asked rows = length rows / row-bytes
 
 unfoldable pub row-asked : List ℕ → ℕ → Connection
-row-asked rows i = connection-of (read-trace (CN .mark ++ take row-bytes (drop (row-bytes * i) rows)) .what)
+row-asked rows i = connection-named (get-fields (CN .widths 0) rows (row-bytes * i))
 
 abbrev pub first-rows : ℕ → List ℕ → List Connection
 first-rows zero rows = []
@@ -46,33 +50,18 @@ first-rows (suc n) rows = first-rows n rows ++ row-asked rows n ∷ []
 abbrev pub all-rows : List ℕ → List Connection
 all-rows rows = first-rows (rows-asked rows) rows
 
--- "a .. connection limit": level 1 to n, gap and size within theirs
-abbrev pub row-within : Link → List ℕ → ℕ → Bool
-row-within l rows i = level-within l (row-asked rows i) && figures-within l (row-asked rows i)
-
 -- no "length doesn't fit, .. a link or connection limit is broken or there are more than 64 rows"
 unfoldable pub testable : Link → List ℕ → Bool
 testable l rows =
     link-within l
     && (eqb (length rows) (row-bytes * rows-asked rows)
-    && (leb (rows-asked rows) max-connections && every (rows-asked rows) (row-within l rows)))
+    && (leb (rows-asked rows) max-connections && every (rows-asked rows) (λ i. connection-sound l (row-asked rows i))))
 
 -- .. nor are "the bytes malformed": they name no link then
 abbrev pub well-asked : List ℕ → List ℕ → Bool
 well-asked lk rows = testable (link-asked lk) rows
 
--- "255 if" it is not: no level has that number, and no units go with it
-abbrev pub not-well-asked : Short
-not-well-asked = record { level = 255; units = 0 }
-
--- what the level test says of the link and all rows
+-- what the level test says of the link and all rows: level "0 if all level tests hold, else the lowest failing level", and, R-2, the units by which that level is
+-- over, 0 unless one fails; "255 if" the question is not well asked: no level has that number, and no units go with it
 unfoldable pub short-asked : List ℕ → List ℕ → Short
-short-asked lk rows = cond (well-asked lk rows) (level-test (link-asked lk) (all-rows rows)) not-well-asked
-
--- "0 if all level tests hold, else the lowest failing level, or 255"
-abbrev pub short-level : List ℕ → List ℕ → ℕ
-short-level lk rows = short-asked lk rows .level
-
--- R-2: the units by which that level is over, 0 unless one fails
-abbrev pub short-units : List ℕ → List ℕ → ℕ
-short-units lk rows = short-asked lk rows .units
+short-asked lk rows = cond (well-asked lk rows) (level-test (link-asked lk) (all-rows rows)) (record { level = 255; units = 0 })

@@ -6,15 +6,17 @@ ghost use lib.ListN.{length};
 ghost use Rattle.rules.specs.Words.{every};
 ghost use Rattle.rules.specs.Limits.{max-connections};
 ghost use Rattle.rules.specs.Admission.{link-within, level-test};
-ghost use Rattle.lines.specs.Within.{short-of};
-ghost use Rattle.firmware.specs.Questions.{next-asked, link-asked, row-bytes, row-asked, first-rows, row-within, testable};
-ghost use Rattle.firmware.specs.Questions.{short-asked, short-level, short-units};
+ghost use Rattle.rules.specs.SoundTest.{connection-sound};
+ghost use Rattle.firmware.specs.Questions.{next-asked, link-asked, row-bytes, row-asked, first-rows, testable, short-asked};
 ghost use Rattle.firmware.specs.Laid.{laid-out};
+use fields::read::one;
+use fields::read::two;
 use limits::MAX_CONNECTIONS;
 use limits::MEMBERS;
-use lines::Shortage;
 use rules::Connection;
 use rules::Link;
+use rules::Short;
+use traces::Record;
 
 // The bytes of a row.
 const ROW: usize = 5;
@@ -27,7 +29,7 @@ const NOT_WELL_ASKED: u32 = 255;
 pub extern "C" fn mtredovim_next_eligibility(flag: u32, last: u32, gap: u32, now: u32) -> u64
     ensures { λ r. ⌜ r ≡ next-asked flag last gap now ⌝ }
 {
-    lines::next_eligibility(flag, last, gap, now)
+    connections::next_eligibility(flag, last, gap, now)
 }
 
 // The link that the bytes of one whole `LK` name.
@@ -39,34 +41,39 @@ fn link_asked(lk: &[u8]) -> Link
         return named::no_link();
     }
     let what = found.what;
-    named::link_of(what)
+    let Record::Link {
+        levels,
+        largest,
+        silence,
+        d1,
+        d2,
+        d3,
+        d4,
+        d5,
+        d6,
+        d7,
+        d8,
+    } = what
+    else {
+        return named::no_link();
+    };
+    named::link_named(levels, largest, silence, d1, d2, d3, d4, d5, d6, d7, d8)
 }
 
-// The connection of row i: its bytes are read as the hub reads a `CN`.
+// The connection of row i: its bytes lie as those of a `CN` behind its mark.
 fn row_asked(rows: &[u8], i: usize) -> Connection
     requires { ⌜ row-bytes * i + row-bytes ≤ length (now rows) ⌝ }
     ensures { λ r. ⌜ r ≡ row-asked (now (rows .entry)) i ⌝ }
 {
     let at = ROW * i;
-    let mark = b"CN";
-    let admit = [
-        mark[0],
-        mark[1],
-        rows[at],
-        rows[at + 1],
-        rows[at + 2],
-        rows[at + 3],
-        rows[at + 4],
-    ];
-    let found = traces::read(&admit);
-    let what = found.what;
-    named::connection_of(what)
+    let row = &rows[at..];
+    named::connection_named(one(row, 0), two(row, 1), two(row, 3))
 }
 
 // The first n rows are within the limits of connections.
 fn rows_ok(l: Link, rows: &[u8], n: usize) -> bool
     requires { ⌜ row-bytes * n ≤ length (now rows) ⌝ }
-    ensures { λ r. ⌜ r ≡ every n (row-within l (now (rows .entry))) ⌝ }
+    ensures { λ r. ⌜ r ≡ every n (λ i. connection-sound l (row-asked (now (rows .entry)) i)) ⌝ }
 {
     let mut i: usize = 0;
     while i < n {
@@ -80,26 +87,26 @@ fn rows_ok(l: Link, rows: &[u8], n: usize) -> bool
 }
 
 // The connections of the first n rows, put into an empty table.
-fn lay_out(rows: &[u8], n: usize, cs: &mut [u32])
-    requires { ⌜ (n ≤ max-connections) × (row-bytes * n ≤ length (now rows)) × ((i : ℕ) → i < n → 1 ≤ row-asked (now rows) i .size) × (now cs ≡ laid-out 0 (now rows)) ⌝ }
-    ensures { λ r. ⌜ now (cs .exit) ≡ laid-out n (now (rows .entry)) ⌝ }
+fn lay_out(rows: &[u8], n: usize, members: &mut [u32])
+    requires { ⌜ (n ≤ max-connections) × (row-bytes * n ≤ length (now rows)) × ((i : ℕ) → i < n → 1 ≤ row-asked (now rows) i .size) × (now members ≡ laid-out 0 (now rows)) ⌝ }
+    ensures { λ r. ⌜ now (members .exit) ≡ laid-out n (now (rows .entry)) ⌝ }
 {
     let mut i: usize = 0;
     while i < n {
         let x = row_asked(rows, i);
-        lines::add_member(cs, i, x);
+        connections::add_member(members, i, x);
         i += 1;
     }
 }
 
 // The level test over the first n rows.
-fn short_over(l: Link, rows: &[u8], n: usize) -> Shortage
-    requires { ⌜ (link-within l ≡ true) × (n ≤ max-connections) × (row-bytes * n ≤ length (now rows)) × (every n (row-within l (now rows)) ≡ true) ⌝ }
-    ensures { λ r. ⌜ short-of r ≡ level-test l (first-rows n (now (rows .entry))) ⌝ }
+fn short_over(l: Link, rows: &[u8], n: usize) -> Short
+    requires { ⌜ (link-within l ≡ true) × (n ≤ max-connections) × (row-bytes * n ≤ length (now rows)) × (every n (λ i. connection-sound l (row-asked (now rows) i)) ≡ true) ⌝ }
+    ensures { λ r. ⌜ r ≡ level-test l (first-rows n (now (rows .entry))) ⌝ }
 {
-    let mut cs = [0u32; MEMBERS];
-    lay_out(rows, n, &mut cs);
-    lines::standing_test(l, &cs, n)
+    let mut members = [0u32; MEMBERS];
+    lay_out(rows, n, &mut members);
+    connections::standing_test(l, &members, n)
 }
 
 // The link and all rows are within their limits.
@@ -120,12 +127,12 @@ fn testable(l: Link, rows: &[u8]) -> bool
 }
 
 // The level test, from one whole `LK` and a table of rows.
-fn short_asked(lk: &[u8], rows: &[u8]) -> Shortage
-    ensures { λ r. ⌜ short-of r ≡ short-asked (now (lk .entry)) (now (rows .entry)) ⌝ }
+fn short_asked(lk: &[u8], rows: &[u8]) -> Short
+    ensures { λ r. ⌜ r ≡ short-asked (now (lk .entry)) (now (rows .entry)) ⌝ }
 {
     let l = link_asked(lk);
     if !testable(l, rows) {
-        return Shortage {
+        return Short {
             level: NOT_WELL_ASKED,
             units: 0,
         };
@@ -136,7 +143,7 @@ fn short_asked(lk: &[u8], rows: &[u8]) -> Shortage
 // The level-test answer: 0 where every level holds, else the lowest that does not, or 255.
 #[no_mangle]
 pub extern "C" fn mtredovim_short_level(lk: &[u8], rows: &[u8]) -> u8
-    ensures { λ r. ⌜ r ≡ short-level (now (lk .entry)) (now (rows .entry)) ⌝ }
+    ensures { λ r. ⌜ r ≡ short-asked (now (lk .entry)) (now (rows .entry)) .level ⌝ }
 {
     let short = short_asked(lk, rows);
     short.level as u8
@@ -145,7 +152,7 @@ pub extern "C" fn mtredovim_short_level(lk: &[u8], rows: &[u8]) -> u8
 // The units by which that level is over; 0 unless one fails.
 #[no_mangle]
 pub extern "C" fn mtredovim_short_units(lk: &[u8], rows: &[u8]) -> u64
-    ensures { λ r. ⌜ r ≡ short-units (now (lk .entry)) (now (rows .entry)) ⌝ }
+    ensures { λ r. ⌜ r ≡ short-asked (now (lk .entry)) (now (rows .entry)) .units ⌝ }
 {
     let over = short_asked(lk, rows);
     over.units

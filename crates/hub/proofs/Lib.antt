@@ -1,2 +1,1 @@
-pub mod DoesLaws
 pub mod Results

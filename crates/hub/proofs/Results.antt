@@ -1,4 +1,4 @@
--- THE PROOFS of the statements in specs/Promises, each under its name in small letters. Assumes nothing.
+-- THE PROOFS of the statements in specs/Promises, each under its name in small letters.
 use Prim.Native.Nat.{ℕ, zero, suc, _+_, _≤_, _<_}
 use native.Mathlib.Omega.{arith}
 use mathlib.Core.Path.{_≡_, refl, sym, ap, _∙_, subst, transport}
@@ -21,91 +21,65 @@ use Rattle.rules.specs.Calls.{verdict, done, refused-number, answer}
 use Rattle.rules.specs.Runs.{Departure, History, taken, leaving, after, run-from, nothing-yet, run, departures, in-hub, bound-of, allowed, offer-tick, offer-ticks-from, offer-ticks, Keeps-its-gap, Exchange, exchange, exchanges-from, exchanges, own-answer}
 use Rattle.rules.specs.Promises.{Kept-promise}
 use Rattle.rules.proofs.Sums.{cond-is}
-use Rattle.rules.proofs.Tests.{and-intro}
 use Rattle.rules.proofs.Verdicts.{settled}
-use Rattle.rules.proofs.SoundExact.{exact}
 use Rattle.rules.proofs.SoundKept.{kept}
 use Rattle.rules.proofs.Every.{fresh-invariant}
 use Rattle.rules.proofs.Alone.{asks}
 use Rattle.rules.proofs.Results.{demand-1-refusals, verdict-1-exactly, runs-are-sound, conservation, demand-3-first, demand-3-second, told-by-its-own, bed-nine-and-bed-ten, counted}
-use Rattle.tables.specs.Table.{formed}
-use Rattle.tables.specs.Places.{places, places-length, packet-width, table-of}
-use Rattle.tables.specs.Notices.{notices-formed}
-use Rattle.tables.proofs.NoticeLaws.{written-formed}
-use Rattle.lines.specs.Members.{members-formed, written-members}
-use Rattle.lines.proofs.WrittenLaws.{writable, read-written, members-formed-back, places-formed-back}
-use Rattle.sound.specs.SoundTables.{places-formed, sound-tables}
-use Rattle.service.specs.declared.Told.{Told}
-use Rattle.service.specs.Candidates.{is-some, packet-or-unused}
-use Rattle.service.specs.View.{view, hub-of, told-of, refusal}
-use Rattle.calls.specs.Acts.{sound-hub, members-of, places-of, notices-of}
-use Rattle.calls.proofs.ActLaws.{is-sound, members-kept, places-kept, notices-kept}
-use Rattle.hub.specs.Does.{tells, leaves-members, leaves-places, leaves-notices, Does}
+use Rattle.tables.specs.Places.{written-places, table-of}
+use Rattle.connections.specs.Members.{written-members}
+use Rattle.state.specs.declared.Told.{Told}
+use Rattle.state.specs.View.{Tables, view, hub-of, written, sound-hub}
+use Rattle.state.specs.Told.{is-some, packet-or-unused, told-of, refusal}
+use Rattle.state.specs.Does.{tells, leaves, Does}
+use Rattle.state.proofs.WrittenLaws.{writable, read-written, written-sound}
+use Rattle.state.proofs.SoundLaws.{is-sound, tables-kept}
+use Rattle.state.proofs.DoesLaws.{told-as, left-as}
 use Rattle.hub.specs.Sequence.{Notes, brought, went, call, calls-from, blank, calls, state-of, notes-of, seen-ticks-from, seen-ticks, Seen-to-keep-its-gap, heard, heard-from, all-heard}
 use Rattle.hub.specs.Promises.{One-outcome, Written-reads-back, Sound-is-written, Demand-1-of-the-code, Verdict-1-of-the-code, Sound-is-kept-by-the-code, Follows-the-rules, Conservation-of-the-code, Noted-by, Demand-3-first-of-the-code, Kept-by-the-code, Demand-3-second-of-the-code, Told-by-its-own-of-the-code, Bed-nine-and-bed-ten-of-the-code, Counted-of-the-code}
 
 -- ---- one outcome
 
 pub one-outcome : One-outcome
-one-outcome k h cs t q r r′ ds ds′ u u′ v v′ D E = record {
-  answer = D .answers ∙ sym (E .answers);
-  connections = D .connections ∙ sym (E .connections);
-  table = D .table ∙ sym (E .table);
-  queue = D .queue ∙ sym (E .queue);
-}
+one-outcome k h t r r′ u u′ D E = (D .answers ∙ sym (E .answers), D .tables ∙ sym (E .tables))
 
 -- ---- reading and writing
 
 pub written-reads-back : Written-reads-back
-unfolding sound-hub sound-tables places-formed
-written-reads-back s S =
-    let w = writable s S in
-    let e : view (hub-of s) (members-of s) (places-of s) (notices-of s) ≡ s = read-written s w in (
-      e,
-      and-intro (formed packet-width places-length (places-of s)) _ (places-formed-back s w)
-          (and-intro (members-formed (members-of s)) _ (members-formed-back (s .connections) (s .pasts) (w .each-past) (w .used) (w .few))
-          (and-intro (notices-formed (notices-of s)) (sound (view (hub-of s) (members-of s) (places-of s) (notices-of s))) (written-formed (s .notices) (w .said) (w .few-said))
-          (ap sound e ∙ exact s .1 S))),
-    )
+written-reads-back s S = (read-written s (writable s S), written-sound s S)
 
 pub sound-is-written : Sound-is-written
-sound-is-written h cs t q ok = (is-sound h cs t q ok, members-kept h cs t q ok, places-kept h cs t q ok, notices-kept h cs t q ok)
+sound-is-written h t ok = (is-sound h t ok, tables-kept h t ok)
 
 -- ---- demand 1
 
 pub demand-1-of-the-code : Demand-1-of-the-code
-unfolding tells leaves-members leaves-places leaves-notices
-demand-1-of-the-code k h cs t q r cs′ t′ q′ D n = go (sound-hub h cs t q) refl (D .answers) (D .connections) (D .table) (D .queue)
+unfolding tells leaves
+demand-1-of-the-code k h t r u D n = go (sound-hub h t) refl (D .answers) (D .tables)
   where
-    go : (b : Bool) → sound-hub h cs t q ≡ b
-        → r ≡ cond b (told-of (answer k (view h cs t q))) (refusal h 1 (refused-number k))
-        → cs′ ≡ cond b (members-of (answer k (view h cs t q) .next)) cs
-        → t′ ≡ cond b (places-of (answer k (view h cs t q) .next)) t
-        → q′ ≡ cond b (notices-of (answer k (view h cs t q) .next)) q
-        → (r .hub ≡ h) × (cs′ ≡ cs) × (t′ ≡ t) × (q′ ≡ q) × (r .number ≡ refused-number k) × (r .gone ≡ false)
-    go false e a b c d = (ap (λ (x : Told). x .hub) a, b, c, d, ap (λ (x : Told). x .number) a, ap (λ (x : Told). x .gone) a)
-    go true e a b c d =
-        let f = demand-1-refusals k (view h cs t q) (λ z. n (ap (λ (x : Told). x .verdict) a ∙ z)) in (
+    go : (b : Bool) → sound-hub h t ≡ b
+        → r ≡ cond b (told-of (answer k (view h t))) (refusal h 1 (refused-number k))
+        → u ≡ cond b (written (answer k (view h t) .next)) t
+        → (r .hub ≡ h) × (u ≡ t) × (r .number ≡ refused-number k) × (r .gone ≡ false)
+    go false e a b = (ap (λ (x : Told). x .hub) a, b, ap (λ (x : Told). x .number) a, ap (λ (x : Told). x .gone) a)
+    go true e a b =
+        let f = demand-1-refusals k (view h t) (λ z. n (ap (λ (x : Told). x .verdict) a ∙ z)) in (
           ap (λ (x : Told). x .hub) a ∙ ap hub-of (f .0),
-          b ∙ ap members-of (f .0) ∙ sym (members-kept h cs t q e),
-          c ∙ ap places-of (f .0) ∙ sym (places-kept h cs t q e),
-          d ∙ ap notices-of (f .0) ∙ sym (notices-kept h cs t q e),
+          b ∙ ap written (f .0) ∙ sym (tables-kept h t e),
           ap (λ (x : Told). x .number) a ∙ f .2,
           ap (λ (x : Told). x .gone) a ∙ ap is-some (f .1),
         )
 
 pub verdict-1-of-the-code : Verdict-1-of-the-code
 unfolding tells
-verdict-1-of-the-code k h cs t q r cs′ t′ q′ D = (
+verdict-1-of-the-code k h t r u D = (
   λ e. rw (D .answers, e) refl,
-  λ e z. verdict-1-exactly k (view h cs t q) .0 (rw (D .answers, e) at z) (is-sound h cs t q e),
+  λ e z. verdict-1-exactly k (view h t) .0 (rw (D .answers, e) at z) (is-sound h t e),
 )
 
 pub sound-is-kept-by-the-code : Sound-is-kept-by-the-code
-unfolding tells leaves-members leaves-places leaves-notices
-sound-is-kept-by-the-code k h cs t q r cs′ t′ q′ D e =
-    rw (D .answers, D .connections, D .table, D .queue, e)
-    (written-reads-back (answer k (view h cs t q) .next) (kept k (view h cs t q) (is-sound h cs t q e)) .1)
+sound-is-kept-by-the-code k h t r u D e =
+    rw (told-as k h t e r u D, left-as k h t e r u D) (written-sound (answer k (view h t) .next) (kept k (view h t) (is-sound h t e)))
 
 -- ---- any calls follow the rules
 
@@ -151,41 +125,30 @@ answer-brought (notice len tag) s a = refl
 answer-brought tick s a = refl
 
 module _ (s : State) (S : Sound s) where
-  ok : sound-hub (hub-of s) (members-of s) (places-of s) (notices-of s) ≡ true
-  ok = written-reads-back s S .1
-
-  back : view (hub-of s) (members-of s) (places-of s) (notices-of s) ≡ s
+  back : view (hub-of s) (written s) ≡ s
   back = written-reads-back s S .0
 
-  same-tells : (k : Call) → tells k (hub-of s) (members-of s) (places-of s) (notices-of s) ≡ told-of (answer k s)
+  same-tells : (k : Call) → tells k (hub-of s) (written s) ≡ told-of (answer k s)
   unfolding tells
-  same-tells k = cond-is _ (refusal (hub-of s) 1 (refused-number k)) ok ∙ ap (λ (r : State). told-of (answer k r)) back
+  same-tells k = cond-is _ (refusal (hub-of s) 1 (refused-number k)) (written-sound s S) ∙ ap (λ (r : State). told-of (answer k r)) back
 
-  same-members : (k : Call) → leaves-members k (hub-of s) (members-of s) (places-of s) (notices-of s) ≡ members-of (answer k s .next)
-  unfolding leaves-members
-  same-members k = cond-is _ (members-of s) ok ∙ ap (λ (r : State). members-of (answer k r .next)) back
-
-  same-places : (k : Call) → leaves-places k (hub-of s) (members-of s) (places-of s) (notices-of s) ≡ places-of (answer k s .next)
-  unfolding leaves-places
-  same-places k = cond-is _ (places-of s) ok ∙ ap (λ (r : State). places-of (answer k r .next)) back
-
-  same-notices : (k : Call) → leaves-notices k (hub-of s) (members-of s) (places-of s) (notices-of s) ≡ notices-of (answer k s .next)
-  unfolding leaves-notices
-  same-notices k = cond-is _ (notices-of s) ok ∙ ap (λ (r : State). notices-of (answer k r .next)) back
+  same-leaves : (k : Call) → leaves k (hub-of s) (written s) ≡ written (answer k s .next)
+  unfolding leaves
+  same-leaves k = cond-is _ (written s) (written-sound s S) ∙ ap (λ (r : State). written (answer k r .next)) back
 
 -- a call on what a state of the rules is written as
 follows-one : (h : History) (k : Call) → Sound (h .now) → call (notes-of h) k ≡ notes-of (after h k)
 follows-one h k S =
-    ap (λ (r : Told). record { accepted = push (h .accepted) (brought k (hub-of (h .now)) r); departed = push (h .departed) (went r); hub = r .hub; members = leaves-members k (hub-of (h .now)) (members-of (h .now)) (places-of (h .now)) (notices-of (h .now)); places = leaves-places k (hub-of (h .now)) (members-of (h .now)) (places-of (h .now)) (notices-of (h .now)); notices = leaves-notices k (hub-of (h .now)) (members-of (h .now)) (places-of (h .now)) (notices-of (h .now)) })
+    ap (λ (r : Told). record { accepted = push (h .accepted) (brought k (hub-of (h .now)) r); departed = push (h .departed) (went r); hub = r .hub; tables = leaves k (hub-of (h .now)) (written (h .now)) })
     (same-tells (h .now) S k)
-    ∙ rw (same-members (h .now) S k, same-places (h .now) S k, same-notices (h .now) S k, answer-left k (h .now), answer-brought k (h .now) (answer k (h .now)))
+    ∙ rw (same-leaves (h .now) S k, answer-left k (h .now), answer-brought k (h .now) (answer k (h .now)))
 
 follows-from : (ks : List Call) (h : History) → Sound (h .now) → calls-from (notes-of h) ks ≡ notes-of (run-from h ks)
 follows-from [] h S = refl
 follows-from (k ∷ ks) h S = ap (λ (g : Notes). calls-from g ks) (follows-one h k S) ∙ follows-from ks (after h k) (kept k (h .now) S)
 
 blank-is : blank ≡ notes-of nothing-yet
-unfolding written-members places table-of
+unfolding written-members written-places table-of
 blank-is = refl
 
 pub follows-the-rules : Follows-the-rules
@@ -201,7 +164,7 @@ same-figures ks c = ap (λ (s : State). figures s c) (state-is ks)
 same-bound : (ks : List Call) (c : ℕ) → bound-of (state-of (calls ks)) c ≡ bound-of (run ks .now) c
 same-bound ks c = ap (λ (s : State). bound-of s c) (state-is ks)
 
--- ---- a line that keeps its gap
+-- ---- a connection that keeps its gap
 
 -- the ticks seen in the calls are those of the rules' run
 ticks-all : (c : ℕ) (ks : List Call) (h : History) (ts : List ℕ) → Sound (h .now) → seen-ticks-from c (notes-of h) ts ks ≡ offer-ticks-from c h ts ks
@@ -248,11 +211,11 @@ module _ (earlier later : List Call) (c len tag : ℕ) (word : Seen-to-keep-its-
   same-clock : calls earlier .hub .clock ≡ run earlier .now .clock
   same-clock = ap (λ (g : Notes). g .hub .clock) (follows-the-rules earlier)
 
-  told : (r : Told) (cs t q : List ℕ) → Does (offer c len tag) (calls earlier .hub) (calls earlier .members) (calls earlier .places) (calls earlier .notices) r cs t q
+  told : (r : Told) (u : Tables) → Does (offer c len tag) (calls earlier .hub) (calls earlier .tables) r u
       → r ≡ told-of (answer (offer c len tag) (run earlier .now))
-  told r cs t q D =
+  told r u D =
       D .answers
-      ∙ ap (λ (g : Notes). tells (offer c len tag) (g .hub) (g .members) (g .places) (g .notices)) (follows-the-rules earlier)
+      ∙ ap (λ (g : Notes). tells (offer c len tag) (g .hub) (g .tables)) (follows-the-rules earlier)
       ∙ same-tells (run earlier .now) (runs-are-sound earlier) (offer c len tag)
 
   -- the packet in the notes g of the calls before it and G of all, with its level's bound d
@@ -273,9 +236,9 @@ module _ (earlier later : List Call) (c len tag : ℕ) (word : Seen-to-keep-its-
 
   kept-by-the-code : Kept-by-the-code earlier later c len tag
   kept-by-the-code = record {
-    never-for-room = λ r cs t q D z. promise .never-for-room (sym (ap (λ (x : Told). x .verdict) (told r cs t q D)) ∙ z);
-    accepted = λ r cs t q D l.
-        let a = told r cs t q D in
+    never-for-room = λ r u D z. promise .never-for-room (sym (ap (λ (x : Told). x .verdict) (told r u D)) ∙ z);
+    accepted = λ r u D l.
+        let a = told r u D in
         let running : run earlier .now .clock < clock-end = omega (arith, same-clock) in
         (ap (λ (x : Told). x .verdict) a ∙ promise .accepted running, ap (λ (x : Told). x .number) a ∙ promise .on-arrival running ∙ sym same-clock);
     in-time = λ l over.

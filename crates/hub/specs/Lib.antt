@@ -1,3 +1,2 @@
-pub mod Does
 pub mod Sequence
 pub mod Promises

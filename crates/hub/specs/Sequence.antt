@@ -1,10 +1,9 @@
--- A sequence of public calls, each given what the last one left, and what a caller reads off the answers. Assumes nothing.
+-- A sequence of public calls, each given what the last one left, and what a caller reads off the answers.
 use Prim.Native.Nat.{ℕ}
 use mathlib.Core.Bool.{cond, _&&_}
 use mathlib.Core.List.{List, [], _∷_}
 use mathlib.Core.Option.{Option, none, some}
 use lib.Dec.{eqb}
-use lib.ListN.{replicate}
 use Rattle.rules.specs.declared.Packet.{Packet}
 use Rattle.rules.specs.Words.{push}
 use Rattle.rules.specs.Limits.{notice-number}
@@ -12,23 +11,17 @@ use Rattle.rules.specs.Model.{State, Call, link, admit, offer, notice, tick, fr
 use Rattle.rules.specs.Admission.{stands}
 use Rattle.rules.specs.Service.{Spaced}
 use Rattle.rules.specs.Runs.{Departure, History, if-done, offer-tick, Exchange}
-use Rattle.tables.specs.Places.{places-length}
-use Rattle.tables.specs.Notices.{notices-length}
-use Rattle.lines.specs.Members.{members-length}
-use Rattle.service.specs.declared.Hub.{Hub}
-use Rattle.service.specs.declared.Told.{Told}
-use Rattle.service.specs.View.{view, hub-of}
-use Rattle.calls.specs.Acts.{members-of, places-of, notices-of}
-use Rattle.hub.specs.Does.{tells, leaves-members, leaves-places, leaves-notices}
+use Rattle.state.specs.declared.Hub.{Hub}
+use Rattle.state.specs.declared.Told.{Told}
+use Rattle.state.specs.View.{Tables, zero-tables, view, hub-of, written}
+use Rattle.state.specs.Does.{tells, leaves}
 
 -- a caller's notes: the packets that were accepted, notices among them, and the departures, each read off the answers, and what the caller keeps between the calls
 pub record Notes : Type 0 where
   pub accepted : List Packet
   pub departed : List Departure
   pub hub : Hub
-  pub members : List ℕ
-  pub places : List ℕ
-  pub notices : List ℕ
+  pub tables : Tables
 
 -- the packet that an answer says was accepted, the departure that it tells
 abbrev pub brought : Call → Hub → Told → Option Packet
@@ -45,14 +38,12 @@ went r = cond (r .gone) (some (record { what = r .packet; finish = r .hub .clock
 -- a call on what the last one left: `Does` leaves this answer and these tables, and no others
 abbrev pub call : Notes → Call → Notes
 call g k =
-    let r = tells k (g .hub) (g .members) (g .places) (g .notices) in
+    let r = tells k (g .hub) (g .tables) in
     record {
       accepted = push (g .accepted) (brought k (g .hub) r);
       departed = push (g .departed) (went r);
       hub = r .hub;
-      members = leaves-members k (g .hub) (g .members) (g .places) (g .notices);
-      places = leaves-places k (g .hub) (g .members) (g .places) (g .notices);
-      notices = leaves-notices k (g .hub) (g .members) (g .places) (g .notices);
+      tables = leaves k (g .hub) (g .tables);
     }
 
 abbrev pub calls-from : Notes → List Call → Notes
@@ -61,34 +52,20 @@ calls-from g (k ∷ ks) = calls-from (call g k) ks
 
 -- the fresh hub and three tables of zeros
 abbrev pub blank : Notes
-blank = record {
-  accepted = [];
-  departed = [];
-  hub = hub-of fresh;
-  members = replicate members-length 0;
-  places = replicate places-length 0;
-  notices = replicate notices-length 0;
-}
+blank = record { accepted = []; departed = []; hub = hub-of fresh; tables = zero-tables }
 
 abbrev pub calls : List Call → Notes
 calls ks = calls-from blank ks
 
 -- the state that what the caller keeps stands for
 abbrev pub state-of : Notes → State
-state-of g = view (g .hub) (g .members) (g .places) (g .notices)
+state-of g = view (g .hub) (g .tables)
 
 -- the same notes of a run of the rules
 abbrev pub notes-of : History → Notes
-notes-of h = record {
-  accepted = h .accepted;
-  departed = h .departed;
-  hub = hub-of (h .now);
-  members = members-of (h .now);
-  places = places-of (h .now);
-  notices = notices-of (h .now);
-}
+notes-of h = record { accepted = h .accepted; departed = h .departed; hub = hub-of (h .now); tables = written (h .now) }
 
--- ---- a line that keeps its gap, seen in the calls and in what the caller keeps between them
+-- ---- a connection that keeps its gap, seen in the calls and in what the caller keeps between them
 
 -- the ticks of the offers to connection c of allowed length, in order
 abbrev pub seen-ticks-from : ℕ → Notes → List ℕ → List Call → List ℕ
@@ -108,7 +85,7 @@ abbrev pub heard : ℕ → Notes → Call → Option Exchange
 heard c g (link l) = none
 heard c g (admit x) = none
 heard c g (offer d len tag) =
-    let r = tells (offer d len tag) (g .hub) (g .members) (g .places) (g .notices) in
+    let r = tells (offer d len tag) (g .hub) (g .tables) in
     cond (eqb d c && stands (state-of g .connections) c)
     (some (record { asked = record { at = g .hub .clock; len = len; tag = tag }; verdict = r .verdict; eligibility = r .number }))
     none

@@ -3,14 +3,15 @@
 // to every call.
 ghost use mathlib.Core.Path.{_≡_};
 ghost use Rattle.rules.specs.Model.{fresh, link, admit, offer, notice, tick};
-ghost use Rattle.service.specs.View.{hub-of};
-ghost use Rattle.hub.specs.Does.{Does};
+ghost use Rattle.state.specs.View.{before, after, hub-of};
+ghost use Rattle.state.specs.Does.{Does};
 use limits::MAX_LEVELS;
 use limits::NO_CONNECTION;
 use rules::Connection;
 use rules::Link;
-use service::Hub;
-use service::Told;
+use state::Hub;
+use state::Told;
+use state::say;
 
 // How many numbers the caller lends: as the table of connections, as the places table, as the table of notices.
 pub const CONNECTIONS: usize = limits::MEMBERS;
@@ -32,62 +33,72 @@ pub fn fresh_hub() -> Hub
         },
         clock: 0,
         serving: 0,
-        units: 0,
+        to_go: 0,
         silent: 0,
     }
 }
 
 // Set the link: levels, the largest packet, the silence after each packet, a delay bound for each level. Verdicts 0, 1, 3, 4.
-pub fn link(h: Hub, cs: &[u32], t: &[u32], q: &[u32], l: Link) -> Told
-    ensures { λ r. ⌜ Does (link l) h (now (cs .entry)) (now (t .entry)) (now (q .entry)) r (now (cs .entry)) (now (t .entry)) (now (q .entry)) ⌝ }
+pub fn link(h: Hub, members: &[u32], places: &[u32], notices: &[u32], l: Link) -> Told
+    ensures { λ r. ⌜ Does (link l) h (before members places notices) r (after members places notices) ⌝ }
 {
-    let set = h.link;
-    if !sound::is_sound(set, cs, t, q, h.clock, h.serving, h.units, h.silent) {
-        return calls::say(h, 1, 0);
+    if !sound::is_sound(h, members, places, notices) {
+        return say(h, 1, 0);
     }
-    calls::link_tested(h, cs, t, q, l)
+    calls::link_tested(h, members, places, notices, l)
 }
 
 // Admit a connection: its number, or 255. Verdicts 0, 1, 2, 5 to 9.
-pub fn admit(h: Hub, cs: &mut [u32], t: &[u32], q: &[u32], x: Connection) -> Told
-    ensures { λ r. ⌜ Does (admit x) h (now (cs .entry)) (now (t .entry)) (now (q .entry)) r (now (cs .exit)) (now (t .entry)) (now (q .entry)) ⌝ }
+pub fn admit(h: Hub, members: &mut [u32], places: &[u32], notices: &[u32], x: Connection) -> Told
+    ensures { λ r. ⌜ Does (admit x) h (before members places notices) r (after members places notices) ⌝ }
 {
-    let set = h.link;
-    if !sound::is_sound(set, cs, t, q, h.clock, h.serving, h.units, h.silent) {
-        return calls::say(h, 1, NO_CONNECTION);
+    if !sound::is_sound(h, members, places, notices) {
+        return say(h, 1, NO_CONNECTION);
     }
-    calls::admit_tested(h, cs, t, q, x)
+    calls::admit_tested(h, members, places, notices, x)
 }
 
 // Offer a packet: its eligibility, or 0. Verdicts 0, 1, 2, 10 to 13.
-pub fn offer(h: Hub, cs: &mut [u32], t: &mut [u32], q: &[u32], c: u32, len: u32, tag: u32) -> Told
-    ensures { λ r. ⌜ Does (offer c len tag) h (now (cs .entry)) (now (t .entry)) (now (q .entry)) r (now (cs .exit)) (now (t .exit)) (now (q .entry)) ⌝ }
+pub fn offer(
+    h: Hub,
+    members: &mut [u32],
+    places: &mut [u32],
+    notices: &[u32],
+    c: u32,
+    len: u32,
+    tag: u32,
+) -> Told
+    ensures { λ r. ⌜ Does (offer c len tag) h (before members places notices) r (after members places notices) ⌝ }
 {
-    let set = h.link;
-    if !sound::is_sound(set, cs, t, q, h.clock, h.serving, h.units, h.silent) {
-        return calls::say(h, 1, 0);
+    if !sound::is_sound(h, members, places, notices) {
+        return say(h, 1, 0);
     }
-    calls::offer_tested(h, cs, t, q, c, len, tag)
+    calls::offer_tested(h, members, places, notices, c, len, tag)
 }
 
 // Offer a notice: its eligibility, which is its arrival, or 0. Verdicts 0, 1, 2, 11, 13, 15.
-pub fn notice(h: Hub, cs: &[u32], t: &[u32], q: &mut [u32], len: u32, tag: u32) -> Told
-    ensures { λ r. ⌜ Does (notice len tag) h (now (cs .entry)) (now (t .entry)) (now (q .entry)) r (now (cs .entry)) (now (t .entry)) (now (q .exit)) ⌝ }
+pub fn notice(
+    h: Hub,
+    members: &[u32],
+    places: &[u32],
+    notices: &mut [u32],
+    len: u32,
+    tag: u32,
+) -> Told
+    ensures { λ r. ⌜ Does (notice len tag) h (before members places notices) r (after members places notices) ⌝ }
 {
-    let set = h.link;
-    if !sound::is_sound(set, cs, t, q, h.clock, h.serving, h.units, h.silent) {
-        return calls::say(h, 1, 0);
+    if !sound::is_sound(h, members, places, notices) {
+        return say(h, 1, 0);
     }
-    calls::notice_tested(h, cs, t, q, len, tag)
+    calls::notice_tested(h, members, places, notices, len, tag)
 }
 
 // One tick: the packet that departed, with finish at the hub's clock then, or none. Verdicts 0, 1, 2, 13.
-pub fn tick(h: Hub, cs: &[u32], t: &mut [u32], q: &mut [u32]) -> Told
-    ensures { λ r. ⌜ Does tick h (now (cs .entry)) (now (t .entry)) (now (q .entry)) r (now (cs .entry)) (now (t .exit)) (now (q .exit)) ⌝ }
+pub fn tick(h: Hub, members: &[u32], places: &mut [u32], notices: &mut [u32]) -> Told
+    ensures { λ r. ⌜ Does tick h (before members places notices) r (after members places notices) ⌝ }
 {
-    let set = h.link;
-    if !sound::is_sound(set, cs, t, q, h.clock, h.serving, h.units, h.silent) {
-        return calls::say(h, 1, 0);
+    if !sound::is_sound(h, members, places, notices) {
+        return say(h, 1, 0);
     }
-    calls::tick_tested(h, cs, t, q)
+    calls::tick_tested(h, members, places, notices)
 }

@@ -23,7 +23,7 @@ use crate::world::notice;
 use crate::world::place;
 use crate::world::put;
 use rules::Packet;
-use service::Told;
+use state::Told;
 use std::num::wrapping_add_u32;
 use std::num::wrapping_add_usize;
 use std::num::wrapping_sub_u32;
@@ -53,7 +53,7 @@ pub fn fresh() -> World {
     let told = Told {
         verdict: 0,
         number: 0,
-        short: lines::no_shortage(),
+        short: connections::no_short(),
         gone: false,
         packet: none,
         hub: hub::fresh_hub(),

@@ -2,8 +2,8 @@
 ghost use Prim.Native.Nat.{_≤_};
 use rules::Connection;
 use rules::Link;
-use service::Hub;
-use service::Told;
+use state::Hub;
+use state::Told;
 use std::num::wrapping_add_usize;
 
 pub struct World {
@@ -174,7 +174,7 @@ fn hub_of(w: World) -> Hub {
         },
         clock: get(w, 808),
         serving: get(w, 809),
-        units: get(w, 810),
+        to_go: get(w, 810),
         silent: get(w, 811),
     }
 }
@@ -200,7 +200,7 @@ pub fn told(w: World, r: Told) -> World {
     let x = put(x, 807, p.eligibility);
     let x = put(x, 808, h.clock);
     let x = put(x, 809, h.serving);
-    let x = put(x, 810, h.units);
+    let x = put(x, 810, h.to_go);
     let x = put(x, 811, h.silent);
     let x = put(x, 812, l.levels);
     let x = put(x, 813, l.largest);
@@ -216,7 +216,7 @@ pub fn link_asked(w: World) -> World {
 }
 
 // The call with its numbers on the hub with these tables.
-fn ask(w: World, cs: &mut [u32], t: &mut [u32], q: &mut [u32]) -> Told {
+fn ask(w: World, members: &mut [u32], places: &mut [u32], notices: &mut [u32]) -> Told {
     let h = hub_of(w);
     let a = get(w, ASKED);
     let b = get(w, ASKED + 1);
@@ -225,7 +225,7 @@ fn ask(w: World, cs: &mut [u32], t: &mut [u32], q: &mut [u32]) -> Told {
         0 | 9 => {
             let g = hub_of(link_asked(w));
             let l = g.link;
-            hub::link(h, cs, t, q, l)
+            hub::link(h, members, places, notices, l)
         }
         1 | 12 => {
             let x = Connection {
@@ -233,11 +233,11 @@ fn ask(w: World, cs: &mut [u32], t: &mut [u32], q: &mut [u32]) -> Told {
                 gap: b,
                 size: c,
             };
-            hub::admit(h, cs, t, q, x)
+            hub::admit(h, members, places, notices, x)
         }
-        2 => hub::offer(h, cs, t, q, a, b, c),
-        7 => hub::notice(h, cs, t, q, a, b),
-        _ => hub::tick(h, cs, t, q),
+        2 => hub::offer(h, members, places, notices, a, b, c),
+        7 => hub::notice(h, members, places, notices, a, b),
+        _ => hub::tick(h, members, places, notices),
     }
 }
 

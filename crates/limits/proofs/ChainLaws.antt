@@ -1,4 +1,4 @@
--- A chain of tests that ends at the first that fails, against the conjunction that it computes. Assumes nothing.
+-- A chain of tests that ends at the first that fails, against the conjunction that it computes.
 use Prim.Native.Nat.{ℕ, _≤_, _<_}
 use mathlib.Core.Path.{_≡_, refl, sym}
 use mathlib.Core.Bool.{Bool, true, false, _&&_}

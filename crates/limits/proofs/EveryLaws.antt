@@ -1,4 +1,4 @@
--- A loop that tests each number below n and ends at the first that fails, against `every`. Assumes nothing.
+-- A loop that tests each number below n and ends at the first that fails, against `every`.
 use Prim.Native.Nat.{ℕ, zero, suc, _+_, _<_}
 use native.Mathlib.Omega.{arith}
 use native.Mathlib.Numerals.{add-one}

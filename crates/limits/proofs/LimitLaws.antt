@@ -1,4 +1,4 @@
--- The limits of links and connections, test by test in the order of the code. Assumes nothing.
+-- The limits of links and connections, test by test in the order of the code.
 use Prim.Native.Nat.{ℕ, suc, _+_, _-_, _≤_, _<_}
 use native.Mathlib.Omega.{arith}
 use native.Mathlib.Numerals.{add-one}

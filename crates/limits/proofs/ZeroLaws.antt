@@ -1,4 +1,4 @@
--- Laws of numbers that are all 0. Assumes nothing.
+-- Laws of numbers that are all 0.
 use Prim.Native.Nat.{ℕ, zero, suc, _+_, _-_, _<_}
 use native.Mathlib.Omega.{arith}
 use native.Mathlib.Numerals.{add-one}

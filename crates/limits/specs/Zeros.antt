@@ -1,4 +1,4 @@
--- "Everything unused is zero": document 01, "A sound state". Assumes nothing.
+-- "Everything unused is zero": document 01, "A sound state".
 use Prim.Native.Nat.{ℕ}
 use mathlib.Core.Bool.{Bool}
 use mathlib.Core.List.{List}

@@ -1,20 +1,17 @@
 -- The log of a `TK` tick by tick, and of a trace record by record: the number of records allowed makes no difference once it is that of the bytes.
--- Assumes nothing.
 use Prim.Native.Nat.{ℕ, zero, suc, _+_, _-_, _<_, _≤_}
 use native.Mathlib.Omega.{arith}
-use mathlib.Core.Path.{_≡_, refl, ap, _∙_}
-use mathlib.Core.List.{List, [], _++_}
+use mathlib.Core.Path.{_≡_, refl, sym, ap, _∙_}
+use mathlib.Core.Bool.{Bool, true, false, cond}
+use mathlib.Core.List.{List, [], _∷_, _++_}
 use lib.Dec.{eqb}
 use lib.ListN.{length, drop, length-drop}
 use borrow.Author.Tests.{eq-eqb, ne-eqb}
 use Rattle.rules.specs.Model.{State, tick}
 use Rattle.rules.specs.Calls.{answer}
-use Rattle.fields.specs.Numbers.{pick}
-use Rattle.traces.specs.declared.Record.{Record}
-use Rattle.traces.specs.declared.Record.the-variants.{Malformed}
 use Rattle.answers.specs.declared.Reply.the-variants.{Ticked}
 use Rattle.answers.specs.Answers.{answer-bytes}
-use Rattle.log.specs.Log.{Asked, one-call, some-ticks, unread, asks, call-log, asked-log, read-at, tick-log, ticks-log, ticks-end, record-log, log-within, log-from}
+use Rattle.log.specs.Log.{Asked, one-call, some-ticks, unread, asks, call-log, asked-within, asked-from, asked-log, read-at, tick-log, ticks-log, ticks-end, log-from}
 use Rattle.log.proofs.ReadLaws.{read-lies}
 
 -- ---- ticks
@@ -42,40 +39,62 @@ module _ (left : ℕ) (s : State) where
 
 -- ---- records
 
-asked-same : (m n : ℕ → State → List ℕ → List ℕ) (q : Asked) (k at : ℕ) (s : State) (bs : List ℕ) → (k ≡ 0 → q ≡ unread)
-    → ((a : ℕ) (z : State) → 0 < k → m a z (drop k bs) ≡ n a z (drop k bs))
-    → asked-log m q k at s bs ≡ asked-log n q k at s bs
-asked-same m n q zero at s bs none f = rw (none refl)
-asked-same m n (one-call c) (suc k) at s bs none f = ap (λ l. call-log c (answer c s) ++ l) (f (at + suc k) (answer c s .next) (omega arith))
-asked-same m n (some-ticks a) (suc k) at s bs none f = ap (λ l. ticks-log a a s ++ l) (f (at + suc k) (ticks-end a s) (omega arith))
-asked-same m n unread (suc k) at s bs none f = refl
+-- the records up to the first malformed one, with it: no other counts
+abbrev pub counting : List (Asked × ℕ) → List (Asked × ℕ)
+counting [] = []
+counting ((one-call c, at) ∷ rest) = (one-call c, at) ∷ counting rest
+counting ((some-ticks n, at) ∷ rest) = (some-ticks n, at) ∷ counting rest
+counting ((unread, at) ∷ rest) = (unread, at) ∷ []
 
-record-same : (m n : ℕ → State → List ℕ → List ℕ) (r : Record) (k at : ℕ) (s : State) (bs : List ℕ) → (k ≡ 0 → r ≡ Malformed)
-    → ((a : ℕ) (z : State) → 0 < k → m a z (drop k bs) ≡ n a z (drop k bs))
-    → record-log m r k at s bs ≡ record-log n r k at s bs
-record-same m n r k at s bs none f = asked-same m n (asks r) k at s bs (λ z. ap asks (none z)) f
+log-counting : (s : State) (l : List (Asked × ℕ)) → asked-log s l ≡ asked-log s (counting l)
+log-counting s [] = refl
+log-counting s ((one-call c, at) ∷ rest) = ap (λ k. call-log c (answer c s) ++ k) (log-counting (answer c s .next) rest)
+log-counting s ((some-ticks n, at) ∷ rest) = ap (λ k. ticks-log n n s ++ k) (log-counting (ticks-end n s) rest)
+log-counting s ((unread, at) ∷ rest) = refl
 
-enough : (f g at : ℕ) (s : State) (bs : List ℕ) → length bs ≤ f → length bs ≤ g → log-within f at s bs ≡ log-within g at s bs
-unfolding log-within
-enough zero zero at s bs h k = refl
-enough zero (suc g) at s bs h k = rw (eq-eqb (length bs) 0 (omega arith))
-enough (suc f) zero at s bs h k = rw (eq-eqb (length bs) 0 (omega arith))
-enough (suc f) (suc g) at s bs h k =
+one-more : (q : Asked) (k at : ℕ) (l m : List (Asked × ℕ)) → (k ≡ 0 → q ≡ unread) → (0 < k → counting l ≡ counting m)
+    → counting ((q, at) ∷ l) ≡ counting ((q, at) ∷ m)
+one-more q zero at l m none f = rw (none refl)
+one-more (one-call c) (suc k) at l m none f = ap (λ rest. (one-call c, at) ∷ rest) (f (omega arith))
+one-more (some-ticks n) (suc k) at l m none f = ap (λ rest. (some-ticks n, at) ∷ rest) (f (omega arith))
+one-more unread (suc k) at l m none f = refl
+
+where-any : (b : Bool) (l m : List (Asked × ℕ)) → counting l ≡ counting m → counting (cond b [] l) ≡ counting (cond b [] m)
+where-any true l m e = refl
+where-any false l m e = e
+
+enough : (f g at : ℕ) (bs : List ℕ) → length bs ≤ f → length bs ≤ g → counting (asked-within f at bs) ≡ counting (asked-within g at bs)
+unfolding asked-within
+enough zero zero at bs h k = refl
+enough zero (suc g) at bs h k = rw (eq-eqb (length bs) 0 (omega arith))
+enough (suc f) zero at bs h k = rw (eq-eqb (length bs) 0 (omega arith))
+enough (suc f) (suc g) at bs h k =
     let lies = read-lies at bs in
-    ap (λ l. pick (eqb (length bs) 0) [] l)
-    (record-same (log-within f) (log-within g) (read-at at bs .what) (read-at at bs .taken) at s bs (lies .no-byte)
-    (λ a z p. enough f g a z (drop (read-at at bs .taken) bs) (simp length-drop (omega (arith, lies .fits))) (simp length-drop (omega (arith, lies .fits)))))
+    let more : ℕ → List (Asked × ℕ) = λ i. asked-within i (at + read-at at bs .taken) (drop (read-at at bs .taken) bs) in
+    where-any (eqb (length bs) 0) ((asks (read-at at bs .what), at) ∷ more f) ((asks (read-at at bs .what), at) ∷ more g)
+    (one-more (asks (read-at at bs .what)) (read-at at bs .taken) at (more f) (more g) (λ z. ap asks (lies .no-byte z))
+    (λ p. enough f g (at + read-at at bs .taken) (drop (read-at at bs .taken) bs) (simp length-drop (omega (arith, lies .fits))) (simp length-drop (omega (arith, lies .fits)))))
+
+-- the first record, and those behind it
+abbrev pub asked-behind : ℕ → List ℕ → List (Asked × ℕ)
+asked-behind at bs = (asks (read-at at bs .what), at) ∷ asked-from (at + read-at at bs .taken) (drop (read-at at bs .taken) bs)
+
+pub record-by-record : (at : ℕ) (bs : List ℕ) → 0 < length bs → counting (asked-from at bs) ≡ counting (asked-behind at bs)
+unfolding asked-within
+record-by-record at bs h =
+    let lies = read-lies at bs in
+    enough (length bs) (suc (length bs)) at bs (omega arith) (omega arith)
+    ∙ rw (ne-eqb (length bs) 0 (omega arith))
+    (one-more (asks (read-at at bs .what)) (read-at at bs .taken) at (asked-within (length bs) (at + read-at at bs .taken) (drop (read-at at bs .taken) bs))
+    (asked-from (at + read-at at bs .taken) (drop (read-at at bs .taken) bs)) (λ z. ap asks (lies .no-byte z))
+    (λ p. enough (length bs) (length (drop (read-at at bs .taken) bs)) (at + read-at at bs .taken) (drop (read-at at bs .taken) bs) (simp length-drop (omega (arith, lies .fits))) (omega arith)))
+
+pub none-asked : (at : ℕ) (bs : List ℕ) → length bs ≡ 0 → asked-from at bs ≡ []
+unfolding asked-within
+none-asked at bs e = rw e
 
 pub log-of-none : (at : ℕ) (s : State) (bs : List ℕ) → length bs ≡ 0 → log-from at s bs ≡ []
-unfolding log-within
-log-of-none at s bs e = rw e
+log-of-none at s bs e = ap (asked-log s) (none-asked at bs e)
 
-pub log-of-some : (at : ℕ) (s : State) (bs : List ℕ) → 0 < length bs
-    → log-from at s bs ≡ record-log log-from (read-at at bs .what) (read-at at bs .taken) at s bs
-unfolding log-within
-log-of-some at s bs h =
-    let lies = read-lies at bs in
-    enough (length bs) (suc (length bs)) at s bs (omega arith) (omega arith)
-    ∙ rw (ne-eqb (length bs) 0 (omega arith))
-    (record-same (log-within (length bs)) log-from (read-at at bs .what) (read-at at bs .taken) at s bs (lies .no-byte)
-    (λ a z p. enough (length bs) (length (drop (read-at at bs .taken) bs)) a z (drop (read-at at bs .taken) bs) (simp length-drop (omega (arith, lies .fits))) (omega arith)))
+pub log-of-some : (at : ℕ) (s : State) (bs : List ℕ) → 0 < length bs → log-from at s bs ≡ asked-log s (asked-behind at bs)
+log-of-some at s bs h = log-counting s (asked-from at bs) ∙ ap (asked-log s) (record-by-record at bs h) ∙ sym (log-counting s (asked-behind at bs))

@@ -1,4 +1,4 @@
--- What reading a record at an offset of the trace gives: it lies in the bytes, and bytes behind the longest record change nothing. Assumes nothing.
+-- What reading a record at an offset of the trace gives: it lies in the bytes, and bytes behind the longest record change nothing.
 use Prim.Native.Nat.{ℕ, _+_, _-_, _≤_, _<_}
 use native.Mathlib.Omega.{arith}
 use mathlib.Core.Path.{_≡_, refl}
@@ -7,9 +7,10 @@ use mathlib.Core.Option.{Option, none, some}
 use lib.Dec.{ltb}
 use lib.ListN.{length, getD}
 use borrow.Author.Tests.{lt-ltb, le-ltb}
-use Rattle.fields.specs.Formats.{Row, starts, read-row, read-rows}
-use Rattle.fields.proofs.NumberLaws.{pick-by}
-use Rattle.fields.proofs.FormatLaws.{of-row}
+use Rattle.fields.specs.Kinds.{Kind}
+use Rattle.fields.specs.Formats.{starts, read-kind, read-kinds}
+use Rattle.fields.proofs.NumberLaws.{cond-by}
+use Rattle.fields.proofs.FormatLaws.{of-kind}
 use Rattle.traces.specs.declared.Record.{Record}
 use Rattle.traces.specs.declared.Record.the-variants.{Malformed}
 use Rattle.traces.specs.declared.Found.{Found}
@@ -25,24 +26,24 @@ pub record Lies-in (bs : List ℕ) (f : Found) : Type 0 where
 abbrev Lies : List ℕ → Option (Record × ℕ) → Type 0
 Lies bs o = Lies-in bs (found o)
 
-row-lies : (row : Row Record) (bs : List ℕ) (o : Option (Record × ℕ)) → read-row row (getD bs 2 0) bs ≡ o → Lies bs o
-row-lies row bs none e = record { fits = omega arith; no-byte = λ _. refl }
-row-lies row bs (some (r, n)) e =
-    let k = of-row row bs r n e in
-    record { fits = omega (arith, k .there, k .count); no-byte = λ z. absurd (omega (arith, k .count)) }
+kind-lies : (k : Kind Record) (bs : List ℕ) (o : Option (Record × ℕ)) → read-kind k (getD bs 2 0) bs ≡ o → Lies bs o
+kind-lies k bs none e = record { fits = omega arith; no-byte = λ _. refl }
+kind-lies k bs (some (r, n)) e =
+    let a = of-kind k bs r n e in
+    record { fits = omega (arith, a .there, a .count); no-byte = λ z. absurd (omega (arith, a .count)) }
 
-rows-lie : (rows : List (Row Record)) (bs : List ℕ) → Lies bs (read-rows rows bs)
-unfolding read-rows
-rows-lie [] bs = record { fits = omega arith; no-byte = λ _. refl }
-rows-lie (row ∷ rows) bs =
-    pick-by (Lies bs) (starts (row .kind .mark) bs) (read-row row (getD bs 2 0) bs) (read-rows rows bs)
-    (λ _. row-lies row bs (read-row row (getD bs 2 0) bs) refl) (λ _. rows-lie rows bs)
+kinds-lie : (ks : List (Kind Record)) (bs : List ℕ) → Lies bs (read-kinds ks bs)
+unfolding read-kinds
+kinds-lie [] bs = record { fits = omega arith; no-byte = λ _. refl }
+kinds-lie (k ∷ ks) bs =
+    cond-by (Lies bs) (starts (k .mark) bs) (read-kind k (getD bs 2 0) bs) (read-kinds ks bs)
+    (λ _. kind-lies k bs (read-kind k (getD bs 2 0) bs) refl) (λ _. kinds-lie ks bs)
 
 pub read-lies : (at : ℕ) (bs : List ℕ) → Lies-in bs (read-at at bs)
 unfolding read-at
 read-lies at bs =
-    pick-by (Lies-in bs) (ltb trace-limit (at + read-trace bs .taken)) (found none) (read-trace bs)
-    (λ _. record { fits = omega arith; no-byte = λ _. refl }) (λ _. rows-lie (trace .rows) bs)
+    cond-by (Lies-in bs) (ltb trace-limit (at + read-trace bs .taken)) (found none) (read-trace bs)
+    (λ _. record { fits = omega arith; no-byte = λ _. refl }) (λ _. kinds-lie (trace .kinds) bs)
 
 -- bytes behind a window that holds the longest record change nothing
 pub read-onward : (at : ℕ) (w u : List ℕ) → longest-record ≤ length w → read-at at (w ++ u) ≡ read-at at w

@@ -1,7 +1,7 @@
 -- THE ANSWER LOG of a trace, from bytes to bytes, by the rules alone: no hub value, no table, no window. Document 01, "Trace and answer records" and
--- "One tick"; document 02, R-1 and R-2. Assumes nothing.
+-- "One tick"; document 02, R-1 and R-2.
 use Prim.Native.Nat.{ℕ, zero, suc, _+_, _-_}
-use mathlib.Core.Bool.{not}
+use mathlib.Core.Bool.{cond, not}
 use mathlib.Core.List.{List, [], _∷_, _++_}
 use mathlib.Core.Option.{Option, none, some}
 use lib.Dec.{ltb, eqb}
@@ -11,7 +11,6 @@ use Rattle.rules.specs.Words.{first-number}
 use Rattle.rules.specs.Model.{State, Call, link, admit, offer, notice, tick, Answer, fresh}
 use Rattle.rules.specs.SoundTest.{sound}
 use Rattle.rules.specs.Calls.{answer}
-use Rattle.fields.specs.Numbers.{pick}
 use Rattle.traces.specs.declared.Record.{Record}
 use Rattle.traces.specs.declared.Record.the-variants.{Link as LinkRecord, Admit, Offer, Notice, Ticks, Malformed}
 use Rattle.traces.specs.declared.Found.{Found}
@@ -26,7 +25,7 @@ trace-limit = 16_777_216
 
 -- the record that bs starts with, where bs starts at offset `at` of the trace: "a record that would end beyond the size limit" is malformed
 unfoldable pub read-at : ℕ → List ℕ → Found
-read-at at bs = pick (ltb trace-limit (at + read-trace bs .taken)) (found none) (read-trace bs)
+read-at at bs = cond (ltb trace-limit (at + read-trace bs .taken)) (found none) (read-trace bs)
 
 -- ---- `TK`
 
@@ -38,27 +37,23 @@ departure (some p) finish = answer-bytes (Departed (p .connection) (p .tag) (p .
 abbrev pub tick-log : Answer → List ℕ
 tick-log a = departure (a .departed) (a .next .clock)
 
--- "`TK` 0 changes nothing and answers 1 or 2 where they apply, else 0, even at the clock's end"
-abbrev pub no-ticks-verdict : State → ℕ
-no-ticks-verdict s = first-number ((1, not (sound s)) ∷ (2, eqb (s .link .levels) 0) ∷ [])
-
--- all the asked ticks are done
+-- all the asked ticks are done; "`TK` 0 changes nothing and answers 1 or 2 where they apply, else 0, even at the clock's end"
 abbrev pub all-done-verdict : ℕ → State → ℕ
-all-done-verdict asked s = pick (eqb asked 0) (no-ticks-verdict s) 0
+all-done-verdict asked s = cond (eqb asked 0) (first-number ((1, not (sound s)) ∷ (2, eqb (s .link .levels) 0) ∷ [])) 0
 
 -- "`TK` runs the asked ticks one by one, each a call of its own, .. and stops at the first refused one; `TA` gives that verdict and the ticks done":
 -- what is written from the state s on, where `left` of `asked` are still to run
 unfoldable pub ticks-log : ℕ → ℕ → State → List ℕ
 ticks-log asked zero s = answer-bytes (Ticked (all-done-verdict asked s) asked)
 ticks-log asked (suc left) s =
-    pick (eqb (answer tick s .verdict) 0)
+    cond (eqb (answer tick s .verdict) 0)
     (tick-log (answer tick s) ++ ticks-log asked left (answer tick s .next))
     (answer-bytes (Ticked (answer tick s .verdict) (asked - suc left)))
 
 -- the state after them
 unfoldable pub ticks-end : ℕ → State → State
 ticks-end zero s = s
-ticks-end (suc left) s = pick (eqb (answer tick s .verdict) 0) (ticks-end left (answer tick s .next)) (answer tick s .next)
+ticks-end (suc left) s = cond (eqb (answer tick s .verdict) 0) (ticks-end left (answer tick s .next)) (answer tick s .next)
 
 -- ---- a record, and a trace
 
@@ -69,8 +64,8 @@ pub data Asked : Type 0 where
   unread : Asked
 
 abbrev pub asks : Record → Asked
-asks (LinkRecord n m silence d1 d2 d3 d4 d5 d6 d7 d8) = one-call (link (link-named n m silence d1 d2 d3 d4 d5 d6 d7 d8))
-asks (Admit level gap size) = one-call (admit (connection-named level gap size))
+asks (LinkRecord n m silence d1 d2 d3 d4 d5 d6 d7 d8) = one-call (link (link-named (n ∷ m ∷ silence ∷ d1 ∷ d2 ∷ d3 ∷ d4 ∷ d5 ∷ d6 ∷ d7 ∷ d8 ∷ [])))
+asks (Admit level gap size) = one-call (admit (connection-named (level ∷ gap ∷ size ∷ [])))
 asks (Offer c len tag) = one-call (offer c len tag)
 asks (Notice len tag) = one-call (notice len tag)
 asks (Ticks n) = some-ticks n
@@ -84,25 +79,26 @@ call-log (offer c len tag) a = answer-bytes (Offered (a .verdict) (a .number))
 call-log (notice len tag) a = answer-bytes (Noticed (a .verdict) (a .number))
 call-log tick a = tick-log a
 
--- a record of k bytes at the start of bs, which starts at offset `at`: its answer from the state s, and then the rest by `more`, from the offset, the
--- state and the bytes behind it. Of a malformed one `ER` with its offset, and nothing more
-abbrev pub asked-log : (ℕ → State → List ℕ → List ℕ) → Asked → ℕ → ℕ → State → List ℕ → List ℕ
-asked-log more (one-call c) k at s bs = call-log c (answer c s) ++ more (at + k) (answer c s .next) (drop k bs)
-asked-log more (some-ticks n) k at s bs = ticks-log n n s ++ more (at + k) (ticks-end n s) (drop k bs)
-asked-log more unread k at s bs = answer-bytes (Broken at)
+-- what the records of bs ask, which starts at offset `at` of the trace, each with its offset: at most f of them. Behind a malformed record nothing counts
+unfoldable pub asked-within : ℕ → ℕ → List ℕ → List (Asked × ℕ)
+asked-within zero at bs = []
+asked-within (suc f) at bs =
+    cond (eqb (length bs) 0) [] ((asks (read-at at bs .what), at) ∷ asked-within f (at + read-at at bs .taken) (drop (read-at at bs .taken) bs))
 
-abbrev pub record-log : (ℕ → State → List ℕ → List ℕ) → Record → ℕ → ℕ → State → List ℕ → List ℕ
-record-log more r k at s bs = asked-log more (asks r) k at s bs
+-- each record takes a byte at least, so there are no more records than bytes
+abbrev pub asked-from : ℕ → List ℕ → List (Asked × ℕ)
+asked-from at bs = asked-within (length bs) at bs
 
--- of at most f records; "an empty trace gives no output"
-unfoldable pub log-within : ℕ → ℕ → State → List ℕ → List ℕ
-log-within zero at s bs = []
-log-within (suc f) at s bs =
-    pick (eqb (length bs) 0) [] (record-log (log-within f) (read-at at bs .what) (read-at at bs .taken) at s bs)
+-- what is written of them from the state s on: of a malformed one `ER` with its offset, and nothing more; "an empty trace gives no output"
+abbrev pub asked-log : State → List (Asked × ℕ) → List ℕ
+asked-log s [] = []
+asked-log s ((one-call c, at) ∷ rest) = call-log c (answer c s) ++ asked-log (answer c s .next) rest
+asked-log s ((some-ticks n, at) ∷ rest) = ticks-log n n s ++ asked-log (ticks-end n s) rest
+asked-log s ((unread, at) ∷ rest) = answer-bytes (Broken at)
 
--- the log of bs, which starts at offset `at`, from the state s: each record takes a byte at least, so there are no more records than bytes
+-- the log of bs, which starts at offset `at`, from the state s
 abbrev pub log-from : ℕ → State → List ℕ → List ℕ
-log-from at s bs = log-within (length bs) at s bs
+log-from at s bs = asked-log s (asked-from at bs)
 
 -- THE LOG of a trace: from the fresh hub
 unfoldable pub log : List ℕ → List ℕ

@@ -1,10 +1,10 @@
--- What one turn of the program's loop needs: the measure, the window, what follows it, and that it goes on with a session. Assumes nothing.
+-- What one turn of the program's loop needs: the measure, the window, what follows it, and that it goes on with a session.
 use Prim.Native.Nat.{ℕ, zero, suc, _+_, _-_, _^_, _<_, _≤_}
 use native.Mathlib.Omega.{arith}
 use mathlib.Core.Path.{_≡_, refl, sym, ap, _∙_, subst}
-use mathlib.Core.Bool.{Bool, true, false}
+use mathlib.Core.Bool.{Bool, true, false, cond}
 use mathlib.Core.List.{List, [], _∷_, _++_, append-nil}
-use mathlib.Core.Logic.{inr}
+use mathlib.Core.Logic.{inl, inr}
 use lib.IntN.{ℤ, pos, negsuc, natAbs}
 use lib.ListN.{length, take, drop, length-drop}
 use lib.Seq.{length-take-le, take-append-add, take-nil, drop-drop}
@@ -14,8 +14,8 @@ use mir.Syntax.{w64}
 use mir.Val.{Fits, hbits}
 use borrow.Author.Tests.{le-ltb, eq-eqb, ne-eqb, eqb-true, eqb-false}
 use Rattle.rules.proofs.Tests.{never}
-use Rattle.fields.specs.Numbers.{pick}
 use Rattle.libc.specs.Io.{Moved}
+use Rattle.state.specs.View.{Tables}
 use Rattle.steps.specs.declared.Phase.the-variants.{Finished}
 use Rattle.steps.specs.declared.Cursor.{Cursor}
 use Rattle.steps.specs.declared.Stepped.{Stepped}
@@ -27,13 +27,13 @@ use Rattle.steps.specs.Tie.{Facts}
 use Rattle.fields.proofs.PartLaws.{part-back}
 use Rattle.replay.specs.Slides.{slide-length, slid}
 use Rattle.replay.specs.Sessions.{Pumps, Session}
-use Rattle.replay.specs.Sessions.Session.{more, pump}
+use Rattle.replay.specs.Sessions.Session.{more, call}
 use Rattle.replay.proofs.SlideLaws.{take-slid}
 use Rattle.replay.proofs.Results.{writes-the-log, done-is-finished}
 use Rattle.mtredovim.specs.declared.End.{End}
 use Rattle.mtredovim.specs.declared.End.the-variants.{On, Whole, Malformed, ReadFailed, WriteFailed}
 use Rattle.mtredovim.specs.declared.Turn.{Turn}
-use Rattle.mtredovim.specs.Turns.{waits, given-by, is-end, heard, ends-log, reads, after, read-turn, Right, Better, window, Refilled, Turned}
+use Rattle.mtredovim.specs.Turns.{Ends-log, given-by, heard, reads, after-steps, read-turn, Right, Better, window, Refilled, Turned}
 
 pub slide-len : (from to n : ℕ) → from ≤ to → to ≤ n → slide-length from to n ≡ to - from
 slide-len from to n h k = rw (le-ltb to from h, le-ltb n to k)
@@ -72,14 +72,13 @@ not-below (negsuc n) l e = never (sym e)
 
 pub some-read : (c : Cursor) (n : ℕ) (z : ℤ) → ltZ z (pos 0) ≡ false
     → record { cursor = c; from = 0; to = n + given-by z; last = eqb (given-by z) 0; written = true; read = z; end = On } ≡ read-turn c n z
-some-read c n (pos zero) e = refl
-some-read c n (pos (suc k)) e = rw (ne-eqb (suc k) 0 (omega arith))
+some-read c n (pos k) e = refl
 some-read c n (negsuc k) e = never (sym e)
 
 -- a turn that does not read
 abbrev still-turn : Stepped → ℕ → ℕ → Bool → Bool → Bool → Turn
 still-turn a from to last written emptied =
-    record { cursor = a .cursor; from = from + a .used; to = to; last = last; written = written; read = pos 0; end = after written (a .status) emptied }
+    record { cursor = a .cursor; from = from + a .used; to = to; last = last; written = written; read = pos 0; end = after-steps written (a .status) emptied }
 
 pub reads-only : (b : Bool) (k : Status) → reads b k ≡ true → (b ≡ true) × (k ≡ MoreBytes)
 reads-only b GoOn e = never e
@@ -89,11 +88,11 @@ reads-only b NotSound e = never e
 reads-only b Done e = never e
 
 -- where no read follows the next turn, some step was made
-not-on : (e : Bool) → pick e Whole Malformed ≡ On → ⊥
+not-on : (e : Bool) → cond e Whole Malformed ≡ On → ⊥
 not-on true f = never cc
 not-on false f = never cc
 
-goes : (b : Bool) (k : Status) (e : Bool) → reads b k ≡ false → after b k e ≡ On → k ≡ GoOn
+goes : (b : Bool) (k : Status) (e : Bool) → reads b k ≡ false → after-steps b k e ≡ On → k ≡ GoOn
 goes false k e r f = never cc
 goes true GoOn e r f = refl
 goes true MoreBytes e r f = never (sym r)
@@ -112,7 +111,7 @@ module _ (N : ℕ) (c : Cursor) (from to : ℕ) (R : Right N c from to) where
   refill-better n (pos (suc g)) e q o =
       record {
         right = record { order = omega arith; inside = q; place = R .place };
-        less = rw (← e) (some-less (work (c .at) (c .phase)) (c .at) n (suc g) (trace-limit + N) (omega arith) (omega (arith, R .place)));
+        less = rw (ne-eqb (suc g) 0 (omega arith), ← e) (some-less (work (c .at) (c .phase)) (c .at) n (suc g) (trace-limit + N) (omega arith) (omega (arith, R .place)));
       }
   refill-better n (negsuc g) e q o = never cc
 
@@ -120,11 +119,11 @@ module _ (N : ℕ) (c : Cursor) (from to : ℕ) (R : Right N c from to) where
     pub wanted : Right N (a .cursor) (from + a .used) to
     wanted = record { order = omega (arith, R .order, F .used); inside = R .inside; place = F .within (R .place) }
 
-    pub still-better : (b i : Bool) → reads b (a .status) ≡ false → after b (a .status) i ≡ On → Better N c from to last (still-turn a from to last b i)
+    pub still-better : (b i : Bool) → reads b (a .status) ≡ false → after-steps b (a .status) i ≡ On → Better N c from to last (still-turn a from to last b i)
     still-better b i e o =
         record {
           right = wanted;
-          less = go-less (work (c .at) (c .phase)) (work (a .cursor .at) (a .cursor .phase)) (c .at) (a .cursor .at) (trace-limit + N) (waits last) from to (a .used) (F .place) (F .less (goes b (a .status) i e o)) (F .used) (R .order);
+          less = go-less (work (c .at) (c .phase)) (work (a .cursor .at) (a .cursor .phase)) (c .at) (a .cursor .at) (trace-limit + N) (cond last 0 1) from to (a .used) (F .place) (F .less (goes b (a .status) i e o)) (F .used) (R .order);
         }
 
     pub asked-better : (b : Bool) (v : Turn) → reads b (a .status) ≡ true → Better N (a .cursor) (from + a .used) to false v → Better N c from to last v
@@ -174,14 +173,14 @@ module _ (b S ys : List ℕ) (from to n : ℕ) (h : from ≤ to) (k : to ≤ len
   pub refill-reads : (c : Cursor) (z : ℤ) → given-by z ≤ length ys
       → Refilled c (window b from to) (read-turn c n z) (window (take n S ++ (ys ++ drop (length S - n) (drop n S))) 0 (n + given-by z))
   refill-reads c z l =
-      record { cursor = refl; written = refl; got = take (given-by z) ys; count = length-take-le (given-by z) ys l; rest = behind (given-by z); last = refl; end = refl }
+      record { turn = ap (λ i. read-turn c i z) (e ∙ sym (length-window b from to h k)); got = take (given-by z) ys; count = length-take-le (given-by z) ys l; rest = behind (given-by z) }
 
 -- ---- a turn, from what its calls ensure
 
-module _ (c : Cursor) (cs t q w : List ℕ) (last : Bool) (o : List ℕ) (a : Stepped) (cs2 t2 q2 o2 w2 : List ℕ) (P : Pumps c cs t q w last o a cs2 t2 q2 o2)
+module _ (c : Cursor) (t : Tables) (w : List ℕ) (last : Bool) (o : List ℕ) (a : Stepped) (t2 : Tables) (o2 w2 : List ℕ) (P : Pumps c t w last o a t2 o2)
     (b : Bool) where
   pub turned-still : (from to : ℕ) (i : Bool) → reads b (a .status) ≡ false → i ≡ eqb (length (drop (a .used) w)) 0 → w2 ≡ drop (a .used) w
-      → Turned c cs t q w last o (still-turn a from to last b i) cs2 t2 q2 o2 w2
+      → Turned c t w last o (still-turn a from to last b i) t2 o2 w2
   turned-still from to i e h f =
       record {
         answer = a;
@@ -190,65 +189,74 @@ module _ (c : Cursor) (cs t q w : List ℕ) (last : Bool) (o : List ℕ) (a : St
         got = [];
         count = refl;
         rest = f ∙ sym (append-nil (drop (a .used) w));
-        only-asked = λ _. refl;
-        not-past-end = λ g. never (sym e ∙ g);
-        last-then = rw e;
-        end = rw (e, h);
+        where-read = λ g. never (sym e ∙ g);
+        where-not = λ _. (refl, refl, ap (after-steps b (a .status)) h);
       }
 
   pub turned-read : (v : Turn) → reads b (a .status) ≡ true → (a .status ≡ MoreBytes → last ≡ false) → Refilled (a .cursor) (drop (a .used) w) v w2
-      → Turned c cs t q w last o v cs2 t2 q2 o2 w2
+      → Turned c t w last o v t2 o2 w2
   turned-read v e wants F =
       let k = reads-only b (a .status) e .1 in
-      let d : reads (v .written) (a .status) ≡ true = rw (F .written, k) in
+      let d : reads (v .written) (a .status) ≡ true = rw (ap (λ (x : Turn). x .written) (F .turn), k) in
       record {
         answer = a;
         pumps = P;
-        cursor = F .cursor;
+        cursor = ap (λ (x : Turn). x .cursor) (F .turn);
         got = F .got;
         count = F .count;
         rest = F .rest;
-        only-asked = λ g. never (sym g ∙ d);
-        not-past-end = λ _. wants k;
-        last-then = rw d (F .last);
-        end = rw d (F .end);
+        where-read = λ _. (wants k, ap (λ (x : Turn). x .last) (F .turn), ap (λ (x : Turn). x .end) (F .turn));
+        where-not = λ g. never (sym g ∙ d);
       }
 
 -- what the end of a turn says of its calls
+abbrev pub ends-log : End → Bool
+ends-log On = false
+ends-log Whole = true
+ends-log Malformed = true
+ends-log ReadFailed = false
+ends-log WriteFailed = false
+
+ends-it : (e : End) → Ends-log e → ends-log e ≡ true
+ends-it e (inl f) = ap ends-log f
+ends-it e (inr f) = ap ends-log f
+
 heard-ends : (z : ℤ) → ends-log (heard z) ≡ true → ⊥
 heard-ends (pos n) e = never e
 heard-ends (negsuc n) e = never e
 
-pub ends-done : (b : Bool) (k : Status) (z : ℤ) (i : Bool) → ends-log (pick (reads b k) (heard z) (after b k i)) ≡ true → (b ≡ true) × (k ≡ Done)
-ends-done false GoOn z i e = never e
-ends-done false MoreBytes z i e = never e
-ends-done false MoreRoom z i e = never e
-ends-done false NotSound z i e = never e
-ends-done false Done z i e = never e
-ends-done true GoOn z i e = never e
-ends-done true MoreBytes z i e = absurd (heard-ends z e)
-ends-done true MoreRoom z i e = never e
-ends-done true NotSound z i e = never e
-ends-done true Done z i e = (refl, refl)
+after-ends : (b : Bool) (k : Status) (i : Bool) → ends-log (after-steps b k i) ≡ true → (b ≡ true) × (k ≡ Done)
+after-ends false k i e = never e
+after-ends true GoOn i e = never e
+after-ends true MoreBytes i e = never e
+after-ends true MoreRoom i e = never e
+after-ends true NotSound i e = never e
+after-ends true Done i e = (refl, refl)
 
 -- ---- a turn goes on with the session
 
-module _ (trace wrote : List ℕ) (c : Cursor) (cs t q w unread : List ℕ) (S : Session trace wrote c cs t q w unread) (last : Bool) (g : last ≡ true → unread ≡ [])
-    (o : List ℕ) (v : Turn) (cs2 t2 q2 o2 w2 : List ℕ) (T : Turned c cs t q w last o v cs2 t2 q2 o2 w2) where
-  pub turn-keeps : (then : List ℕ) → unread ≡ T .got ++ then → Session trace (wrote ++ take (T .answer .wrote) o2) (v .cursor) cs2 t2 q2 w2 then
+module _ (trace wrote : List ℕ) (c : Cursor) (t : Tables) (w unread : List ℕ) (S : Session trace wrote c t w unread) (last : Bool) (g : last ≡ true → unread ≡ [])
+    (o : List ℕ) (v : Turn) (t2 : Tables) (o2 w2 : List ℕ) (T : Turned c t w last o v t2 o2 w2) where
+  pub turn-keeps : (then : List ℕ) → unread ≡ T .got ++ then → Session trace (wrote ++ take (T .answer .wrote) o2) (v .cursor) t2 w2 then
   turn-keeps then e =
-      let P = pump last g o (T .answer) cs2 t2 q2 o2 (T .pumps) S in
-      let Q = more (T .got) then (subst (λ l. Session trace (wrote ++ take (T .answer .wrote) o2) (T .answer .cursor) cs2 t2 q2 (drop (T .answer .used) w) l) e P) in
+      let P = call last g o (T .answer) t2 o2 (inr (T .pumps)) S in
+      let Q = more (T .got) then (subst (λ l. Session trace (wrote ++ take (T .answer .wrote) o2) (T .answer .cursor) t2 (drop (T .answer .used) w) l) e P) in
       rw (T .cursor, T .rest) Q
 
-  pub ends-status : ends-log (v .end) ≡ true → (v .written ≡ true) × (T .answer .status ≡ Done)
-  ends-status e = ends-done (v .written) (T .answer .status) (v .read) (eqb (length (drop (T .answer .used) w)) 0) (ap ends-log (sym (T .end)) ∙ e)
+  pub ends-status : Ends-log (v .end) → (v .written ≡ true) × (T .answer .status ≡ Done)
+  ends-status e = go (reads (v .written) (T .answer .status)) refl
+    where
+      go : (d : Bool) → reads (v .written) (T .answer .status) ≡ d → (v .written ≡ true) × (T .answer .status ≡ Done)
+      go true f = absurd (heard-ends (v .read) (ap ends-log (sym (T .where-read f .2)) ∙ ends-it (v .end) e))
+      go false f =
+          after-ends (v .written) (T .answer .status) (eqb (length (drop (T .answer .used) w)) 0)
+          (ap ends-log (sym (T .where-not f .2)) ∙ ends-it (v .end) e)
 
   -- the log ended: the cursor is finished
-  pub turn-finishes : ends-log (v .end) ≡ true → T .answer .cursor .phase ≡ Finished
-  turn-finishes e = done-is-finished trace wrote c cs t q w unread S last g o (T .answer) cs2 t2 q2 o2 (inr (T .pumps)) (ends-status e .1)
+  pub turn-finishes : Ends-log (v .end) → T .answer .cursor .phase ≡ Finished
+  turn-finishes e = done-is-finished trace wrote c t w unread S last g o (T .answer) t2 o2 (inr (T .pumps)) (ends-status e .1)
 
-  pub turn-ends : ends-log (v .end) ≡ true → wrote ++ take (T .answer .wrote) o2 ≡ log trace
+  pub turn-ends : Ends-log (v .end) → wrote ++ take (T .answer .wrote) o2 ≡ log trace
   turn-ends e =
-      writes-the-log trace _ (T .answer .cursor) cs2 t2 q2 (drop (T .answer .used) w) unread (pump last g o (T .answer) cs2 t2 q2 o2 (T .pumps) S)
+      writes-the-log trace _ (T .answer .cursor) t2 (drop (T .answer .used) w) unread (call last g o (T .answer) t2 o2 (inr (T .pumps)) S)
       (turn-finishes e)

@@ -1,5 +1,5 @@
 -- THE STATEMENTS of the program, apart from their proofs: each is proved in proofs/Results under the same name in small letters. `main` hands its tables to
--- `replay_all`, whose contract is `Ran`: its turns are such as are spoken of here. Assumes nothing.
+-- `replay_all`, whose contract is `Ran`: its turns are such as are spoken of here.
 use Prim.Native.Nat.{ℕ, _<_}
 use mathlib.Core.Path.{_≡_}
 use mathlib.Core.Bool.{Bool, true, false}
@@ -7,6 +7,7 @@ use mathlib.Core.List.{List, [], _++_}
 use mathlib.Core.Option.{none, some}
 use lib.ListN.{length, take, drop}
 use lib.Signed.{nonNeg}
+use Rattle.state.specs.View.{Tables}
 use Rattle.steps.specs.declared.Cursor.{Cursor}
 use Rattle.log.specs.Log.{log}
 use Rattle.log.specs.Bad.{bad-at}
@@ -14,14 +15,14 @@ use Rattle.traces.specs.Trace.{longest-record}
 use Rattle.replay.specs.Sessions.{Session}
 use Rattle.mtredovim.specs.declared.End.the-variants.{Whole, Malformed, ReadFailed, WriteFailed}
 use Rattle.mtredovim.specs.declared.Turn.{Turn}
-use Rattle.mtredovim.specs.Turns.{ends-log, reads, Turned}
+use Rattle.mtredovim.specs.Turns.{Ends-log, reads, Turned}
 use Rattle.mtredovim.specs.Runs.{Turns}
 
 -- ---- all turns from the start: `given` is what the reads gave, `wrote` what was handed to `write`
 
 -- of all turns from the start: P of what was given and written, and of the turn made last
 abbrev pub Of-all-turns : (List ℕ → List ℕ → Turn → Type 0) → Type 0
-Of-all-turns P = (given wrote : List ℕ) (v : Turn) (cs t q w : List ℕ) → Turns given wrote v cs t q w → P given wrote v
+Of-all-turns P = (given wrote : List ℕ) (v : Turn) (t : Tables) (w : List ℕ) → Turns given wrote v t w → P given wrote v
 
 -- the same of the whole trace: `then` is what would come behind what was given, nothing where the input has ended
 abbrev pub Of-the-trace : (List ℕ → List ℕ → Turn → Type 0) → Type 0
@@ -29,7 +30,7 @@ Of-the-trace P = Of-all-turns (λ given wrote v. (then : List ℕ) → (v .last 
 
 -- THE PROGRAM: where it has written the log to its end, that is the log of the trace
 abbrev pub The-program-writes-the-log : Type 0
-The-program-writes-the-log = Of-the-trace (λ trace wrote v. ends-log (v .end) ≡ true → wrote ≡ log trace)
+The-program-writes-the-log = Of-the-trace (λ trace wrote v. Ends-log (v .end) → wrote ≡ log trace)
 
 -- it says Whole of a trace whose records are all well formed, and Malformed of one whose first malformed record is where the cursor stands
 abbrev pub It-tells-the-malformed : Type 0
@@ -51,29 +52,27 @@ It-ends-for-no-other-reason = Of-all-turns (λ given wrote v. (v .end ≡ WriteF
 -- a read has room: with fewer bytes kept than the longest record has, a buffer of that length is not full, and a read that gives nothing is the end of the input
 abbrev pub A-read-has-room : Type 0
 A-read-has-room =
-    (given wrote : List ℕ) (v : Turn) (cs t q w : List ℕ) → Turns given wrote v cs t q w
-    → (o : List ℕ) (r : Turn) (cs2 t2 q2 o2 w2 : List ℕ) (T : Turned (v .cursor) cs t q w (v .last) o r cs2 t2 q2 o2 w2)
+    (given wrote : List ℕ) (v : Turn) (t : Tables) (w : List ℕ) → Turns given wrote v t w
+    → (o : List ℕ) (r : Turn) (t2 : Tables) (o2 w2 : List ℕ) (T : Turned (v .cursor) t w (v .last) o r t2 o2 w2)
     → reads (r .written) (T .answer .status) ≡ true
     → length (drop (T .answer .used) w) < longest-record
 
 -- ---- one turn, in any session of the replay
 
+-- of a turn: P of the trace, all that was written with it, the turn, the tables and the window then, what was unread before it, and what its read gave
+abbrev pub Of-a-turn : (List ℕ → List ℕ → Turn → Tables → List ℕ → List ℕ → List ℕ → Type 0) → Type 0
+Of-a-turn P =
+    (trace wrote : List ℕ) (c : Cursor) (t : Tables) (w unread : List ℕ)
+    → Session trace wrote c t w unread
+    → (last : Bool) → (last ≡ true → unread ≡ []) → (o : List ℕ) (v : Turn) (t2 : Tables) (o2 w2 : List ℕ)
+    → (T : Turned c t w last o v t2 o2 w2)
+    → P trace (wrote ++ take (T .answer .wrote) o2) v t2 w2 unread (T .got)
+
 -- a turn goes on with the session: what the read gave are the next bytes of the trace, and what `pump` wrote was written out
 abbrev pub A-turn-goes-on : Type 0
 A-turn-goes-on =
-    (trace wrote : List ℕ) (c : Cursor) (cs t q w unread : List ℕ)
-    → Session trace wrote c cs t q w unread
-    → (last : Bool) → (last ≡ true → unread ≡ []) → (o : List ℕ) (v : Turn) (cs2 t2 q2 o2 w2 : List ℕ)
-    → (T : Turned c cs t q w last o v cs2 t2 q2 o2 w2) (then : List ℕ)
-    → unread ≡ T .got ++ then
-    → Session trace (wrote ++ take (T .answer .wrote) o2) (v .cursor) cs2 t2 q2 w2 then
+    Of-a-turn (λ trace wrote v t w unread got. (then : List ℕ) → unread ≡ got ++ then → Session trace wrote (v .cursor) t w then)
 
 -- a turn that ends the log: what was written is the log
 abbrev pub The-last-turn-ends-the-log : Type 0
-The-last-turn-ends-the-log =
-    (trace wrote : List ℕ) (c : Cursor) (cs t q w unread : List ℕ)
-    → Session trace wrote c cs t q w unread
-    → (last : Bool) → (last ≡ true → unread ≡ []) → (o : List ℕ) (v : Turn) (cs2 t2 q2 o2 w2 : List ℕ)
-    → (T : Turned c cs t q w last o v cs2 t2 q2 o2 w2)
-    → ends-log (v .end) ≡ true
-    → wrote ++ take (T .answer .wrote) o2 ≡ log trace
+The-last-turn-ends-the-log = Of-a-turn (λ trace wrote v t w unread got. Ends-log (v .end) → wrote ≡ log trace)

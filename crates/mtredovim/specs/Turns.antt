@@ -1,12 +1,14 @@
--- What a turn of the program's loop does. Assumes nothing.
-use Prim.Native.Nat.{ℕ, zero, suc, _+_, _-_, _<_, _≤_}
+-- What a turn of the program's loop does.
+use Prim.Native.Nat.{ℕ, _+_, _-_, _<_, _≤_}
 use mathlib.Core.Path.{_≡_}
-use mathlib.Core.Bool.{Bool, true, false}
+use mathlib.Core.Bool.{Bool, true, false, cond, _&&_}
+use mathlib.Core.Logic.{_⊎_}
 use mathlib.Core.List.{List, _++_}
 use lib.Dec.{eqb}
 use lib.IntN.{ℤ, pos, negsuc}
 use lib.ListN.{length, take, drop}
-use Rattle.fields.specs.Numbers.{pick}
+use lib.Signed.{nonNeg}
+use Rattle.state.specs.View.{Tables}
 use Rattle.steps.specs.declared.Cursor.{Cursor}
 use Rattle.steps.specs.declared.Status.{Status}
 use Rattle.steps.specs.declared.Status.the-variants.{GoOn, MoreBytes, MoreRoom, NotSound, Done}
@@ -28,13 +30,9 @@ is-on Malformed = false
 is-on ReadFailed = false
 is-on WriteFailed = false
 
--- whether the log is written to its end
-abbrev pub ends-log : End → Bool
-ends-log On = false
-ends-log Whole = true
-ends-log Malformed = true
-ends-log ReadFailed = false
-ends-log WriteFailed = false
+-- the log is written to its end
+abbrev pub Ends-log : End → Type 0
+Ends-log e = (e ≡ Whole) ⊎ (e ≡ Malformed)
 
 -- what `read` answers: -1 where it failed, else how many bytes it gave, 0 at the end of the input
 abbrev pub given-by : ℤ → ℕ
@@ -42,13 +40,10 @@ given-by (pos n) = n
 given-by (negsuc n) = 0
 
 abbrev pub is-end : ℤ → Bool
-is-end (pos zero) = true
-is-end (pos (suc n)) = false
-is-end (negsuc n) = false
+is-end z = nonNeg z && eqb (given-by z) 0
 
 abbrev pub heard : ℤ → End
-heard (pos n) = On
-heard (negsuc n) = ReadFailed
+heard z = cond (nonNeg z) On ReadFailed
 
 -- whether a turn reads, where all that was to be written was taken or not, and its steps ended with a status
 abbrev pub reads : Bool → Status → Bool
@@ -60,13 +55,13 @@ reads written Done = false
 
 -- what follows a turn that does not read, where the window is used up or not: a malformed record stays in it. MoreRoom and NotSound never come:
 -- `It-ends-for-no-other-reason`
-abbrev pub after : Bool → Status → Bool → End
-after false k emptied = WriteFailed
-after true GoOn emptied = On
-after true MoreBytes emptied = On
-after true MoreRoom emptied = WriteFailed
-after true NotSound emptied = WriteFailed
-after true Done emptied = pick emptied Whole Malformed
+abbrev pub after-steps : Bool → Status → Bool → End
+after-steps false k emptied = WriteFailed
+after-steps true GoOn emptied = On
+after-steps true MoreBytes emptied = On
+after-steps true MoreRoom emptied = WriteFailed
+after-steps true NotSound emptied = WriteFailed
+after-steps true Done emptied = cond emptied Whole Malformed
 
 -- a turn that ends with a read behind n bytes of the window, which answered z
 abbrev pub read-turn : Cursor → ℕ → ℤ → Turn
@@ -78,13 +73,9 @@ first-turn = record { cursor = cursor-of beginning; from = 0; to = 0; last = fal
 
 -- ---- the turns end
 
-abbrev pub waits : Bool → ℕ
-waits true = 0
-waits false = 1
-
 -- a bound on the turns that are left, with a buffer of n bytes of which those from `from` to `to` are the window
-abbrev pub load : ℕ → Cursor → ℕ → ℕ → Bool → ℕ
-load n c from to last = work (c .at) (c .phase) + (trace-limit + n - (c .at + (to - from))) + waits last
+abbrev pub turns-left : ℕ → Cursor → ℕ → ℕ → Bool → ℕ
+turns-left n c from to last = work (c .at) (c .phase) + (trace-limit + n - (c .at + (to - from))) + cond last 0 1
 
 -- the place and the window are as they must be
 pub record Right (n : ℕ) (c : Cursor) (from to : ℕ) : Type 0 where
@@ -95,7 +86,7 @@ pub record Right (n : ℕ) (c : Cursor) (from to : ℕ) : Type 0 where
 -- a turn that is followed by another leaves less to do
 pub record Better (n : ℕ) (c : Cursor) (from to : ℕ) (last : Bool) (r : Turn) : Type 0 where
   pub right : Right n (r .cursor) (r .from) (r .to)
-  pub less : load n (r .cursor) (r .from) (r .to) (r .last) < load n c from to last
+  pub less : turns-left n (r .cursor) (r .from) (r .to) (r .last) < turns-left n c from to last
 
 -- ---- a turn
 
@@ -104,24 +95,20 @@ window b from to = take (to - from) (drop from b)
 
 -- a read behind the window w: `got` is what it gave, and w2 the window then
 pub record Refilled (c : Cursor) (w : List ℕ) (r : Turn) (w2 : List ℕ) : Type 0 where
-  pub cursor : r .cursor ≡ c
-  pub written : r .written ≡ true
+  pub turn : r ≡ read-turn c (length w) (r .read)
   pub got : List ℕ
   pub count : length got ≡ given-by (r .read)
   pub rest : w2 ≡ w ++ got
-  pub last : r .last ≡ is-end (r .read)
-  pub end : r .end ≡ heard (r .read)
 
--- A TURN: a call of `pump` on the window w with the room o, which answered a; the first bytes of the room o2 were written out; then a read or none, which gave
--- `got`; w2 is the window then
-pub record Turned (c : Cursor) (cs t q w : List ℕ) (last : Bool) (o : List ℕ) (r : Turn) (cs2 t2 q2 o2 w2 : List ℕ) : Type 0 where
+-- A TURN: a call of `pump` on the window w with the room o, which gave `answer`; the first bytes of the room o2 were written out; then a read or none, which
+-- gave `got`; w2 is the window then
+pub record Turned (c : Cursor) (t : Tables) (w : List ℕ) (last : Bool) (o : List ℕ) (r : Turn) (t2 : Tables) (o2 w2 : List ℕ) : Type 0 where
   pub answer : Stepped
-  pub pumps : Pumps c cs t q w last o answer cs2 t2 q2 o2
+  pub pumps : Pumps c t w last o answer t2 o2
   pub cursor : r .cursor ≡ answer .cursor
   pub got : List ℕ
   pub count : length got ≡ given-by (r .read)
   pub rest : w2 ≡ drop (answer .used) w ++ got
-  pub only-asked : reads (r .written) (answer .status) ≡ false → r .read ≡ pos 0
-  pub not-past-end : reads (r .written) (answer .status) ≡ true → last ≡ false
-  pub last-then : r .last ≡ pick (reads (r .written) (answer .status)) (is-end (r .read)) last
-  pub end : r .end ≡ pick (reads (r .written) (answer .status)) (heard (r .read)) (after (r .written) (answer .status) (eqb (length (drop (answer .used) w)) 0))
+  pub where-read : reads (r .written) (answer .status) ≡ true → (last ≡ false) × (r .last ≡ is-end (r .read)) × (r .end ≡ heard (r .read))
+  pub where-not : reads (r .written) (answer .status) ≡ false
+      → (r .read ≡ pos 0) × (r .last ≡ last) × (r .end ≡ after-steps (r .written) (answer .status) (eqb (length (drop (answer .used) w)) 0))

@@ -1,4 +1,4 @@
--- What the program tells on standard error. Assumes nothing.
+-- What the program tells on standard error.
 use Prim.Native.Nat.{ℕ}
 use Prim.Native.Char.{code}
 use Prim.Native.String.{String, [], _∷_}
@@ -8,33 +8,20 @@ use lib.ListN.{length}
 use Rattle.io.specs.Digits.{digits, Fewest}
 use Rattle.mtredovim.specs.declared.End.{End}
 use Rattle.mtredovim.specs.declared.End.the-variants.{On, Whole, Malformed, ReadFailed, WriteFailed}
-use Rattle.mtredovim.specs.declared.Turn.{Turn}
 
 -- the bytes of a text
-abbrev pub bytes : String → List ℕ
-bytes [] = none
-bytes (c ∷ s) = code c then bytes s
-
--- the words of an end
-abbrev pub words-of : End → List ℕ
-words-of On = none
-words-of Whole = none
-words-of Malformed = bytes "mtredovim: malformed record at offset "
-words-of ReadFailed = bytes "mtredovim: reading failed"
-words-of WriteFailed = bytes "mtredovim: writing failed"
+abbrev pub text : String → List ℕ
+text [] = none
+text (c ∷ s) = code c then text s
 
 -- n in as few decimal digits as it takes
 abbrev pub Decimal : ℕ → List ℕ → Type 0
 Decimal n ds = Fewest 10 1 n (length ds) × (ds ≡ digits 10 (length ds) n)
 
--- what is told of the last turn: the words of its end, and behind those of a malformed record the offset at which the cursor stands
-abbrev pub digits-of : End → ℕ → List ℕ → Type 0
-digits-of On at ds = ds ≡ none
-digits-of Whole at ds = ds ≡ none
-digits-of Malformed at ds = Decimal at ds
-digits-of ReadFailed at ds = ds ≡ none
-digits-of WriteFailed at ds = ds ≡ none
-
-pub record Told (v : Turn) (ws ds : List ℕ) : Type 0 where
-  pub words : ws ≡ words-of (v .end)
-  pub offset : digits-of (v .end) (v .cursor .at) ds
+-- the words and digits that are told of an end, with the cursor at offset `at`: nothing of a log that is whole
+abbrev pub Says : End → ℕ → List ℕ → List ℕ → Type 0
+Says On at ws ds = ⊥
+Says Whole at ws ds = ⊥
+Says Malformed at ws ds = (ws ≡ text "mtredovim: malformed record at offset ") × Decimal at ds
+Says ReadFailed at ws ds = (ws ≡ text "mtredovim: reading failed") × (ds ≡ none)
+Says WriteFailed at ws ds = (ws ≡ text "mtredovim: writing failed") × (ds ≡ none)

@@ -1,14 +1,15 @@
-// Replays the trace on standard input and writes its answer log to standard output. Of what went wrong it tells in a line on standard error.
+// Replays the trace on standard input and writes its answer log to standard output. It tells on standard error what went wrong.
 ghost use mathlib.Core.Path.{_≡_};
 ghost use mathlib.Core.Bool.{true, false};
 ghost use Prim.Native.Nat.{_+_, _^_, _<_, _≤_};
+ghost use Rattle.state.specs.View.{zero-tables, given, before, after};
 ghost use lib.ListN.{length};
 ghost use Rattle.traces.specs.Trace.{longest-record};
 ghost use Rattle.answers.specs.Answers.{longest-answer};
 ghost use Rattle.mtredovim.specs.declared.End.the-variants.{On};
-ghost use Rattle.mtredovim.specs.Turns.{is-on, given-by, reads, after, first-turn, read-turn, window, Right, Better, Refilled, Turned};
-ghost use Rattle.mtredovim.specs.Runs.{Fresh, Ran};
-ghost use Rattle.mtredovim.specs.Words.{Told};
+ghost use Rattle.mtredovim.specs.Turns.{is-on, given-by, reads, after-steps, first-turn, read-turn, window, Right, Better, Refilled, Turned};
+ghost use Rattle.mtredovim.specs.Runs.{Ran};
+ghost use Rattle.mtredovim.specs.Words.{Says};
 use libc::STDERR_FILENO;
 use libc::STDIN_FILENO;
 use libc::STDOUT_FILENO;
@@ -100,7 +101,7 @@ fn heard(c: Cursor, n: usize, read: isize) -> Turn
 }
 
 // Whether a turn reads: all that was to be written was taken, and the steps want more bytes.
-fn asks(written: bool, k: Status) -> bool
+fn reads(written: bool, k: Status) -> bool
     ensures { λ r. ⌜ r ≡ reads written k ⌝ }
 {
     match k {
@@ -114,7 +115,7 @@ fn asks(written: bool, k: Status) -> bool
 
 // What follows a turn that does not read; `emptied`: nothing of the window is left, in which a malformed record stays. MoreRoom and NotSound never come.
 fn after_steps(written: bool, k: Status, emptied: bool) -> End
-    ensures { λ r. ⌜ r ≡ after written k emptied ⌝ }
+    ensures { λ r. ⌜ r ≡ after-steps written k emptied ⌝ }
 {
     if !written {
         return End::WriteFailed;
@@ -147,27 +148,27 @@ fn refill(c: Cursor, buf: &mut [u8], from: usize, to: usize) -> Turn
 // As many steps as the room holds, written out in one block; then more input, if that is what is wanted.
 fn advance(
     v: Turn,
-    cs: &mut [u32],
-    t: &mut [u32],
-    q: &mut [u32],
+    members: &mut [u32],
+    places: &mut [u32],
+    notices: &mut [u32],
     buf: &mut [u8],
     out: &mut [u8],
 ) -> Turn
     requires { ⌜ Right (length (now buf)) (v .cursor) (v .from) (v .to) ⌝ }
-    ensures { λ r. ⌜ Turned (v .cursor) (now (cs .entry)) (now (t .entry)) (now (q .entry)) (window (now (buf .entry)) (v .from) (v .to)) (v .last) (now (out .entry)) r (now (cs .exit)) (now (t .exit)) (now (q .exit)) (now (out .exit)) (window (now (buf .exit)) (r .from) (r .to)) ⌝ }
+    ensures { λ r. ⌜ Turned (v .cursor) (before members places notices) (window (now (buf .entry)) (v .from) (v .to)) (v .last) (now (out .entry)) r (after members places notices) (now (out .exit)) (window (now (buf .exit)) (r .from) (r .to)) ⌝ }
     ensures { λ r. ⌜ (r .end ≡ On → Better (length (now (buf .entry))) (v .cursor) (v .from) (v .to) (v .last) r) ⌝ }
 {
     let c = v.cursor;
     let from = v.from;
     let to = v.to;
     let last = v.last;
-    let r = replay::pump(c, cs, t, q, &buf[from..to], last, out);
+    let r = replay::pump(c, members, places, notices, &buf[from..to], last, out);
     let wrote = r.wrote;
     let written = io::write_all(STDOUT_FILENO, &out[..wrote]);
     let then = r.cursor;
     let next = from + r.used;
     let k = r.status;
-    if asks(written, k) {
+    if reads(written, k) {
         return refill(then, buf, next, to);
     }
     let emptied = next == to;
@@ -184,15 +185,21 @@ fn advance(
 }
 
 // ALL TURNS, from the fresh hub and tables of zeros until one that is not followed by another: the last one.
-fn replay_all(cs: &mut [u32], t: &mut [u32], q: &mut [u32], buf: &mut [u8], out: &mut [u8]) -> Turn
-    requires { ⌜ Fresh (now cs) (now t) (now q) ⌝ }
+fn replay_all(
+    members: &mut [u32],
+    places: &mut [u32],
+    notices: &mut [u32],
+    buf: &mut [u8],
+    out: &mut [u8],
+) -> Turn
+    requires { ⌜ given members places notices ≡ zero-tables ⌝ }
     requires { ⌜ longest-record ≤ length (now buf) ⌝ }
     requires { ⌜ longest-answer ≤ length (now out) ⌝ }
-    ensures { λ r. ⌜ Ran r (now (cs .exit)) (now (t .exit)) (now (q .exit)) ⌝ }
+    ensures { λ r. ⌜ Ran r (after members places notices) ⌝ }
 {
     let mut v = first();
     loop {
-        let r = advance(v, cs, t, q, buf, out);
+        let r = advance(v, members, places, notices, buf, out);
         let e = r.end;
         if !goes_on(e) {
             return r;
@@ -201,9 +208,9 @@ fn replay_all(cs: &mut [u32], t: &mut [u32], q: &mut [u32], buf: &mut [u8], out:
     }
 }
 
-// Hands a line to `write`, on standard error: the words told of an end, and behind those of a malformed record the digits of its offset.
+// Hands to `write`, on standard error, the words told of an end, and behind those of a malformed record the digits of its offset.
 fn say(v: Turn, words: &[u8], digits: &[u8])
-    requires { ⌜ Told v (now words) (now digits) ⌝ }
+    requires { ⌜ Says (v .end) (v .cursor .at) (now words) (now digits) ⌝ }
 {
     io::write_all(STDERR_FILENO, words);
     io::write_all(STDERR_FILENO, digits);
@@ -227,16 +234,10 @@ fn tell(v: Turn) {
 
 fn main() {
     let mut places = [0u32; PLACES];
-    let mut connections = [0u32; MEMBERS];
+    let mut members = [0u32; MEMBERS];
     let mut notices = [0u32; NOTICES];
     let mut buf = io::large_buffer();
     let mut out = io::large_buffer();
-    let v = replay_all(
-        &mut connections,
-        &mut places,
-        &mut notices,
-        &mut buf,
-        &mut out,
-    );
+    let v = replay_all(&mut members, &mut places, &mut notices, &mut buf, &mut out);
     tell(v);
 }

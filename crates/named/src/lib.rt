@@ -1,11 +1,11 @@
-// What the records of a trace name: the link of an `LK`, the connection of a `CN`. The replay and the firmware read them through these.
+// What the numbers of a trace record name: the link of an `LK`, the connection of a `CN`. The replay and the firmware get them through these.
 ghost use mathlib.Core.Path.{_≡_};
-ghost use Rattle.rules.specs.Model.{no-link, no-connection};
-ghost use Rattle.named.specs.Named.{link-named, connection-named, link-of, connection-of};
+ghost use mathlib.Core.List.{[], _∷_};
+ghost use Rattle.rules.specs.Model.{no-link};
+ghost use Rattle.named.specs.Named.{link-named, connection-named};
 use limits::MAX_LEVELS;
 use rules::Connection;
 use rules::Link;
-use traces::Record;
 
 // The link of an `LK`.
 pub fn link_named(
@@ -21,7 +21,7 @@ pub fn link_named(
     d7: u16,
     d8: u16,
 ) -> Link
-    ensures { λ r. ⌜ r ≡ link-named levels largest silence d1 d2 d3 d4 d5 d6 d7 d8 ⌝ }
+    ensures { λ r. ⌜ r ≡ link-named (levels ∷ largest ∷ silence ∷ d1 ∷ d2 ∷ d3 ∷ d4 ∷ d5 ∷ d6 ∷ d7 ∷ d8 ∷ []) ⌝ }
 {
     Link {
         levels: levels as u32,
@@ -42,7 +42,7 @@ pub fn link_named(
 
 // The connection of a `CN`.
 pub fn connection_named(level: u8, gap: u16, size: u16) -> Connection
-    ensures { λ r. ⌜ r ≡ connection-named level gap size ⌝ }
+    ensures { λ r. ⌜ r ≡ connection-named (level ∷ gap ∷ size ∷ []) ⌝ }
 {
     Connection {
         level: level as u32,
@@ -60,55 +60,5 @@ pub fn no_link() -> Link
         largest: 0,
         silence: 0,
         bounds: [0; MAX_LEVELS as usize],
-    }
-}
-
-fn no_connection() -> Connection
-    ensures { λ r. ⌜ r ≡ no-connection ⌝ }
-{
-    Connection {
-        level: 0,
-        gap: 0,
-        size: 0,
-    }
-}
-
-// The link that a record names; none where it is no `LK`.
-pub fn link_of(what: Record) -> Link
-    ensures { λ r. ⌜ r ≡ link-of what ⌝ }
-{
-    match what {
-        Record::Link {
-            levels,
-            largest,
-            silence,
-            d1,
-            d2,
-            d3,
-            d4,
-            d5,
-            d6,
-            d7,
-            d8,
-        } => link_named(levels, largest, silence, d1, d2, d3, d4, d5, d6, d7, d8),
-        Record::Admit { .. } => no_link(),
-        Record::Offer { .. } => no_link(),
-        Record::Notice { .. } => no_link(),
-        Record::Ticks { .. } => no_link(),
-        Record::Malformed => no_link(),
-    }
-}
-
-// The connection that a record names; none where it is no `CN`.
-pub fn connection_of(what: Record) -> Connection
-    ensures { λ r. ⌜ r ≡ connection-of what ⌝ }
-{
-    match what {
-        Record::Admit { level, gap, size } => connection_named(level, gap, size),
-        Record::Link { .. } => no_connection(),
-        Record::Offer { .. } => no_connection(),
-        Record::Notice { .. } => no_connection(),
-        Record::Ticks { .. } => no_connection(),
-        Record::Malformed => no_connection(),
     }
 }

@@ -1,4 +1,4 @@
--- THE PROOFS of the statements in specs/Promises, each under its name in small letters. Assumes nothing.
+-- THE PROOFS of the statements in specs/Promises, each under its name in small letters.
 use Prim.Native.Nat.{ℕ, _/_, _<_, _≤_}
 use native.Mathlib.Omega.{arith}
 use mathlib.Core.Path.{_≡_, refl, sym, ap, _∙_, subst}
@@ -6,16 +6,15 @@ use mathlib.Core.Bool.{Bool, true, false}
 use mathlib.Core.List.{List, [], _++_, append-assoc, append-nil}
 use mathlib.Core.Logic.{inl, inr}
 use lib.Dec.{ltb}
-use lib.ListN.{length, take, drop, replicate}
+use lib.ListN.{length, take, drop}
 use lib.Seq.{take-append-seam}
 use borrow.Author.Tests.{ltb-true}
 use Rattle.rules.specs.SoundState.{Sound}
 use Rattle.rules.proofs.Tests.{never}
 use Rattle.rules.proofs.Every.{fresh-invariant}
-use Rattle.tables.specs.Places.{places, places-length, table-of}
-use Rattle.tables.specs.Notices.{notices-length}
-use Rattle.lines.specs.Members.{written-members, members-length}
-use Rattle.calls.specs.Acts.{sound-hub}
+use Rattle.tables.specs.Places.{written-places, table-of}
+use Rattle.connections.specs.Members.{written-members}
+use Rattle.state.specs.View.{Tables, tables, zero-tables, sound-hub}
 use Rattle.steps.specs.declared.Phase.{Phase}
 use Rattle.steps.specs.declared.Phase.the-variants.{Finished}
 use Rattle.steps.specs.declared.Cursor.{Cursor}
@@ -26,30 +25,30 @@ use Rattle.log.specs.Bad.{bad-at}
 use Rattle.traces.specs.Trace.{longest-record}
 use Rattle.answers.specs.Answers.{longest-answer}
 use Rattle.steps.specs.Steps.{Point, point, Next, still, beginning, next, steps, to-come, phase-log}
-use Rattle.fields.proofs.NumberLaws.{pick-by}
+use Rattle.fields.proofs.NumberLaws.{cond-by}
 use Rattle.steps.proofs.StepLaws.{Keeps, step-keeps, steps-keep}
 use Rattle.log.proofs.BadLaws.{log-ends}
 use Rattle.steps.proofs.MalformedLaws.{phase-tells, Tells as Malformed-in, Tells-then as Malformed-then, tells-more, step-tells, steps-tell}
 use Rattle.steps.proofs.OutcomeLaws.{Ends-well, step-ends-well, steps-end-well}
-use Rattle.steps.specs.Tie.{point-of, cursor-of, stepped-of, Did, in-room, Does}
-use Rattle.replay.specs.Sessions.{Steps, Pumps, Session}
-use Rattle.replay.specs.Sessions.Session.{start, more, step, pump}
+use Rattle.steps.specs.Tie.{point-of, cursor-of, stepped-of, Makes, in-room, Makes-if-sound}
+use Rattle.replay.specs.Sessions.{Steps, Pumps, Session, Calls, call}
+use Rattle.replay.specs.Sessions.Session.{start, more}
 use Rattle.replay.specs.Promises.{Writes-the-log, Writes-nothing-else, Tells-the-malformed, Ends-with-its-ER, Of-every-call, Done-is-finished, Never-refused, Asks-when-short, Same-outcome, One-outcome}
 use Rattle.replay.proofs.Standing.{Stands, stands-sound, stands-there, stands-then}
 
 -- at any time of a session: what was written, and what is to come, is the log; and where the trace is malformed is where what is left of it is
-record Holds (trace wrote : List ℕ) (c : Cursor) (cs t q w unread : List ℕ) : Type 0 where
+record Holds (trace wrote : List ℕ) (c : Cursor) (t : Tables) (w unread : List ℕ) : Type 0 where
   here : Point
-  stands : Stands here c cs t q
+  stands : Stands here c t
   adds-up : wrote ++ to-come here (w ++ unread) ≡ log trace
   told : Malformed-in (bad-at trace) here w unread
 
-start-holds : (trace : List ℕ) → Holds trace [] (cursor-of beginning) (replicate members-length 0) (replicate places-length 0) (replicate notices-length 0) [] trace
-unfolding log bad-at written-members places table-of
+start-holds : (trace : List ℕ) → Holds trace [] (cursor-of beginning) zero-tables [] trace
+unfolding log bad-at written-members written-places table-of
 start-holds trace =
     record {
       here = beginning;
-      stands = record { sound = fresh-invariant .sound; cursor = refl; connections = refl; table = refl; queue = refl };
+      stands = record { sound = fresh-invariant .sound; cursor = refl; tables = refl };
       adds-up = refl;
       told = refl;
     }
@@ -61,16 +60,16 @@ record Tells (w o : List ℕ) (a : Stepped) : Type 0 where
   room-enough : longest-answer ≤ length o → a .status ≡ MoreRoom → ⊥
   never-unsound : a .status ≡ NotSound → ⊥
 
-module _ (trace wrote : List ℕ) (c : Cursor) (cs t q w unread : List ℕ) (H : Holds trace wrote c cs t q w unread) where
+module _ (trace wrote : List ℕ) (c : Cursor) (t : Tables) (w unread : List ℕ) (H : Holds trace wrote c t w unread) where
   -- a step of the rules from here, made by the code
-  then-holds : (n : Next) (a : Stepped) (cs′ t′ q′ o o′ : List ℕ) → Keeps (H .here) w unread n → Malformed-then (bad-at trace) w unread n → Sound (n .point .state)
-      → Did n a cs′ t′ q′ o o′
-      → Holds trace (wrote ++ take (a .wrote) o′) (a .cursor) cs′ t′ q′ (drop (a .used) w) unread
-  then-holds n a cs′ t′ q′ o o′ K M S D =
+  then-holds : (n : Next) (a : Stepped) (t′ : Tables) (o o′ : List ℕ) → Keeps (H .here) w unread n → Malformed-then (bad-at trace) w unread n → Sound (n .point .state)
+      → Makes n a t′ 0 o o′
+      → Holds trace (wrote ++ take (a .wrote) o′) (a .cursor) t′ (drop (a .used) w) unread
+  then-holds n a t′ o o′ K M S D =
       let e : take (a .wrote) o′ ≡ n .bytes = rw (D .answers, D .room) (take-append-seam (n .bytes) (drop (length (n .bytes)) o)) in
       record {
         here = n .point;
-        stands = stands-then n a cs′ t′ q′ o o′ S D;
+        stands = stands-then n a t′ o o′ S D;
         adds-up = rw (e, append-assoc, ap (λ (x : Stepped). x .used) (D .answers)) (ap (λ l. wrote ++ l) (sym K) ∙ H .adds-up);
         told = rw (ap (λ (x : Stepped). x .used) (D .answers)) M;
       }
@@ -81,7 +80,7 @@ module _ (trace wrote : List ℕ) (c : Cursor) (cs t q w unread : List ℕ) (H :
 
   outcome : (o : List ℕ) (n : Next) → Keeps (H .here) w unread n → Malformed-then (bad-at trace) w unread n → Ends-well w n → Outcome o (in-room (length o) (H .here) n)
   outcome o n K M E =
-      pick-by (Outcome o) (ltb (length o) longest-answer) (still (H .here) MoreRoom) n
+      cond-by (Outcome o) (ltb (length o) longest-answer) (still (H .here) MoreRoom) n
       (λ e. let l : length o < longest-answer = ltb-true _ _ e in (
         record { finished = λ z. cc; short = λ z. never cc; room-enough = λ k z. omega arith; never-unsound = λ z. never cc },
         refl,
@@ -91,54 +90,59 @@ module _ (trace wrote : List ℕ) (c : Cursor) (cs t q w unread : List ℕ) (H :
       (λ _. (record { finished = E .finished; short = E .short; room-enough = λ _. E .room-enough; never-unsound = E .never-unsound }, K, M, E .sound))
 
   -- what a call may do, whatever its room
-  call-holds : (n : Point → Next) (last : Bool) (a : Stepped) (cs′ t′ q′ o o′ : List ℕ)
+  call-holds : (n : Point → Next) (last : Bool) (a : Stepped) (t′ : Tables) (o o′ : List ℕ)
       → Keeps (H .here) w unread (n (H .here)) → Malformed-then (bad-at trace) w unread (n (H .here)) → Ends-well w (n (H .here))
-      → Does (in-room (length o) (point-of c cs t q) (n (point-of c cs t q))) c cs t q o a cs′ t′ q′ o′
-      → Holds trace (wrote ++ take (a .wrote) o′) (a .cursor) cs′ t′ q′ (drop (a .used) w) unread × Tells w o a
-  call-holds n last a cs′ t′ q′ o o′ K M E D =
-      let ok = stands-sound (H .here) c cs t q (H .stands) in
-      let there = stands-there (H .here) c cs t q (H .stands) in
-      let d = subst (λ (p : Point). Did (in-room (length o) p (n p)) a cs′ t′ q′ o o′) there (D .where-sound ok) in
+      → Makes-if-sound (in-room (length o) (point-of c t) (n (point-of c t))) c t o a t′ o′
+      → Holds trace (wrote ++ take (a .wrote) o′) (a .cursor) t′ (drop (a .used) w) unread × Tells w o a
+  call-holds n last a t′ o o′ K M E D =
+      let ok = stands-sound (H .here) c t (H .stands) in
+      let there = stands-there (H .here) c t (H .stands) in
+      let d = subst (λ (p : Point). Makes (in-room (length o) p (n p)) a t′ 0 o o′) there (D .where-sound ok) in
       let r = outcome o (n (H .here)) K M E in (
-        then-holds (in-room (length o) (H .here) (n (H .here))) a cs′ t′ q′ o o′ (r .1) (r .2) (r .3) d,
+        then-holds (in-room (length o) (H .here) (n (H .here))) a t′ o o′ (r .1) (r .2) (r .3) d,
         subst (Tells w o) (sym (d .answers)) (r .0),
       )
 
-  step-holds : (last : Bool) → (last ≡ true → unread ≡ []) → (o : List ℕ) (a : Stepped) (cs′ t′ q′ o′ : List ℕ) → Steps c cs t q w last o a cs′ t′ q′ o′
-      → Holds trace (wrote ++ take (a .wrote) o′) (a .cursor) cs′ t′ q′ (drop (a .used) w) unread × Tells w o a
-  step-holds last g o a cs′ t′ q′ o′ D =
-      call-holds (λ (p : Point). next p w last) last a cs′ t′ q′ o o′ (step-keeps (H .here) w unread last g)
+  step-holds : (last : Bool) → (last ≡ true → unread ≡ []) → (o : List ℕ) (a : Stepped) (t′ : Tables) (o′ : List ℕ) → Steps c t w last o a t′ o′
+      → Holds trace (wrote ++ take (a .wrote) o′) (a .cursor) t′ (drop (a .used) w) unread × Tells w o a
+  step-holds last g o a t′ o′ D =
+      call-holds (λ (p : Point). next p w last) last a t′ o o′ (step-keeps (H .here) w unread last g)
       (step-tells (bad-at trace) (H .here) w unread last g (H .told)) (step-ends-well (H .here) w last (H .stands .sound)) D
 
-  pump-holds : (last : Bool) → (last ≡ true → unread ≡ []) → (o : List ℕ) (a : Stepped) (cs′ t′ q′ o′ : List ℕ) → Pumps c cs t q w last o a cs′ t′ q′ o′
-      → Holds trace (wrote ++ take (a .wrote) o′) (a .cursor) cs′ t′ q′ (drop (a .used) w) unread × Tells w o a
-  pump-holds last g o a cs′ t′ q′ o′ D =
-      call-holds (λ (p : Point). steps (length o / longest-answer) p w last) last a cs′ t′ q′ o o′ (steps-keep (length o / longest-answer) (H .here) w unread last g)
+  pump-holds : (last : Bool) → (last ≡ true → unread ≡ []) → (o : List ℕ) (a : Stepped) (t′ : Tables) (o′ : List ℕ) → Pumps c t w last o a t′ o′
+      → Holds trace (wrote ++ take (a .wrote) o′) (a .cursor) t′ (drop (a .used) w) unread × Tells w o a
+  pump-holds last g o a t′ o′ D =
+      call-holds (λ (p : Point). steps (length o / longest-answer) p w last) last a t′ o o′ (steps-keep (length o / longest-answer) (H .here) w unread last g)
       (steps-tell (bad-at trace) (length o / longest-answer) (H .here) w unread last g (H .told))
       (steps-end-well (length o / longest-answer) (H .here) w last (H .stands .sound)) D
 
-session-holds : {trace wrote : List ℕ} {c : Cursor} {cs t q w unread : List ℕ} → Session trace wrote c cs t q w unread → Holds trace wrote c cs t q w unread
+call-holds-too : (trace wrote : List ℕ) (c : Cursor) (t : Tables) (w unread : List ℕ) (H : Holds trace wrote c t w unread) (last : Bool) → (last ≡ true → unread ≡ [])
+    → (o : List ℕ) (a : Stepped) (t′ : Tables) (o′ : List ℕ) → Calls c t w last o a t′ o′
+    → Holds trace (wrote ++ take (a .wrote) o′) (a .cursor) t′ (drop (a .used) w) unread × Tells w o a
+call-holds-too trace wrote c t w unread H last g o a t′ o′ (inl D) = step-holds trace wrote c t w unread H last g o a t′ o′ D
+call-holds-too trace wrote c t w unread H last g o a t′ o′ (inr D) = pump-holds trace wrote c t w unread H last g o a t′ o′ D
+
+session-holds : {trace wrote : List ℕ} {c : Cursor} {t : Tables} {w unread : List ℕ} → Session trace wrote c t w unread → Holds trace wrote c t w unread
 session-holds start = start-holds _
 session-holds (more {w} got unread S) =
     let H = session-holds S in
     record { here = H .here; stands = H .stands; adds-up = rw append-assoc (H .adds-up); told = tells-more _ (H .here .phase) (H .here .at) w got unread (H .told) }
-session-holds (step {wrote} {c} {cs} {t} {q} {w} {unread} last g o a cs′ t′ q′ o′ D S) = step-holds _ wrote c cs t q w unread (session-holds S) last g o a cs′ t′ q′ o′ D .0
-session-holds (pump {wrote} {c} {cs} {t} {q} {w} {unread} last g o a cs′ t′ q′ o′ D S) = pump-holds _ wrote c cs t q w unread (session-holds S) last g o a cs′ t′ q′ o′ D .0
+session-holds (call {wrote} {c} {t} {w} {unread} last g o a t′ o′ D S) = call-holds-too _ wrote c t w unread (session-holds S) last g o a t′ o′ D .0
 
 pub writes-the-log : Writes-the-log
-writes-the-log trace wrote c cs t q w unread S e =
+writes-the-log trace wrote c t w unread S e =
     let H = session-holds S in
     let f : H .here .phase ≡ Finished = sym (ap (λ (x : Cursor). x .phase) (H .stands .cursor)) ∙ e in
     sym (append-nil wrote)
     ∙ (ap (λ l. wrote ++ l) (sym (ap (λ (p : Phase). phase-log p (H .here .at) (H .here .state) (w ++ unread)) f)) ∙ H .adds-up)
 
 pub writes-nothing-else : Writes-nothing-else
-writes-nothing-else trace wrote c cs t q w unread S =
+writes-nothing-else trace wrote c t w unread S =
     let H = session-holds S in
     rw (← H .adds-up) (take-append-seam wrote (to-come (H .here) (w ++ unread)))
 
 pub tells-the-malformed : Tells-the-malformed
-tells-the-malformed trace wrote c cs t q w unread S e =
+tells-the-malformed trace wrote c t w unread S e =
     let H = session-holds S in
     let f : H .here .phase ≡ Finished = sym (ap (λ (x : Cursor). x .phase) (H .stands .cursor)) ∙ e in
     let k : H .here .at ≡ c .at = sym (ap (λ (x : Cursor). x .at) (H .stands .cursor)) in
@@ -148,28 +152,27 @@ pub ends-with-its-er : Ends-with-its-ER
 ends-with-its-er = log-ends
 
 tells : Of-every-call Tells
-tells trace wrote c cs t q w unread S last g o a cs′ t′ q′ o′ (inl D) = step-holds trace wrote c cs t q w unread (session-holds S) last g o a cs′ t′ q′ o′ D .1
-tells trace wrote c cs t q w unread S last g o a cs′ t′ q′ o′ (inr D) = pump-holds trace wrote c cs t q w unread (session-holds S) last g o a cs′ t′ q′ o′ D .1
+tells trace wrote c t w unread S last g o a t′ o′ D = call-holds-too trace wrote c t w unread (session-holds S) last g o a t′ o′ D .1
 
 pub done-is-finished : Done-is-finished
-done-is-finished trace wrote c cs t q w unread S last g o a cs′ t′ q′ o′ D = tells trace wrote c cs t q w unread S last g o a cs′ t′ q′ o′ D .finished
+done-is-finished trace wrote c t w unread S last g o a t′ o′ D = tells trace wrote c t w unread S last g o a t′ o′ D .finished
 
 pub never-refused : Never-refused
-never-refused trace wrote c cs t q w unread S last g o a cs′ t′ q′ o′ D l =
-    let k = tells trace wrote c cs t q w unread S last g o a cs′ t′ q′ o′ D in (k .room-enough l, k .never-unsound)
+never-refused trace wrote c t w unread S last g o a t′ o′ D l =
+    let k = tells trace wrote c t w unread S last g o a t′ o′ D in (k .room-enough l, k .never-unsound)
 
 pub asks-when-short : Asks-when-short
-asks-when-short trace wrote c cs t q w unread S last g o a cs′ t′ q′ o′ D = tells trace wrote c cs t q w unread S last g o a cs′ t′ q′ o′ D .short
+asks-when-short trace wrote c t w unread S last g o a t′ o′ D = tells trace wrote c t w unread S last g o a t′ o′ D .short
 
 pub one-outcome : One-outcome
-one-outcome n c cs t q o a a′ ds ds′ u u′ v v′ p p′ D E = go (sound-hub (c .hub) cs t q) refl
+one-outcome n c t o a a′ u u′ p p′ D E = go (sound-hub (c .hub) t) refl
   where
-    go : (b : Bool) → sound-hub (c .hub) cs t q ≡ b → Same-outcome a a′ ds ds′ u u′ v v′ p p′
+    go : (b : Bool) → sound-hub (c .hub) t ≡ b → Same-outcome a a′ u u′ p p′
     go true ok =
         let d = D .where-sound ok in
         let e = E .where-sound ok in
-        record { answer = d .answers ∙ sym (e .answers); connections = d .connections ∙ sym (e .connections); table = d .table ∙ sym (e .table); queue = d .queue ∙ sym (e .queue); room = d .room ∙ sym (e .room) }
+        record { answer = d .answers ∙ sym (e .answers); tables = d .tables ∙ sym (e .tables); room = d .room ∙ sym (e .room) }
     go false not =
         let d = D .where-not not in
         let e = E .where-not not in
-        record { answer = d .0 ∙ sym (e .0); connections = d .1 ∙ sym (e .1); table = d .2 ∙ sym (e .2); queue = d .3 ∙ sym (e .3); room = d .4 ∙ sym (e .4) }
+        record { answer = d .0 ∙ sym (e .0); tables = d .1 ∙ sym (e .1); room = d .2 ∙ sym (e .2) }

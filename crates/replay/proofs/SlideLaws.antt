@@ -1,4 +1,4 @@
--- The loop of `slide`. Assumes nothing.
+-- The loop of `slide`.
 use Prim.Native.Nat.{ℕ, _+_, _<_, _≤_}
 use native.Mathlib.Omega.{arith}
 use native.Mathlib.Numerals.{add-one}

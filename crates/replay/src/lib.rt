@@ -4,12 +4,12 @@ ghost use mathlib.Core.Path.{_≡_};
 ghost use mathlib.Core.Bool.{true};
 ghost use Prim.Native.Nat.{_+_, _-_, _/_, _≤_};
 ghost use lib.ListN.{length, drop};
-ghost use Rattle.calls.specs.Acts.{sound-hub};
 ghost use Rattle.answers.specs.Answers.{longest-answer};
 ghost use Rattle.steps.specs.Steps.{beginning, next, steps, is-go};
-ghost use Rattle.steps.specs.Tie.{point-of, cursor-of, in-room, Did, Did-from, Does, Facts};
+ghost use Rattle.state.specs.View.{given, before, after, sound-hub};
+ghost use Rattle.steps.specs.Tie.{point-of, cursor-of, Makes, Facts};
 ghost use Rattle.replay.specs.Slides.{slide-length, slid};
-ghost use Rattle.replay.specs.Sessions.{readiness};
+ghost use Rattle.replay.specs.Sessions.{readiness, Steps, Pumps};
 use answers::LONGEST_ANSWER;
 use steps::Cursor;
 use steps::Phase;
@@ -43,34 +43,42 @@ fn goes_on(k: Status) -> bool
 // A step on the window from `used` on, into the room from `wrote` on.
 fn step_at(
     c: Cursor,
-    cs: &mut [u32],
-    t: &mut [u32],
-    q: &mut [u32],
+    members: &mut [u32],
+    places: &mut [u32],
+    notices: &mut [u32],
     window: &[u8],
     used: usize,
     last: bool,
     out: &mut [u8],
     wrote: usize,
 ) -> Stepped
-    requires { ⌜ (sound-hub (c .hub) (now cs) (now t) (now q) ≡ true) × (used ≤ length (now window)) × (wrote + longest-answer ≤ length (now out)) ⌝ }
-    ensures { λ r. ⌜ Did-from wrote (next (point-of c (now (cs .entry)) (now (t .entry)) (now (q .entry))) (drop used (now (window .entry))) last) r (now (cs .exit)) (now (t .exit)) (now (q .exit)) (now (out .entry)) (now (out .exit)) ⌝ }
+    requires { ⌜ (sound-hub (c .hub) (given members places notices) ≡ true) × (used ≤ length (now window)) × (wrote + longest-answer ≤ length (now out)) ⌝ }
+    ensures { λ r. ⌜ Makes (next (point-of c (before members places notices)) (drop used (now (window .entry))) last) r (after members places notices) wrote (now (out .entry)) (now (out .exit)) ⌝ }
     ensures { λ r. ⌜ Facts c (length (now (window .entry)) - used) last (length (now (out .entry)) - wrote) r ⌝ }
 {
-    steps::step_tested(c, cs, t, q, &window[used..], last, &mut out[wrote..])
+    steps::step_tested(
+        c,
+        members,
+        places,
+        notices,
+        &window[used..],
+        last,
+        &mut out[wrote..],
+    )
 }
 
 // As many steps as the room surely holds, or fewer where one stops.
 fn run(
     c: Cursor,
-    cs: &mut [u32],
-    t: &mut [u32],
-    q: &mut [u32],
+    members: &mut [u32],
+    places: &mut [u32],
+    notices: &mut [u32],
     window: &[u8],
     last: bool,
     out: &mut [u8],
 ) -> Stepped
-    requires { ⌜ (sound-hub (c .hub) (now cs) (now t) (now q) ≡ true) × (longest-answer ≤ length (now out)) ⌝ }
-    ensures { λ r. ⌜ Did (steps (length (now (out .entry)) / longest-answer) (point-of c (now (cs .entry)) (now (t .entry)) (now (q .entry))) (now (window .entry)) last) r (now (cs .exit)) (now (t .exit)) (now (q .exit)) (now (out .entry)) (now (out .exit)) ⌝ }
+    requires { ⌜ (sound-hub (c .hub) (given members places notices) ≡ true) × (longest-answer ≤ length (now out)) ⌝ }
+    ensures { λ r. ⌜ Makes (steps (length (now (out .entry)) / longest-answer) (point-of c (before members places notices)) (now (window .entry)) last) r (after members places notices) 0 (now (out .entry)) (now (out .exit)) ⌝ }
     ensures { λ r. ⌜ Facts c (length (now (window .entry))) last (length (now (out .entry))) r ⌝ }
 {
     let n = out.len() / LONGEST_ANSWER;
@@ -79,7 +87,17 @@ fn run(
     let mut wrote: usize = 0;
     let mut i: usize = 0;
     while i < n {
-        let s = step_at(cur, cs, t, q, window, used, last, out, wrote);
+        let s = step_at(
+            cur,
+            members,
+            places,
+            notices,
+            window,
+            used,
+            last,
+            out,
+            wrote,
+        );
         let then = s.cursor;
         let k = s.status;
         used += s.used;
@@ -104,12 +122,11 @@ fn run(
 }
 
 // Whether a step can be made at all: GoOn where the hub and its tables are sound and the room holds an answer.
-fn ready(c: Cursor, cs: &[u32], t: &[u32], q: &[u32], room: usize) -> Status
-    ensures { λ r. ⌜ r ≡ readiness c (now (cs .entry)) (now (t .entry)) (now (q .entry)) room ⌝ }
+fn ready(c: Cursor, members: &[u32], places: &[u32], notices: &[u32], room: usize) -> Status
+    ensures { λ r. ⌜ r ≡ readiness c (before members places notices) room ⌝ }
 {
     let h = c.hub;
-    let l = h.link;
-    if !sound::is_sound(l, cs, t, q, h.clock, h.serving, h.units, h.silent) {
+    if !sound::is_sound(h, members, places, notices) {
         return Status::NotSound;
     }
     if room < LONGEST_ANSWER {
@@ -121,17 +138,17 @@ fn ready(c: Cursor, cs: &[u32], t: &[u32], q: &[u32], room: usize) -> Status
 // ONE STEP: at most one answer record. The window starts at the cursor's place in the trace; `last`: nothing comes behind it.
 pub fn step(
     c: Cursor,
-    cs: &mut [u32],
-    t: &mut [u32],
-    q: &mut [u32],
+    members: &mut [u32],
+    places: &mut [u32],
+    notices: &mut [u32],
     window: &[u8],
     last: bool,
     out: &mut [u8],
 ) -> Stepped
-    ensures { λ r. ⌜ Does (in-room (length (now (out .entry))) (point-of c (now (cs .entry)) (now (t .entry)) (now (q .entry))) (next (point-of c (now (cs .entry)) (now (t .entry)) (now (q .entry))) (now (window .entry)) last)) c (now (cs .entry)) (now (t .entry)) (now (q .entry)) (now (out .entry)) r (now (cs .exit)) (now (t .exit)) (now (q .exit)) (now (out .exit)) ⌝ }
+    ensures { λ r. ⌜ Steps c (before members places notices) (now (window .entry)) last (now (out .entry)) r (after members places notices) (now (out .exit)) ⌝ }
     ensures { λ r. ⌜ Facts c (length (now (window .entry))) last (length (now (out .entry))) r ⌝ }
 {
-    let k = ready(c, cs, t, q, out.len());
+    let k = ready(c, members, places, notices, out.len());
     if !goes_on(k) {
         return Stepped {
             cursor: c,
@@ -140,23 +157,23 @@ pub fn step(
             status: k,
         };
     }
-    steps::step_tested(c, cs, t, q, window, last, out)
+    steps::step_tested(c, members, places, notices, window, last, out)
 }
 
 // MANY STEPS: one for each 19 bytes of room, or fewer where one stops.
 pub fn pump(
     c: Cursor,
-    cs: &mut [u32],
-    t: &mut [u32],
-    q: &mut [u32],
+    members: &mut [u32],
+    places: &mut [u32],
+    notices: &mut [u32],
     window: &[u8],
     last: bool,
     out: &mut [u8],
 ) -> Stepped
-    ensures { λ r. ⌜ Does (in-room (length (now (out .entry))) (point-of c (now (cs .entry)) (now (t .entry)) (now (q .entry))) (steps (length (now (out .entry)) / longest-answer) (point-of c (now (cs .entry)) (now (t .entry)) (now (q .entry))) (now (window .entry)) last)) c (now (cs .entry)) (now (t .entry)) (now (q .entry)) (now (out .entry)) r (now (cs .exit)) (now (t .exit)) (now (q .exit)) (now (out .exit)) ⌝ }
+    ensures { λ r. ⌜ Pumps c (before members places notices) (now (window .entry)) last (now (out .entry)) r (after members places notices) (now (out .exit)) ⌝ }
     ensures { λ r. ⌜ Facts c (length (now (window .entry))) last (length (now (out .entry))) r ⌝ }
 {
-    let k = ready(c, cs, t, q, out.len());
+    let k = ready(c, members, places, notices, out.len());
     if !goes_on(k) {
         return Stepped {
             cursor: c,
@@ -165,7 +182,7 @@ pub fn pump(
             status: k,
         };
     }
-    run(c, cs, t, q, window, last, out)
+    run(c, members, places, notices, window, last, out)
 }
 
 // The bytes from `from` to `to` move to the front. Answers how many they are: none where that is no part of the buffer.

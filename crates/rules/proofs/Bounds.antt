@@ -1,4 +1,4 @@
--- Of every sound state: the packets held are no more than the places, and every eligibility fits 32 bits. Assumes nothing.
+-- Of every sound state: the packets held are no more than the places, and every eligibility fits 32 bits.
 use Prim.Native.Nat.{ℕ, _+_, _*_, _≤_, _<_}
 use native.Mathlib.Omega.{arith}
 use native.Mathlib.Nat.{mul-le-mul-right}
@@ -20,7 +20,8 @@ use Rattle.rules.proofs.Sums.{split, same, sum-le, only, only-at, only-
 use Rattle.rules.proofs.Rows.{all-by-connection, length-map}
 use Rattle.rules.proofs.Standing.{stands-below}
 use Rattle.rules.proofs.SoundTick.{facts}
-use Rattle.rules.proofs.Queue.{queue-chained, chained-far, next-near}
+use Rattle.rules.proofs.Queue.{queue-chained, chained-far}
+use Rattle.rules.proofs.Spacing.{next-near}
 
 -- ---- rows, sorted by connection
 

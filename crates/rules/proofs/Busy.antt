@@ -1,4 +1,4 @@
--- How far the line is behind with the packets of levels up to m: the invariant of a busy stretch, and what it says of a packet that waits. Assumes nothing.
+-- How far the line is behind with the packets of levels up to m: the invariant of a busy stretch, and what it says of a packet that waits.
 use Prim.Native.Nat.{ℕ, _+_, _≤_, _<_}
 use native.Mathlib.Omega.{arith}
 use mathlib.Core.Path.{_≡_, sym, ap, _∙_}

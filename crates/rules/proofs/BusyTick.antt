@@ -1,4 +1,4 @@
--- The three steps of a tick keep a busy stretch; the horizon of eligibility moves after the clock. Assumes nothing.
+-- The three steps of a tick keep a busy stretch; the horizon of eligibility moves after the clock.
 use Prim.Native.Nat.{ℕ, zero, suc, _+_, _≤_, _<_}
 use native.Mathlib.Omega.{arith}
 use mathlib.Core.Path.{_≡_, refl, sym, ap, subst}

@@ -1,5 +1,5 @@
 -- The laws of the choice: the packet chosen is eligible, no eligible one has a lower level number or, at the same, an earlier eligibility, and it is the
--- first row of its connection; none is chosen only where none is eligible. Assumes nothing.
+-- first row of its connection; none is chosen only where none is eligible.
 use Prim.Native.Nat.{ℕ, _≤_, _<_}
 use native.Mathlib.Omega.{arith}
 use mathlib.Core.Path.{_≡_, refl, sym, ap, _∙_}

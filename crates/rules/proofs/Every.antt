@@ -1,4 +1,4 @@
--- Every call keeps the invariant, so every run from fresh has it. Assumes nothing.
+-- Every call keeps the invariant, so every run from fresh has it.
 use Prim.Native.Nat.{ℕ, suc}
 use native.Mathlib.Omega.{arith}
 use mathlib.Core.Path.{_≡_, refl}

@@ -1,4 +1,4 @@
--- The worked examples, computed by the checker. Assumes nothing.
+-- The worked examples, computed by the checker.
 use mathlib.Core.Path.{refl}
 use Rattle.rules.specs.Words.{upto}
 use Rattle.rules.specs.Admission.{link-within, level-within, figures-within, stands, count, reservation, cost, level-sum, level-test}

@@ -1,4 +1,4 @@
--- Every number of an answer fits its field. Assumes nothing.
+-- Every number of an answer fits its field.
 use Prim.Native.Nat.{ℕ, zero, suc, _+_, _*_, _≤_, _<_}
 use native.Mathlib.Omega.{arith}
 use mathlib.Core.Path.{_≡_, refl, ap, _∙_, subst}

@@ -1,4 +1,4 @@
--- What the limits of a link and of a connection say as plain facts; nothing else opens them, nor `reservation`, `cost`, `level-sum`. Assumes nothing.
+-- What the limits of a link and of a connection say as plain facts; nothing else opens them, nor `reservation`, `cost`, `level-sum`.
 use Prim.Native.Nat.{ℕ, zero, suc, _+_, _≤_, _<_}
 use native.Mathlib.Omega.{arith}
 use mathlib.Core.Path.{_≡_, refl}

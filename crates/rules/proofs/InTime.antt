@@ -1,4 +1,4 @@
--- Demand 3, first sentence: no packet is held when its time is over, so by conservation it has left. Assumes nothing.
+-- Demand 3, first sentence: no packet is held when its time is over, so by conservation it has left.
 use Prim.Native.Nat.{ℕ, zero, suc, _+_, _≤_, _<_}
 use native.Mathlib.Omega.{arith}
 use native.Mathlib.Nat.{le-of-eq}

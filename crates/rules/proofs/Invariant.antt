@@ -1,4 +1,4 @@
--- THE INVARIANT of every history from fresh: what it says. That each call keeps it is proved in KeptByTick, KeptByAdmit, KeptByOffer and Every. Assumes nothing.
+-- THE INVARIANT of every history from fresh: what it says. That each call keeps it is proved in KeptByTick, KeptByAdmit, KeptByOffer and Every.
 use Prim.Native.Nat.{ℕ, _+_, _≤_, _<_}
 use native.Mathlib.Omega.{arith}
 use mathlib.Core.Path.{_≡_, sym, ap, subst}

@@ -1,4 +1,4 @@
--- Demand 3, second sentence: all offers of a line that keeps its gap are accepted with eligibility = arrival, up to the clock's end. Assumes nothing.
+-- Demand 3, second sentence: all offers of a connection that keeps its gap are accepted with eligibility = arrival, up to the clock's end.
 use Prim.Native.Nat.{ℕ, suc, _≤_, _<_}
 use native.Mathlib.Omega.{arith}
 use mathlib.Core.Path.{_≡_, refl, sym, ap, _∙_, subst}

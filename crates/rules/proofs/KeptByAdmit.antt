@@ -1,4 +1,4 @@
--- An admission and a link keep the invariant: no packet moves, and old connections keep their figures. Assumes nothing.
+-- An admission and a link keep the invariant: no packet moves, and old connections keep their figures.
 use Prim.Native.Nat.{ℕ, _+_, _≤_, _<_}
 use native.Mathlib.Omega.{arith}
 use mathlib.Core.Path.{_≡_, refl, sym, ap, _∙_, subst}

@@ -1,4 +1,4 @@
--- An accepted notice keeps the invariant: no packet of a level moves, and what is on the line stays. Assumes nothing.
+-- An accepted notice keeps the invariant: no packet of a level moves, and what is on the line stays.
 use Prim.Native.Nat.{ℕ}
 use native.Mathlib.Omega.{arith}
 use mathlib.Core.Path.{_≡_, refl, sym, ap, _∙_, subst}

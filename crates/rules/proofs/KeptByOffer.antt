@@ -1,4 +1,4 @@
--- An accepted offer keeps the invariant: the new packet is spaced from its connection's earlier ones, and not eligible before now. Assumes nothing.
+-- An accepted offer keeps the invariant: the new packet is spaced from its connection's earlier ones, and not eligible before now.
 use Prim.Native.Nat.{ℕ, _≤_, _<_}
 use native.Mathlib.Omega.{arith}
 use mathlib.Core.Path.{_≡_, refl, sym, ap, _∙_, subst}

@@ -1,4 +1,4 @@
--- A tick keeps the invariant. Assumes nothing.
+-- A tick keeps the invariant.
 use Prim.Native.Nat.{ℕ, zero, suc, _+_, _-_, _≤_, _<_}
 use native.Mathlib.Omega.{arith}
 use native.Mathlib.Nat.{eq-zero-or-pos, le-refl}

@@ -1,5 +1,5 @@
 -- The laws of the level test: it holds exactly where every level's sum is at most its bound, and else names the lowest level that is short.
--- Assumes nothing.
+--
 use Prim.Native.Nat.{ℕ, zero, suc, _+_, _-_, _≤_, _<_}
 use native.Mathlib.Omega.{arith}
 use mathlib.Core.Path.{_≡_, refl}

@@ -1,4 +1,4 @@
--- The line: what a tick leaves alone, and the laws of what is still on the line. Nothing else opens `line-left`. Assumes nothing.
+-- The line: what a tick leaves alone, and the laws of what is still on the line. Nothing else opens `line-left`.
 use Prim.Native.Nat.{ℕ, zero, suc, _+_, _-_, _≤_, _<_}
 use native.Mathlib.Omega.{arith}
 use mathlib.Core.Path.{_≡_, refl, sym, ap, _∙_, subst}

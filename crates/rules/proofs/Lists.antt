@@ -1,4 +1,4 @@
--- Lists: a property of every element, a relation of every earlier to every later element, sublists, and sums of weights. Assumes nothing.
+-- Lists: a property of every element, a relation of every earlier to every later element, sublists, and sums of weights.
 use Prim.Native.Nat.{ℕ, _+_, _*_, _≤_}
 use native.Mathlib.Omega.{arith}
 use mathlib.Core.Path.{_≡_, refl}

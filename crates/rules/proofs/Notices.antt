@@ -1,4 +1,4 @@
--- Notices among packets: the packets of levels by themselves, and what waits in the hub by its numbers. Assumes nothing.
+-- Notices among packets: the packets of levels by themselves, and what waits in the hub by its numbers.
 use Prim.Native.Nat.{ℕ}
 use mathlib.Core.Path.{_≡_, refl, sym, ap, _∙_}
 use mathlib.Core.Bool.{Bool, true, false, cond}

@@ -1,4 +1,4 @@
--- A notice comes into service only where no held packet is eligible. Assumes nothing.
+-- A notice comes into service only where no held packet is eligible.
 use Prim.Native.Nat.{ℕ, zero, suc, _<_}
 use native.Mathlib.Omega.{arith}
 use mathlib.Core.Path.{_≡_, sym, ap, subst}

@@ -1,5 +1,5 @@
 -- The rows of one connection in a sound state: the clauses of document 01 said as one step from each row to the next (`Chain`), and the two forms
--- are the same. Base only: a request that changes the spacing changes this file. Assumes nothing.
+-- are the same. Base only: a request that changes the spacing changes this file.
 use Prim.Native.Nat.{ℕ, _+_, _*_, _≤_, _<_, max}
 use native.Mathlib.Omega.{arith}
 use mathlib.Core.Path.{_≡_, refl, sym, ap, _∙_, subst}
@@ -13,9 +13,10 @@ use Rattle.rules.specs.Service.{next-eligibility, remember, Spaced}
 use Rattle.rules.specs.SoundState.{Ends-at, First-near, In-steps, Later-exact, Queue}
 use Rattle.rules.specs.SoundTest.{latest}
 use Rattle.rules.proofs.Lists.{All, all-map}
-use Rattle.rules.proofs.Sums.{split, cond-ind}
+use Rattle.rules.proofs.Sums.{split}
 use Rattle.rules.proofs.Tests.{not-false-true}
 use Rattle.rules.proofs.Rows.{some-inj}
+use Rattle.rules.proofs.Spacing.{remember-is, later-by-gap, next-near, spaced-nil, spaced-cons, spaced-parts}
 
 -- ---- one step: an eligibility e behind the one before it, if there is one. X the gap, t the clock
 
@@ -46,21 +47,23 @@ module _ (X t : ℕ) where
 
   -- behind a row that is not
   near-chain : (a : ℕ) (es : List ℕ) → a ≤ t → All (λ e. a + X ≤ e) es → (c : Connection) → c .gap ≡ X → Spaced c es → First-near X t es → Later-exact X t es → Chain X t (some a) es
-  unfolding Spaced
   near-chain a [] l g c i s n x = tt
-  near-chain a (e ∷ es) l g c i s n x = go (split e t) (λ k. near-chain e es k (all-map (λ f r. omega arith) es (s .0)) c i (s .1) (n .1 k) (x .1 k))
+  near-chain a (e ∷ es) l g c i s n x =
+      let p = spaced-parts c e es s in
+      go (split e t) (λ k. near-chain e es k (all-map (λ f r. omega arith) es (p .0)) c i (p .1) (n .1 k) (x .1 k))
     where
       go : (e ≤ t) ⊎ (t < e) → (e ≤ t → Chain X t (some e) es) → Pace X t (some a) e × Chain X t (some e) es
       go (inl k) f = ((g .0, omega arith), f k)
       go (inr k) f = ((g .0, omega (arith, n .0 k)), steps-chain e es k (x .0 k))
 
   first-chain : (c : Connection) → c .gap ≡ X → (es : List ℕ) → Spaced c es → First-near X t es → Later-exact X t es → Chain X t none es
-  unfolding Spaced
   first-chain c i [] s n x = tt
   first-chain c i (e ∷ es) s n x = go (split e t)
     where
       go : (e ≤ t) ⊎ (t < e) → (e ≤ t + X) × Chain X t (some e) es
-      go (inl k) = (omega arith, near-chain e es k (all-map (λ f r. omega arith) es (s .0)) c i (s .1) (n .1 k) (x .1 k))
+      go (inl k) =
+          let p = spaced-parts c e es s in
+          (omega arith, near-chain e es k (all-map (λ f r. omega arith) es (p .0)) c i (p .1) (n .1 k) (x .1 k))
       go (inr k) = (n .0 k, steps-chain e es k (x .0 k))
 
   -- ---- and back
@@ -83,9 +86,8 @@ module _ (X t : ℕ) where
   chain-after a (e ∷ es) k = (k .0 .0, all-map (λ f r. omega (arith, k .0 .0)) es (chain-after e es (k .1)))
 
   pub chain-spaced : (c : Connection) → c .gap ≡ X → (o : Option ℕ) (es : List ℕ) → Chain X t o es → Spaced c es
-  unfolding Spaced
-  chain-spaced c i o [] k = tt
-  chain-spaced c i o (e ∷ es) k = (all-map (λ f r. omega arith) es (chain-after e es (k .1)), chain-spaced c i (some e) es (k .1))
+  chain-spaced c i o [] k = spaced-nil c
+  chain-spaced c i o (e ∷ es) k = spaced-cons c e es (all-map (λ f r. omega arith) es (chain-after e es (k .1))) (chain-spaced c i (some e) es (k .1))
 
 -- ---- the last row
 
@@ -202,15 +204,13 @@ module _ (X t : ℕ) where
 module _ (c : Connection) (t : ℕ) (h : Past) where
   -- the next eligibility keeps the pace
   next-paced : (o : Option ℕ) → Kept-past t h o → Pace (c .gap) t o (next-eligibility c h t)
-  unfolding next-eligibility
-  next-paced none k = cond-ind (λ e. e ≤ t + c .gap) (h .sent) (λ _. omega (arith, k .0)) (λ _. omega arith)
-  next-paced (some e) k = rw (k .0) (omega (arith, k .1), omega (arith, k .1))
+  next-paced none k = omega (arith, next-near c h t, k .0)
+  next-paced (some e) k = let n = later-by-gap c h t (k .0) in (omega (arith, n, k .1), omega (arith, n, k .1))
 
   pub chained-snoc : (es : List ℕ) → Chained (c .gap) t h es → Chained (c .gap) t (remember h (next-eligibility c h t)) (es ++ next-eligibility c h t ∷ [])
-  unfolding remember
   chained-snoc es q = record {
     chain = chain-snoc (c .gap) t none es (next-eligibility c h t) (q .chain) (rw (behind-none (c .gap) t es) (next-paced (latest es) (q .kept)));
-    kept = rw (latest-snoc es (next-eligibility c h t)) (refl, refl);
+    kept = rw (latest-snoc es (next-eligibility c h t), remember-is h (next-eligibility c h t)) (refl, refl);
   }
 
   -- a connection with no packet yet accepted
@@ -237,7 +237,3 @@ module _ (X t : ℕ) where
       at l i k =
           let j : Kept-past t h (some l) = rw i at k in
           omega (arith, j .1, latest-all (λ x. x ≤ t + length (e ∷ es) * X) e es l i (far (e ∷ es) (q .chain)))
-
-pub next-near : (c : Connection) (h : Past) (t : ℕ) → next-eligibility c h t ≤ max t (h .last + c .gap)
-unfolding next-eligibility
-next-near c h t = cond-ind (λ e. e ≤ max t (h .last + c .gap)) (h .sent) (λ _. omega arith) (λ _. omega arith)

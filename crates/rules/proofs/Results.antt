@@ -1,4 +1,4 @@
--- THE PROOFS of the statements in specs/Promises, each under its name in small letters. Assumes nothing.
+-- THE PROOFS of the statements in specs/Promises, each under its name in small letters.
 use Prim.Native.Nat.{ℕ, zero, suc, _+_, _≤_, _<_}
 use native.Mathlib.Omega.{arith}
 use mathlib.Core.Path.{_≡_, refl, sym, ap, _∙_, subst}

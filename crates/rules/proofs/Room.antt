@@ -1,4 +1,4 @@
--- Room for a line that keeps its gap: its packets held and the new one lie within one bound, so they are no more than its reservation. Assumes nothing.
+-- Room for a connection that keeps its gap: its packets held and the new one lie within one bound, so they are no more than its reservation.
 use Prim.Native.Nat.{ℕ, _+_, _-_, _≤_, _<_}
 use native.Mathlib.Omega.{arith}
 use mathlib.Core.Path.{_≡_, refl, sym, ap, _∙_, subst}
@@ -108,7 +108,7 @@ module _ (h : History) (I : Invariant h) (c len tag : ℕ) (standing : stands (h
       go false false false true true f i j k l = never (sym (l refl))
       go false false false true false f i j k l = refl
 
--- ---- so a line that keeps its gap is never refused for room, and accepted while the clock runs
+-- ---- so a connection that keeps its gap is never refused for room, and accepted while the clock runs
 
 module _ (h : History) (I : Invariant h) (c len tag : ℕ) (ok : allowed (h .now) c len ≡ true) (room : length (of c (h .now .held)) < reservation (h .now .link) (figures (h .now) c)) where
   open History h using (now as s)

@@ -1,4 +1,4 @@
--- The packets of a connection, the first of them, and the rows without it. Assumes nothing.
+-- The packets of a connection, the first of them, and the rows without it.
 use Prim.Native.Nat.{ℕ, suc, _+_, _<_}
 use native.Mathlib.Omega.{arith}
 use mathlib.Core.Path.{_≡_, refl, sym, ap, _∙_, subst}

@@ -1,4 +1,4 @@
--- One pass over the rows (`paced`) says of every connection what `Chain` says of its own rows, and the other way round. Assumes nothing.
+-- One pass over the rows (`paced`) says of every connection what `Chain` says of its own rows, and the other way round.
 use Prim.Native.Nat.{ℕ, _+_, _<_, max}
 use mathlib.Core.Path.{_≡_, refl, sym, ap, _∙_, subst}
 use mathlib.Core.Bool.{true}

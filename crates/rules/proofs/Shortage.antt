@@ -1,10 +1,10 @@
--- Which level was short, and by how many units: what the level test tells, and how much a newcomer can add. Assumes nothing.
-use Prim.Native.Nat.{ℕ, zero, suc, _+_, _*_, _-_, _/_, _≤_, _<_}
+-- Which level was short, and by how many units: what the level test tells, and how much a newcomer can add.
+use Prim.Native.Nat.{ℕ, zero, suc, _+_, _*_, _-_, _≤_}
 use native.Mathlib.Omega.{arith}
-use native.Mathlib.Nat.{le-trans, mul-le-mul-left, mul-le-mul-right, div-lt-iff-lt-mul}
+use native.Mathlib.Nat.{le-trans, mul-le-mul-left, mul-le-mul-right}
 use mathlib.Core.Path.{_≡_, refl, ap, _∙_}
 use mathlib.Core.Bool.{true}
-use mathlib.Core.Logic.{_⊎_, _↔_, ⊎-elim}
+use mathlib.Core.Logic.{_↔_, ⊎-elim}
 use mathlib.Core.List.{List, [], _∷_, _++_}
 use lib.Dec.{leb}
 use lib.ListN.{length}
@@ -19,6 +19,7 @@ use Rattle.rules.proofs.Sums.{same, cond-ind, sum-eq, upto-le}
 use Rattle.rules.proofs.Standing.{nth-old, length-snoc}
 use Rattle.rules.proofs.LevelTest.{test-holds, holds-test, names-lowest}
 use Rattle.rules.proofs.Figures.{link-facts, figures-gap, sum-is}
+use Rattle.rules.proofs.Spacing.{count-le}
 
 -- ---- what the test tells
 
@@ -56,14 +57,6 @@ module _ (l : Link) (cs : List Connection) where
   tells = ((none-fails, level-zero), (λ u. none-fails (units-zero u), λ h. beside .0 (level-zero h)), names)
 
 -- ---- what a newcomer adds
-
--- a quotient rounded up is no more than what is divided, so a window holds no more packets than ticks
-quotient-le : (w g : ℕ) → 1 ≤ g → (w + (g - 1)) / g ≤ w
-quotient-le w g h = let k : (w + (g - 1)) / g < suc w = div-lt-iff-lt-mul h .1 (omega (arith, mul-le-mul-left w h)) in omega arith
-
-pub count-le : (x : Connection) (w : ℕ) → 1 ≤ x .gap → count x w ≤ w
-unfolding count
-count-le x w g = quotient-le w (x .gap) g
 
 module _ (l : Link) (cs : List Connection) (x : Connection) where
   -- what a connection adds to the sum of level m, with the bound d

@@ -1,4 +1,4 @@
--- The test of a sound state is true exactly of a sound state. Assumes nothing.
+-- The test of a sound state is true exactly of a sound state.
 use Prim.Native.Nat.{ℕ, zero, suc, _≤_, _<_}
 use native.Mathlib.Omega.{arith}
 use mathlib.Core.Path.{_≡_, refl, sym, ap, _∙_}

@@ -1,4 +1,4 @@
--- A call on a sound state, reachable or not, leaves a sound one. Assumes nothing.
+-- A call on a sound state, reachable or not, leaves a sound one.
 use Prim.Native.Nat.{ℕ, _≤_, _<_}
 use native.Mathlib.Omega.{arith}
 use mathlib.Core.Path.{_≡_, refl, sym, ap, _∙_, subst}

@@ -1,4 +1,4 @@
--- An offer that is accepted on a sound state leaves a sound one. Assumes nothing.
+-- An offer that is accepted on a sound state leaves a sound one.
 use Prim.Native.Nat.{ℕ, _≤_, _<_}
 use native.Mathlib.Omega.{arith}
 use mathlib.Core.Path.{_≡_, refl, sym, ap, _∙_, subst}

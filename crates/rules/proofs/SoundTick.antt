@@ -1,4 +1,4 @@
--- A tick on a sound state leaves a sound one. Assumes nothing.
+-- A tick on a sound state leaves a sound one.
 use Prim.Native.Nat.{ℕ, zero, suc, _+_, _-_, _≤_, _<_}
 use native.Mathlib.Omega.{arith}
 use mathlib.Core.Path.{_≡_, refl, sym, ap, _∙_, subst}

@@ -1,10 +1,10 @@
--- The laws of the spacing rule, of the next eligibility and of the window count; nothing else opens `Spaced`, `next-eligibility`, `remember`, `count`.
--- Assumes nothing.
-use Prim.Native.Nat.{ℕ, _+_, _*_, _-_, _≤_, _<_}
+-- The laws of the spacing rule, of the next eligibility and of the window count; nothing else but the worked examples opens `Spaced`, `next-eligibility`,
+-- `remember`, `count`.
+use Prim.Native.Nat.{ℕ, suc, _+_, _*_, _-_, _/_, _≤_, _<_, max}
 use native.Mathlib.Omega.{arith}
-use native.Mathlib.Nat.{le-div-iff-mul-le, mul-le-mul-right}
+use native.Mathlib.Nat.{le-div-iff-mul-le, div-lt-iff-lt-mul, mul-le-mul-left, mul-le-mul-right}
 use mathlib.Core.Path.{_≡_, refl, sym, _∙_}
-use mathlib.Core.Bool.{true}
+use mathlib.Core.Bool.{true, false}
 use mathlib.Core.Logic.{_⊎_, inl, inr}
 use mathlib.Core.List.{List, [], _∷_, _++_}
 use Rattle.rules.specs.Words.{upto}
@@ -84,6 +84,15 @@ module _ (c : Connection) where
   unfolding Spaced
   spaced-nil = tt
 
+  -- one in front
+  pub spaced-cons : (e : ℕ) (es : List ℕ) → All (λ f. e + c .gap ≤ f) es → Spaced c es → Spaced c (e ∷ es)
+  unfolding Spaced
+  spaced-cons e es a s = (a, s)
+
+  pub spaced-parts : (e : ℕ) (es : List ℕ) → Spaced c (e ∷ es) → All (λ f. e + c .gap ≤ f) es × Spaced c es
+  unfolding Spaced
+  spaced-parts e es s = s
+
   pub spaced-rises : 1 ≤ c .gap → (es : List ℕ) → Spaced c es → Pairs (λ a b. a < b) es
   unfolding Spaced
   spaced-rises g es s = pairs-map (λ _. Unit {0}) (λ a b _ k. omega arith) es (all-every (λ _. tt) es) s
@@ -150,3 +159,40 @@ module _ (c : Connection) (t : ℕ) where
   -- THE WINDOW LAW: of a connection's eligibilities, no w ticks hold more than the count
   pub window-law : (es : List ℕ) (b w : ℕ) → 1 ≤ c .gap → Spaced c es → t < b + w → among b t es ≤ count c w
   window-law es b w g h lt = count-law c w (among b t es) g (omega (arith, window es b h))
+
+-- ---- what they come to
+
+module _ (c : Connection) (h : Past) (now : ℕ) where
+  pub first-on-arrival : h .sent ≡ false → next-eligibility c h now ≡ now
+  unfolding next-eligibility
+  first-on-arrival e = rw e
+
+  pub later-by-gap : h .sent ≡ true → next-eligibility c h now ≡ max now (h .last + c .gap)
+  unfolding next-eligibility
+  later-by-gap e = rw e
+
+  pub next-near : next-eligibility c h now ≤ max now (h .last + c .gap)
+  unfolding next-eligibility
+  next-near = cond-ind (λ e. e ≤ max now (h .last + c .gap)) (h .sent) (λ _. omega arith) (λ _. omega arith)
+
+  -- of a connection its gap alone counts
+  pub by-gap-alone : (d : Connection) → c .gap ≡ d .gap → next-eligibility c h now ≡ next-eligibility d h now
+  unfolding next-eligibility
+  by-gap-alone d e = rw e
+
+pub count-is : (c : Connection) (w : ℕ) → count c w ≡ (w + (c .gap - 1)) / c .gap
+unfolding count
+count-is c w = refl
+
+-- a quotient rounded up is no more than what is divided, so a window holds no more packets than ticks
+quotient-le : (w g : ℕ) → 1 ≤ g → (w + (g - 1)) / g ≤ w
+quotient-le w g h = let k : (w + (g - 1)) / g < suc w = div-lt-iff-lt-mul h .1 (omega (arith, mul-le-mul-left w h)) in omega arith
+
+pub count-le : (c : Connection) (w : ℕ) → 1 ≤ c .gap → count c w ≤ w
+unfolding count
+count-le c w g = quotient-le w (c .gap) g
+
+-- what is remembered is that a packet was accepted, and its eligibility
+pub remember-is : (h : Past) (e : ℕ) → remember h e ≡ record { sent = true; last = e }
+unfolding remember
+remember-is h e = refl

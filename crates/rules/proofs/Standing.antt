@@ -1,4 +1,4 @@
--- The laws of the numbers that stand, and of one connection more at the end. Nothing else opens `stands`. Assumes nothing.
+-- The laws of the numbers that stand, and of one connection more at the end. Nothing else opens `stands`.
 use Prim.Native.Nat.{ℕ, _+_, _≤_, _<_}
 use native.Mathlib.Omega.{arith}
 use mathlib.Core.Path.{_≡_, sym, subst}

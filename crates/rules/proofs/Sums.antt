@@ -1,4 +1,4 @@
--- Sums over a range, and the test `upto`. Assumes nothing.
+-- Sums over a range, and the test `upto`.
 use Prim.Native.Nat.{ℕ, zero, suc, _+_, _*_, _≤_, _<_}
 use native.Mathlib.Omega.{arith}
 use native.Mathlib.Nat.{not-suc-le-zero}

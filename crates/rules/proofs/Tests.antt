@@ -1,4 +1,4 @@
--- What a test that computes says, and the other way round; a verdict read back as tests. Assumes nothing.
+-- What a test that computes says, and the other way round; a verdict read back as tests.
 use Prim.Native.Nat.{ℕ, zero, suc, _≤_, _<_}
 use native.Mathlib.Omega.{arith}
 use mathlib.Core.Path.{_≡_, refl, sym, _∙_, subst}

@@ -1,4 +1,4 @@
--- What a verdict 0 says, call by call; nothing else opens the table `verdicts` but the examples and the welcome of an offer. Assumes nothing.
+-- What a verdict 0 says, call by call; nothing else opens the table `verdicts` but the examples and the welcome of an offer.
 use Prim.Native.Nat.{ℕ, zero, suc, _≤_, _<_}
 use native.Mathlib.Omega.{arith}
 use mathlib.Core.Path.{_≡_, refl}

@@ -1,4 +1,4 @@
--- What becomes eligible within a window of d ticks is at most what the level test counts. Assumes nothing.
+-- What becomes eligible within a window of d ticks is at most what the level test counts.
 use Prim.Native.Nat.{ℕ, _+_, _*_, _≤_, _<_}
 use native.Mathlib.Omega.{arith}
 use native.Mathlib.Nat.{mul-le-mul-right}

@@ -1,4 +1,4 @@
--- Where a link asks for no silence: costs, limits and the level test of document 01, and no silence runs. Assumes nothing.
+-- Where a link asks for no silence: costs, limits and the level test of document 01, and no silence runs.
 use Prim.Native.Nat.{ℕ, zero, suc, _*_, _≤_}
 use native.Mathlib.Omega.{arith}
 use native.Mathlib.Nat.{le-refl}

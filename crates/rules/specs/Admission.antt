@@ -1,5 +1,5 @@
 -- Who may come in: the limits, the window count, the reservation and the level test.
--- Document 01, "Link, connections, places" and "The level test"; document 02, R-2 and R-4. Assumes nothing.
+-- Document 01, "Link, connections, places" and "The level test"; document 02, R-2 and R-4.
 use Prim.Native.Nat.{ℕ, zero, suc, _+_, _*_, _-_, _/_}
 use mathlib.Core.Bool.{Bool, true, false, cond, _&&_}
 use mathlib.Core.List.{List, [], _∷_}

@@ -1,4 +1,4 @@
--- Document 01, "Table of proved examples", P1 to P10, as one table under one statement. Assumes nothing.
+-- Document 01, "Table of proved examples", P1 to P10, as one table under one statement.
 use Prim.Native.Nat.{ℕ, _+_}
 use mathlib.Core.Path.{_≡_}
 use mathlib.Core.List.{List, [], _∷_, _++_, map}
@@ -161,7 +161,7 @@ abbrev pub Worked-silences : Type 0
 Worked-silences = map seen silences ≡ map (λ (x : Case). x .expected) silences
 
 -- document 02, R-3, speaks of lines that keep their gap; of others it is false. A line of gap 10 offers at 1 and at 2, one unit each: alone on the wire it is
--- accepted twice; beside a line that sent four units at 0 its first packet still waits at 2, and the second is refused for room
+-- accepted twice; beside a connection that sent four units at 0 its first packet still waits at 2, and the second is refused for room
 abbrev pub gap-broken : List Call → List Exchange
 gap-broken others = exchanges 0 (after-p2 ++ others ++ tick ∷ offer 0 1 72 ∷ tick ∷ offer 0 1 73 ∷ [])
 

@@ -1,5 +1,5 @@
 -- What the rules speak of: the state of a hub, the calls on it and their answers. Document 01, "Link, connections, places"; document 02, R-1,
--- R-2 and R-4. Assumes nothing.
+-- R-2 and R-4.
 use Prim.Native.Nat.{ℕ}
 use mathlib.Core.Bool.{false}
 use mathlib.Core.List.{List, [], _∷_}
@@ -11,6 +11,7 @@ pub use Rattle.rules.specs.declared.Connection.{Connection}
 pub use Rattle.rules.specs.declared.Past.{Past}
 pub use Rattle.rules.specs.declared.Packet.{Packet}
 pub use Rattle.rules.specs.declared.Notice.{Notice}
+pub use Rattle.rules.specs.declared.Short.{Short}
 
 -- `link` has 0 levels while none is set. `connections` by number, `pasts` beside them. `held` in the order offered. The packet in service is the first
 -- held one of connection `serving`, with `to-go` units to go; `to-go` is 0 while the line is idle. `notices` are the housekeeping packets that wait, in the
@@ -34,11 +35,7 @@ pub data Call : Type 0 where
   notice : ℕ → ℕ → Call
   tick : Call
 
--- what a level test says: the lowest level that is short, and the units by which it is over; both 0 where none is
-pub record Short : Type 0 where
-  pub level : ℕ
-  pub units : ℕ
-
+-- no level is short
 abbrev pub no-short : Short
 no-short = record { level = 0; units = 0 }
 

@@ -1,4 +1,4 @@
--- THE STATEMENTS, apart from their proofs: each is proved in proofs/Results under the same name in small letters. Assumes nothing.
+-- THE STATEMENTS, apart from their proofs: each is proved in proofs/Results under the same name in small letters.
 use Prim.Native.Nat.{ℕ, zero, suc, _+_, _*_, _-_, _≤_, _<_}
 use mathlib.Core.Path.{_≡_}
 use mathlib.Core.Bool.{Bool, true, cond, _&&_}
@@ -152,7 +152,7 @@ Conservation =
     → of c (run ks .accepted) ≡ map (λ d. d .what) (departures c (run ks .departed)) ++ of c (in-hub (run ks .now))
 
 -- ---- demand 3, first sentence: from a fresh hub, through any calls, each accepted packet has left by its eligibility plus its level's bound,
--- whatever the other lines and the notices do. The i-th accepted packet of c is the i-th departure of c once the clock is there, with a finish no later.
+-- whatever the other connections and the notices do. The i-th accepted packet of c is the i-th departure of c once the clock is there, with a finish no later.
 -- It speaks of level packets only (document 02, R-1)
 
 pub record Left-by (h : History) (c i : ℕ) (p : Packet) (deadline : ℕ) : Type 0 where
@@ -168,7 +168,7 @@ Demand-3-first =
     → p .eligibility + bound-of (run ks .now) c ≤ run ks .now .clock
     → Left-by (run ks) c i p (p .eligibility + bound-of (run ks .now) c)
 
--- ---- demand 3, second sentence: a line that keeps its gap is never refused for room and leaves within the bound of its arrival.
+-- ---- demand 3, second sentence: a connection that keeps its gap is never refused for room and leaves within the bound of its arrival.
 -- Any calls `earlier`, an offer of c of allowed length, any calls `later`; c has kept its gap up to this offer
 
 pub record Kept-promise (earlier later : List Call) (c len tag : ℕ) : Type 0 where
@@ -188,16 +188,16 @@ Demand-3-second =
     → allowed (run earlier .now) c len ≡ true
     → Kept-promise earlier later c len tag
 
--- ---- bed nine and bed ten (document 02, R-3): nothing that another line does changes what a line that keeps its gap is told
+-- ---- bed nine and bed ten (document 02, R-3): nothing that another connection does changes what a connection that keeps its gap is told
 
--- in any run, each answer to a line that keeps its gap is the one that its own figures and its own offer decide
+-- in any run, each answer to a connection that keeps its gap is the one that its own figures and its own offer decide
 abbrev pub Told-by-its-own : Type 0
 Told-by-its-own =
     (ks : List Call) (c : ℕ)
     → Keeps-its-gap c ks
     → All (λ (e : Exchange). e ≡ own-answer (figures (run ks .now) c) (e .asked)) (exchanges c ks)
 
--- so in any two runs a line with the same figures and the same offers at the same ticks is told the same, whatever its number in each. That the links are
+-- so in any two runs a connection with the same figures and the same offers at the same ticks is told the same, whatever its number in each. That the links are
 -- the same and that it was accepted at the same tick need not even be asked
 abbrev pub Bed-nine-and-bed-ten : Type 0
 Bed-nine-and-bed-ten =

@@ -1,4 +1,4 @@
--- A run: any list of calls from the fresh hub, with its history. Assumes nothing.
+-- A run: any list of calls from the fresh hub, with its history.
 use Prim.Native.Nat.{ℕ, zero, suc, _+_}
 use mathlib.Core.Bool.{Bool, cond, _&&_}
 use mathlib.Core.List.{List, [], _∷_, _++_, map}
@@ -73,7 +73,7 @@ in-hub s = s .held ++ map notice-packet (s .notices)
 abbrev pub bound-of : State → ℕ → ℕ
 bound-of s c = bound (s .link) (figures s c .level)
 
--- ---- a line that keeps its gap
+-- ---- a connection that keeps its gap
 
 -- an offer to c of allowed length; one given 10 is no connection's offer ("Verdict numbers")
 abbrev pub allowed : State → ℕ → ℕ → Bool
@@ -135,7 +135,7 @@ exchanges-from c h es (k ∷ ks) = exchanges-from c (after h k) (push es (exchan
 abbrev pub exchanges : ℕ → List Call → List Exchange
 exchanges c ks = exchanges-from c nothing-yet [] ks
 
--- what a line that keeps its gap is told: its own figures and its own offer decide. A wrong length: 11; at the clock's end: 13; else accepted, eligible on arrival
+-- what a connection that keeps its gap is told: its own figures and its own offer decide. A wrong length: 11; at the clock's end: 13; else accepted, eligible on arrival
 abbrev pub own-answer : Connection → Asked → Exchange
 own-answer x a = record {
   asked = a;

@@ -1,5 +1,5 @@
 -- A sound state, clause by clause. Document 01, "A sound state"; its first clause, the length of the places table, is the table's own and stands with
--- the code. The clauses on notices and on the silence: docs/RULES-AFTER-BASE.md, R-1 and R-4. Assumes nothing.
+-- the code. The clauses on notices and on the silence: docs/RULES-AFTER-BASE.md, R-1 and R-4.
 use Prim.Native.Nat.{ℕ, _+_, _≤_, _<_}
 use mathlib.Core.Path.{_≡_}
 use mathlib.Core.Bool.{true, false}

@@ -1,5 +1,5 @@
 -- The sound state as a test that computes, in the passes that the code makes. It need not be believed: `Test-is-exact` (Promises) says that it is true
--- exactly of a sound state. Document 01, "A sound state". Assumes nothing.
+-- exactly of a sound state. Document 01, "A sound state".
 use Prim.Native.Nat.{ℕ, _+_, max}
 use mathlib.Core.Bool.{Bool, true, false, cond, _&&_, _||_}
 use mathlib.Core.List.{List, [], _∷_, _++_}

@@ -1,4 +1,4 @@
--- The few words on numbers and lists in which the rules are written. Assumes nothing.
+-- The few words on numbers and lists in which the rules are written.
 use Prim.Native.Nat.{ℕ, zero, suc, _+_}
 use mathlib.Core.Bool.{Bool, true, cond, _&&_}
 use mathlib.Core.List.{List, [], _∷_, _++_}

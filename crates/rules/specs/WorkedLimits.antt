@@ -1,5 +1,5 @@
 -- One table of limits and ties, worked by hand from documents 01 and 02: of each limit the last value inside and the first outside, the number that each
--- refused call gives, and what is given where two causes or two packets meet. Assumes nothing.
+-- refused call gives, and what is given where two causes or two packets meet.
 use Prim.Native.Nat.{ℕ, _+_, _-_}
 use mathlib.Core.Path.{_≡_}
 use mathlib.Core.Bool.{true}

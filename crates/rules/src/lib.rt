@@ -1,4 +1,4 @@
-// The five records that the rules and the code share, declared once so that a contract needs no conversion. The rules themselves stand in specs/.
+// The six records that the rules and the code share, declared once so that a contract needs no conversion. The rules themselves stand in specs/.
 
 // Document 01, "Link, connections, places": n levels, the largest packet S, a delay bound for each level, level 1 first. Document 02, R-4: the silence
 // that the line needs after each packet, in ticks.
@@ -36,4 +36,10 @@ pub struct Notice {
     pub len: u32,
     pub tag: u32,
     pub arrival: u32,
+}
+
+// Document 02, R-2: what a level test says. The lowest level that is short, and the units by which it is over; both 0 where none is.
+pub struct Short {
+    pub level: u32,
+    pub units: u64,
 }

@@ -1,4 +1,4 @@
--- The choice made in one pass upward is the choice of the rules. Assumes nothing.
+-- The choice made in one pass upward is the choice of the rules.
 use Prim.Native.Nat.{ℕ, suc, _≤_, _<_, _+_}
 use native.Mathlib.Omega.{arith}
 use native.Mathlib.Numerals.{add-one}

@@ -1,10 +1,10 @@
--- The best row so far and the next one: each way out of the comparison. Assumes nothing.
+-- The best row so far and the next one: each way out of the comparison.
 use Prim.Native.Nat.{ℕ, _+_, _*_, _≤_, _<_}
 use native.Mathlib.Omega.{arith}
 use mathlib.Core.Path.{_≡_, refl, sym, ap, subst}
 use mathlib.Core.Bool.{true, false, cond}
 use mathlib.Core.List.{List}
-use mathlib.Core.Option.{Option, none, some}
+use mathlib.Core.Option.{none, some}
 use lib.ListN.{length}
 use Rattle.rules.specs.declared.Packet.{Packet}
 use Rattle.rules.proofs.Tests.{never}

@@ -1,4 +1,4 @@
--- How many ticks are quiet, in each case that the code tells apart. Assumes nothing.
+-- How many ticks are quiet, in each case that the code tells apart.
 use Prim.Native.Nat.{ℕ, zero, suc, _+_, _*_, _-_, _≤_, _<_, min}
 use native.Mathlib.Omega.{arith}
 use mathlib.Core.Path.{_≡_, refl, ap, _∙_}

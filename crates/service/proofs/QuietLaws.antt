@@ -1,4 +1,4 @@
--- Ticks in which nothing starts and nothing departs: what the rules answer to each, and the state after it. Assumes nothing.
+-- Ticks in which nothing starts and nothing departs: what the rules answer to each, and the state after it.
 use Prim.Native.Nat.{ℕ, zero, suc, _+_, _-_, _≤_, _<_, min}
 use native.Mathlib.Omega.{arith}
 use mathlib.Core.Path.{_≡_, refl, ap, _∙_, subst}

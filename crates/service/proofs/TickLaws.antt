@@ -1,8 +1,8 @@
--- Laws of the three steps of a tick, between the hub with its places table and the state that they stand for. Assumes nothing.
+-- Laws of the three steps of a tick, between the hub with its places table and the state that they stand for.
 use Prim.Native.Nat.{ℕ, zero, suc, _-_, _<_}
 use native.Mathlib.Omega.{arith}
 use mathlib.Core.Path.{_≡_, refl, sym, ap, _∙_, subst}
-use mathlib.Core.Bool.{Bool, true, false, cond}
+use mathlib.Core.Bool.{Bool, true, false}
 use mathlib.Core.List.{List, [], _∷_, map}
 use mathlib.Core.Option.{Option, none, some}
 use lib.Dec.{leb, eqb}
@@ -13,33 +13,42 @@ use Rattle.rules.specs.declared.Notice.{Notice}
 use Rattle.rules.specs.Words.{All, each}
 use Rattle.rules.specs.Limits.{notice-number}
 use Rattle.rules.specs.Model.{Answer, with-line}
-use Rattle.rules.specs.Service.{goes-first, better, choice, takes, line-after-start, started, packet-departs, notice-departs, after-unit, ticked}
+use Rattle.rules.specs.Service.{goes-first, better, choice, takes, line-after-start, started, after-unit, ticked}
 use Rattle.rules.proofs.Sums.{cond-ind}
 use Rattle.rules.proofs.Tests.{never, and-true}
 use Rattle.rules.proofs.Line.{last-of-packet, last-of-notice}
-use Rattle.tables.specs.Places.{rows, places, table-of, place, row-at, cut, no-packet}
-use Rattle.tables.specs.Notices.{notices-length, notice-of, notices, written-notices, marked, notices-formed}
+use Rattle.tables.specs.Places.{rows, written-places, table-of, place, row-at, cut, no-packet}
+use Rattle.tables.specs.Notices.{notices-length, notice-of, notices-in, written-notices, marked, notices-formed}
 use Rattle.tables.proofs.PlacesLaws.{without-cut, first-place, row-is, rows-from}
 use Rattle.tables.proofs.NoticeLaws.{marked-row, marked-rows, first-row, notices-length-is, rows-marked, notices-table, notices-back}
-use Rattle.service.specs.declared.Hub.{Hub}
-use Rattle.service.specs.declared.Told.{Told}
+use Rattle.state.specs.declared.Hub.{Hub}
+use Rattle.state.specs.declared.Told.{Told}
 use Rattle.service.specs.declared.Best.{Best}
 use Rattle.service.specs.Candidates.{best-of, level-in}
-use Rattle.service.specs.View.{view, hub-of, passed-on, Gives}
+use Rattle.state.specs.View.{Tables, tables, view, hub-of}
+use Rattle.service.specs.Gives.{passed-on, Gives}
 use Rattle.service.specs.Ready.{In-place}
+
+-- what the code says of a hub alone, it says for any tables: for these
+abbrev pub any : Tables
+any = tables [] [] []
 
 -- the hub with the line given anew: what is in service, and the silence
 abbrev pub lined : Hub → ℕ × ℕ → ℕ → Hub
-lined h l silent = hub-of (with-line (view h [] [] []) (l .0) (l .1) silent)
+lined h l silent = hub-of (with-line (view h any) (l .0) (l .1) silent)
+
+-- what is told once the clock has moved on
+abbrev pub told-on : Hub → Bool → Packet → Told
+told-on h gone packet = passed-on (view h any) gone packet
 
 -- ---- step 1
 
 -- the first row of the table of notices, used or not, is what an idle line takes of it
-first-taken : (q : List ℕ) → notices-formed q ≡ true → _≡_ {A = ℕ × ℕ} (takes none (notices q)) (row-at q 0 .connection, row-at q 0 .len)
+first-taken : (q : List ℕ) → notices-formed q ≡ true → _≡_ {A = ℕ × ℕ} (takes none (notices-in q)) (row-at q 0 .connection, row-at q 0 .len)
 unfolding table-of
 first-taken q f = go (rows q) refl
   where
-    go : (ps : List Packet) → rows q ≡ ps → _≡_ {A = ℕ × ℕ} (takes none (notices q)) (row-at q 0 .connection, row-at q 0 .len)
+    go : (ps : List Packet) → rows q ≡ ps → _≡_ {A = ℕ × ℕ} (takes none (notices-in q)) (row-at q 0 .connection, row-at q 0 .len)
     go [] e = ap (λ (ps : List Packet). takes none (map notice-of ps)) e ∙ sym (unused (notices-table q f ∙ ap (table-of notices-length) e))
       where
         unused : q ≡ table-of notices-length [] → _≡_ {A = ℕ × ℕ} (row-at q 0 .connection, row-at q 0 .len) (0, 0)
@@ -52,40 +61,40 @@ first-taken q f = go (rows q) refl
         ∙ ap (λ (n : ℕ). (n, row-at q 0 .len)) (sym (eqb-true _ _ (and-true (eqb (row-at q 0 .connection) notice-number) _ (m .0) .0)))
 
 module _ (h : Hub) (cs t q : List ℕ) where
-  pub busy : (h .units ≡ 0 → ⊥) → h ≡ hub-of (started (view h cs t q))
-  busy n = go (h .units) refl
+  pub busy : (h .«to_go» ≡ 0 → ⊥) → h ≡ hub-of (started (view h (tables cs t q)))
+  busy n = go (h .«to_go») refl
     where
-      go : (u : ℕ) → h .units ≡ u → h ≡ lined h (line-after-start (view h cs t q) u (h .silent)) (h .silent)
+      go : (u : ℕ) → h .«to_go» ≡ u → h ≡ lined h (line-after-start (view h (tables cs t q)) u (h .silent)) (h .silent)
       go zero e = absurd (n e)
       go (suc u) e = rw (← e)
 
   -- while the silence runs nothing starts
-  pub waits : h .units ≡ 0 → (h .silent ≡ 0 → ⊥) → h ≡ hub-of (started (view h cs t q))
-  waits z n = go (h .units) (h .silent) refl refl
+  pub waits : h .«to_go» ≡ 0 → (h .silent ≡ 0 → ⊥) → h ≡ hub-of (started (view h (tables cs t q)))
+  waits z n = go (h .«to_go») (h .silent) refl refl
     where
-      go : (u d : ℕ) → h .units ≡ u → h .silent ≡ d → h ≡ lined h (line-after-start (view h cs t q) u d) (h .silent)
+      go : (u d : ℕ) → h .«to_go» ≡ u → h .silent ≡ d → h ≡ lined h (line-after-start (view h (tables cs t q)) u d) (h .silent)
       go zero zero i e = absurd (n e)
       go zero (suc d) i e = ap (λ (u : ℕ). lined h (h .serving, u) (h .silent)) i
       go (suc u) d i e = absurd (omega arith)
 
-  module _ (b : Best) (z : h .units ≡ 0) (y : h .silent ≡ 0) (e : b ≡ best-of (choice (level-in cs) (h .clock) (rows t))) where
+  module _ (b : Best) (z : h .«to_go» ≡ 0) (y : h .silent ≡ 0) (e : b ≡ best-of (choice (level-in cs) (h .clock) (rows t))) where
     -- an idle line takes what was chosen
-    pub takes-packet : b .found ≡ true → lined h (b .packet .connection, b .packet .len) 0 ≡ hub-of (started (view h cs t q))
+    pub takes-packet : b .found ≡ true → lined h (b .packet .connection, b .packet .len) 0 ≡ hub-of (started (view h (tables cs t q)))
     takes-packet f =
         ap (λ (d : Best). lined h (d .packet .connection, d .packet .len) 0) e
         ∙ rw (z, y) (go (choice (level-in cs) (h .clock) (rows t)) (sym (ap (λ (d : Best). d .found) e) ∙ f))
       where
-        go : (o : Option Packet) → best-of o .found ≡ true → lined h (best-of o .packet .connection, best-of o .packet .len) 0 ≡ lined h (takes o (notices q)) 0
+        go : (o : Option Packet) → best-of o .found ≡ true → lined h (best-of o .packet .connection, best-of o .packet .len) 0 ≡ lined h (takes o (notices-in q)) 0
         go none i = never i
         go (some p) i = refl
 
     -- where nothing was chosen, the first notice; an unused row is nothing
-    pub takes-notice : b .found ≡ false → notices-formed q ≡ true → lined h (row-at q 0 .connection, row-at q 0 .len) 0 ≡ hub-of (started (view h cs t q))
+    pub takes-notice : b .found ≡ false → notices-formed q ≡ true → lined h (row-at q 0 .connection, row-at q 0 .len) 0 ≡ hub-of (started (view h (tables cs t q)))
     takes-notice f n =
         ap (λ (l : ℕ × ℕ). lined h l 0) (sym (first-taken q n))
         ∙ rw (z, y) (go (choice (level-in cs) (h .clock) (rows t)) (sym (ap (λ (d : Best). d .found) e) ∙ f))
       where
-        go : (o : Option Packet) → best-of o .found ≡ false → lined h (takes none (notices q)) 0 ≡ lined h (takes o (notices q)) 0
+        go : (o : Option Packet) → best-of o .found ≡ false → lined h (takes none (notices-in q)) 0 ≡ lined h (takes o (notices-in q)) 0
         go none i = refl
         go (some p) i = never (sym i)
 
@@ -117,14 +126,14 @@ module _ (level : ℕ → ℕ) (t : ℕ) where
 
 module _ (h : Hub) (cs t q : List ℕ) (others : All (λ p. p .connection ≡ notice-number → ⊥) (rows t)) (f : In-place h t q) where
   abbrev after : ℕ → ℕ → ℕ × ℕ
-  after u silent = line-after-start (view h cs t q) u silent
+  after u silent = line-after-start (view h (tables cs t q)) u silent
 
   -- what is in service is the first row of its connection, or the first notice
   record Served (l : ℕ × ℕ) : Type 0 where
     packet : (l .1 ≡ 0 → ⊥) → (l .0 ≡ notice-number → ⊥) → place (l .0) (rows t) < length (rows t)
     notice : (l .1 ≡ 0 → ⊥) → l .0 ≡ notice-number → 0 < length (rows q)
 
-  served : (u silent : ℕ) → h .units ≡ u → Served (after u silent)
+  served : (u silent : ℕ) → h .«to_go» ≡ u → Served (after u silent)
   served (suc u) silent e = record { packet = λ n a. f .line (λ z. omega arith) a; notice = λ n i. f .notice-line (λ z. omega arith) i }
   served zero (suc silent) e = record { packet = λ n a. absurd (n refl); notice = λ n i. absurd (n refl) }
   served zero zero e = go (choice (level-in cs) (h .clock) (rows t)) (choice-held (level-in cs) (h .clock) (rows t) others) (rows q) refl
@@ -134,45 +143,45 @@ module _ (h : Hub) (cs t q : List ℕ) (others : All (λ p. p .connection ≡ no
       go none k [] i = record { packet = λ n a. absurd (n refl); notice = λ n e. absurd (n refl) }
       go none k (p ∷ ps) i = record { packet = λ n a. absurd (a refl); notice = λ n e. omega (arith, ap length i) }
 
-  pub in-place-then : (g : Hub) → g ≡ hub-of (started (view h cs t q)) → In-place g t q
+  pub in-place-then : (g : Hub) → g ≡ hub-of (started (view h (tables cs t q))) → In-place g t q
   in-place-then g e =
-      let s = served (h .units) (h .silent) refl in
+      let s = served (h .«to_go») (h .silent) refl in
       subst (λ (k : Hub). In-place k t q) (sym e)
       (record { table = f .table; size = f .size; notices = f .notices; time = f .time; line = s .packet; notice-line = s .notice })
 
 -- ---- steps 2 and 3
 
-pub passes : {h g : Hub} {p q : Packet} (gone : Bool) → h ≡ g → p ≡ q → passed-on h gone p ≡ passed-on g gone q
-passes {h} {g} {p} {q} gone e f = ap (λ (k : Hub). passed-on k gone p) e ∙ ap (passed-on g gone) f
+pub passes : {h g : Hub} {p q : Packet} (gone : Bool) → h ≡ g → p ≡ q → told-on h gone p ≡ told-on g gone q
+passes {h} {g} {p} {q} gone e f = ap (λ (k : Hub). told-on k gone p) e ∙ ap (told-on g gone) f
 
-module _ (g : Hub) (t q : List ℕ) (e : t ≡ places (rows t)) (f : notices-formed q ≡ true) where
+module _ (g : Hub) (cs t q : List ℕ) (e : t ≡ written-places (rows t)) (f : notices-formed q ≡ true) where
   abbrev Sent : ℕ → Told → List ℕ → List ℕ → Type 0
-  Sent u r s n = Gives (after-unit (view g [] t q) u) r s n
+  Sent u r s n = Gives (after-unit (view g (tables cs t q)) u) r s n
 
   -- nothing in service
-  pub still : g .units ≡ 0 → Sent (g .units) (passed-on (lined g (0, 0) (g .silent - 1)) false no-packet) t q
+  pub still : g .«to_go» ≡ 0 → Sent (g .«to_go») (told-on (lined g (0, 0) (g .silent - 1)) false no-packet) t q
   still z = rw z (refl, e, notices-back q f)
 
   -- a unit that is not the last
-  pub goes-on : (g .units ≡ 0 → ⊥) → (g .units ≡ 1 → ⊥) → Sent (g .units) (passed-on (lined g (g .serving, g .units - 1) (g .silent)) false no-packet) t q
-  goes-on n m = go (g .units) refl
+  pub goes-on : (g .«to_go» ≡ 0 → ⊥) → (g .«to_go» ≡ 1 → ⊥) → Sent (g .«to_go») (told-on (lined g (g .serving, g .«to_go» - 1) (g .silent)) false no-packet) t q
+  goes-on n m = go (g .«to_go») refl
     where
-      go : (u : ℕ) → g .units ≡ u → Sent (g .units) (passed-on (lined g (g .serving, g .units - 1) (g .silent)) false no-packet) t q
+      go : (u : ℕ) → g .«to_go» ≡ u → Sent (g .«to_go») (told-on (lined g (g .serving, g .«to_go» - 1) (g .silent)) false no-packet) t q
       go zero i = absurd (n i)
       go (suc zero) i = absurd (m i)
-      go (suc (suc u)) i = let k : g .units - 1 ≡ suc u = omega arith in rw (k, i) (refl, e, notices-back q f)
+      go (suc (suc u)) i = let k : g .«to_go» - 1 ≡ suc u = omega arith in rw (k, i) (refl, e, notices-back q f)
 
   -- the last unit of a packet: row i, the first of the connection in service, goes
   pub goes-off : (i : ℕ) → (g .serving ≡ notice-number → ⊥) → i ≡ place (g .serving) (rows t) → i < length (rows t)
-      → Sent 1 (passed-on (lined g (0, 0) (g .link .silence)) true (row-at t i)) (places (cut i (rows t))) q
+      → Sent 1 (told-on (lined g (0, 0) (g .link .silence)) true (row-at t i)) (written-places (cut i (rows t))) q
   goes-off i away at l =
       let k : place (g .serving) (rows t) < length (rows t) = omega arith in
-      subst (λ (a : Answer). Gives a (passed-on (lined g (0, 0) (g .link .silence)) true (row-at t i)) (places (cut i (rows t))) q) (sym (last-of-packet (view g [] t q) away))
+      subst (λ (a : Answer). Gives a (told-on (lined g (0, 0) (g .link .silence)) true (row-at t i)) (written-places (cut i (rows t))) q) (sym (last-of-packet (view g (tables cs t q)) away))
       (rw (first-place (g .serving) (rows t) k, row-is t (place (g .serving) (rows t)) k, without-cut (g .serving) (rows t), at) (refl, refl, notices-back q f))
 
   -- the last unit of a notice: the first row goes
   pub notice-goes-off : g .serving ≡ notice-number → 0 < length (rows q)
-      → Sent 1 (passed-on (lined g (0, 0) (g .link .silence)) true (row-at q 0)) t (table-of (length q) (cut 0 (rows q)))
+      → Sent 1 (told-on (lined g (0, 0) (g .link .silence)) true (row-at q 0)) t (table-of (length q) (cut 0 (rows q)))
   notice-goes-off i l =
       let r = rows-from q 0 l in
       let m = and-true (marked (row-at q 0)) (each marked (drop 1 (rows q))) (ap (each marked) (sym r) ∙ rows-marked q f) in
@@ -180,31 +189,17 @@ module _ (g : Hub) (t q : List ℕ) (e : t ≡ places (rows t)) (f : notices-for
       let ns = map notice-of (drop 1 (rows q)) in
       let back : written-notices ns ≡ table-of (length q) (drop 1 (rows q))
       = ap (table-of notices-length) (marked-rows (drop 1 (rows q)) (m .1)) ∙ ap (λ (k : ℕ). table-of k (drop 1 (rows q))) (sym (notices-length-is q f)) in
-      subst (λ (a : Answer). Gives a (passed-on (lined g (0, 0) (g .link .silence)) true (row-at q 0)) t (table-of (length q) (cut 0 (rows q))))
-      (sym (last-of-notice (view g [] t q) n ns i (first-row q l)))
+      subst (λ (a : Answer). Gives a (told-on (lined g (0, 0) (g .link .silence)) true (row-at q 0)) t (table-of (length q) (cut 0 (rows q))))
+      (sym (last-of-notice (view g (tables cs t q)) n ns i (first-row q l)))
       (rw (marked-row (row-at q 0) (m .0)) (refl, e, sym back))
 
 -- a last unit, by the number of units
-pub last-unit : (g : Hub) (t q : List ℕ) (r : Told) (s n : List ℕ) → g .units ≡ 1
-    → Gives (after-unit (view g [] t q) 1) r s n → Gives (after-unit (view g [] t q) (g .units)) r s n
-last-unit g t q r s n e k = subst (λ (u : ℕ). Gives (after-unit (view g [] t q) u) r s n) (sym e) k
+pub last-unit : (g : Hub) (cs t q : List ℕ) (r : Told) (s n : List ℕ) → g .«to_go» ≡ 1
+    → Gives (after-unit (view g (tables cs t q)) 1) r s n → Gives (after-unit (view g (tables cs t q)) (g .«to_go»)) r s n
+last-unit g cs t q r s n e k = subst (λ (u : ℕ). Gives (after-unit (view g (tables cs t q)) u) r s n) (sym e) k
 
 -- ---- a whole tick
 
--- what goes on the line does not hang on the table of connections
-sent-by : (g : Hub) (cs t q : List ℕ) (u : ℕ) (r : Told) (s n : List ℕ) → Gives (after-unit (view g [] t q) u) r s n → Gives (after-unit (view g cs t q) u) r s n
-sent-by g cs t q zero r s n k = k
-sent-by g cs t q (suc zero) r s n k = go (eqb (g .serving) notice-number) (notices q) k
-  where
-    go : (b : Bool) (ns : List Notice) → Gives (cond b (notice-departs (view g [] t q) ns) (packet-departs (view g [] t q))) r s n
-        → Gives (cond b (notice-departs (view g cs t q) ns) (packet-departs (view g cs t q))) r s n
-    go true [] k = k
-    go true (m ∷ ns) k = k
-    go false ns k = k
-sent-by g cs t q (suc (suc u)) r s n k = k
-
-pub ticks : (h : Hub) (cs t q : List ℕ) (g : Hub) (r : Told) (s n : List ℕ) → g ≡ hub-of (started (view h cs t q))
-    → Gives (after-unit (view g [] t q) (g .units)) r s n → Gives (ticked (view h cs t q)) r s n
-ticks h cs t q g r s n e k =
-    let l = hub-of (started (view h cs t q)) in
-    sent-by l cs t q (l .units) r s n (subst (λ (i : Hub). Gives (after-unit (view i [] t q) (i .units)) r s n) e k)
+pub ticks : (h : Hub) (cs t q : List ℕ) (g : Hub) (r : Told) (s n : List ℕ) → g ≡ hub-of (started (view h (tables cs t q)))
+    → Gives (after-unit (view g (tables cs t q)) (g .«to_go»)) r s n → Gives (ticked (view h (tables cs t q))) r s n
+ticks h cs t q g r s n e k = subst (λ (i : Hub). Gives (after-unit (view i (tables cs t q)) (i .«to_go»)) r s n) e k

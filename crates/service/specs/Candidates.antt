@@ -1,7 +1,7 @@
--- The choice as one pass upward: the best packet so far, and the next one of the rows. Document 01, "One tick", step 1. Assumes nothing.
+-- The choice as one pass upward: the best packet so far, and the next one of the rows. Document 01, "One tick", step 1.
 use Prim.Native.Nat.{ℕ, _+_, _*_, _≤_}
 use mathlib.Core.Path.{_≡_}
-use mathlib.Core.Bool.{Bool, true, false, cond}
+use mathlib.Core.Bool.{true, cond}
 use mathlib.Core.List.{List}
 use mathlib.Core.Option.{Option, none, some}
 use lib.Dec.{leb}
@@ -9,24 +9,17 @@ use lib.ListN.{length}
 use Rattle.rules.specs.declared.Packet.{Packet}
 use Rattle.rules.specs.Model.{nth}
 use Rattle.rules.specs.Service.{better}
-use Rattle.tables.specs.Places.{row-at, no-packet}
-use Rattle.lines.specs.Members.{connections}
+use Rattle.tables.specs.Places.{row-at}
+use Rattle.connections.specs.Members.{connections-in}
+use Rattle.state.specs.Told.{is-some, packet-or-unused}
 use Rattle.service.specs.declared.Best.{Best}
 use Rattle.service.specs.declared.Lead.{Lead}
 
 -- the level of connection c, by the table of connections
 abbrev pub level-in : List ℕ → ℕ → ℕ
-level-in cs c = nth (connections cs) c .level
+level-in cs c = nth (connections-in cs) c .level
 
--- a packet or nothing, as the code gives it: whether there is one, and it or an unused row
-abbrev pub is-some : Option Packet → Bool
-is-some none = false
-is-some (some p) = true
-
-abbrev pub packet-or-unused : Option Packet → Packet
-packet-or-unused none = no-packet
-packet-or-unused (some p) = p
-
+-- a packet or nothing, as the code gives it
 abbrev pub best-of : Option Packet → Best
 best-of o = record { found = is-some o; packet = packet-or-unused o }
 

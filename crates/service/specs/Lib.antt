@@ -1,4 +1,4 @@
 pub mod Candidates
-pub mod View
+pub mod Gives
 pub mod Ready
 pub mod Quiet

@@ -1,5 +1,5 @@
 -- QUIET TICKS: those in which nothing starts and nothing departs, so that many can be passed over at once. Document 01, "One tick"; document 02, R-1
--- and R-4. Assumes nothing.
+-- and R-4.
 use Prim.Native.Nat.{ℕ, zero, suc, _+_, _-_, min}
 use mathlib.Core.Bool.{not, cond, _&&_}
 use mathlib.Core.List.{List, [], _∷_}
@@ -9,16 +9,10 @@ use Rattle.rules.specs.declared.Notice.{Notice}
 use Rattle.rules.specs.Limits.{clock-end}
 use Rattle.rules.specs.Model.{State, with-clock, with-line}
 use Rattle.rules.specs.SoundTest.{sound}
-use Rattle.service.specs.declared.Hub.{Hub}
-use Rattle.service.specs.View.{view, hub-of}
 
 -- the state k ticks on, where nothing starts and nothing departs in them: what is in service, if anything is, has k units fewer to go, and a silence k ticks
 abbrev pub passed : State → ℕ → State
 passed s k = with-line (with-clock s (s .clock + k)) (s .serving) (s .to-go - k) (s .silent - k)
-
--- .. and the hub
-abbrev pub passed-hub : Hub → ℕ → Hub
-passed-hub h k = hub-of (passed (view h [] [] []) k)
 
 -- the first tick at which one of some packets is eligible; the clock's end where that is earlier
 abbrev pub first-eligible : List Packet → ℕ

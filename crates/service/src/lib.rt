@@ -4,42 +4,23 @@ pub mod quiet; // quiet.rt: ticks in which nothing starts and nothing departs
 
 ghost use mathlib.Core.Path.{_≡_};
 ghost use mathlib.Core.Bool.{true};
-ghost use mathlib.Core.List.{[]};
-ghost use Prim.Native.Nat.{_+_, _*_, _-_, _<_, _≤_};
+ghost use mathlib.Core.List.{List};
+ghost use Prim.Native.Nat.{ℕ, _+_, _*_, _-_, _<_, _≤_};
 ghost use Rattle.rules.specs.Limits.{clock-end, notice-number};
 ghost use Rattle.rules.specs.Model.{with-line};
 ghost use Rattle.rules.specs.Service.{choice, started, after-unit, ticked};
 ghost use lib.ListN.{length};
-ghost use Rattle.tables.specs.Places.{rows, places, places-length};
+ghost use Rattle.tables.specs.Places.{rows, written-places, places-length};
 ghost use Rattle.service.specs.Candidates.{best-of, level-in, Leads, Leads-with};
-ghost use Rattle.service.specs.View.{view, hub-of, passed-on, Gives};
+ghost use Rattle.state.specs.View.{Tables, tables, before, view, hub-of};
+ghost use Rattle.service.specs.Gives.{passed-on, Gives};
 ghost use Rattle.service.specs.Ready.{In-place, Ready};
 ghost use Rattle.tables.specs.Notices.{notices-formed};
 use limits::NOTICE_NUMBER;
 use limits::PACKET_WIDTH;
-use lines::Shortage;
-use rules::Link;
 use rules::Packet;
-
-// The part of the state that no table holds. While `units` is 0 nothing is in service, and `serving` is 0 too. `silent` is the silence still to run.
-pub struct Hub {
-    pub link: Link,
-    pub clock: u32,
-    pub serving: u32,
-    pub units: u32,
-    pub silent: u32,
-}
-
-// The answer of a call, and the hub after it. `short` is what the level test said of an admission refused for it, else zeros. `packet` is the departed one
-// where `gone` says so, else an unused row.
-pub struct Told {
-    pub verdict: u32,
-    pub number: u32,
-    pub short: Shortage,
-    pub gone: bool,
-    pub packet: Packet,
-    pub hub: Hub,
-}
+use state::Hub;
+use state::Told;
 
 // The packet that the line takes next, where one is found; else an unused row.
 pub struct Best {
@@ -56,15 +37,15 @@ pub struct Lead {
 }
 
 // The best so far, or row i, which was offered later: row i only if it is eligible and goes strictly before the best.
-fn lead_with(cs: &[u32], t: &[u32], lead: Lead, i: usize, clock: u32) -> Lead
-    requires { ⌜ (5 * i + 5 ≤ length (now t)) × Leads (now cs) (now t) lead ⌝ }
-    ensures { λ r. ⌜ Leads-with (now (cs .entry)) (now (t .entry)) clock lead i r ⌝ }
+fn lead_with(members: &[u32], places: &[u32], lead: Lead, i: usize, clock: u32) -> Lead
+    requires { ⌜ (5 * i + 5 ≤ length (now places)) × Leads (now members) (now places) lead ⌝ }
+    ensures { λ r. ⌜ Leads-with (now (members .entry)) (now (places .entry)) clock lead i r ⌝ }
 {
-    let eligibility = t[PACKET_WIDTH * i + 4];
+    let eligibility = places[PACKET_WIDTH * i + 4];
     if clock < eligibility {
         return lead;
     }
-    let level = lines::level_of(cs, t[PACKET_WIDTH * i]);
+    let level = connections::level_of(members, places[PACKET_WIDTH * i]);
     let next = Lead {
         found: true,
         place: i,
@@ -87,11 +68,11 @@ fn lead_with(cs: &[u32], t: &[u32], lead: Lead, i: usize, clock: u32) -> Lead
 }
 
 // The packet that the line takes next, if one is eligible. One pass upward over the held rows.
-pub fn choose(cs: &[u32], t: &[u32], clock: u32) -> Best
-    requires { ⌜ (now t ≡ places (rows (now t))) × (length (now t) ≡ places-length) ⌝ }
-    ensures { λ r. ⌜ r ≡ best-of (choice (level-in (now (cs .entry))) clock (rows (now (t .entry)))) ⌝ }
+pub fn choose(members: &[u32], places: &[u32], clock: u32) -> Best
+    requires { ⌜ (now places ≡ written-places (rows (now places))) × (length (now places) ≡ places-length) ⌝ }
+    ensures { λ r. ⌜ r ≡ best-of (choice (level-in (now (members .entry))) clock (rows (now (places .entry)))) ⌝ }
 {
-    let n = tables::count(t);
+    let n = tables::count(places);
     let mut lead = Lead {
         found: false,
         place: 0,
@@ -100,7 +81,7 @@ pub fn choose(cs: &[u32], t: &[u32], clock: u32) -> Best
     };
     let mut i: usize = 0;
     while i < n {
-        lead = lead_with(cs, t, lead, i, clock);
+        lead = lead_with(members, places, lead, i, clock);
         i += 1;
     }
     if !lead.found {
@@ -111,17 +92,17 @@ pub fn choose(cs: &[u32], t: &[u32], clock: u32) -> Best
     }
     Best {
         found: true,
-        packet: tables::row(t, lead.place),
+        packet: tables::row(places, lead.place),
     }
 }
 
 // The hub with the line given anew.
-fn with_line(h: Hub, serving: u32, units: u32, silent: u32) -> Hub
-    ensures { λ r. ⌜ r ≡ hub-of (with-line (view h [] [] []) serving units silent) ⌝ }
+fn with_line(h: Hub, serving: u32, to_go: u32, silent: u32) -> Hub
+    ensures { λ r. ⌜ ((t : Tables) → r ≡ hub-of (with-line (view h t) serving «to_go» silent)) ⌝ }
 {
     let mut g = h;
     g.serving = serving;
-    g.units = units;
+    g.to_go = to_go;
     g.silent = silent;
     g
 }
@@ -138,36 +119,36 @@ pub fn without(a: u32, b: u32) -> u32
 
 // Step 1: an idle line takes the chosen packet, else the first notice. Nothing interrupts what is in service, and nothing starts before the silence has
 // run, so no row is looked at then.
-fn start(h: Hub, cs: &[u32], t: &[u32], q: &[u32]) -> Hub
-    requires { ⌜ (now t ≡ places (rows (now t))) × (length (now t) ≡ places-length) × (notices-formed (now q) ≡ true) ⌝ }
-    ensures { λ r. ⌜ r ≡ hub-of (started (view h (now (cs .entry)) (now (t .entry)) (now (q .entry)))) ⌝ }
+fn start(h: Hub, members: &[u32], places: &[u32], notices: &[u32]) -> Hub
+    requires { ⌜ (now places ≡ written-places (rows (now places))) × (length (now places) ≡ places-length) × (notices-formed (now notices) ≡ true) ⌝ }
+    ensures { λ r. ⌜ r ≡ hub-of (started (view h (before members places notices))) ⌝ }
 {
-    if h.units != 0 {
+    if h.to_go != 0 {
         return h;
     }
     if h.silent != 0 {
         return h;
     }
-    let best = choose(cs, t, h.clock);
+    let best = choose(members, places, h.clock);
     if best.found {
         return with_line(h, best.packet.connection, best.packet.len, 0);
     }
     // where there is no notice its row is unused, and the zeros leave the line idle
-    let first = tables::row(q, 0);
+    let first = tables::row(notices, 0);
     with_line(h, first.connection, first.len, 0)
 }
 
 // Step 3: the clock moves on. The answer is the departed packet or nothing.
 fn pass(g: Hub, gone: bool, packet: Packet) -> Told
     requires { ⌜ g .clock < clock-end ⌝ }
-    ensures { λ r. ⌜ r ≡ passed-on g gone packet ⌝ }
+    ensures { λ r. ⌜ ((t : Tables) → r ≡ passed-on (view g t) gone packet) ⌝ }
 {
     let mut later = g;
     later.clock = g.clock + 1;
     Told {
         verdict: 0,
         number: 0,
-        short: lines::no_shortage(),
+        short: connections::no_short(),
         gone: gone,
         packet: packet,
         hub: later,
@@ -175,54 +156,54 @@ fn pass(g: Hub, gone: bool, packet: Packet) -> Told
 }
 
 // Step 2 at a last unit of a notice: it departs, its row is removed, and the link's silence is still to run.
-fn depart_notice(g: Hub, t: &[u32], q: &mut [u32]) -> Told
-    requires { ⌜ In-place g (now t) (now q) × (g .units ≡ 1) × (g .serving ≡ notice-number) ⌝ }
-    ensures { λ r. ⌜ Gives (after-unit (view g [] (now (t .entry)) (now (q .entry))) 1) r (now (t .entry)) (now (q .exit)) ⌝ }
+fn depart_notice(g: Hub, places: &[u32], notices: &mut [u32]) -> Told
+    requires { ⌜ In-place g (now places) (now notices) × (g .«to_go» ≡ 1) × (g .serving ≡ notice-number) ⌝ }
+    ensures { λ r. ⌜ ((m : List ℕ) → Gives (after-unit (view g (tables m (now (places .entry)) (now (notices .entry)))) 1) r (now (places .entry)) (now (notices .exit))) ⌝ }
 {
-    let waiting = tables::held(q);
-    let p = tables::row(q, 0);
-    tables::remove(q, waiting, 0);
+    let waiting = tables::held(notices);
+    let p = tables::row(notices, 0);
+    tables::remove(notices, waiting, 0);
     let idle = with_line(g, 0, 0, g.link.silence);
     pass(idle, true, p)
 }
 
 // Step 2 at a last unit of a packet: the same.
-fn depart(g: Hub, t: &mut [u32], q: &[u32]) -> Told
-    requires { ⌜ In-place g (now t) (now q) × (g .units ≡ 1) × (g .serving ≡ notice-number → ⊥) ⌝ }
-    ensures { λ r. ⌜ Gives (after-unit (view g [] (now (t .entry)) (now (q .entry))) 1) r (now (t .exit)) (now (q .entry)) ⌝ }
+fn depart(g: Hub, places: &mut [u32], notices: &[u32]) -> Told
+    requires { ⌜ In-place g (now places) (now notices) × (g .«to_go» ≡ 1) × (g .serving ≡ notice-number → ⊥) ⌝ }
+    ensures { λ r. ⌜ ((m : List ℕ) → Gives (after-unit (view g (tables m (now (places .entry)) (now (notices .entry)))) 1) r (now (places .exit)) (now (notices .entry))) ⌝ }
 {
-    let held = tables::count(t);
-    let i = tables::find(t, held, g.serving);
-    let p = tables::row(t, i);
-    tables::remove(t, held, i);
+    let held = tables::count(places);
+    let i = tables::find(places, held, g.serving);
+    let p = tables::row(places, i);
+    tables::remove(places, held, i);
     let freed = with_line(g, 0, 0, g.link.silence);
     pass(freed, true, p)
 }
 
 // Steps 2 and 3: a unit of what is in service goes, else a tick of the silence, and the clock moves on.
-fn send(g: Hub, t: &mut [u32], q: &mut [u32]) -> Told
-    requires { ⌜ In-place g (now t) (now q) ⌝ }
-    ensures { λ r. ⌜ Gives (after-unit (view g [] (now (t .entry)) (now (q .entry))) (g .units)) r (now (t .exit)) (now (q .exit)) ⌝ }
+fn send(g: Hub, places: &mut [u32], notices: &mut [u32]) -> Told
+    requires { ⌜ In-place g (now places) (now notices) ⌝ }
+    ensures { λ r. ⌜ ((m : List ℕ) → Gives (after-unit (view g (tables m (now (places .entry)) (now (notices .entry)))) (g .«to_go»)) r (now (places .exit)) (now (notices .exit))) ⌝ }
 {
-    if g.units == 0 {
+    if g.to_go == 0 {
         let idle = with_line(g, 0, 0, without(g.silent, 1));
         return pass(idle, false, tables::no_packet());
     }
-    if g.units == 1 {
+    if g.to_go == 1 {
         if g.serving == NOTICE_NUMBER {
-            return depart_notice(g, t, q);
+            return depart_notice(g, places, notices);
         }
-        return depart(g, t, q);
+        return depart(g, places, notices);
     }
-    let sent = with_line(g, g.serving, g.units - 1, g.silent);
+    let sent = with_line(g, g.serving, g.to_go - 1, g.silent);
     pass(sent, false, tables::no_packet())
 }
 
 // One tick of a hub that is ready for it.
-pub fn run_tick(h: Hub, cs: &[u32], t: &mut [u32], q: &mut [u32]) -> Told
-    requires { ⌜ Ready h (now t) (now q) ⌝ }
-    ensures { λ r. ⌜ Gives (ticked (view h (now (cs .entry)) (now (t .entry)) (now (q .entry)))) r (now (t .exit)) (now (q .exit)) ⌝ }
+pub fn run_tick(h: Hub, members: &[u32], places: &mut [u32], notices: &mut [u32]) -> Told
+    requires { ⌜ Ready h (now places) (now notices) ⌝ }
+    ensures { λ r. ⌜ Gives (ticked (view h (before members places notices))) r (now (places .exit)) (now (notices .exit)) ⌝ }
 {
-    let g = start(h, cs, t, q);
-    send(g, t, q)
+    let g = start(h, members, places, notices);
+    send(g, places, notices)
 }

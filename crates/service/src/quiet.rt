@@ -5,14 +5,14 @@ ghost use Prim.Native.Nat.{_+_, _-_, _≤_, min};
 ghost use lib.ListN.{length};
 ghost use Rattle.rules.specs.Limits.{clock-end};
 ghost use Rattle.rules.specs.SoundTest.{sound};
-ghost use Rattle.tables.specs.Places.{rows, places, places-length};
-ghost use Rattle.tables.specs.Notices.{notices};
-ghost use Rattle.service.specs.View.{view};
-ghost use Rattle.service.specs.Quiet.{passed-hub, first-eligible, quiet-for, quiet-ticks};
-use super::Hub;
+ghost use Rattle.tables.specs.Places.{rows, written-places, places-length};
+ghost use Rattle.tables.specs.Notices.{notices-in};
+ghost use Rattle.state.specs.View.{Tables, given, before, view, hub-of};
+ghost use Rattle.service.specs.Quiet.{passed, first-eligible, quiet-for, quiet-ticks};
 use super::without;
 use limits::CLOCK_END;
 use limits::PACKET_WIDTH;
+use state::Hub;
 
 // The smaller of two.
 fn least(a: u32, b: u32) -> u32
@@ -25,15 +25,15 @@ fn least(a: u32, b: u32) -> u32
 }
 
 // How long no packet becomes eligible: up to the clock's end, and not at all where one is.
-fn wait(t: &[u32], clock: u32) -> u32
-    requires { ⌜ (now t ≡ places (rows (now t))) × (length (now t) ≡ places-length) ⌝ }
-    ensures { λ r. ⌜ r ≡ first-eligible (rows (now (t .entry))) - clock ⌝ }
+fn wait(places: &[u32], clock: u32) -> u32
+    requires { ⌜ (now places ≡ written-places (rows (now places))) × (length (now places) ≡ places-length) ⌝ }
+    ensures { λ r. ⌜ r ≡ first-eligible (rows (now (places .entry))) - clock ⌝ }
 {
-    let n = tables::count(t);
+    let n = tables::count(places);
     let mut first = CLOCK_END;
     let mut i: usize = 0;
     while i < n {
-        let e = t[PACKET_WIDTH * i + 4];
+        let e = places[PACKET_WIDTH * i + 4];
         // it starts at once: no look at the rows behind it
         if e <= clock {
             return 0;
@@ -45,33 +45,33 @@ fn wait(t: &[u32], clock: u32) -> u32
 }
 
 // The ticks in which nothing starts and nothing departs, by the line, the places and the notices alone.
-fn quiet_for(h: Hub, t: &[u32], q: &[u32]) -> u32
-    requires { ⌜ (now t ≡ places (rows (now t))) × (length (now t) ≡ places-length) ⌝ }
-    ensures { λ r. ⌜ r ≡ quiet-for (h .units) (h .silent) (rows (now (t .entry))) (notices (now (q .entry))) (h .clock) ⌝ }
+fn quiet_for(h: Hub, places: &[u32], notices: &[u32]) -> u32
+    requires { ⌜ (now places ≡ written-places (rows (now places))) × (length (now places) ≡ places-length) ⌝ }
+    ensures { λ r. ⌜ r ≡ quiet-for (h .«to_go») (h .silent) (rows (now (places .entry))) (notices-in (now (notices .entry))) (h .clock) ⌝ }
 {
-    if h.units != 0 {
-        return h.units - 1;
+    if h.to_go != 0 {
+        return h.to_go - 1;
     }
     // nothing starts before the silence has run
     if h.silent != 0 {
         return h.silent;
     }
     // a notice that waits starts at once
-    if tables::held(q) != 0 {
+    if tables::held(notices) != 0 {
         return 0;
     }
-    wait(t, h.clock)
+    wait(places, h.clock)
 }
 
 // Of `left` ticks those that can be passed over at once.
-pub fn quiet_ticks(h: Hub, cs: &[u32], t: &[u32], q: &[u32], left: u16) -> u16
-    requires { ⌜ (sound (view h (now cs) (now t) (now q)) ≡ true) × (now t ≡ places (rows (now t))) × (length (now t) ≡ places-length) ⌝ }
-    ensures { λ r. ⌜ r ≡ quiet-ticks left (view h (now (cs .entry)) (now (t .entry)) (now (q .entry))) ⌝ }
+pub fn quiet_ticks(h: Hub, members: &[u32], places: &[u32], notices: &[u32], left: u16) -> u16
+    requires { ⌜ (sound (view h (given members places notices)) ≡ true) × (now places ≡ written-places (rows (now places))) × (length (now places) ≡ places-length) ⌝ }
+    ensures { λ r. ⌜ r ≡ quiet-ticks left (view h (before members places notices)) ⌝ }
 {
     if h.link.levels == 0 {
         return 0;
     }
-    let rest = least(quiet_for(h, t, q), CLOCK_END - h.clock);
+    let rest = least(quiet_for(h, places, notices), CLOCK_END - h.clock);
     if rest < left as u32 {
         return rest as u16;
     }
@@ -81,11 +81,11 @@ pub fn quiet_ticks(h: Hub, cs: &[u32], t: &[u32], q: &[u32], left: u16) -> u16
 // The hub k ticks on, where nothing starts and nothing departs in them.
 pub fn pass_over(h: Hub, k: u16) -> Hub
     requires { ⌜ h .clock + k ≤ clock-end ⌝ }
-    ensures { λ r. ⌜ r ≡ passed-hub h k ⌝ }
+    ensures { λ r. ⌜ ((t : Tables) → r ≡ hub-of (passed (view h t) k)) ⌝ }
 {
     let mut later = h;
     later.clock = h.clock + k as u32;
-    later.units = without(h.units, k as u32);
+    later.to_go = without(h.to_go, k as u32);
     later.silent = without(h.silent, k as u32);
     later
 }

@@ -1,2 +1,2 @@
-pub mod StateLaws
+pub mod PartLaws
 pub mod PaceLaws

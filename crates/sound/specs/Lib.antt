@@ -1,2 +1,2 @@
-pub mod SoundTables
+pub mod Parts
 pub mod Pace

@@ -1,309 +1,40 @@
-// Whether a link, three lent tables and the line's numbers are a sound state: exactly, for any numbers and tables of any length.
+// Whether a hub and three lent tables are sound: exactly, for any numbers and tables of any length.
 mod pace; // pace.rt: the rows of each connection, compared with each other
 
 ghost use mathlib.Core.Path.{_≡_};
-ghost use mathlib.Core.Bool.{true, _&&_};
-ghost use mathlib.Core.List.{[], _∷_};
-ghost use Prim.Native.Nat.{ℕ, _*_, _<_, _≤_};
+ghost use mathlib.Core.List.{List};
+ghost use Prim.Native.Nat.{ℕ};
 ghost use lib.Dec.{leb};
 ghost use lib.ListN.{length};
-ghost use Rattle.rules.specs.Words.{every, each};
-ghost use Rattle.rules.specs.Limits.{max-connections};
-ghost use Rattle.rules.specs.Model.{nth, no-link};
+ghost use Rattle.rules.specs.Words.{each};
 ghost use Rattle.rules.specs.Admission.{passes};
-ghost use Rattle.rules.specs.SoundTest.{connection-sound, admissions-sound, row-sound, rows-sound, notice-sound, notices-sound, busy-sound, line-sound};
-ghost use Rattle.tables.specs.Places.{rows};
+ghost use Rattle.rules.specs.SoundTest.{all-zero, admissions-sound, row-sound, rows-sound, notice-sound, notices-sound, busy-sound, line-sound};
+ghost use Rattle.tables.specs.Table.{formed};
+ghost use Rattle.tables.specs.Places.{packet-width, places-length, rows};
 ghost use Rattle.tables.specs.Notices.{notice-of, marked, notices-formed};
-ghost use Rattle.lines.specs.Members.{members, connections, members-formed};
-ghost use Rattle.lines.specs.Within.{Within};
-ghost use Rattle.lines.specs.StateRead.{state-read};
-ghost use Rattle.sound.specs.SoundTables.{places-formed, blank, unused, Counted, Waiting, linked-sound, sound-tables};
+ghost use Rattle.connections.specs.Members.{members-in, connections-in, members-formed};
+ghost use Rattle.connections.specs.Within.{Within};
+ghost use Rattle.state.specs.View.{tables, before, view, tables-formed, sound-hub};
+ghost use Rattle.sound.specs.Parts.{Members, Held, Waiting, connections-sound, unused, linked-sound};
 use limits::CLOCK_END;
-use limits::MAX_CONNECTIONS;
 use limits::MAX_RESERVED;
 use limits::NOTICE_NUMBER;
 use limits::PACKET_WIDTH;
 use limits::zero_from;
 use rules::Link;
 use rules::Packet;
+use state::Hub;
 
-// All connections within their limits.
-fn connections_ok(l: Link, cs: &[u32], n: usize) -> bool
-    requires { ⌜ n ≡ length (members (now cs)) ⌝ }
-    ensures { λ r. ⌜ r ≡ every (length (connections (now (cs .entry)))) (λ c. connection-sound l (nth (connections (now (cs .entry))) c)) ⌝ }
-{
-    let mut i: usize = 0;
-    while i < n {
-        let x = lines::connection_at(cs, i);
-        if !limits::connection_ok(l, x) {
-            return false;
-        }
-        i += 1;
-    }
-    true
-}
-
-// All level tests hold.
-fn tests_ok(l: Link, cs: &[u32], n: usize) -> bool
-    requires { ⌜ (n ≡ length (members (now cs))) × (n ≤ max-connections) × Within l (connections (now cs)) ⌝ }
-    ensures { λ r. ⌜ r ≡ passes l (connections (now (cs .entry))) ⌝ }
-{
-    let short = lines::standing_test(l, cs, n);
-    short.level == 0
-}
-
-// Link, connections, tests and reservations within the rules.
-fn admissions_ok(l: Link, cs: &[u32], n: usize) -> bool
-    requires { ⌜ n ≡ length (members (now cs)) ⌝ }
-    ensures { λ r. ⌜ r ≡ admissions-sound (state-read l (now (cs .entry)) [] [] 0 0 0 0) ⌝ }
-{
-    if !limits::link_ok(l) {
-        return false;
-    }
-    if MAX_CONNECTIONS < n {
-        return false;
-    }
-    if !connections_ok(l, cs, n) {
-        return false;
-    }
-    if !tests_ok(l, cs, n) {
-        return false;
-    }
-    lines::reserved_by(l, cs, n) <= MAX_RESERVED
-}
-
-// A held row by itself: a standing connection, a length from 1 to its size, arrival, eligibility.
-fn row_ok(cs: &[u32], n: usize, clock: u32, p: Packet) -> bool
-    requires { ⌜ n ≡ length (members (now cs)) ⌝ }
-    ensures { λ r. ⌜ r ≡ row-sound (connections (now (cs .entry))) clock p ⌝ }
-{
-    let c = p.connection as usize;
-    if n <= c {
-        return false;
-    }
-    let x = lines::connection_at(cs, c);
-    if p.len < 1 {
-        return false;
-    }
-    if x.size < p.len {
-        return false;
-    }
-    if clock < p.arrival {
-        return false;
-    }
-    p.arrival <= p.eligibility
-}
-
-fn rows_ok(cs: &[u32], n: usize, t: &[u32], held: usize, clock: u32) -> bool
-    requires { ⌜ (n ≡ length (members (now cs))) × (held ≡ length (rows (now t))) ⌝ }
-    ensures { λ r. ⌜ r ≡ each (row-sound (connections (now (cs .entry))) clock) (rows (now (t .entry))) ⌝ }
-{
-    let mut i: usize = 0;
-    while i < held {
-        let p = tables::row(t, i);
-        if !row_ok(cs, n, clock, p) {
-            return false;
-        }
-        i += 1;
-    }
-    true
-}
-
-// A notice by itself: a length from 1 to S, and its arrival.
-fn notice_ok(l: Link, clock: u32, p: Packet) -> bool
-    ensures { λ r. ⌜ r ≡ notice-sound l clock (notice-of p) ⌝ }
-{
-    if p.len < 1 {
-        return false;
-    }
-    if l.largest < p.len {
-        return false;
-    }
-    p.arrival <= clock
-}
-
-fn notices_ok(l: Link, q: &[u32], waiting: usize, clock: u32) -> bool
-    requires { ⌜ Waiting (now q) waiting ⌝ }
-    ensures { λ r. ⌜ r ≡ notices-sound (state-read l [] [] (now (q .entry)) clock 0 0 0) ⌝ }
-{
-    let mut i: usize = 0;
-    while i < waiting {
-        let p = tables::row(q, i);
-        if !notice_ok(l, clock, p) {
-            return false;
-        }
-        i += 1;
-    }
-    true
-}
-
-// What is in service: the first row of its connection is eligible and has so many units; or the first notice has.
-fn service_ok(
-    t: &[u32],
-    held: usize,
-    q: &[u32],
-    waiting: usize,
-    clock: u32,
-    serving: u32,
-    units: u32,
-) -> bool
-    requires { ⌜ (held ≡ length (rows (now t))) × (waiting ≡ length (rows (now q))) × (1 ≤ units) ⌝ }
-    ensures { λ r. ⌜ r ≡ busy-sound (state-read no-link [] (now (t .entry)) (now (q .entry)) clock serving units 0) ⌝ }
-{
-    if serving == NOTICE_NUMBER {
-        if waiting == 0 {
-            return false;
-        }
-        let n = tables::row(q, 0);
-        return units <= n.len;
-    }
-    let i = tables::find(t, held, serving);
-    if held <= i {
-        return false;
-    }
-    let p = tables::row(t, i);
-    if p.len < units {
-        return false;
-    }
-    p.eligibility <= clock
-}
-
-// An idle line serves nobody, and has no more silence to run than the link's; a line that serves has none.
-fn line_ok(
-    l: Link,
-    t: &[u32],
-    held: usize,
-    q: &[u32],
-    waiting: usize,
-    clock: u32,
-    serving: u32,
-    units: u32,
-    silent: u32,
-) -> bool
-    requires { ⌜ (held ≡ length (rows (now t))) × (waiting ≡ length (rows (now q))) ⌝ }
-    ensures { λ r. ⌜ r ≡ line-sound (state-read l [] (now (t .entry)) (now (q .entry)) clock serving units silent) ⌝ }
-{
-    if units == 0 {
-        if serving != 0 {
-            return false;
-        }
-        return silent <= l.silence;
-    }
-    if silent != 0 {
-        return false;
-    }
-    service_ok(t, held, q, waiting, clock, serving, units)
-}
-
-// No link: its numbers are zero.
-fn blank_ok(l: Link) -> bool
-    ensures { λ r. ⌜ r ≡ blank l ⌝ }
-{
-    if l.largest != 0 {
-        return false;
-    }
-    if l.silence != 0 {
-        return false;
-    }
-    let bounds = l.bounds;
-    zero_from(&bounds, 0)
-}
-
-// With no link set, everything is zero.
-fn unused_ok(
-    l: Link,
-    n: usize,
-    held: usize,
-    waiting: usize,
-    clock: u32,
-    serving: u32,
-    units: u32,
-    silent: u32,
-) -> bool
-    ensures { λ r. ⌜ r ≡ unused l n held waiting clock serving units silent ⌝ }
-{
-    if !blank_ok(l) {
-        return false;
-    }
-    if n != 0 {
-        return false;
-    }
-    if clock != 0 {
-        return false;
-    }
-    if held != 0 {
-        return false;
-    }
-    if waiting != 0 {
-        return false;
-    }
-    if serving != 0 {
-        return false;
-    }
-    if units != 0 {
-        return false;
-    }
-    silent == 0
-}
-
-// The places table has its length, and zeros behind its rows.
-fn places_ok(t: &[u32]) -> bool
-    ensures { λ r. ⌜ r ≡ places-formed (now (t .entry)) ⌝ }
-{
-    if t.len() != limits::PLACES {
-        return false;
-    }
-    let held = tables::held(t);
-    zero_from(t, PACKET_WIDTH * held)
-}
-
-// A row of the table of notices bears their number, and an eligibility that is its arrival.
-fn marked_ok(p: Packet) -> bool
-    ensures { λ r. ⌜ r ≡ marked p ⌝ }
-{
-    if p.connection != NOTICE_NUMBER {
-        return false;
-    }
-    p.eligibility == p.arrival
-}
-
-fn marks_of_notices_ok(q: &[u32], waiting: usize) -> bool
-    requires { ⌜ waiting ≡ length (rows (now q)) ⌝ }
-    ensures { λ r. ⌜ r ≡ each marked (rows (now (q .entry))) ⌝ }
-{
-    let mut i: usize = 0;
-    while i < waiting {
-        let p = tables::row(q, i);
-        if !marked_ok(p) {
-            return false;
-        }
-        i += 1;
-    }
-    true
-}
-
-// The table of notices has its length, zeros behind its rows, and marks as they must be.
-fn queue_ok(q: &[u32]) -> bool
-    ensures { λ r. ⌜ r ≡ notices-formed (now (q .entry)) ⌝ }
-{
-    if q.len() != limits::NOTICES {
-        return false;
-    }
-    let waiting = tables::held(q);
-    if !zero_from(q, PACKET_WIDTH * waiting) {
-        return false;
-    }
-    marks_of_notices_ok(q, waiting)
-}
+// ---- the shape of the tables
 
 // The marks of the first n connections are 0 or 1.
-fn marks_ok(cs: &[u32], n: usize) -> bool
-    requires { ⌜ n ≡ length (members (now cs)) ⌝ }
-    ensures { λ r. ⌜ r ≡ each (λ m. leb (m .sent) 1) (members (now (cs .entry))) ⌝ }
+fn marks_ok(members: &[u32], n: usize) -> bool
+    requires { ⌜ n ≡ length (members-in (now members)) ⌝ }
+    ensures { λ r. ⌜ r ≡ each (λ m. leb (m .sent) 1) (members-in (now (members .entry))) ⌝ }
 {
     let mut i: usize = 0;
     while i < n {
-        let m = lines::member_at(cs, i);
+        let m = connections::member_at(members, i);
         if 1 < m.sent {
             return false;
         }
@@ -313,86 +44,293 @@ fn marks_ok(cs: &[u32], n: usize) -> bool
 }
 
 // The table of connections has its length, and marks that are 0 or 1.
-fn members_ok(cs: &[u32], n: usize) -> bool
-    requires { ⌜ n ≡ length (members (now cs)) ⌝ }
-    ensures { λ r. ⌜ r ≡ members-formed (now (cs .entry)) ⌝ }
+fn members_formed(members: &[u32], n: usize) -> bool
+    requires { ⌜ n ≡ length (members-in (now members)) ⌝ }
+    ensures { λ r. ⌜ r ≡ members-formed (now (members .entry)) ⌝ }
 {
-    if cs.len() != limits::MEMBERS {
+    if members.len() != limits::MEMBERS {
         return false;
     }
-    marks_ok(cs, n)
+    marks_ok(members, n)
+}
+
+// The places table has its length, and zeros behind its rows.
+fn places_formed(places: &[u32], held: usize) -> bool
+    requires { ⌜ held ≡ length (rows (now places)) ⌝ }
+    ensures { λ r. ⌜ r ≡ formed packet-width places-length (now (places .entry)) ⌝ }
+{
+    if places.len() != limits::PLACES {
+        return false;
+    }
+    zero_from(places, PACKET_WIDTH * held)
+}
+
+// A row of the table of notices bears their number, and an eligibility that is its arrival.
+fn marked_ok(p: Packet) -> bool
+    ensures { λ r. ⌜ r ≡ marked p ⌝ }
+{
+    (p.connection == NOTICE_NUMBER) & (p.eligibility == p.arrival)
+}
+
+// All rows of the table of notices.
+fn all_marked(notices: &[u32], waiting: usize) -> bool
+    requires { ⌜ waiting ≡ length (rows (now notices)) ⌝ }
+    ensures { λ r. ⌜ r ≡ each marked (rows (now (notices .entry))) ⌝ }
+{
+    let mut i: usize = 0;
+    while i < waiting {
+        let p = tables::row(notices, i);
+        if !marked_ok(p) {
+            return false;
+        }
+        i += 1;
+    }
+    true
+}
+
+// The table of notices has its length, zeros behind its rows, and marks as they must be.
+fn notices_formed(notices: &[u32], waiting: usize) -> bool
+    requires { ⌜ waiting ≡ length (rows (now notices)) ⌝ }
+    ensures { λ r. ⌜ r ≡ notices-formed (now (notices .entry)) ⌝ }
+{
+    if notices.len() != limits::NOTICES {
+        return false;
+    }
+    if !zero_from(notices, PACKET_WIDTH * waiting) {
+        return false;
+    }
+    all_marked(notices, waiting)
+}
+
+// All three tables.
+fn tables_formed(
+    members: &[u32],
+    n: usize,
+    places: &[u32],
+    held: usize,
+    notices: &[u32],
+    waiting: usize,
+) -> bool
+    requires { ⌜ (n ≡ length (members-in (now members))) × (held ≡ length (rows (now places))) × (waiting ≡ length (rows (now notices))) ⌝ }
+    ensures { λ r. ⌜ r ≡ tables-formed (before members places notices) ⌝ }
+{
+    if !places_formed(places, held) {
+        return false;
+    }
+    if !members_formed(members, n) {
+        return false;
+    }
+    notices_formed(notices, waiting)
+}
+
+// ---- with no link set
+
+// The rest of the link is zero.
+fn blank_ok(l: Link) -> bool
+    ensures { λ r. ⌜ r ≡ all-zero l ⌝ }
+{
+    let bounds = l.bounds;
+    (l.largest == 0) & ((l.silence == 0) & zero_from(&bounds, 0))
+}
+
+// Everything is zero: the link, the clock, the rows of the tables and the line.
+fn unused_ok(h: Hub, n: usize, held: usize, waiting: usize) -> bool
+    ensures { λ r. ⌜ r ≡ unused h n held waiting ⌝ }
+{
+    let rows = (n == 0) & (held == 0) & (waiting == 0);
+    let line = (h.serving == 0) & (h.to_go == 0) & (h.silent == 0);
+    blank_ok(h.link) & (h.clock == 0) & rows & line
+}
+
+// ---- with one: the link and the connections
+
+// All connections within their limits.
+fn connections_ok(h: Hub, members: &[u32], n: usize) -> bool
+    requires { ⌜ n ≡ length (members-in (now members)) ⌝ }
+    ensures { λ r. ⌜ r ≡ connections-sound (h .link) (connections-in (now (members .entry))) ⌝ }
+{
+    let mut i: usize = 0;
+    while i < n {
+        let x = connections::connection_at(members, i);
+        if !limits::connection_ok(h.link, x) {
+            return false;
+        }
+        i += 1;
+    }
+    true
+}
+
+// All level tests hold.
+fn tests_ok(h: Hub, members: &[u32], n: usize) -> bool
+    requires { ⌜ Members (now members) n × Within (h .link) (connections-in (now members)) ⌝ }
+    ensures { λ r. ⌜ r ≡ passes (h .link) (connections-in (now (members .entry))) ⌝ }
+{
+    let short = connections::standing_test(h.link, members, n);
+    short.level == 0
+}
+
+// Link, connections, tests and reservations within the rules.
+fn admissions_ok(h: Hub, members: &[u32], n: usize) -> bool
+    requires { ⌜ Members (now members) n ⌝ }
+    ensures { λ r. ⌜ ((p q : List ℕ) → r ≡ admissions-sound (view h (tables (now (members .entry)) p q))) ⌝ }
+{
+    if !limits::link_ok(h.link) {
+        return false;
+    }
+    if !connections_ok(h, members, n) {
+        return false;
+    }
+    if !tests_ok(h, members, n) {
+        return false;
+    }
+    connections::reserved_by(h.link, members, n) <= MAX_RESERVED
+}
+
+// ---- the rows
+
+// A held row by itself: a standing connection, a length from 1 to its size, arrival, eligibility.
+fn row_ok(h: Hub, members: &[u32], n: usize, p: Packet) -> bool
+    requires { ⌜ n ≡ length (members-in (now members)) ⌝ }
+    ensures { λ r. ⌜ r ≡ row-sound (connections-in (now (members .entry))) (h .clock) p ⌝ }
+{
+    let c = p.connection as usize;
+    if n <= c {
+        return false;
+    }
+    let x = connections::connection_at(members, c);
+    (1 <= p.len) & (p.len <= x.size) & ((p.arrival <= h.clock) & (p.arrival <= p.eligibility))
+}
+
+// All held rows, each by itself.
+fn rows_ok(h: Hub, members: &[u32], n: usize, places: &[u32], held: usize) -> bool
+    requires { ⌜ (n ≡ length (members-in (now members))) × (held ≡ length (rows (now places))) ⌝ }
+    ensures { λ r. ⌜ r ≡ each (row-sound (connections-in (now (members .entry))) (h .clock)) (rows (now (places .entry))) ⌝ }
+{
+    let mut i: usize = 0;
+    while i < held {
+        let p = tables::row(places, i);
+        if !row_ok(h, members, n, p) {
+            return false;
+        }
+        i += 1;
+    }
+    true
 }
 
 // The clock, the rows by themselves, and the rows of each connection among themselves.
-fn held_ok(l: Link, cs: &[u32], n: usize, t: &[u32], held: usize, clock: u32) -> bool
-    requires { ⌜ Counted (now cs) (now t) n held × Within l (connections (now cs)) ⌝ }
-    ensures { λ r. ⌜ r ≡ rows-sound (state-read l (now (cs .entry)) (now (t .entry)) [] clock 0 0 0) ⌝ }
+fn held_ok(h: Hub, members: &[u32], n: usize, places: &[u32], held: usize) -> bool
+    requires { ⌜ Members (now members) n × Held (now places) held × Within (h .link) (connections-in (now members)) ⌝ }
+    ensures { λ r. ⌜ ((q : List ℕ) → r ≡ rows-sound (view h (tables (now (members .entry)) (now (places .entry)) q))) ⌝ }
 {
-    if CLOCK_END < clock {
+    if CLOCK_END < h.clock {
         return false;
     }
-    if !rows_ok(cs, n, t, held, clock) {
+    if !rows_ok(h, members, n, places, held) {
         return false;
     }
-    pace::queues_ok(l, cs, n, t, held, clock)
+    pace::queues_ok(h, members, n, places, held)
 }
 
-// With a link set.
+// ---- the notices
+
+// A notice by itself: a length from 1 to S, and its arrival.
+fn notice_ok(h: Hub, p: Packet) -> bool
+    ensures { λ r. ⌜ r ≡ notice-sound (h .link) (h .clock) (notice-of p) ⌝ }
+{
+    (1 <= p.len) & (p.len <= h.link.largest) & (p.arrival <= h.clock)
+}
+
+// All notices, each by itself.
+fn notices_ok(h: Hub, notices: &[u32], waiting: usize) -> bool
+    requires { ⌜ Waiting (now notices) waiting ⌝ }
+    ensures { λ r. ⌜ ((m p : List ℕ) → r ≡ notices-sound (view h (tables m p (now (notices .entry))))) ⌝ }
+{
+    let mut i: usize = 0;
+    while i < waiting {
+        let p = tables::row(notices, i);
+        if !notice_ok(h, p) {
+            return false;
+        }
+        i += 1;
+    }
+    true
+}
+
+// ---- the line
+
+// What is in service has one unit to go or more: the first row of its connection, eligible, has so many; or the first notice has.
+fn service_ok(h: Hub, places: &[u32], held: usize, notices: &[u32], waiting: usize) -> bool
+    requires { ⌜ Held (now places) held × Waiting (now notices) waiting ⌝ }
+    ensures { λ r. ⌜ ((m : List ℕ) → r ≡ busy-sound (view h (tables m (now (places .entry)) (now (notices .entry))))) ⌝ }
+{
+    if h.serving == NOTICE_NUMBER {
+        if waiting == 0 {
+            return false;
+        }
+        let n = tables::row(notices, 0);
+        return (1 <= h.to_go) & (h.to_go <= n.len);
+    }
+    let i = tables::find(places, held, h.serving);
+    if held <= i {
+        return false;
+    }
+    let p = tables::row(places, i);
+    (1 <= h.to_go) & (h.to_go <= p.len) & (p.eligibility <= h.clock)
+}
+
+// An idle line serves nobody, and has no more silence to run than the link's; a line that serves has none.
+fn line_ok(h: Hub, places: &[u32], held: usize, notices: &[u32], waiting: usize) -> bool
+    requires { ⌜ Held (now places) held × Waiting (now notices) waiting ⌝ }
+    ensures { λ r. ⌜ ((m : List ℕ) → r ≡ line-sound (view h (tables m (now (places .entry)) (now (notices .entry))))) ⌝ }
+{
+    if h.to_go == 0 {
+        return (h.serving == 0) & (h.silent <= h.link.silence);
+    }
+    if h.silent != 0 {
+        return false;
+    }
+    service_ok(h, places, held, notices, waiting)
+}
+
+// ---- the whole
+
+// With a link set: the clauses of the rules.
 fn linked_ok(
-    l: Link,
-    cs: &[u32],
+    h: Hub,
+    members: &[u32],
     n: usize,
-    t: &[u32],
+    places: &[u32],
     held: usize,
-    q: &[u32],
+    notices: &[u32],
     waiting: usize,
-    clock: u32,
-    serving: u32,
-    units: u32,
-    silent: u32,
 ) -> bool
-    requires { ⌜ Counted (now cs) (now t) n held × Waiting (now q) waiting ⌝ }
-    ensures { λ r. ⌜ r ≡ linked-sound (state-read l (now (cs .entry)) (now (t .entry)) (now (q .entry)) clock serving units silent) ⌝ }
+    requires { ⌜ Members (now members) n × Held (now places) held × Waiting (now notices) waiting ⌝ }
+    ensures { λ r. ⌜ r ≡ linked-sound (view h (before members places notices)) ⌝ }
 {
-    if !admissions_ok(l, cs, n) {
+    if !admissions_ok(h, members, n) {
         return false;
     }
-    if !held_ok(l, cs, n, t, held, clock) {
+    if !held_ok(h, members, n, places, held) {
         return false;
     }
-    if !notices_ok(l, q, waiting, clock) {
+    if !notices_ok(h, notices, waiting) {
         return false;
     }
-    line_ok(l, t, held, q, waiting, clock, serving, units, silent)
+    line_ok(h, places, held, notices, waiting)
 }
 
-// Whether the link, the table of connections, the places table, the table of notices, the clock and the line are a sound state.
-pub fn is_sound(
-    l: Link,
-    cs: &[u32],
-    t: &[u32],
-    q: &[u32],
-    clock: u32,
-    serving: u32,
-    units: u32,
-    silent: u32,
-) -> bool
-    ensures { λ r. ⌜ r ≡ sound-tables l (now (cs .entry)) (now (t .entry)) (now (q .entry)) clock serving units silent ⌝ }
+// Whether a hub with its tables of connections, of places and of notices is sound.
+pub fn is_sound(h: Hub, members: &[u32], places: &[u32], notices: &[u32]) -> bool
+    ensures { λ r. ⌜ r ≡ sound-hub h (before members places notices) ⌝ }
 {
-    if !places_ok(t) {
+    let n = connections::members_in(members);
+    let held = tables::held(places);
+    let waiting = tables::held(notices);
+    if !tables_formed(members, n, places, held, notices, waiting) {
         return false;
     }
-    let n = lines::members_in(cs);
-    if !members_ok(cs, n) {
-        return false;
+    if h.link.levels == 0 {
+        return unused_ok(h, n, held, waiting);
     }
-    if !queue_ok(q) {
-        return false;
-    }
-    let held = tables::held(t);
-    let waiting = tables::held(q);
-    if l.levels == 0 {
-        return unused_ok(l, n, held, waiting, clock, serving, units, silent);
-    }
-    linked_ok(l, cs, n, t, held, q, waiting, clock, serving, units, silent)
+    linked_ok(h, members, n, places, held, notices, waiting)
 }

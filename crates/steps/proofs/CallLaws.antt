@@ -1,7 +1,7 @@
--- How a call made, and each kind of step of a `TK`, meet the contract of a step. Assumes nothing.
+-- How a call made, and each kind of step of a `TK`, meet the contract of a step.
 use Prim.Native.Nat.{ℕ, _-_, _%_}
 use mathlib.Core.Path.{_≡_, refl, sym, ap, _∙_}
-use mathlib.Core.Bool.{true, false}
+use mathlib.Core.Bool.{true, false, cond}
 use mathlib.Core.List.{List, []}
 use mathlib.Core.Option.{Option, none, some}
 use lib.ListN.{length}
@@ -9,14 +9,15 @@ use borrow.Author.Tests.{eq-eqb, ne-eqb}
 use Rattle.rules.specs.declared.Packet.{Packet}
 use Rattle.rules.specs.Model.{Call, tick, Answer}
 use Rattle.rules.specs.Calls.{answer}
-use Rattle.service.specs.declared.Hub.{Hub}
-use Rattle.service.specs.declared.Told.{Told}
-use Rattle.service.specs.Candidates.{is-some, packet-or-unused}
-use Rattle.service.specs.View.{view, told-of}
-use Rattle.service.specs.Quiet.{passed-hub, quiet-ticks}
-use Rattle.calls.specs.Acts.{sound-hub, Acts}
-use Rattle.calls.proofs.ActLaws.{tested, members-kept, places-kept, notices-kept}
-use Rattle.fields.specs.Numbers.{pick}
+use Rattle.state.specs.declared.Hub.{Hub}
+use Rattle.state.specs.declared.Told.{Told}
+use Rattle.state.specs.Told.{is-some, packet-or-unused}
+use Rattle.state.specs.View.{Tables, view, hub-of, sound-hub}
+use Rattle.service.specs.Quiet.{passed, quiet-ticks}
+use Rattle.state.specs.Told.{told-of}
+use Rattle.state.specs.Does.{Does}
+use Rattle.state.proofs.SoundLaws.{sound-view, tables-kept}
+use Rattle.state.proofs.DoesLaws.{told-as, left-as}
 use Rattle.fields.specs.Formats.{over}
 use Rattle.answers.specs.declared.Reply.{Reply}
 use Rattle.answers.specs.declared.Reply.the-variants.{Departed, Ticked}
@@ -29,25 +30,24 @@ use Rattle.steps.specs.declared.Phase.the-variants.{Reading, Ticking}
 use Rattle.steps.specs.declared.Status.the-variants.{GoOn}
 use Rattle.steps.specs.declared.Stepped.{Stepped}
 use Rattle.steps.specs.Steps.{point, goes, one-tick, tick-next}
-use Rattle.steps.specs.Tie.{cursor-at, told-log, Did}
+use Rattle.steps.specs.Tie.{cursor-at, told-log, Makes}
 
 -- ---- a call whose answer is written
 
-pub did-call : (k : Call) (h : Hub) (cs t q cs′ t′ q′ o o′ : List ℕ) (told : Told) → Acts k h cs t q told cs′ t′ q′
+pub did-call : (k : Call) (h : Hub) (t u : Tables) (o o′ : List ℕ) (told : Told) → sound-hub h t ≡ true → Does k h t told u
     → (at used : ℕ) (bs : List ℕ) (reply : Reply) (a : Stepped) → answer-bytes reply ≡ bs
     → a ≡ record { cursor = cursor-at at Reading (told .hub); used = used; wrote = length (answer-bytes reply); status = GoOn }
     → o′ ≡ over (answer-bytes reply) o
-    → Did (goes at Reading (answer k (view h cs t q) .next) used bs) a cs′ t′ q′ o o′
-did-call k h cs t q cs′ t′ q′ o o′ told A at used bs reply a b e r =
-    record { answers = e ∙ rw (A .answers, b); connections = A .connections; table = A .table; queue = A .queue; room = r ∙ rw b }
+    → Makes (goes at Reading (answer k (view h t) .next) used bs) a u 0 o o′
+did-call k h t u o o′ told ok D at used bs reply a b e r =
+    record { answers = e ∙ rw (told-as k h t ok told u D, b); tables = left-as k h t ok told u D; room = r ∙ rw b }
 
 -- ---- a step that leaves the state as it is
 
-pub did-kept : (h : Hub) (cs t q : List ℕ) → sound-hub h cs t q ≡ true → (at : ℕ) (f : Phase) (used : ℕ) (bs : List ℕ) (k : Status) (a : Stepped) (o o′ : List ℕ)
+pub did-kept : (h : Hub) (t : Tables) → sound-hub h t ≡ true → (at : ℕ) (f : Phase) (used : ℕ) (bs : List ℕ) (k : Status) (a : Stepped) (o o′ : List ℕ)
     → a ≡ record { cursor = cursor-at at f h; used = used; wrote = length bs; status = k } → o′ ≡ over bs o
-    → Did (record { point = point at f (view h cs t q); used = used; bytes = bs; status = k }) a cs t q o o′
-did-kept h cs t q ok at f used bs k a o o′ e r =
-    record { answers = e; connections = members-kept h cs t q ok; table = places-kept h cs t q ok; queue = notices-kept h cs t q ok; room = r }
+    → Makes (record { point = point at f (view h t); used = used; bytes = bs; status = k }) a t 0 o o′
+did-kept h t ok at f used bs k a o o′ e r = record { answers = e; tables = tables-kept h t ok; room = r }
 
 -- ---- a tick
 
@@ -56,7 +56,7 @@ pub told-is-logged : (a : Answer) → told-log (told-of a) ≡ tick-log a
 told-is-logged a = go (a .departed)
   where
     go : (o : Option Packet)
-        → pick (is-some o) (answer-bytes (Departed (packet-or-unused o .connection) (packet-or-unused o .tag) (packet-or-unused o .arrival) (packet-or-unused o .eligibility) (a .next .clock))) []
+        → cond (is-some o) (answer-bytes (Departed (packet-or-unused o .connection) (packet-or-unused o .tag) (packet-or-unused o .arrival) (packet-or-unused o .eligibility) (a .next .clock))) []
         ≡ departure o (a .next .clock)
     go none = refl
     go (some p) = refl
@@ -69,67 +69,66 @@ pub some-told : (told : Told) (v : ℕ) → told .gone ≡ true → v ≡ told .
 some-told told v g e =
     rw g (departed-low v (told .packet .connection) (told .packet .tag) (told .packet .arrival) (told .packet .eligibility) (told .hub .clock) e)
 
-module _ (at asked left : ℕ) (h : Hub) (cs t q : List ℕ) where
+module _ (at asked left : ℕ) (h : Hub) (t : Tables) (ok : sound-hub h t ≡ true) where
   -- all ticks are done
-  pub did-all : sound-hub h cs t q ≡ true → left ≡ 0 → (v : ℕ) (a : Stepped) (o o′ : List ℕ) → v ≡ all-done-verdict asked (view h cs t q)
+  pub did-all : left ≡ 0 → (v : ℕ) (a : Stepped) (o o′ : List ℕ) → v ≡ all-done-verdict asked (view h t)
       → a ≡ record { cursor = cursor-at at Reading h; used = 0; wrote = length (answer-bytes (Ticked v asked)); status = GoOn }
       → o′ ≡ over (answer-bytes (Ticked v asked)) o
-      → Did (tick-next at asked left (view h cs t q)) a cs t q o o′
+      → Makes (tick-next at asked left (view h t)) a t 0 o o′
   unfolding tick-next
-  did-all ok l v a o o′ e f g =
-      rw (eq-eqb left 0 l, ← e)
-      (did-kept h cs t q ok at Reading 0 (answer-bytes (Ticked v asked)) GoOn a o o′ f g)
+  did-all l v a o o′ e f g = rw (eq-eqb left 0 l, ← e) (did-kept h t ok at Reading 0 (answer-bytes (Ticked v asked)) GoOn a o o′ f g)
 
-  module _ (told : Told) (t′ q′ : List ℕ) (A : Acts tick h cs t q told cs t′ q′) (a : Stepped) (o o′ : List ℕ) where
+  module _ (told : Told) (u : Tables) (D : Does tick h t told u) (a : Stepped) (o o′ : List ℕ) where
+    ticks-as : told .verdict ≡ answer tick (view h t) .verdict
+    ticks-as = ap (λ (x : Told). x .verdict) (told-as tick h t ok told u D)
+
     -- a tick is refused
     pub did-refused : (told .verdict ≡ 0 → ⊥) → (v n : ℕ) → v ≡ told .verdict % 256 → n ≡ asked - left
         → a ≡ record { cursor = cursor-at at Reading (told .hub); used = 0; wrote = length (answer-bytes (Ticked v n)); status = GoOn }
         → o′ ≡ over (answer-bytes (Ticked v n)) o
-        → Did (one-tick at asked left (view h cs t q)) a cs t′ q′ o o′
+        → Makes (one-tick at asked left (view h t)) a u 0 o o′
     unfolding one-tick
     did-refused r v n e m f g =
-        let s = view h cs t q in
-        let w : told .verdict ≡ answer tick s .verdict = ap (λ (x : Told). x .verdict) (A .answers) in
-        rw (ne-eqb (answer tick s .verdict) 0 (λ z. r (w ∙ z)))
-        (did-call tick h cs t q cs t′ q′ o o′ told A at 0 (answer-bytes (Ticked (answer tick s .verdict) (asked - left))) (Ticked v n) a
-        (rw m (ticked-low v (asked - left) (answer tick s .verdict) (e ∙ ap (λ (x : ℕ). x % 256) w))) f g)
+        let s = view h t in
+        rw (ne-eqb (answer tick s .verdict) 0 (λ z. r (ticks-as ∙ z)))
+        (did-call tick h t u o o′ told ok D at 0 (answer-bytes (Ticked (answer tick s .verdict) (asked - left))) (Ticked v n) a
+        (rw m (ticked-low v (asked - left) (answer tick s .verdict) (e ∙ ap (λ (x : ℕ). x % 256) ticks-as))) f g)
 
     -- a tick is done
     pub did-tick : told .verdict ≡ 0
         → a ≡ record { cursor = cursor-at at (Ticking asked (left - 1)) (told .hub); used = 0; wrote = length (told-log told); status = GoOn }
         → o′ ≡ over (told-log told) o
-        → Did (one-tick at asked left (view h cs t q)) a cs t′ q′ o o′
+        → Makes (one-tick at asked left (view h t)) a u 0 o o′
     unfolding one-tick
     did-tick r f g =
-        let s = view h cs t q in
-        let w : told .verdict ≡ answer tick s .verdict = ap (λ (x : Told). x .verdict) (A .answers) in
-        let b : told-log told ≡ tick-log (answer tick s) = ap told-log (A .answers) ∙ told-is-logged (answer tick s) in
-        rw (eq-eqb (answer tick s .verdict) 0 (sym w ∙ r))
-        (record { answers = f ∙ rw (b, A .answers); connections = A .connections; table = A .table; queue = A .queue; room = g ∙ rw b })
+        let s = view h t in
+        let b : told-log told ≡ tick-log (answer tick s) = ap told-log (told-as tick h t ok told u D) ∙ told-is-logged (answer tick s) in
+        rw (eq-eqb (answer tick s .verdict) 0 (sym ticks-as ∙ r))
+        (record { answers = f ∙ rw (b, told-as tick h t ok told u D); tables = left-as tick h t ok told u D; room = g ∙ rw b })
 
   -- quiet ticks are passed over
-  pub did-quiet : sound-hub h cs t q ≡ true → (left ≡ 0 → ⊥) → (k : ℕ) → k ≡ quiet-ticks left (view h cs t q) → (k ≡ 0 → ⊥) → (a : Stepped) (o : List ℕ)
-      → a ≡ record { cursor = cursor-at at (Ticking asked (left - k)) (passed-hub h k); used = 0; wrote = 0; status = GoOn }
-      → Did (tick-next at asked left (view h cs t q)) a cs t q o o
+  pub did-quiet : (left ≡ 0 → ⊥) → (k : ℕ) → k ≡ quiet-ticks left (view h t) → (k ≡ 0 → ⊥) → (a : Stepped) (o : List ℕ)
+      → a ≡ record { cursor = cursor-at at (Ticking asked (left - k)) (hub-of (passed (view h t) k)); used = 0; wrote = 0; status = GoOn }
+      → Makes (tick-next at asked left (view h t)) a t 0 o o
   unfolding tick-next
-  did-quiet ok l k e n a o f =
+  did-quiet l k e n a o f =
       rw (ne-eqb left 0 l, ← e, ne-eqb k 0 n)
-      (record { answers = f; connections = members-kept h cs t q ok; table = places-kept h cs t q ok; queue = notices-kept h cs t q ok; room = refl })
+      (record { answers = f; tables = tables-kept h t ok; room = refl })
 
   -- none is quiet: one tick
-  pub did-one : (left ≡ 0 → ⊥) → quiet-ticks left (view h cs t q) ≡ 0 → (a : Stepped) (t′ q′ o o′ : List ℕ)
-      → Did (one-tick at asked left (view h cs t q)) a cs t′ q′ o o′ → Did (tick-next at asked left (view h cs t q)) a cs t′ q′ o o′
+  pub did-one : (left ≡ 0 → ⊥) → quiet-ticks left (view h t) ≡ 0 → (a : Stepped) (u : Tables) (o o′ : List ℕ)
+      → Makes (one-tick at asked left (view h t)) a u 0 o o′ → Makes (tick-next at asked left (view h t)) a u 0 o o′
   unfolding tick-next
-  did-one l e a t′ q′ o o′ d = rw (ne-eqb left 0 l, eq-eqb (quiet-ticks left (view h cs t q)) 0 e) d
+  did-one l e a u o o′ d = rw (ne-eqb left 0 l, eq-eqb (quiet-ticks left (view h t)) 0 e) d
 
 -- ---- the verdict of a `TK` whose ticks are all done
 
-module _ (h : Hub) (cs t q : List ℕ) (asked : ℕ) where
-  pub some-asked : (asked ≡ 0 → ⊥) → 0 ≡ all-done-verdict asked (view h cs t q)
+module _ (h : Hub) (t : Tables) (asked : ℕ) where
+  pub some-asked : (asked ≡ 0 → ⊥) → 0 ≡ all-done-verdict asked (view h t)
   some-asked n = rw (ne-eqb asked 0 n)
 
-  pub no-link-set : sound-hub h cs t q ≡ true → asked ≡ 0 → h .link .levels ≡ 0 → 2 ≡ all-done-verdict asked (view h cs t q)
-  no-link-set ok a l = rw (eq-eqb asked 0 a, tested h cs t q ok .state, eq-eqb (h .link .levels) 0 l)
+  pub no-link-set : sound-hub h t ≡ true → asked ≡ 0 → h .link .levels ≡ 0 → 2 ≡ all-done-verdict asked (view h t)
+  no-link-set ok a l = rw (eq-eqb asked 0 a, sound-view h t ok, eq-eqb (h .link .levels) 0 l)
 
-  pub link-set : sound-hub h cs t q ≡ true → asked ≡ 0 → (h .link .levels ≡ 0 → ⊥) → 0 ≡ all-done-verdict asked (view h cs t q)
-  link-set ok a l = rw (eq-eqb asked 0 a, tested h cs t q ok .state, ne-eqb (h .link .levels) 0 l)
+  pub link-set : sound-hub h t ≡ true → asked ≡ 0 → (h .link .levels ≡ 0 → ⊥) → 0 ≡ all-done-verdict asked (view h t)
+  link-set ok a l = rw (eq-eqb asked 0 a, sound-view h t ok, ne-eqb (h .link .levels) 0 l)

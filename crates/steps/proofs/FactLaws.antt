@@ -1,4 +1,4 @@
--- What a caller's loop needs of a step: how far it goes, and that less is left to do. Assumes nothing.
+-- What a caller's loop needs of a step: how far it goes, and that less is left to do.
 use Prim.Native.Nat.{ℕ, zero, suc, _+_, _-_, _<_, _≤_}
 use native.Mathlib.Omega.{arith}
 use mathlib.Core.Path.{_≡_, refl, sym, ap, _∙_, subst}
@@ -12,10 +12,10 @@ use Rattle.rules.specs.declared.Packet.{Packet}
 use Rattle.rules.specs.Model.{State, tick}
 use Rattle.rules.specs.Calls.{answer}
 use Rattle.rules.proofs.Tests.{never}
-use Rattle.service.specs.declared.Hub.{Hub}
+use Rattle.state.specs.declared.Hub.{Hub}
 use Rattle.service.specs.Quiet.{passed, quiet-ticks}
 use Rattle.service.proofs.QuietLaws.{quiets}
-use Rattle.fields.proofs.NumberLaws.{pick-by}
+use Rattle.fields.proofs.NumberLaws.{cond-by}
 use Rattle.traces.specs.declared.Record.{Record}
 use Rattle.traces.specs.declared.Record.the-variants.{Link as LinkRecord, Admit, Offer, Notice, Ticks, Malformed}
 use Rattle.traces.specs.Trace.{longest-record}
@@ -23,6 +23,7 @@ use Rattle.answers.specs.declared.Reply.the-variants.{Linked, Admitted, Offered
 use Rattle.answers.specs.Answers.{answer-bytes, longest-answer}
 use Rattle.answers.proofs.WriteLaws.{answer-short}
 use Rattle.log.specs.Log.{trace-limit, departure, tick-log, read-at, all-done-verdict}
+use Rattle.state.specs.View.{Tables}
 use Rattle.steps.specs.declared.Phase.{Phase}
 use Rattle.steps.specs.declared.Phase.the-variants.{Reading, Ticking, Finished}
 use Rattle.steps.specs.declared.Cursor.{Cursor}
@@ -122,7 +123,7 @@ module _ (at asked left : ℕ) (s : State) (h : Hub) (len : ℕ) (last : Bool) (
   one-tick-facts : (left ≡ 0 → ⊥) → Kept (one-tick at asked left s)
   unfolding one-tick
   one-tick-facts z =
-      pick-by Kept (eqb (answer tick s .verdict) 0) _ _
+      cond-by Kept (eqb (answer tick s .verdict) 0) _ _
       (λ _. goes-facts at asked left h (Ticking asked (left - 1)) (answer tick s .next) (tick-log (answer tick s)) len last r
       (omega arith) (departure-short (answer tick s .departed) (answer tick s .next .clock)) m)
       (λ _. goes-facts at asked left h Reading (answer tick s .next) (answer-bytes (Ticked (answer tick s .verdict) (asked - left))) len last r (omega arith) (answer-short (Ticked (answer tick s .verdict) (asked - left))) m)
@@ -130,10 +131,10 @@ module _ (at asked left : ℕ) (s : State) (h : Hub) (len : ℕ) (last : Bool) (
   next-tick-facts : Kept (tick-next at asked left s)
   unfolding tick-next
   next-tick-facts =
-      pick-by Kept (eqb left 0) _ _
+      cond-by Kept (eqb left 0) _ _
       (λ _. goes-facts at asked left h Reading s (answer-bytes (Ticked (all-done-verdict asked s) asked)) len last r (omega arith) (answer-short (Ticked (all-done-verdict asked s) asked)) m)
       (λ z. let n : left ≡ 0 → ⊥ = eqb-false _ _ z in
-      pick-by Kept (eqb (quiet-ticks left s) 0) _ _ (λ _. one-tick-facts n)
+      cond-by Kept (eqb (quiet-ticks left s) 0) _ _ (λ _. one-tick-facts n)
       (λ y. let k : quiet-ticks left s ≡ 0 → ⊥ = eqb-false _ _ y in
       goes-facts at asked left h (Ticking asked (left - quiet-ticks left s)) (passed s (quiet-ticks left s)) [] len last r (omega (arith, quiets left s k .few)) (omega arith) m))
 
@@ -159,10 +160,10 @@ module _ (at : ℕ) (s : State) (w : List ℕ) (last : Bool) where
   unfolding read-next
   next-mid l e = rw (l, le-ltb (length w) longest-record e)
 
-pub next-phase : (c : Cursor) (cs t q w : List ℕ) (last : Bool) {f : Phase} → c .phase ≡ f
-    → next (point-of c cs t q) w last ≡ phase-next f (c .at) (point-of c cs t q .state) w last
+pub next-phase : (c : Cursor) (t : Tables) (w : List ℕ) (last : Bool) {f : Phase} → c .phase ≡ f
+    → next (point-of c t) w last ≡ phase-next f (c .at) (point-of c t .state) w last
 unfolding next
-next-phase c cs t q w last e = ap (λ p. phase-next p (c .at) (point-of c cs t q .state) w last) e
+next-phase c t w last e = ap (λ p. phase-next p (c .at) (point-of c t .state) w last) e
 
 pub facts-phase : (c : Cursor) {q : Phase} → c .phase ≡ q → (len : ℕ) (last : Bool) (r : ℕ) (a : Stepped) → Facts (cursor-at (c .at) q (c .hub)) len last r a
     → Facts c len last r a
@@ -173,16 +174,16 @@ facts-phase c e len last r a f = subst (λ p. Facts (cursor-at (c .at) p (c .hub
 phase-short : (q : Phase) (at : ℕ) (s : State) (w : List ℕ) (last : Bool) → length (phase-next q at s w last .bytes) ≤ longest-answer
 unfolding read-next tick-next one-tick
 phase-short Reading at s w last =
-    pick-by Short last _ _
-    (λ _. pick-by Short (eqb (length w) 0) _ _ (λ _. omega arith) (λ _. record-short (read-at at w .what) (read-at at w .taken) at s))
-    (λ _. pick-by Short (ltb (length w) longest-record) _ _ (λ _. omega arith) (λ _. record-short (read-at at w .what) (read-at at w .taken) at s))
+    cond-by Short last _ _
+    (λ _. cond-by Short (eqb (length w) 0) _ _ (λ _. omega arith) (λ _. record-short (read-at at w .what) (read-at at w .taken) at s))
+    (λ _. cond-by Short (ltb (length w) longest-record) _ _ (λ _. omega arith) (λ _. record-short (read-at at w .what) (read-at at w .taken) at s))
   where
     Short : Next → Type 0
     Short n = length (n .bytes) ≤ longest-answer
 phase-short (Ticking asked left) at s w last =
-    pick-by Short (eqb left 0) _ _ (λ _. answer-short (Ticked (all-done-verdict asked s) asked))
-    (λ _. pick-by Short (eqb (quiet-ticks left s) 0) _ _
-    (λ _. pick-by Short (eqb (answer tick s .verdict) 0) _ _
+    cond-by Short (eqb left 0) _ _ (λ _. answer-short (Ticked (all-done-verdict asked s) asked))
+    (λ _. cond-by Short (eqb (quiet-ticks left s) 0) _ _
+    (λ _. cond-by Short (eqb (answer tick s .verdict) 0) _ _
     (λ _. departure-short (answer tick s .departed) (answer tick s .next .clock)) (λ _. answer-short (Ticked (answer tick s .verdict) (asked - left))))
     (λ _. omega arith))
   where

@@ -1,8 +1,8 @@
--- Where a trace is malformed: a step leaves it where it is, and a replay that is finished stands there, or has nothing left. Assumes nothing.
+-- Where a trace is malformed: a step leaves it where it is, and a replay that is finished stands there, or has nothing left.
 use Prim.Native.Nat.{ℕ, zero, suc, _+_, _<_, _≤_}
 use native.Mathlib.Omega.{arith}
 use mathlib.Core.Path.{_≡_, refl, ap, _∙_}
-use mathlib.Core.Bool.{Bool, true, false}
+use mathlib.Core.Bool.{Bool, true, false, cond}
 use mathlib.Core.List.{List, [], _∷_, _++_, append-assoc, append-nil}
 use mathlib.Core.Option.{Option, none, some}
 use lib.Dec.{ltb, eqb}
@@ -12,13 +12,12 @@ use borrow.Author.Tests.{ne-eqb, ltb-false, eqb-true, eqb-false}
 use Rattle.rules.specs.Model.{State, tick}
 use Rattle.rules.specs.Calls.{answer}
 use Rattle.service.specs.Quiet.{quiet-ticks}
-use Rattle.fields.specs.Numbers.{pick}
-use Rattle.fields.proofs.NumberLaws.{pick-by}
+use Rattle.fields.proofs.NumberLaws.{cond-by}
 use Rattle.traces.specs.Trace.{longest-record}
-use Rattle.log.specs.Log.{Asked, one-call, some-ticks, unread, asks, read-at}
-use Rattle.log.specs.Bad.{asked-bad, bad-from}
+use Rattle.log.specs.Log.{Asked, one-call, some-ticks, unread, asks, asked-from, read-at}
+use Rattle.log.specs.Bad.{first-bad}
 use Rattle.log.proofs.ReadLaws.{read-lies, read-onward}
-use Rattle.log.proofs.BadLaws.{bad-of-none, bad-of-some}
+use Rattle.log.proofs.BadLaws.{bad-from, bad-of-none, bad-of-some}
 use Rattle.steps.specs.declared.Phase.{Phase}
 use Rattle.steps.specs.declared.Phase.the-variants.{Reading, Ticking, Finished}
 use Rattle.steps.specs.Steps.{Point, Next, asked-next, found-next, read-next, one-tick, tick-next, phase-next, next, is-go, onward, steps}
@@ -28,7 +27,7 @@ use Rattle.steps.specs.Steps.{Point, Next, asked-next, found-next, read-
 abbrev pub phase-tells : Option ℕ → Phase → ℕ → List ℕ → List ℕ → Type 0
 phase-tells b Reading at w u = b ≡ bad-from at (w ++ u)
 phase-tells b (Ticking asked left) at w u = b ≡ bad-from at (w ++ u)
-phase-tells b Finished at w u = (b ≡ pick (eqb (length w) 0) none (some at)) × (length w ≡ 0 → u ≡ [])
+phase-tells b Finished at w u = (b ≡ cond (eqb (length w) 0) none (some at)) × (length w ≡ 0 → u ≡ [])
 
 abbrev pub Tells : Option ℕ → Point → List ℕ → List ℕ → Type 0
 Tells b p w u = phase-tells b (p .phase) (p .at) w u
@@ -55,7 +54,7 @@ tells-more b Finished at (x ∷ w) got u T = (
 )
 
 module _ (b : Option ℕ) (s : State) where
-  asked-tells : (q : Asked) (k at : ℕ) (w u : List ℕ) → 0 < length w → k ≤ length w → b ≡ asked-bad bad-from q k at (w ++ u) → Tells-then b w u (asked-next q k at s)
+  asked-tells : (q : Asked) (k at : ℕ) (w u : List ℕ) → 0 < length w → k ≤ length w → b ≡ first-bad ((q, at) ∷ asked-from (at + k) (drop k (w ++ u))) → Tells-then b w u (asked-next q k at s)
   asked-tells (one-call c) k at w u h l e = e ∙ ap (bad-from (at + k)) (drop-append-le k w u l)
   asked-tells (some-ticks x) k at w u h l e = e ∙ ap (bad-from (at + k)) (drop-append-le k w u l)
   asked-tells unread k at w u h l e = (rw (ne-eqb (length w) 0 (omega arith)) e, λ z. absurd (omega arith))
@@ -68,19 +67,19 @@ module _ (b : Option ℕ) (s : State) where
   read-tells : (at : ℕ) (w u : List ℕ) (last : Bool) → (last ≡ true → u ≡ []) → b ≡ bad-from at (w ++ u) → Tells-then b w u (read-next at s w last)
   unfolding read-next
   read-tells at w u true g T =
-      pick-by (Tells-then b w u) (eqb (length w) 0) _ _
+      cond-by (Tells-then b w u) (eqb (length w) 0) _ _
       (λ e. let n : length w ≡ 0 = eqb-true _ _ e in (rw e (T ∙ bad-of-none at (w ++ u) (rw (g refl) (simp length-append (omega arith)))), λ _. g refl))
       (λ e. found-tells at w u (let n : length w ≡ 0 → ⊥ = eqb-false _ _ e in omega arith) (rw (g refl) (ap (read-at at) (append-nil w))) T)
   read-tells at w u false g T =
-      pick-by (Tells-then b w u) (ltb (length w) longest-record) _ _
+      cond-by (Tells-then b w u) (ltb (length w) longest-record) _ _
       (λ e. T)
       (λ e. let n : longest-record ≤ length w = ltb-false _ _ e in found-tells at w u (omega arith) (read-onward at w u n) T)
 
   tick-tells : (at asked left : ℕ) (w u : List ℕ) → b ≡ bad-from at (w ++ u) → Tells-then b w u (tick-next at asked left s)
   unfolding tick-next one-tick
   tick-tells at asked left w u T =
-      pick-by (Tells-then b w u) (eqb left 0) _ _ (λ _. T)
-      (λ _. pick-by (Tells-then b w u) (eqb (quiet-ticks left s) 0) _ _ (λ _. pick-by (Tells-then b w u) (eqb (answer tick s .verdict) 0) _ _ (λ _. T) (λ _. T)) (λ _. T))
+      cond-by (Tells-then b w u) (eqb left 0) _ _ (λ _. T)
+      (λ _. cond-by (Tells-then b w u) (eqb (quiet-ticks left s) 0) _ _ (λ _. cond-by (Tells-then b w u) (eqb (answer tick s .verdict) 0) _ _ (λ _. T) (λ _. T)) (λ _. T))
 
   phase-tells-then : (q : Phase) (at : ℕ) (w u : List ℕ) (last : Bool) → (last ≡ true → u ≡ []) → phase-tells b q at w u → Tells-then b w u (phase-next q at s w last)
   phase-tells-then Reading at w u last g T = read-tells at w u last g T
@@ -94,7 +93,7 @@ step-tells b p w u last g T = phase-tells-then b (p .state) (p .phase) (p .at) w
 onward-tells : (b : Option ℕ) (w u : List ℕ) (last : Bool) (m : Next) → (last ≡ true → u ≡ []) → Tells-then b w u m → Tells-then b w u (onward w last m)
 unfolding onward
 onward-tells b w u last m g T =
-    pick-by (Tells-then b w u) (is-go (m .status)) _ _
+    cond-by (Tells-then b w u) (is-go (m .status)) _ _
     (λ e. rw (← drop-drop) (step-tells b (m .point) (drop (m .used) w) u last g T))
     (λ e. T)
 

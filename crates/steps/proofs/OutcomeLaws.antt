@@ -1,5 +1,5 @@
 -- What a status says of a step: where it is done nothing is to come, and where it wants bytes the window is short; a step keeps the state sound, and is refused nowhere.
--- Assumes nothing.
+--
 use Prim.Native.Nat.{ℕ, zero, suc, _<_}
 use mathlib.Core.Path.{_≡_, refl}
 use mathlib.Core.Bool.{Bool}
@@ -14,7 +14,7 @@ use Rattle.rules.specs.Calls.{answer}
 use Rattle.rules.proofs.Tests.{never}
 use Rattle.rules.proofs.SoundKept.{kept}
 use Rattle.service.specs.Quiet.{quiet-ticks}
-use Rattle.fields.proofs.NumberLaws.{pick-by}
+use Rattle.fields.proofs.NumberLaws.{cond-by}
 use Rattle.traces.specs.declared.Record.{Record}
 use Rattle.traces.specs.Trace.{longest-record}
 use Rattle.log.specs.Log.{Asked, one-call, some-ticks, unread, asks, read-at}
@@ -54,21 +54,21 @@ module _ (s : State) (S : Sound s) where
   read-ends-well : (at : ℕ) (w : List ℕ) (last : Bool) → Ends-well w (read-next at s w last)
   unfolding read-next
   read-ends-well at w last =
-      pick-by (Ends-well w) last _ _
-      (λ _. pick-by (Ends-well w) (eqb (length w) 0) _ _ (λ _. done-well w _ S refl refl) (λ _. record-ends w (read-at at w .what) (read-at at w .taken) at))
-      (λ _. pick-by (Ends-well w) (ltb (length w) longest-record) _ _ (λ e. wants-well w _ S refl (ltb-true _ _ e))
+      cond-by (Ends-well w) last _ _
+      (λ _. cond-by (Ends-well w) (eqb (length w) 0) _ _ (λ _. done-well w _ S refl refl) (λ _. record-ends w (read-at at w .what) (read-at at w .taken) at))
+      (λ _. cond-by (Ends-well w) (ltb (length w) longest-record) _ _ (λ e. wants-well w _ S refl (ltb-true _ _ e))
       (λ _. record-ends w (read-at at w .what) (read-at at w .taken) at))
 
   one-tick-ends-well : (w : List ℕ) (at asked left : ℕ) → Ends-well w (one-tick at asked left s)
   unfolding one-tick
   one-tick-ends-well w at asked left =
-      pick-by (Ends-well w) (eqb (answer tick s .verdict) 0) _ _ (λ _. goes-well w _ (kept tick s S) refl) (λ _. goes-well w _ (kept tick s S) refl)
+      cond-by (Ends-well w) (eqb (answer tick s .verdict) 0) _ _ (λ _. goes-well w _ (kept tick s S) refl) (λ _. goes-well w _ (kept tick s S) refl)
 
   tick-ends-well : (w : List ℕ) (at asked left : ℕ) → Ends-well w (tick-next at asked left s)
   unfolding tick-next
   tick-ends-well w at asked left =
-      pick-by (Ends-well w) (eqb left 0) _ _ (λ _. goes-well w _ S refl)
-      (λ _. pick-by (Ends-well w) (eqb (quiet-ticks left s) 0) _ _ (λ _. one-tick-ends-well w at asked left)
+      cond-by (Ends-well w) (eqb left 0) _ _ (λ _. goes-well w _ S refl)
+      (λ _. cond-by (Ends-well w) (eqb (quiet-ticks left s) 0) _ _ (λ _. one-tick-ends-well w at asked left)
       (λ z. goes-well w _ (quiet-passes asked left s (eqb-false _ _ z) .sound-then) refl))
 
   phase-ends-well : (q : Phase) (at : ℕ) (w : List ℕ) (last : Bool) → Ends-well w (phase-next q at s w last)
@@ -83,7 +83,7 @@ step-ends-well p w last S = phase-ends-well (p .state) S (p .phase) (p .at) w la
 onward-ends-well : (w : List ℕ) (last : Bool) (m : Next) → Ends-well w m → Ends-well w (onward w last m)
 unfolding onward
 onward-ends-well w last m E =
-    pick-by (Ends-well w) (is-go (m .status)) _ _
+    cond-by (Ends-well w) (is-go (m .status)) _ _
     (λ _. let N = step-ends-well (m .point) (drop (m .used) w) last (E .sound) in
     record { finished = N .finished; short = λ e. rw (← drop-drop (next (m .point) (drop (m .used) w) last .used) (m .used) w) (N .short e); room-enough = N .room-enough; never-unsound = N .never-unsound; sound = N .sound })
     (λ _. E)

@@ -1,4 +1,4 @@
--- Passing over quiet ticks writes what running them one by one writes, and ends where that ends. Assumes nothing.
+-- Passing over quiet ticks writes what running them one by one writes, and ends where that ends.
 use Prim.Native.Nat.{ℕ, zero, suc, _+_, _-_}
 use native.Mathlib.Omega.{arith}
 use mathlib.Core.Path.{_≡_, ap, _∙_, subst}

@@ -1,9 +1,9 @@
--- THE LAW OF A STEP: what it writes, and what is then to come, is what was to come, whatever follows in the trace. Assumes nothing.
-use Prim.Native.Nat.{ℕ, zero, suc, _+_, _-_, _<_, _≤_}
+-- THE LAW OF A STEP: what it writes, and what is then to come, is what was to come, whatever follows in the trace.
+use Prim.Native.Nat.{ℕ, zero, suc, _-_, _<_, _≤_, _+_}
 use native.Mathlib.Omega.{arith}
 use mathlib.Core.Path.{_≡_, refl, sym, ap, _∙_}
 use mathlib.Core.Bool.{Bool, true, false}
-use mathlib.Core.List.{List, [], _++_, append-assoc, append-nil}
+use mathlib.Core.List.{List, [], _∷_, _++_, append-assoc, append-nil}
 use lib.Dec.{ltb, eqb}
 use lib.ListN.{length, drop, length-append}
 use lib.Seq.{drop-append-le, drop-drop}
@@ -11,12 +11,12 @@ use borrow.Author.Tests.{ltb-false, eqb-true, eqb-false}
 use Rattle.rules.specs.Model.{State, tick}
 use Rattle.rules.specs.Calls.{answer}
 use Rattle.service.specs.Quiet.{quiet-ticks}
-use Rattle.fields.proofs.NumberLaws.{pick-by}
+use Rattle.fields.proofs.NumberLaws.{cond-by}
 use Rattle.traces.specs.declared.Record.{Record}
 use Rattle.traces.specs.Trace.{longest-record}
 use Rattle.answers.specs.declared.Reply.the-variants.{Ticked, Broken}
 use Rattle.answers.specs.Answers.{answer-bytes}
-use Rattle.log.specs.Log.{Asked, one-call, some-ticks, unread, asks, asked-log, read-at, tick-log, all-done-verdict, ticks-log, ticks-end, record-log, log-from}
+use Rattle.log.specs.Log.{Asked, one-call, some-ticks, unread, asks, asked-from, asked-log, read-at, tick-log, all-done-verdict, ticks-log, ticks-end, log-from}
 use Rattle.log.proofs.ReadLaws.{read-lies, read-onward}
 use Rattle.log.proofs.LogLaws.{done-log, done-end, refused-log, refused-end, log-of-none, log-of-some}
 use Rattle.steps.specs.declared.Phase.{Phase}
@@ -29,14 +29,14 @@ abbrev pub Keeps : Point → List ℕ → List ℕ → Next → Type 0
 Keeps p w u n = to-come p (w ++ u) ≡ n .bytes ++ to-come (n .point) (drop (n .used) w ++ u)
 
 asked-keeps : (q : Asked) (k at : ℕ) (s : State) (w u : List ℕ) → k ≤ length w
-    → asked-log log-from q k at s (w ++ u)
+    → asked-log s ((q, at) ∷ asked-from (at + k) (drop k (w ++ u)))
     ≡ asked-next q k at s .bytes ++ to-come (asked-next q k at s .point) (drop (asked-next q k at s .used) w ++ u)
 asked-keeps (one-call c) k at s w u e = rw (drop-append-le k w u e)
 asked-keeps (some-ticks a) k at s w u e = rw (drop-append-le k w u e)
 asked-keeps unread k at s w u e = sym (append-nil (answer-bytes (Broken at)))
 
 record-keeps : (r : Record) (k at : ℕ) (s : State) (w u : List ℕ) → k ≤ length w
-    → record-log log-from r k at s (w ++ u)
+    → asked-log s ((asks r, at) ∷ asked-from (at + k) (drop k (w ++ u)))
     ≡ record-next r k at s .bytes ++ to-come (record-next r k at s .point) (drop (record-next r k at s .used) w ++ u)
 record-keeps r k at s w u e = asked-keeps (asks r) k at s w u e
 
@@ -51,11 +51,11 @@ read-keeps : (at : ℕ) (s : State) (w u : List ℕ) (last : Bool) → (last ≡
 unfolding read-next
 read-keeps at s w u true g =
     rw (g refl)
-    (pick-by (Keeps (point at Reading s) w []) (eqb (length w) 0) _ _
+    (cond-by (Keeps (point at Reading s) w []) (eqb (length w) 0) _ _
     (λ e. log-of-none at s (w ++ []) (simp length-append (omega (arith, eqb-true))))
     (λ e. found-keeps at s w [] (let n : length w ≡ 0 → ⊥ = eqb-false _ _ e in omega arith) (ap (read-at at) (append-nil w))))
 read-keeps at s w u false g =
-    pick-by (Keeps (point at Reading s) w u) (ltb (length w) longest-record) _ _
+    cond-by (Keeps (point at Reading s) w u) (ltb (length w) longest-record) _ _
     (λ e. refl)
     (λ e. let n : longest-record ≤ length w = ltb-false _ _ e in found-keeps at s w u (omega arith) (read-onward at w u n))
 
@@ -65,7 +65,7 @@ unfolding one-tick
 one-tick-keeps at asked zero s w u n = absurd (n refl)
 one-tick-keeps at asked (suc left) s w u n =
     let l : suc left - 1 ≡ left = omega arith in
-    pick-by (Keeps (point at (Ticking asked (suc left)) s) w u) (eqb (answer tick s .verdict) 0) _ _
+    cond-by (Keeps (point at (Ticking asked (suc left)) s) w u) (eqb (answer tick s .verdict) 0) _ _
     (λ b. let e = eqb-true _ _ b in rw (l, done-log left s e asked, done-end left s e) (append-assoc (tick-log (answer tick s)) _ _))
     (λ b. let e = eqb-false _ _ b in rw (refused-log left s e asked, refused-end left s e))
 
@@ -78,9 +78,9 @@ all-done-keeps at asked (suc left) s w u e = absurd (omega arith)
 tick-keeps : (at asked left : ℕ) (s : State) (w u : List ℕ) → Keeps (point at (Ticking asked left) s) w u (tick-next at asked left s)
 unfolding tick-next
 tick-keeps at asked left s w u =
-    pick-by (Keeps (point at (Ticking asked left) s) w u) (eqb left 0) _ _
+    cond-by (Keeps (point at (Ticking asked left) s) w u) (eqb left 0) _ _
     (λ e. all-done-keeps at asked left s w u (eqb-true _ _ e))
-    (λ e. pick-by (Keeps (point at (Ticking asked left) s) w u) (eqb (quiet-ticks left s) 0) _ _
+    (λ e. cond-by (Keeps (point at (Ticking asked left) s) w u) (eqb (quiet-ticks left s) 0) _ _
     (λ _. one-tick-keeps at asked left s w u (eqb-false _ _ e))
     (λ z. let p = quiet-passes asked left s (eqb-false _ _ z) in rw (p .same-log, p .same-end)))
 
@@ -98,7 +98,7 @@ step-keeps p w u last g = phase-keeps (p .phase) (p .at) (p .state) w u last g
 onward-keeps : (p : Point) (w u : List ℕ) (last : Bool) (m : Next) → (last ≡ true → u ≡ []) → Keeps p w u m → Keeps p w u (onward w last m)
 unfolding onward
 onward-keeps p w u last m g k =
-    pick-by (Keeps p w u) (is-go (m .status)) _ _
+    cond-by (Keeps p w u) (is-go (m .status)) _ _
     (λ e. k ∙ (ap (λ l. m .bytes ++ l) (step-keeps (m .point) (drop (m .used) w) u last g) ∙ rw (append-assoc, drop-drop)))
     (λ e. k)
 

@@ -1,13 +1,12 @@
--- One step of a replay and many, by the rules: at most one answer record a step. Assumes nothing.
+-- One step of a replay and many, by the rules: at most one answer record a step.
 use Prim.Native.Nat.{ℕ, zero, suc, _+_, _*_, _-_}
-use mathlib.Core.Bool.{Bool, true, false}
+use mathlib.Core.Bool.{Bool, true, false, cond}
 use mathlib.Core.List.{List, [], _++_}
 use lib.Dec.{ltb, eqb}
 use lib.ListN.{length, drop}
 use Rattle.rules.specs.Model.{State, Call, tick, fresh}
 use Rattle.rules.specs.Calls.{answer}
 use Rattle.service.specs.Quiet.{passed, quiet-ticks}
-use Rattle.fields.specs.Numbers.{pick}
 use Rattle.traces.specs.declared.Record.{Record}
 use Rattle.traces.specs.declared.Found.{Found}
 use Rattle.traces.specs.Trace.{longest-record}
@@ -66,25 +65,25 @@ found-next f at s = record-next (f .what) (f .taken) at s
 -- a step where a record is to be read: the window w must hold the longest one, or be the last
 unfoldable pub read-next : ℕ → State → List ℕ → Bool → Next
 read-next at s w last =
-    pick last
-    (pick (eqb (length w) 0) (still (point at Finished s) Done) (found-next (read-at at w) at s))
-    (pick (ltb (length w) longest-record) (still (point at Reading s) MoreBytes) (found-next (read-at at w) at s))
+    cond last
+    (cond (eqb (length w) 0) (still (point at Finished s) Done) (found-next (read-at at w) at s))
+    (cond (ltb (length w) longest-record) (still (point at Reading s) MoreBytes) (found-next (read-at at w) at s))
 
 -- ---- a step of a `TK`
 
 -- one tick, where `left` of `asked` are still to run
 unfoldable pub one-tick : ℕ → ℕ → ℕ → State → Next
 one-tick at asked left s =
-    pick (eqb (answer tick s .verdict) 0)
+    cond (eqb (answer tick s .verdict) 0)
     (goes at (Ticking asked (left - 1)) (answer tick s .next) 0 (tick-log (answer tick s)))
     (goes at Reading (answer tick s .next) 0 (answer-bytes (Ticked (answer tick s .verdict) (asked - left))))
 
 -- quiet ticks, or one tick, or the `TA`
 unfoldable pub tick-next : ℕ → ℕ → ℕ → State → Next
 tick-next at asked left s =
-    pick (eqb left 0)
+    cond (eqb left 0)
     (goes at Reading s 0 (answer-bytes (Ticked (all-done-verdict asked s) asked)))
-    (pick (eqb (quiet-ticks left s) 0)
+    (cond (eqb (quiet-ticks left s) 0)
     (one-tick at asked left s)
     (goes at (Ticking asked (left - quiet-ticks left s)) (passed s (quiet-ticks left s)) 0 []))
 
@@ -111,7 +110,7 @@ abbrev pub joined : Next → Next → Next
 joined m n = record { point = n .point; used = m .used + n .used; bytes = m .bytes ++ n .bytes; status = n .status }
 
 unfoldable pub onward : List ℕ → Bool → Next → Next
-onward w last m = pick (is-go (m .status)) (joined m (next (m .point) (drop (m .used) w) last)) m
+onward w last m = cond (is-go (m .status)) (joined m (next (m .point) (drop (m .used) w) last)) m
 
 -- k steps, or fewer where one stops
 unfoldable pub steps : ℕ → Point → List ℕ → Bool → Next

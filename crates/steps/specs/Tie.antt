@@ -1,15 +1,13 @@
--- THE CONTRACT of a step's code: what the rules' step does, written back. Document 01, "Trace and answer records". Assumes nothing.
+-- THE CONTRACT of a step's code: what the rules' step does, written back. Document 01, "Trace and answer records".
 use Prim.Native.Nat.{ℕ, _+_, _<_, _≤_}
 use mathlib.Core.Path.{_≡_}
-use mathlib.Core.Bool.{Bool, true, false}
+use mathlib.Core.Bool.{Bool, true, false, cond}
 use mathlib.Core.List.{List, [], _++_}
 use lib.Dec.{ltb}
 use lib.ListN.{length, take, drop}
-use Rattle.service.specs.declared.Hub.{Hub}
-use Rattle.service.specs.declared.Told.{Told}
-use Rattle.service.specs.View.{view, hub-of}
-use Rattle.calls.specs.Acts.{sound-hub, members-of, places-of, notices-of}
-use Rattle.fields.specs.Numbers.{pick}
+use Rattle.state.specs.declared.Hub.{Hub}
+use Rattle.state.specs.declared.Told.{Told}
+use Rattle.state.specs.View.{Tables, view, hub-of, written, sound-hub}
 use Rattle.fields.specs.Formats.{over}
 use Rattle.answers.specs.declared.Reply.the-variants.{Departed}
 use Rattle.answers.specs.Answers.{answer-bytes, longest-answer}
@@ -22,11 +20,11 @@ use Rattle.steps.specs.declared.Stepped.{Stepped}
 use Rattle.steps.specs.Steps.{Point, point, Next, still, work}
 
 abbrev pub cursor-at : ℕ → Phase → Hub → Cursor
-cursor-at at q h = record { at = at; phase = q; hub = h }
+cursor-at at p h = record { at = at; phase = p; hub = h }
 
 -- the point that a cursor and the three tables stand for, and the part of a point that no table holds
-abbrev pub point-of : Cursor → List ℕ → List ℕ → List ℕ → Point
-point-of c cs t q = point (c .at) (c .phase) (view (c .hub) cs t q)
+abbrev pub point-of : Cursor → Tables → Point
+point-of c t = point (c .at) (c .phase) (view (c .hub) t)
 
 abbrev pub cursor-of : Point → Cursor
 cursor-of p = cursor-at (p .at) (p .phase) (hub-of (p .state))
@@ -42,32 +40,22 @@ nothing-done c k = record { cursor = c; used = 0; wrote = 0; status = k }
 -- the departure that an answer tells, as it is written; its finish is the clock then
 abbrev pub told-log : Told → List ℕ
 told-log r =
-    pick (r .gone) (answer-bytes (Departed (r .packet .connection) (r .packet .tag) (r .packet .arrival) (r .packet .eligibility) (r .hub .clock))) []
+    cond (r .gone) (answer-bytes (Departed (r .packet .connection) (r .packet .tag) (r .packet .arrival) (r .packet .eligibility) (r .hub .clock))) []
 
--- a function answered a and left the tables cs, t and q and the room o′, which was o before: what the step n does, written back
-pub record Did (n : Next) (a : Stepped) (cs t q o o′ : List ℕ) : Type 0 where
+-- a function answered a and left the tables t and the room o′, which was o before: what the step n does, written back, to the room from its k-th byte on
+pub record Makes (n : Next) (a : Stepped) (t : Tables) (k : ℕ) (o o′ : List ℕ) : Type 0 where
   pub answers : a ≡ stepped-of n
-  pub connections : cs ≡ members-of (n .point .state)
-  pub table : t ≡ places-of (n .point .state)
-  pub queue : q ≡ notices-of (n .point .state)
-  pub room : o′ ≡ over (n .bytes) o
-
--- the same, where it writes to the room from its k-th byte on
-pub record Did-from (k : ℕ) (n : Next) (a : Stepped) (cs t q o o′ : List ℕ) : Type 0 where
-  pub answers : a ≡ stepped-of n
-  pub connections : cs ≡ members-of (n .point .state)
-  pub table : t ≡ places-of (n .point .state)
-  pub queue : q ≡ notices-of (n .point .state)
+  pub tables : t ≡ written (n .point .state)
   pub room : o′ ≡ take k o ++ over (n .bytes) (drop k o)
 
 -- a room of r bytes must hold the longest answer
 abbrev pub in-room : ℕ → Point → Next → Next
-in-room r p n = pick (ltb r longest-answer) (still p MoreRoom) n
+in-room r p n = cond (ltb r longest-answer) (still p MoreRoom) n
 
 -- ON ANY HUB AND ANY TABLES: the step n where they are sound, else nothing, and nothing is changed
-pub record Does (n : Next) (c : Cursor) (cs t q o : List ℕ) (a : Stepped) (cs′ t′ q′ o′ : List ℕ) : Type 0 where
-  pub where-sound : sound-hub (c .hub) cs t q ≡ true → Did n a cs′ t′ q′ o o′
-  pub where-not : sound-hub (c .hub) cs t q ≡ false → (a ≡ nothing-done c NotSound) × (cs′ ≡ cs) × (t′ ≡ t) × (q′ ≡ q) × (o′ ≡ o)
+pub record Makes-if-sound (n : Next) (c : Cursor) (before : Tables) (o : List ℕ) (a : Stepped) (after : Tables) (o′ : List ℕ) : Type 0 where
+  pub where-sound : sound-hub (c .hub) before ≡ true → Makes n a after 0 o o′
+  pub where-not : sound-hub (c .hub) before ≡ false → (a ≡ nothing-done c NotSound) × (after ≡ before) × (o′ ≡ o)
 
 -- what a caller's loop needs of an answer, with len bytes in the window and r bytes of room
 pub record Facts (c : Cursor) (len : ℕ) (last : Bool) (r : ℕ) (a : Stepped) : Type 0 where

@@ -6,15 +6,15 @@ ghost use mathlib.Core.Path.{_≡_};
 ghost use mathlib.Core.Bool.{true};
 ghost use Prim.Native.Nat.{_≤_};
 ghost use lib.ListN.{length};
-ghost use Rattle.calls.specs.Acts.{sound-hub};
+ghost use Rattle.state.specs.View.{given, before, after, sound-hub};
 ghost use Rattle.fields.specs.Formats.{over};
 ghost use Rattle.answers.specs.Answers.{answer-bytes, longest-answer};
 ghost use Rattle.steps.specs.declared.Phase.the-variants.{Reading};
 ghost use Rattle.steps.specs.declared.Status.the-variants.{GoOn};
 ghost use Rattle.steps.specs.Steps.{next};
-ghost use Rattle.steps.specs.Tie.{cursor-at, point-of, nothing-done, Did, Facts};
+ghost use Rattle.steps.specs.Tie.{cursor-at, point-of, nothing-done, Makes, Facts};
 use answers::Reply;
-use service::Hub;
+use state::Hub;
 
 // What comes next: a record is read; a tick of a `TK` is run, of which `left` of `asked` are still to run; or nothing.
 pub enum Phase {
@@ -85,23 +85,32 @@ pub(crate) fn waits(at: u32, phase: Phase, h: Hub, status: Status) -> Stepped
 // One step on a hub and tables that are sound, with room for an answer.
 pub fn step_tested(
     c: Cursor,
-    cs: &mut [u32],
-    t: &mut [u32],
-    q: &mut [u32],
+    members: &mut [u32],
+    places: &mut [u32],
+    notices: &mut [u32],
     window: &[u8],
     last: bool,
     out: &mut [u8],
 ) -> Stepped
-    requires { ⌜ (sound-hub (c .hub) (now cs) (now t) (now q) ≡ true) × (longest-answer ≤ length (now out)) ⌝ }
-    ensures { λ r. ⌜ Did (next (point-of c (now (cs .entry)) (now (t .entry)) (now (q .entry))) (now (window .entry)) last) r (now (cs .exit)) (now (t .exit)) (now (q .exit)) (now (out .entry)) (now (out .exit)) ⌝ }
+    requires { ⌜ (sound-hub (c .hub) (given members places notices) ≡ true) × (longest-answer ≤ length (now out)) ⌝ }
+    ensures { λ r. ⌜ Makes (next (point-of c (before members places notices)) (now (window .entry)) last) r (after members places notices) 0 (now (out .entry)) (now (out .exit)) ⌝ }
     ensures { λ r. ⌜ Facts c (length (now (window .entry))) last (length (now (out .entry))) r ⌝ }
 {
     let at = c.at;
     let h = c.hub;
     let p = c.phase;
     match p {
-        Phase::Reading => reading::read_step(at, h, cs, t, q, window, last, out),
-        Phase::Ticking { asked, left } => ticking::tick_step(at, h, asked, left, cs, t, q, out),
+        Phase::Reading => reading::read_step(at, h, members, places, notices, window, last, out),
+        Phase::Ticking { asked, left } => ticking::tick_step(
+            at,
+            h,
+            asked,
+            left,
+            members,
+            places,
+            notices,
+            out,
+        ),
         Phase::Finished => waits(at, Phase::Finished, h, Status::Done),
     }
 }

@@ -4,8 +4,7 @@ ghost use mathlib.Core.Bool.{true};
 ghost use Prim.Native.Nat.{_-_, _≤_};
 ghost use lib.ListN.{length};
 ghost use Rattle.rules.specs.Model.{link, admit, offer, notice};
-ghost use Rattle.service.specs.View.{view};
-ghost use Rattle.calls.specs.Acts.{sound-hub};
+ghost use Rattle.state.specs.View.{given, before, after, sound-hub, view};
 ghost use Rattle.fields.specs.Formats.{over};
 ghost use Rattle.answers.specs.declared.Reply.the-variants.{Broken};
 ghost use Rattle.answers.specs.Answers.{answer-bytes, longest-answer};
@@ -13,7 +12,7 @@ ghost use Rattle.log.specs.Log.{trace-limit, read-at};
 ghost use Rattle.steps.specs.declared.Phase.the-variants.{Reading, Ticking, Finished};
 ghost use Rattle.steps.specs.declared.Status.the-variants.{GoOn, Done};
 ghost use Rattle.steps.specs.Steps.{call-next, found-next, read-next, weight};
-ghost use Rattle.steps.specs.Tie.{cursor-at, Did, Facts};
+ghost use Rattle.steps.specs.Tie.{cursor-at, Makes, Facts};
 use super::Cursor;
 use super::Phase;
 use super::Status;
@@ -25,7 +24,7 @@ use answers::low;
 use log::TRACE_LIMIT;
 use rules::Connection;
 use rules::Link;
-use service::Hub;
+use state::Hub;
 use traces::Found;
 use traces::LONGEST_RECORD;
 use traces::Record;
@@ -54,18 +53,18 @@ fn read_at(s: &[u8], at: u32) -> Found
 // `LK`, which took `used` bytes and ends at offset `at`.
 fn link_step(
     h: Hub,
-    cs: &[u32],
-    t: &[u32],
-    q: &[u32],
+    members: &[u32],
+    places: &[u32],
+    notices: &[u32],
     l: Link,
     at: u32,
     used: usize,
     out: &mut [u8],
 ) -> Stepped
-    requires { ⌜ (sound-hub h (now cs) (now t) (now q) ≡ true) × (longest-answer ≤ length (now out)) ⌝ }
-    ensures { λ r. ⌜ Did (call-next (link l) used at (view h (now (cs .entry)) (now (t .entry)) (now (q .entry)))) r (now (cs .entry)) (now (t .entry)) (now (q .entry)) (now (out .entry)) (now (out .exit)) ⌝ }
+    requires { ⌜ (sound-hub h (given members places notices) ≡ true) × (longest-answer ≤ length (now out)) ⌝ }
+    ensures { λ r. ⌜ Makes (call-next (link l) used at (view h (before members places notices))) r (after members places notices) 0 (now (out .entry)) (now (out .exit)) ⌝ }
 {
-    let told = calls::link_tested(h, cs, t, q, l);
+    let told = calls::link_tested(h, members, places, notices, l);
     let reply = Reply::Linked {
         verdict: low(told.verdict),
     };
@@ -75,18 +74,18 @@ fn link_step(
 // `CN`, the same.
 fn admit_step(
     h: Hub,
-    cs: &mut [u32],
-    t: &[u32],
-    q: &[u32],
+    members: &mut [u32],
+    places: &[u32],
+    notices: &[u32],
     x: Connection,
     at: u32,
     used: usize,
     out: &mut [u8],
 ) -> Stepped
-    requires { ⌜ (sound-hub h (now cs) (now t) (now q) ≡ true) × (longest-answer ≤ length (now out)) ⌝ }
-    ensures { λ r. ⌜ Did (call-next (admit x) used at (view h (now (cs .entry)) (now (t .entry)) (now (q .entry)))) r (now (cs .exit)) (now (t .entry)) (now (q .entry)) (now (out .entry)) (now (out .exit)) ⌝ }
+    requires { ⌜ (sound-hub h (given members places notices) ≡ true) × (longest-answer ≤ length (now out)) ⌝ }
+    ensures { λ r. ⌜ Makes (call-next (admit x) used at (view h (before members places notices))) r (after members places notices) 0 (now (out .entry)) (now (out .exit)) ⌝ }
 {
-    let told = calls::admit_tested(h, cs, t, q, x);
+    let told = calls::admit_tested(h, members, places, notices, x);
     let short = told.short;
     let reply = Reply::Admitted {
         verdict: low(told.verdict),
@@ -100,9 +99,9 @@ fn admit_step(
 // `PK`, the same.
 fn offer_step(
     h: Hub,
-    cs: &mut [u32],
-    t: &mut [u32],
-    q: &[u32],
+    members: &mut [u32],
+    places: &mut [u32],
+    notices: &[u32],
     c: u32,
     len: u32,
     tag: u32,
@@ -110,10 +109,10 @@ fn offer_step(
     used: usize,
     out: &mut [u8],
 ) -> Stepped
-    requires { ⌜ (sound-hub h (now cs) (now t) (now q) ≡ true) × (longest-answer ≤ length (now out)) ⌝ }
-    ensures { λ r. ⌜ Did (call-next (offer c len tag) used at (view h (now (cs .entry)) (now (t .entry)) (now (q .entry)))) r (now (cs .exit)) (now (t .exit)) (now (q .entry)) (now (out .entry)) (now (out .exit)) ⌝ }
+    requires { ⌜ (sound-hub h (given members places notices) ≡ true) × (longest-answer ≤ length (now out)) ⌝ }
+    ensures { λ r. ⌜ Makes (call-next (offer c len tag) used at (view h (before members places notices))) r (after members places notices) 0 (now (out .entry)) (now (out .exit)) ⌝ }
 {
-    let told = calls::offer_tested(h, cs, t, q, c, len, tag);
+    let told = calls::offer_tested(h, members, places, notices, c, len, tag);
     let reply = Reply::Offered {
         verdict: low(told.verdict),
         eligibility: told.number,
@@ -124,19 +123,19 @@ fn offer_step(
 // `NQ`, the same.
 fn notice_step(
     h: Hub,
-    cs: &[u32],
-    t: &[u32],
-    q: &mut [u32],
+    members: &[u32],
+    places: &[u32],
+    notices: &mut [u32],
     len: u32,
     tag: u32,
     at: u32,
     used: usize,
     out: &mut [u8],
 ) -> Stepped
-    requires { ⌜ (sound-hub h (now cs) (now t) (now q) ≡ true) × (longest-answer ≤ length (now out)) ⌝ }
-    ensures { λ r. ⌜ Did (call-next (notice len tag) used at (view h (now (cs .entry)) (now (t .entry)) (now (q .entry)))) r (now (cs .entry)) (now (t .entry)) (now (q .exit)) (now (out .entry)) (now (out .exit)) ⌝ }
+    requires { ⌜ (sound-hub h (given members places notices) ≡ true) × (longest-answer ≤ length (now out)) ⌝ }
+    ensures { λ r. ⌜ Makes (call-next (notice len tag) used at (view h (before members places notices))) r (after members places notices) 0 (now (out .entry)) (now (out .exit)) ⌝ }
 {
-    let told = calls::notice_tested(h, cs, t, q, len, tag);
+    let told = calls::notice_tested(h, members, places, notices, len, tag);
     let reply = Reply::Noticed {
         verdict: low(told.verdict),
         eligibility: told.number,
@@ -186,26 +185,38 @@ fn record_step(
     f: Found,
     at: u32,
     h: Hub,
-    cs: &mut [u32],
-    t: &mut [u32],
-    q: &mut [u32],
+    members: &mut [u32],
+    places: &mut [u32],
+    notices: &mut [u32],
     out: &mut [u8],
 ) -> Stepped
-    requires { ⌜ (sound-hub h (now cs) (now t) (now q) ≡ true) × (longest-answer ≤ length (now out)) × (f .taken ≤ trace-limit - at) ⌝ }
-    ensures { λ r. ⌜ Did (found-next f at (view h (now (cs .entry)) (now (t .entry)) (now (q .entry)))) r (now (cs .exit)) (now (t .exit)) (now (q .exit)) (now (out .entry)) (now (out .exit)) ⌝ }
+    requires { ⌜ (sound-hub h (given members places notices) ≡ true) × (longest-answer ≤ length (now out)) × (f .taken ≤ trace-limit - at) ⌝ }
+    ensures { λ r. ⌜ Makes (found-next f at (view h (before members places notices))) r (after members places notices) 0 (now (out .entry)) (now (out .exit)) ⌝ }
     ensures { λ r. ⌜ weight (r .cursor .phase) ≤ 65536 ⌝ }
 {
     let used = f.taken;
     let to = at + used as u32;
     let what = f.what;
     match what {
-        Record::Link { .. } => {
-            let l = named::link_of(what);
-            link_step(h, cs, t, q, l, to, used, out)
+        Record::Link {
+            levels,
+            largest,
+            silence,
+            d1,
+            d2,
+            d3,
+            d4,
+            d5,
+            d6,
+            d7,
+            d8,
+        } => {
+            let l = named::link_named(levels, largest, silence, d1, d2, d3, d4, d5, d6, d7, d8);
+            link_step(h, members, places, notices, l, to, used, out)
         }
-        Record::Admit { .. } => {
-            let x = named::connection_of(what);
-            admit_step(h, cs, t, q, x, to, used, out)
+        Record::Admit { level, gap, size } => {
+            let x = named::connection_named(level, gap, size);
+            admit_step(h, members, places, notices, x, to, used, out)
         }
         Record::Offer {
             connection,
@@ -213,9 +224,30 @@ fn record_step(
             tag,
         } => {
             let c = connection as u32;
-            offer_step(h, cs, t, q, c, len as u32, tag, to, used, out)
+            offer_step(
+                h,
+                members,
+                places,
+                notices,
+                c,
+                len as u32,
+                tag,
+                to,
+                used,
+                out,
+            )
         }
-        Record::Notice { len, tag } => notice_step(h, cs, t, q, len as u32, tag, to, used, out),
+        Record::Notice { len, tag } => notice_step(
+            h,
+            members,
+            places,
+            notices,
+            len as u32,
+            tag,
+            to,
+            used,
+            out,
+        ),
         Record::Ticks { ticks } => begin_ticks(h, ticks, to, used),
         Record::Malformed => broken_step(at, h, out),
     }
@@ -225,25 +257,25 @@ fn record_step(
 pub(crate) fn read_step(
     at: u32,
     h: Hub,
-    cs: &mut [u32],
-    t: &mut [u32],
-    q: &mut [u32],
+    members: &mut [u32],
+    places: &mut [u32],
+    notices: &mut [u32],
     window: &[u8],
     last: bool,
     out: &mut [u8],
 ) -> Stepped
-    requires { ⌜ (sound-hub h (now cs) (now t) (now q) ≡ true) × (longest-answer ≤ length (now out)) ⌝ }
-    ensures { λ r. ⌜ Did (read-next at (view h (now (cs .entry)) (now (t .entry)) (now (q .entry))) (now (window .entry)) last) r (now (cs .exit)) (now (t .exit)) (now (q .exit)) (now (out .entry)) (now (out .exit)) ⌝ }
+    requires { ⌜ (sound-hub h (given members places notices) ≡ true) × (longest-answer ≤ length (now out)) ⌝ }
+    ensures { λ r. ⌜ Makes (read-next at (view h (before members places notices)) (now (window .entry)) last) r (after members places notices) 0 (now (out .entry)) (now (out .exit)) ⌝ }
     ensures { λ r. ⌜ Facts (cursor-at at Reading h) (length (now (window .entry))) last (length (now (out .entry))) r ⌝ }
 {
     if last {
         if window.len() == 0 {
             return waits(at, Phase::Finished, h, Status::Done);
         }
-        return record_step(read_at(window, at), at, h, cs, t, q, out);
+        return record_step(read_at(window, at), at, h, members, places, notices, out);
     }
     if window.len() < LONGEST_RECORD {
         return waits(at, Phase::Reading, h, Status::MoreBytes);
     }
-    record_step(read_at(window, at), at, h, cs, t, q, out)
+    record_step(read_at(window, at), at, h, members, places, notices, out)
 }

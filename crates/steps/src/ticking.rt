@@ -4,16 +4,15 @@ ghost use mathlib.Core.Bool.{true};
 ghost use Prim.Native.Nat.{_+_, _-_, _≤_};
 ghost use lib.ListN.{length};
 ghost use Rattle.rules.specs.Limits.{clock-end};
-ghost use Rattle.service.specs.View.{view};
-ghost use Rattle.service.specs.Quiet.{passed-hub};
-ghost use Rattle.calls.specs.Acts.{sound-hub};
+ghost use Rattle.state.specs.View.{Tables, given, before, after, sound-hub, view, hub-of};
+ghost use Rattle.service.specs.Quiet.{passed};
 ghost use Rattle.fields.specs.Formats.{over};
 ghost use Rattle.answers.specs.Answers.{longest-answer};
 ghost use Rattle.log.specs.Log.{all-done-verdict};
 ghost use Rattle.steps.specs.declared.Phase.the-variants.{Ticking};
 ghost use Rattle.steps.specs.declared.Status.the-variants.{GoOn};
 ghost use Rattle.steps.specs.Steps.{one-tick, tick-next};
-ghost use Rattle.steps.specs.Tie.{cursor-at, told-log, Did};
+ghost use Rattle.steps.specs.Tie.{cursor-at, told-log, Makes};
 use super::Cursor;
 use super::Phase;
 use super::Status;
@@ -21,13 +20,13 @@ use super::Stepped;
 use super::answered;
 use answers::Reply;
 use answers::low;
-use service::Hub;
-use service::Told;
+use state::Hub;
+use state::Told;
 
 // The verdict of a `TK` whose ticks are all done: 2 if none was asked and no link is set.
-fn all_done_verdict(h: Hub, cs: &[u32], t: &[u32], q: &[u32], asked: u16) -> u8
-    requires { ⌜ sound-hub h (now cs) (now t) (now q) ≡ true ⌝ }
-    ensures { λ r. ⌜ r ≡ all-done-verdict asked (view h (now (cs .entry)) (now (t .entry)) (now (q .entry))) ⌝ }
+fn all_done_verdict(h: Hub, members: &[u32], places: &[u32], notices: &[u32], asked: u16) -> u8
+    requires { ⌜ sound-hub h (given members places notices) ≡ true ⌝ }
+    ensures { λ r. ⌜ r ≡ all-done-verdict asked (view h (before members places notices)) ⌝ }
 {
     if asked != 0 {
         return 0;
@@ -60,7 +59,7 @@ fn put_departure(told: Told, out: &mut [u8]) -> usize
 // k ticks of those left are passed over.
 fn pass_over(at: u32, h: Hub, asked: u16, left: u16, k: u16) -> Stepped
     requires { ⌜ (k ≤ left) × (h .clock + k ≤ clock-end) ⌝ }
-    ensures { λ r. ⌜ r ≡ record { cursor = cursor-at at (Ticking asked (left - k)) (passed-hub h k); used = 0; wrote = 0; status = GoOn } ⌝ }
+    ensures { λ r. ⌜ ((t : Tables) → r ≡ record { cursor = cursor-at at (Ticking asked (left - k)) (hub-of (passed (view h t) k)); used = 0; wrote = 0; status = GoOn }) ⌝ }
 {
     let later = service::quiet::pass_over(h, k);
     let rest = left - k;
@@ -85,15 +84,15 @@ fn one_tick(
     h: Hub,
     asked: u16,
     left: u16,
-    cs: &[u32],
-    t: &mut [u32],
-    q: &mut [u32],
+    members: &[u32],
+    places: &mut [u32],
+    notices: &mut [u32],
     out: &mut [u8],
 ) -> Stepped
-    requires { ⌜ (sound-hub h (now cs) (now t) (now q) ≡ true) × (longest-answer ≤ length (now out)) × (left ≡ 0 → ⊥) ⌝ }
-    ensures { λ r. ⌜ Did (one-tick at asked left (view h (now (cs .entry)) (now (t .entry)) (now (q .entry)))) r (now (cs .entry)) (now (t .exit)) (now (q .exit)) (now (out .entry)) (now (out .exit)) ⌝ }
+    requires { ⌜ (sound-hub h (given members places notices) ≡ true) × (longest-answer ≤ length (now out)) × (left ≡ 0 → ⊥) ⌝ }
+    ensures { λ r. ⌜ Makes (one-tick at asked left (view h (before members places notices))) r (after members places notices) 0 (now (out .entry)) (now (out .exit)) ⌝ }
 {
-    let told = calls::tick_tested(h, cs, t, q);
+    let told = calls::tick_tested(h, members, places, notices);
     let then = told.hub;
     if told.verdict != 0 {
         let done = service::without(asked as u32, left as u32) as u16;
@@ -126,24 +125,24 @@ pub(crate) fn tick_step(
     h: Hub,
     asked: u16,
     left: u16,
-    cs: &[u32],
-    t: &mut [u32],
-    q: &mut [u32],
+    members: &[u32],
+    places: &mut [u32],
+    notices: &mut [u32],
     out: &mut [u8],
 ) -> Stepped
-    requires { ⌜ (sound-hub h (now cs) (now t) (now q) ≡ true) × (longest-answer ≤ length (now out)) ⌝ }
-    ensures { λ r. ⌜ Did (tick-next at asked left (view h (now (cs .entry)) (now (t .entry)) (now (q .entry)))) r (now (cs .entry)) (now (t .exit)) (now (q .exit)) (now (out .entry)) (now (out .exit)) ⌝ }
+    requires { ⌜ (sound-hub h (given members places notices) ≡ true) × (longest-answer ≤ length (now out)) ⌝ }
+    ensures { λ r. ⌜ Makes (tick-next at asked left (view h (before members places notices))) r (after members places notices) 0 (now (out .entry)) (now (out .exit)) ⌝ }
 {
     if left == 0 {
         let reply = Reply::Ticked {
-            verdict: all_done_verdict(h, cs, t, q, asked),
+            verdict: all_done_verdict(h, members, places, notices, asked),
             ticks: asked,
         };
         return answered(at, h, 0, reply, out);
     }
-    let k = service::quiet::quiet_ticks(h, cs, t, q, left);
+    let k = service::quiet::quiet_ticks(h, members, places, notices, left);
     if k != 0 {
         return pass_over(at, h, asked, left, k);
     }
-    one_tick(at, h, asked, left, cs, t, q, out)
+    one_tick(at, h, asked, left, members, places, notices, out)
 }

@@ -1,4 +1,4 @@
--- Laws of the table of notices: it is what is written of what is read, and the other way round; its first row. Assumes nothing.
+-- Laws of the table of notices: it is what is written of what is read, and the other way round; its first row.
 use mathlib.Core.Path.{_≡_, refl, sym, ap, _∙_}
 use mathlib.Core.Bool.{true}
 use mathlib.Core.List.{List, [], _∷_, map}
@@ -15,7 +15,7 @@ use Rattle.rules.specs.Model.{notice-packet}
 use Rattle.rules.proofs.Tests.{and-true, and-intro}
 use Rattle.tables.specs.Table.{formed}
 use Rattle.tables.specs.Places.{packet-width, packet-of, packet-in, numbers-of, rows, table-of, row-at}
-use Rattle.tables.specs.Notices.{notices-length, notice-of, notices, written-notices, marked, notices-formed}
+use Rattle.tables.specs.Notices.{notices-length, notice-of, notices-in, written-notices, marked, notices-formed}
 use Rattle.tables.proofs.TableLaws.{formed-length, formed-written, ends-in-front, read-back, formed-back}
 use Rattle.tables.proofs.PlacesLaws.{numbers-back, rows-from, rows-end}
 
@@ -60,17 +60,17 @@ module _ (q : List ℕ) (f : notices-formed q ≡ true) where
   pub rows-marked : each marked (rows q) ≡ true
   rows-marked = parts .1
 
-  pub notice-rows : map notice-packet (notices q) ≡ rows q
+  pub notice-rows : map notice-packet (notices-in q) ≡ rows q
   notice-rows = marked-rows (rows q) (parts .1)
 
   pub notices-table : q ≡ table-of notices-length (rows q)
   unfolding rows table-of
   notices-table = formed-written packet-width packet-in numbers-of numbers-back notices-length q (parts .0)
 
-  pub notices-back : q ≡ written-notices (notices q)
+  pub notices-back : q ≡ written-notices (notices-in q)
   notices-back = notices-table ∙ ap (table-of notices-length) (sym notice-rows)
 
-  pub notices-few : length (notices q) ≤ max-notices
+  pub notices-few : length (notices-in q) ≤ max-notices
   notices-few = omega (arith, rows-end q, notices-length-is, length-map (rows q) notice-of)
 
 -- ---- what is written is read back
@@ -80,7 +80,7 @@ module _ (ns : List Notice) (pos : All (λ n. 0 < n .len) ns) (few : length ns �
   unfolding rows table-of
   rows-back = read-back packet-width numbers-of (λ p. refl) (omega arith) packet-in (λ p. refl) ends-in-front (map notice-packet ns) (notices-length - 5 * length (map notice-packet ns)) (all-len ns pos)
 
-  pub notices-again : notices (written-notices ns) ≡ ns
+  pub notices-again : notices-in (written-notices ns) ≡ ns
   notices-again = ap (map notice-of) rows-back ∙ same-notices ns
 
   pub written-formed : notices-formed (written-notices ns) ≡ true
@@ -92,10 +92,10 @@ module _ (ns : List Notice) (pos : All (λ n. 0 < n .len) ns) (few : length ns �
 
 -- ---- the first row
 
-pub first-row : (q : List ℕ) → 0 < length (rows q) → notices q ≡ notice-of (row-at q 0) ∷ map notice-of (drop 1 (rows q))
+pub first-row : (q : List ℕ) → 0 < length (rows q) → notices-in q ≡ notice-of (row-at q 0) ∷ map notice-of (drop 1 (rows q))
 first-row q l = ap (map notice-of) (rows-from q 0 l)
 
-pub no-rows : (q : List ℕ) → length (rows q) ≡ 0 → notices q ≡ []
+pub no-rows : (q : List ℕ) → length (rows q) ≡ 0 → notices-in q ≡ []
 no-rows q e = go (rows q) e
   where
     go : (ps : List Packet) → length ps ≡ 0 → map notice-of ps ≡ []

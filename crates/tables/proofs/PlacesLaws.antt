@@ -1,4 +1,4 @@
--- Laws of the places table: rows put in and taken out, the first row of a connection, the loops over rows, and its shape. Assumes nothing.
+-- Laws of the places table: rows put in and taken out, the first row of a connection, the loops over rows, and its shape.
 use mathlib.Core.Path.{_≡_, refl, sym, ap, _∙_}
 use mathlib.Core.Bool.{Bool, true, false, cond}
 use mathlib.Core.List.{List, [], _∷_, _++_, append-assoc}
@@ -16,7 +16,7 @@ use Rattle.rules.specs.Service.{first, without}
 use Rattle.limits.specs.Zeros.{zeros}
 use Rattle.limits.proofs.ZeroLaws.{zeros-rep, zero-at, zeros-more}
 use Rattle.tables.specs.Table.{row-in, in-front, used, write, padded, formed}
-use Rattle.tables.specs.Places.{packet-width, put, shifted, cut, place, rows, places, table-of, places-length, numbers-of, packet-in, no-packet, row-at}
+use Rattle.tables.specs.Places.{packet-width, put, shifted, cut, place, rows, written-places, table-of, places-length, numbers-of, packet-in, no-packet, row-at}
 use Rattle.tables.proofs.TableLaws.{listed-row, number-in, drop-write, formed-written, read-at, used-end, held-stop, held-more, length-write, write-append, take-rows, drop-rows, length-padded, put-last}
 
 -- ---- a row
@@ -87,8 +87,8 @@ cut-table size t held i e n l h =
     ∙ cut-rows size (rows t) i (omega arith) (omega arith)
 
 -- the places table among the tables, by its length
-pub is-places : (t : List ℕ) (ps : List Packet) → length t ≡ places-length → table-of (length t) ps ≡ places ps
-unfolding table-of places
+pub is-places : (t : List ℕ) (ps : List Packet) → length t ≡ places-length → table-of (length t) ps ≡ written-places ps
+unfolding table-of written-places
 is-places t ps e = ap (λ (n : ℕ). padded packet-width numbers-of n ps) e
 
 -- ---- the first row of a connection
@@ -183,8 +183,8 @@ not-formed n t h = rw (ne-eqb (length t) n h)
 pub rows-formed : (n m : ℕ) (t : List ℕ) → length t ≡ n → m ≡ length (rows t) → zeros (drop (5 * m) t) ≡ formed packet-width n t
 rows-formed n m t h e = rw (eq-eqb (length t) n h, e ∙ rows-used t)
 
-pub table-back : (t : List ℕ) → formed packet-width places-length t ≡ true → t ≡ places (rows t)
-unfolding rows places
+pub table-back : (t : List ℕ) → formed packet-width places-length t ≡ true → t ≡ written-places (rows t)
+unfolding rows written-places
 table-back t h = formed-written packet-width packet-in numbers-of numbers-back places-length t h
 
 pub first-none : (c : ℕ) (ps : List Packet) → length ps ≤ place c ps → first c ps ≡ none
@@ -209,14 +209,14 @@ used-below t i z = go (ltb i (length (rows t))) refl
     go true e = let l : i < length (rows t) = ltb-true _ _ e in absurd (omega (arith, rows-stop t i (omega arith) z))
     go false e = ltb-false _ _ e
 
-unused-behind : (t : List ℕ) → t ≡ places (rows t) → zeros (drop (5 * length (rows t)) t) ≡ true
-unfolding places
+unused-behind : (t : List ℕ) → t ≡ written-places (rows t) → zeros (drop (5 * length (rows t)) t) ≡ true
+unfolding written-places
 unused-behind t e =
     ap (λ (l : List ℕ). zeros (drop (5 * length (rows t)) l)) e
     ∙ ap zeros (drop-write packet-width numbers-of (λ p. refl) (rows t) (replicate (places-length - 5 * length (rows t)) 0))
     ∙ zeros-rep (places-length - 5 * length (rows t))
 
-pub unused-above : (t : List ℕ) (i : ℕ) → t ≡ places (rows t) → (getD t (5 * i + 1) 0 ≡ 0 → ⊥) → i < length (rows t)
+pub unused-above : (t : List ℕ) (i : ℕ) → t ≡ written-places (rows t) → (getD t (5 * i + 1) 0 ≡ 0 → ⊥) → i < length (rows t)
 unused-above t i e n = go (ltb i (length (rows t))) refl
   where
     go : (b : Bool) → ltb i (length (rows t)) ≡ b → i < length (rows t)

@@ -1,4 +1,4 @@
--- Laws of reading and writing a table, for rows of any width. Assumes nothing.
+-- Laws of reading and writing a table, for rows of any width.
 use mathlib.Core.Path.{_≡_, refl, sym, ap, _∙_}
 use mathlib.Core.Bool.{Bool, true, false, cond, _&&_}
 use mathlib.Core.Logic.{_⊎_, inl, inr}
@@ -36,12 +36,12 @@ module _ (w : ℕ) where
   next-row : (n : ℕ) (t : List ℕ) → drop (w * n) (drop w t) ≡ drop (w * suc n) t
   next-row n t = let e : w + w * n ≡ w * suc n = omega (arith, mul-suc w n) in drop-drop (w * n) w t ∙ ap (λ (k : ℕ). drop k t) e
 
-  pub length-rows : (n : ℕ) (t : List ℕ) → length (rows-in w n t) ≡ n
+  length-rows : (n : ℕ) (t : List ℕ) → length (rows-in w n t) ≡ n
   length-rows zero t = refl
   length-rows (suc n) t = ap suc (length-rows n (drop w t))
 
   -- a row lies where its number says
-  pub rows-in-at : (n : ℕ) (t : List ℕ) (i : ℕ) → i < n → getD (rows-in w n t) i [] ≡ row-in w t i
+  rows-in-at : (n : ℕ) (t : List ℕ) (i : ℕ) → i < n → getD (rows-in w n t) i [] ≡ row-in w t i
   rows-in-at zero t i h = absurd (omega arith)
   rows-in-at (suc n) t zero h = ap (λ (k : ℕ). take w (drop k t)) (sym (mul-zero w))
   rows-in-at (suc n) t (suc i) h = rows-in-at n (drop w t) i (le-of-suc-le-suc h) ∙ ap (take w) (next-row i t)
@@ -60,7 +60,7 @@ module _ (w : ℕ) where
       let k = and-true (zeros (take w t)) (each zeros (rows-in w n (drop w t))) h in
       zeros-join w t (k .0) (rows-zero n (drop w t) (omega (arith, length-drop w t, mul-suc w n)) (k .1))
 
-  pub take-first : (n k : ℕ) (t : List ℕ) → k ≤ n → take k (rows-in w n t) ≡ rows-in w k t
+  take-first : (n k : ℕ) (t : List ℕ) → k ≤ n → take k (rows-in w n t) ≡ rows-in w k t
   take-first n zero t h = refl
   take-first zero (suc k) t h = absurd (omega arith)
   take-first (suc n) (suc k) t h = ap (λ (l : List (List ℕ)). take w t ∷ l) (take-first n k (drop w t) (le-of-suc-le-suc h))
@@ -83,7 +83,7 @@ module _ (w : ℕ) where
   number-in t i k h = getD-take w (drop (w * i) t) k 0 h ∙ getD-drop (w * i) t k 0
 
   -- the rows fit into the table
-  pub rows-fit : (t : List ℕ) (n : ℕ) → n ≤ length t / w → w * n ≤ length t
+  rows-fit : (t : List ℕ) (n : ℕ) → n ≤ length t / w → w * n ≤ length t
   rows-fit t n h = le-trans (mul-le-mul-left w h) (mul-div-le (length t) w)
 
 -- ---- the rows in use
@@ -137,7 +137,7 @@ module _ (ends : List (List ℕ) → Bool) where
     pub used-end : w * length (used ends w t) ≤ length t
     used-end = rows-fit w t (length (used ends w t)) used-le
 
-    pub used-at : (i : ℕ) → i < length (used ends w t) → getD (used ends w t) i [] ≡ row-in w t i
+    used-at : (i : ℕ) → i < length (used ends w t) → getD (used ends w t) i [] ≡ row-in w t i
     used-at i h = ap (λ (rs : List (List ℕ)). getD rs i []) used-first ∙ rows-in-at w (length (used ends w t)) t i h
 
   -- a row that is read lies where its number says
@@ -178,28 +178,28 @@ zero-row-at (r ∷ rs) zero h = and-true (zeros r) (each zeros rs) h .0
 zero-row-at (r ∷ rs) (suc i) h = zero-row-at rs i (and-true (zeros r) (each zeros rs) h .1)
 
 module _ (w : ℕ) (t : List ℕ) where
-  abbrev count : ℕ
-  count = length (used by-number w t)
+  abbrev many : ℕ
+  many = length (used by-number w t)
 
   -- behind the last row there are zeros
-  zero-behind : each zeros (drop count (whole w t)) ≡ true
-  zero-behind = go (split (length (whole w t)) count)
+  zero-behind : each zeros (drop many (whole w t)) ≡ true
+  zero-behind = go (split (length (whole w t)) many)
     where
-      go : (length (whole w t) ≤ count) ⊎ (count < length (whole w t)) → each zeros (drop count (whole w t)) ≡ true
+      go : (length (whole w t) ≤ many) ⊎ (many < length (whole w t)) → each zeros (drop many (whole w t)) ≡ true
       go (inl h) = ap (each zeros) (drop-of-length-le (whole w t) h)
       go (inr h) = until-end by-number (whole w t) h
 
-  pub row-behind : (i : ℕ) → i < length t / w → count ≤ i → zeros (row-in w t i) ≡ true
+  pub row-behind : (i : ℕ) → i < length t / w → many ≤ i → zeros (row-in w t i) ≡ true
   row-behind i l h =
-      let e : count + (i - count) ≡ i = omega arith in
-      ap zeros (sym (getD-drop count (whole w t) (i - count) [] ∙ ap (λ (k : ℕ). getD (whole w t) k []) e ∙ rows-in-at w (length t / w) t i l))
-      ∙ zero-row-at (drop count (whole w t)) (i - count) zero-behind
+      let e : many + (i - many) ≡ i = omega arith in
+      ap zeros (sym (getD-drop many (whole w t) (i - many) [] ∙ ap (λ (k : ℕ). getD (whole w t) k []) e ∙ rows-in-at w (length t / w) t i l))
+      ∙ zero-row-at (drop many (whole w t)) (i - many) zero-behind
 
   -- the last one has other numbers
-  pub row-last : (i : ℕ) → count ≡ suc i → zeros (row-in w t i) ≡ false
+  pub row-last : (i : ℕ) → many ≡ suc i → zeros (row-in w t i) ≡ false
   row-last i e =
       let l : i < length t / w = omega (arith, used-le by-number w t) in
-      let d : drop (suc i) (whole w t) ≡ drop count (whole w t) = ap (λ (j : ℕ). drop j (whole w t)) (sym e) in
+      let d : drop (suc i) (whole w t) ≡ drop many (whole w t) = ap (λ (j : ℕ). drop j (whole w t)) (sym e) in
       not-true-false (zeros (row-in w t i))
       (λ z.
       omega (
@@ -209,11 +209,11 @@ module _ (w : ℕ) (t : List ℕ) where
       ))
 
   -- in a table of whole rows only, all is zero behind them
-  pub numbers-behind : (n : ℕ) → 0 < w → length t ≡ w * n → zeros (drop (w * count) t) ≡ true
+  pub numbers-behind : (n : ℕ) → 0 < w → length t ≡ w * n → zeros (drop (w * many) t) ≡ true
   numbers-behind n p e =
       let m : length t / w ≡ n = ap (λ (j : ℕ). j / w) e ∙ mul-div-right n p in
-      rows-zero w (n - count) (drop (w * count) t) (omega (arith, length-drop (w * count) t, mul-sub w n count))
-      (ap (each zeros) (sym (drop-first w n count t (omega (arith, used-le by-number w t)))) ∙ ap (λ (j : ℕ). each zeros (drop count (rows-in w j t))) (sym m) ∙ zero-behind)
+      rows-zero w (n - many) (drop (w * many) t) (omega (arith, length-drop (w * many) t, mul-sub w n many))
+      (ap (each zeros) (sym (drop-first w n many t (omega (arith, used-le by-number w t)))) ∙ ap (λ (j : ℕ). each zeros (drop many (rows-in w j t))) (sym m) ∙ zero-behind)
 
 -- ---- a table is the rows read of it, and what is behind them
 
@@ -345,7 +345,7 @@ module _ {A : Type 0} (w : ℕ) (parts : A → List ℕ) (wide : (x : A) → len
         ∙ ap (λ (l : List ℕ). parts x ∷ rows-in w (length xs + n) l) (drop-at (parts x) (write parts xs ++ r) w (wide x))
         ∙ ap (λ (rs : List (List ℕ)). parts x ∷ rs) (first-written xs n r)
 
-    pub whole-written : (xs : List A) (r : List ℕ) → whole w (write parts xs ++ r) ≡ map parts xs ++ whole w r
+    whole-written : (xs : List A) (r : List ℕ) → whole w (write parts xs ++ r) ≡ map parts xs ++ whole w r
     whole-written xs r =
         ap (λ (k : ℕ). rows-in w (k / w) (write parts xs ++ r)) (length-append (write parts xs) r ∙ ap (λ (k : ℕ). k + length r) (length-write xs))
         ∙ ap (λ (k : ℕ). rows-in w k (write parts xs ++ r)) (mul-add-div some-width (length xs) (length r))

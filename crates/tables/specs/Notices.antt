@@ -1,5 +1,5 @@
 -- The table of notices: rows as in the places table, so that one reader, one writer and one removal serve both; each bears the notices' number, and an
--- eligibility that is its arrival. docs/RULES-AFTER-BASE.md, R-1. Assumes nothing.
+-- eligibility that is its arrival. docs/RULES-AFTER-BASE.md, R-1.
 use Prim.Native.Nat.{ℕ, _*_}
 use mathlib.Core.Bool.{Bool, _&&_}
 use mathlib.Core.List.{List, map}
@@ -20,8 +20,8 @@ notices-length = packet-width * max-notices
 abbrev pub notice-of : Packet → Notice
 notice-of p = record { len = p .len; tag = p .tag; arrival = p .arrival }
 
-abbrev pub notices : List ℕ → List Notice
-notices q = map notice-of (rows q)
+abbrev pub notices-in : List ℕ → List Notice
+notices-in q = map notice-of (rows q)
 
 abbrev pub written-notices : List Notice → List ℕ
 written-notices ns = table-of notices-length (map notice-packet ns)

@@ -1,5 +1,5 @@
 -- The places table: held packets, five numbers to a row (connection, length, tag, arrival, eligibility), in the order offered.
--- Document 01, "Link, connections, places". Assumes nothing.
+-- Document 01, "Link, connections, places".
 use Prim.Native.Nat.{ℕ, suc, _+_, _*_}
 use mathlib.Core.Bool.{cond}
 use mathlib.Core.List.{List, [], _∷_, _++_}
@@ -44,8 +44,8 @@ rows t = read in-front packet-width packet-in t
 unfoldable pub table-of : ℕ → List Packet → List ℕ
 table-of n ps = padded packet-width numbers-of n ps
 
-unfoldable pub places : List Packet → List ℕ
-places ps = padded packet-width numbers-of places-length ps
+unfoldable pub written-places : List Packet → List ℕ
+written-places ps = padded packet-width numbers-of places-length ps
 
 -- the table with p as row i
 abbrev pub put : List ℕ → ℕ → Packet → List ℕ

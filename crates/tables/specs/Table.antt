@@ -1,5 +1,5 @@
 -- A lent table of numbers, w to a row: what is read of it, and what is written. Each table gives its width, where its rows end, and how a row is laid out:
--- `make` makes what the numbers of a row stand for, `parts` lists them. Document 01, "Link, connections, places". Assumes nothing.
+-- `make` makes what the numbers of a row stand for, `parts` lists them. Document 01, "Link, connections, places".
 use Prim.Native.Nat.{ℕ, zero, suc, _*_, _-_, _/_}
 use mathlib.Core.Bool.{Bool, cond, _&&_}
 use mathlib.Core.List.{List, [], _∷_, _++_, map}

@@ -3,7 +3,7 @@ ghost use mathlib.Core.Path.{_≡_};
 ghost use mathlib.Core.List.{[], _∷_, _++_};
 ghost use Prim.Native.Nat.{ℕ, _+_, _*_, _-_, _<_, _≤_};
 ghost use lib.ListN.{length};
-ghost use Rattle.tables.specs.Places.{row-at, put, shifted, rows, places, table-of, cut, place, no-packet, places-length};
+ghost use Rattle.tables.specs.Places.{row-at, put, shifted, rows, written-places, table-of, cut, place, no-packet, places-length};
 use limits::PACKET_WIDTH;
 use limits::PLACES;
 use rules::Packet;
@@ -22,53 +22,53 @@ pub fn no_packet() -> Packet
 }
 
 // The packet in row i.
-pub fn row(t: &[u32], i: usize) -> Packet
-    requires { ⌜ 5 * i + 5 ≤ length (now t) ⌝ }
-    ensures { λ r. ⌜ r ≡ row-at (now (t .entry)) i ⌝ }
+pub fn row(table: &[u32], i: usize) -> Packet
+    requires { ⌜ 5 * i + 5 ≤ length (now table) ⌝ }
+    ensures { λ r. ⌜ r ≡ row-at (now (table .entry)) i ⌝ }
 {
     let at = PACKET_WIDTH * i;
     Packet {
-        connection: t[at],
-        len: t[at + 1],
-        tag: t[at + 2],
-        arrival: t[at + 3],
-        eligibility: t[at + 4],
+        connection: table[at],
+        len: table[at + 1],
+        tag: table[at + 2],
+        arrival: table[at + 3],
+        eligibility: table[at + 4],
     }
 }
 
 // Row i becomes p.
-fn put_row(t: &mut [u32], i: usize, p: Packet)
-    requires { ⌜ 5 * i + 5 ≤ length (now t) ⌝ }
-    ensures { λ r. ⌜ now (t .exit) ≡ put (now (t .entry)) i p ⌝ }
+fn put_row(table: &mut [u32], i: usize, p: Packet)
+    requires { ⌜ 5 * i + 5 ≤ length (now table) ⌝ }
+    ensures { λ r. ⌜ now (table .exit) ≡ put (now (table .entry)) i p ⌝ }
 {
     let at = PACKET_WIDTH * i;
-    t[at] = p.connection;
-    t[at + 1] = p.len;
-    t[at + 2] = p.tag;
-    t[at + 3] = p.arrival;
-    t[at + 4] = p.eligibility;
+    table[at] = p.connection;
+    table[at + 1] = p.len;
+    table[at + 2] = p.tag;
+    table[at + 3] = p.arrival;
+    table[at + 4] = p.eligibility;
 }
 
 // n numbers from a row behind `from` on move down to `from`.
-fn shift(t: &mut [u32], from: usize, n: usize)
-    requires { ⌜ from + 5 + n ≤ length (now t) ⌝ }
-    ensures { λ r. ⌜ now (t .exit) ≡ shifted (now (t .entry)) from n ⌝ }
+fn shift(table: &mut [u32], from: usize, n: usize)
+    requires { ⌜ from + 5 + n ≤ length (now table) ⌝ }
+    ensures { λ r. ⌜ now (table .exit) ≡ shifted (now (table .entry)) from n ⌝ }
 {
     let mut j: usize = 0;
     while j < n {
-        t[from + j] = t[from + PACKET_WIDTH + j];
+        table[from + j] = table[from + PACKET_WIDTH + j];
         j += 1;
     }
 }
 
 // The number of rows.
-pub fn held(t: &[u32]) -> usize
-    ensures { λ r. ⌜ r ≡ length (rows (now (t .entry))) ⌝ }
+pub fn held(table: &[u32]) -> usize
+    ensures { λ r. ⌜ r ≡ length (rows (now (table .entry))) ⌝ }
 {
-    let n = t.len() / PACKET_WIDTH;
+    let n = table.len() / PACKET_WIDTH;
     let mut i: usize = 0;
     while i < n {
-        if t[PACKET_WIDTH * i + 1] == 0 {
+        if table[PACKET_WIDTH * i + 1] == 0 {
             return i;
         }
         i += 1;
@@ -77,15 +77,15 @@ pub fn held(t: &[u32]) -> usize
 }
 
 // The number of rows of a places table with zeros behind them, by halving.
-pub fn count(t: &[u32]) -> usize
-    requires { ⌜ (now t ≡ places (rows (now t))) × (length (now t) ≡ places-length) ⌝ }
-    ensures { λ r. ⌜ r ≡ length (rows (now (t .entry))) ⌝ }
+pub fn count(table: &[u32]) -> usize
+    requires { ⌜ (now table ≡ written-places (rows (now table))) × (length (now table) ≡ places-length) ⌝ }
+    ensures { λ r. ⌜ r ≡ length (rows (now (table .entry))) ⌝ }
 {
     let mut low: usize = 0;
     let mut high: usize = PLACES / PACKET_WIDTH;
     while low < high {
         let mid = low + (high - low) / 2;
-        if t[PACKET_WIDTH * mid + 1] == 0 {
+        if table[PACKET_WIDTH * mid + 1] == 0 {
             high = mid;
         } else {
             low = mid + 1;
@@ -95,22 +95,22 @@ pub fn count(t: &[u32]) -> usize
 }
 
 // Row i of the held rows goes, the later ones move up, the last becomes zero.
-pub fn remove(t: &mut [u32], held: usize, i: usize)
-    requires { ⌜ (now t ≡ table-of (length (now t)) (rows (now t))) × (held ≡ length (rows (now t))) × (i < held) × (5 * held ≤ length (now t)) ⌝ }
-    ensures { λ r. ⌜ now (t .exit) ≡ table-of (length (now (t .entry))) (cut i (rows (now (t .entry)))) ⌝ }
+pub fn remove(table: &mut [u32], held: usize, i: usize)
+    requires { ⌜ (now table ≡ table-of (length (now table)) (rows (now table))) × (held ≡ length (rows (now table))) × (i < held) × (5 * held ≤ length (now table)) ⌝ }
+    ensures { λ r. ⌜ now (table .exit) ≡ table-of (length (now (table .entry))) (cut i (rows (now (table .entry)))) ⌝ }
 {
-    shift(t, PACKET_WIDTH * i, PACKET_WIDTH * (held - i - 1));
-    put_row(t, held - 1, no_packet());
+    shift(table, PACKET_WIDTH * i, PACKET_WIDTH * (held - i - 1));
+    put_row(table, held - 1, no_packet());
 }
 
 // The place of the first row of connection c.
-pub fn find(t: &[u32], held: usize, c: u32) -> usize
-    requires { ⌜ held ≡ length (rows (now t)) ⌝ }
-    ensures { λ r. ⌜ r ≡ place c (rows (now (t .entry))) ⌝ }
+pub fn find(table: &[u32], held: usize, c: u32) -> usize
+    requires { ⌜ held ≡ length (rows (now table)) ⌝ }
+    ensures { λ r. ⌜ r ≡ place c (rows (now (table .entry))) ⌝ }
 {
     let mut i: usize = 0;
     while i < held {
-        let p = row(t, i);
+        let p = row(table, i);
         if p.connection == c {
             return i;
         }
@@ -120,9 +120,9 @@ pub fn find(t: &[u32], held: usize, c: u32) -> usize
 }
 
 // p behind the held rows.
-pub fn append(t: &mut [u32], held: usize, p: Packet)
-    requires { ⌜ (now t ≡ table-of (length (now t)) (rows (now t))) × (held ≡ length (rows (now t))) × (5 * held + 5 ≤ length (now t)) ⌝ }
-    ensures { λ r. ⌜ now (t .exit) ≡ table-of (length (now (t .entry))) (rows (now (t .entry)) ++ p ∷ []) ⌝ }
+pub fn append(table: &mut [u32], held: usize, p: Packet)
+    requires { ⌜ (now table ≡ table-of (length (now table)) (rows (now table))) × (held ≡ length (rows (now table))) × (5 * held + 5 ≤ length (now table)) ⌝ }
+    ensures { λ r. ⌜ now (table .exit) ≡ table-of (length (now (table .entry))) (rows (now (table .entry)) ++ p ∷ []) ⌝ }
 {
-    put_row(t, held, p);
+    put_row(table, held, p);
 }

@@ -1,20 +1,21 @@
 -- A link's bytes: how many bounds there are is one of its numbers.
 use mathlib.Core.Path.{_≡_, refl, sym, ap, _∙_}
-use mathlib.Core.Bool.{Bool, true, false}
+use mathlib.Core.Bool.{Bool, true, false, cond}
 use mathlib.Core.List.{List, [], _∷_}
 use mathlib.Core.Option.{some, none}
 use Prim.Native.Nat.{ℕ, zero, suc, _+_, _*_, _<_, _≤_}
 use native.Mathlib.Omega.{arith}
-use borrow.Author.Tests.{lt-ltb, le-ltb, ne-eqb, ltb-false, eqb-true}
+use borrow.Author.Tests.{le-leb, lt-leb, ne-eqb, eq-eqb, leb-true, eqb-true}
 use lib.ListN.{length, getD, take, drop, replicate, drop-of-length-le}
 use lib.Seq.{drop-cons}
 use native.Mathlib.Numerals.{add-one}
-use lib.Dec.{ltb, eqb}
-use Rattle.fields.specs.Numbers.{pick, number, get-fields, sum, Fit}
+use lib.Dec.{leb, eqb}
+use Rattle.fields.specs.Numbers.{number, get-fields, sum}
 use Rattle.traces.specs.Kinds.{LK}
-use Rattle.fields.specs.Formats.{whole, read-row, laid}
-use Rattle.traces.specs.Trace.{link-row, link-in, zeros, link-written, link-layout}
-use Rattle.fields.proofs.MarkLaws.{both, neither}
+use Rattle.fields.specs.Formats.{whole, read-kind, laid}
+use Rattle.fields.specs.Laws.{Written}
+use Rattle.traces.specs.Trace.{link-written, link-layout}
+use Rattle.fields.proofs.MarkLaws.{both}
 use Rattle.fields.proofs.NumberLaws.{one-byte, sum-pairs}
 
 -- A link's length.
@@ -22,44 +23,46 @@ pub sum-link : (n : ℕ) → 2 + sum (1 ∷ 2 ∷ 1 ∷ replicate n 2) ≡ 6 + 2
 unfolding sum
 sum-link n = omega (arith, sum-pairs n)
 
-zero-unread : (bs : List ℕ) → read-row link-row 0 bs ≡ none
-unfolding read-row
+zero-unread : (bs : List ℕ) → read-kind LK 0 bs ≡ none
+unfolding read-kind
 zero-unread bs = refl
 
-pub n-too-small : (bs : List ℕ) (n : ℕ) → n ≡ number 1 bs 2 → n < 1 → read-row link-row (getD bs 2 0) bs ≡ none
+pub n-too-small : (bs : List ℕ) (n : ℕ) → n ≡ number 1 bs 2 → n < 1 → read-kind LK (getD bs 2 0) bs ≡ none
 n-too-small bs n e h =
     let z : n ≡ 0 = omega arith in
-    ap (λ b. read-row link-row b bs) (sym (e ∙ one-byte bs 2) ∙ z) ∙ zero-unread bs
+    ap (λ b. read-kind LK b bs) (sym (e ∙ one-byte bs 2) ∙ z) ∙ zero-unread bs
 
-pub n-too-large : (bs : List ℕ) (n : ℕ) → n ≡ number 1 bs 2 → 8 < n → read-row link-row (getD bs 2 0) bs ≡ none
-unfolding read-row
-n-too-large bs n e h = rw (← one-byte bs 2, ← e, le-ltb n 1 (omega arith), lt-ltb 8 n h)
+pub n-too-large : (bs : List ℕ) (n : ℕ) → n ≡ number 1 bs 2 → 8 < n → read-kind LK (getD bs 2 0) bs ≡ none
+unfolding read-kind
+n-too-large bs n e h = rw (← one-byte bs 2, ← e, le-leb 1 n (omega arith), lt-leb n 8 h)
 
 pub n-in-range : (bs : List ℕ) (n : ℕ) → n ≡ number 1 bs 2 → 1 ≤ n → n ≤ 8
-    → whole (6 + 2 * n) (link-in bs n) bs ≡ read-row link-row (getD bs 2 0) bs
-unfolding read-row get-fields
-n-in-range bs n e h k = rw (← one-byte bs 2, ← e, le-ltb n 1 h, le-ltb 8 n k, sum-link n)
+    → whole (6 + 2 * n) (LK .make (λ i. getD (n ∷ number 2 bs 3 ∷ number 1 bs 5 ∷ get-fields (replicate n 2) bs 6) i 0)) bs ≡ read-kind LK (getD bs 2 0) bs
+unfolding read-kind get-fields
+n-in-range bs n e h k = rw (← one-byte bs 2, ← e, le-leb 1 n h, le-leb n 8 k, sum-link n)
 
 -- Which n are allowed behind the mark.
 pub range-allowed : (n : ℕ) → 1 ≤ n → n ≤ 8 → LK .allows n ≡ true
-range-allowed n h k = rw (le-ltb n 1 h, le-ltb 8 n k)
+range-allowed n h k = rw (le-leb 1 n h, le-leb n 8 k)
 
 pub allowed-range : (n : ℕ) → LK .allows n ≡ true → (1 ≤ n) × (n ≤ 8)
 allowed-range n h =
-    let low = neither (ltb n 1) (pick (ltb 8 n) false true) h in
-    (ltb-false n 1 (low .0), ltb-false 8 n (neither (ltb 8 n) true (low .1) .0))
+    let t = both (leb 1 n) (leb n 8) h in
+    (leb-true 1 n (t .0), leb-true n 8 (t .1))
 
--- One bound more of a test of all those from a place on.
-pub zeros-stop : (ds : List ℕ) (i : ℕ) → i < length ds → (getD ds i 0 ≡ 0 → ⊥) → zeros (drop i ds) ≡ false
-unfolding zeros
-zeros-stop ds i h k = rw (drop-cons ds i 0, ne-eqb (getD ds i 0) 0 k)
+-- One bound more of a test of all those from a place on: they are 0 where their sum is.
+pub zeros-stop : (ds : List ℕ) (i : ℕ) → i < length ds → (getD ds i 0 ≡ 0 → ⊥) → eqb (sum (drop i ds)) 0 ≡ false
+unfolding sum
+zeros-stop ds i h k = rw (drop-cons ds i 0 h) (ne-eqb (getD ds i 0 + sum (drop (suc i) ds)) 0 (λ e. k (omega arith)))
 
-pub zeros-on : (ds : List ℕ) (i : ℕ) → i < length ds → getD ds i 0 ≡ 0 → zeros (drop i ds) ≡ zeros (drop (i + 1) ds)
-unfolding zeros
-zeros-on ds i h k = rw (add-one i, drop-cons ds i 0 h, k)
+pub zeros-on : (ds : List ℕ) (i : ℕ) → i < length ds → getD ds i 0 ≡ 0 → eqb (sum (drop i ds)) 0 ≡ eqb (sum (drop (i + 1) ds)) 0
+unfolding sum
+zeros-on ds i h k =
+    let e : getD ds i 0 + sum (drop (suc i) ds) ≡ sum (drop (suc i) ds) = omega arith in
+    rw (add-one i, drop-cons ds i 0 h, e)
 
-pub zeros-end : (ds : List ℕ) (i : ℕ) → length ds ≤ i → zeros (drop i ds) ≡ true
-unfolding zeros
+pub zeros-end : (ds : List ℕ) (i : ℕ) → length ds ≤ i → eqb (sum (drop i ds)) 0 ≡ true
+unfolding sum
 zeros-end ds i h = rw (drop-of-length-le ds {i = i} h)
 
 -- When a link is written, and as which numbers.
@@ -69,18 +72,18 @@ zero-unwritten ds = refl
 
 pub large-unwritten : (n : ℕ) (ds : List ℕ) → 8 < n → link-written n ds ≡ false
 unfolding link-written
-large-unwritten n ds h = rw (le-ltb n 1 (omega arith), lt-ltb 8 n h)
+large-unwritten n ds h = rw (le-leb 1 n (omega arith), lt-leb n 8 h)
 
-pub zeros-decide : (n : ℕ) (ds : List ℕ) → 1 ≤ n → n ≤ 8 → link-written n ds ≡ zeros (drop n ds)
+pub zeros-decide : (n : ℕ) (ds : List ℕ) → 1 ≤ n → n ≤ 8 → link-written n ds ≡ eqb (sum (drop n ds)) 0
 unfolding link-written
-zeros-decide n ds h k = rw (le-ltb n 1 h, le-ltb 8 n k)
+zeros-decide n ds h k = rw (le-leb 1 n h, le-leb n 8 k)
 
-pub written-in-range : (n : ℕ) (ds : List ℕ) → link-written n ds ≡ true → (1 ≤ n) × (n ≤ 8) × (zeros (drop n ds) ≡ true)
+pub written-in-range : (n : ℕ) (ds : List ℕ) → link-written n ds ≡ true → (1 ≤ n) × (n ≤ 8) × (sum (drop n ds) ≡ 0)
 unfolding link-written
 written-in-range n ds h =
-    let t = both (LK .allows n) (zeros (drop n ds)) h in
+    let t = both (LK .allows n) (eqb (sum (drop n ds)) 0) h in
     let r = allowed-range n (t .0) in
-    (r .0, r .1, t .1)
+    (r .0, r .1, eqb-true (sum (drop n ds)) 0 (t .1))
 
 pub unwritten-as : (n s silence : ℕ) (ds : List ℕ) → link-written n ds ≡ false → link-layout n s silence ds ≡ none
 unfolding link-layout
@@ -95,21 +98,24 @@ pub has-bytes : (n s silence : ℕ) (ds : List ℕ) → 0 < length (laid (link-l
 unfolding link-layout laid
 has-bytes n s silence ds = go (link-written n ds)
   where
-    go : (t : Bool) → 0 < length (laid (pick t (some (LK, n ∷ s ∷ silence ∷ take n ds)) none)) → t ≡ true
+    go : (t : Bool) → 0 < length (laid (cond t (some (LK, n ∷ s ∷ silence ∷ take n ds)) none)) → t ≡ true
     go true h = refl
     go false h = absurd (omega arith)
 
--- The first n of numbers that are 0 from the n-th on are, with 0 past them, all of them.
-pub taken-all : (n : ℕ) (ds : List ℕ) (k : ℕ) → zeros (drop n ds) ≡ true → getD (take n ds) k 0 ≡ getD ds k 0
-unfolding zeros
-taken-all zero [] k z = refl
-taken-all zero (d ∷ ds) k z =
-    let t = both (eqb d 0) (zeros ds) z in
-    first k (eqb-true d 0 (t .0)) (taken-all zero ds)
+pub laid-out : (n s silence : ℕ) (ds : List ℕ) → Written (link-layout n s silence ds) → link-written n ds ≡ true
+unfolding link-layout
+laid-out n s silence ds = go (link-written n ds)
   where
-    first : (k : ℕ) → d ≡ 0 → ((k : ℕ) → zeros ds ≡ true → _≡_ {A = ℕ} 0 (getD ds k 0)) → _≡_ {A = ℕ} 0 (getD (d ∷ ds) k 0)
-    first zero e more = sym e
-    first (suc k) e more = more k (both (eqb d 0) (zeros ds) z .1)
+    go : (t : Bool) → Written (cond t (some (LK, n ∷ s ∷ silence ∷ take n ds)) none) → t ≡ true
+    go true w = refl
+    go false w = absurd w
+
+-- The first n of numbers that are 0 from the n-th on are, with 0 past them, all of them.
+pub taken-all : (n : ℕ) (ds : List ℕ) (k : ℕ) → sum (drop n ds) ≡ 0 → getD (take n ds) k 0 ≡ getD ds k 0
+unfolding sum
+taken-all zero [] k z = refl
+taken-all zero (d ∷ ds) zero z = omega arith
+taken-all zero (d ∷ ds) (suc k) z = taken-all zero ds k (omega arith)
 taken-all (suc n) [] k z = refl
 taken-all (suc n) (d ∷ ds) zero z = refl
 taken-all (suc n) (d ∷ ds) (suc k) z = taken-all n ds k z
@@ -131,17 +137,17 @@ take-spread zero (x ∷ xs) h = absurd (omega arith)
 take-spread (suc k) (x ∷ xs) h =
     ap (λ l. x ∷ take (length xs) l) (spread-on k 0 x xs) ∙ ap (λ l. x ∷ l) (take-spread k xs (omega arith))
 
-zeros-spread : (k i : ℕ) → zeros (spread k i []) ≡ true
-unfolding zeros spread
+zeros-spread : (k i : ℕ) → sum (spread k i []) ≡ 0
+unfolding sum spread
 zeros-spread zero i = refl
-zeros-spread (suc k) i = zeros-spread k (i + 1)
+zeros-spread (suc k) i = omega (arith, zeros-spread k (i + 1))
 
-drop-spread : (k : ℕ) (xs : List ℕ) → length xs ≤ k → zeros (drop (length xs) (spread k 0 xs)) ≡ true
+drop-spread : (k : ℕ) (xs : List ℕ) → length xs ≤ k → sum (drop (length xs) (spread k 0 xs)) ≡ 0
 unfolding spread
 drop-spread k [] h = zeros-spread k 0
 drop-spread zero (x ∷ xs) h = absurd (omega arith)
 drop-spread (suc k) (x ∷ xs) h =
-    ap (λ l. zeros (drop (length xs) l)) (spread-on k 0 x xs) ∙ drop-spread k xs (omega arith)
+    ap (λ l. sum (drop (length xs) l)) (spread-on k 0 x xs) ∙ drop-spread k xs (omega arith)
 
 -- The layout of a link with the bounds xs, of which there are n, and 0 past them.
 pub layout-of-link : (n s silence : ℕ) (xs : List ℕ) → length xs ≡ n → 1 ≤ n → n ≤ 8
@@ -151,11 +157,5 @@ unfolding spread
 layout-of-link n s silence xs e h k =
     let few : length xs ≤ 8 = omega arith in
     let all = spread 8 0 xs in
-    written-as n s silence all (zeros-decide n all h k ∙ ap (λ m. zeros (drop m all)) (sym e) ∙ drop-spread 8 xs few)
+    written-as n s silence all (zeros-decide n all h k ∙ eq-eqb (sum (drop n all)) 0 (ap (λ m. sum (drop m all)) (sym e) ∙ drop-spread 8 xs few))
     ∙ ap (λ l. some (LK, n ∷ s ∷ silence ∷ l)) (ap (λ m. take m all) (sym e) ∙ take-spread 8 xs few)
-
-pub fit-pairs : (n : ℕ) (ds : List ℕ) → n ≤ length ds → Fit (replicate (length ds) 2) ds → Fit (replicate n 2) (take n ds)
-unfolding Fit
-fit-pairs zero ds h f = tt
-fit-pairs (suc n) [] h f = absurd (omega arith)
-fit-pairs (suc n) (d ∷ ds) h f = (f .0, fit-pairs n ds (omega arith) (f .1))

@@ -1,32 +1,36 @@
 -- Document 01, "Trace and answer records": the trace kinds of its table, in its order; and the one of document 02, R-1, behind `PK`. `LK` as R-4 has it.
-use mathlib.Core.Bool.{true, false}
+-- Each with the record that its numbers make.
+use mathlib.Core.Bool.{_&&_}
 use mathlib.Core.List.{[], _∷_}
 use lib.ListN.{replicate}
-use lib.Dec.{ltb}
-use Rattle.fields.specs.Numbers.{pick}
+use lib.Dec.{leb}
 use Rattle.fields.specs.Kinds.{Kind, plain}
+use Rattle.traces.specs.declared.Record.{Record}
+use Rattle.traces.specs.declared.Record.the-variants.{Link, Admit, Offer, Notice, Ticks}
 
--- document 02, R-4, as docs/RULES-AFTER-BASE.md lays it out: "n (1), S (2), silence (1), then n bounds (2 each)"; document 01: "malformed means: .. an `LK` with n outside 1 to 8"
-abbrev pub LK : Kind
+-- document 02, R-4, as docs/RULES-AFTER-BASE.md lays it out: "n (1), S (2), silence (1), then n bounds (2 each)"; document 01: "malformed means: .. an `LK` with
+-- n outside 1 to 8", and "bounds past n are read as 0": they are not among the numbers
+abbrev pub LK : Kind Record
 LK =
     record {
       mark = 0x4C ∷ 0x4B ∷ [];
-      allows = λ n. pick (ltb n 1) false (pick (ltb 8 n) false true);
+      allows = λ n. leb 1 n && leb n 8;
       widths = λ n. 1 ∷ 2 ∷ 1 ∷ replicate n 2;
+      make = λ x. Link (x 0) (x 1) (x 2) (x 3) (x 4) (x 5) (x 6) (x 7) (x 8) (x 9) (x 10);
     }
 
 -- "level (1), gap (2), size (2)"
-abbrev pub CN : Kind
-CN = plain (0x43 ∷ 0x4E ∷ []) (1 ∷ 2 ∷ 2 ∷ [])
+abbrev pub CN : Kind Record
+CN = plain (0x43 ∷ 0x4E ∷ []) (1 ∷ 2 ∷ 2 ∷ []) (λ x. Admit (x 0) (x 1) (x 2))
 
 -- "connection (1), length (2), tag (4)"
-abbrev pub PK : Kind
-PK = plain (0x50 ∷ 0x4B ∷ []) (1 ∷ 2 ∷ 4 ∷ [])
+abbrev pub PK : Kind Record
+PK = plain (0x50 ∷ 0x4B ∷ []) (1 ∷ 2 ∷ 4 ∷ []) (λ x. Offer (x 0) (x 1) (x 2))
 
 -- document 02, R-1, as docs/RULES-AFTER-BASE.md lays it out: "length (2), tag (4)"
-abbrev pub NQ : Kind
-NQ = plain (0x4E ∷ 0x51 ∷ []) (2 ∷ 4 ∷ [])
+abbrev pub NQ : Kind Record
+NQ = plain (0x4E ∷ 0x51 ∷ []) (2 ∷ 4 ∷ []) (λ x. Notice (x 0) (x 1))
 
 -- "ticks (2)"
-abbrev pub TK : Kind
-TK = plain (0x54 ∷ 0x4B ∷ []) (2 ∷ [])
+abbrev pub TK : Kind Record
+TK = plain (0x54 ∷ 0x4B ∷ []) (2 ∷ []) (λ x. Ticks (x 0))

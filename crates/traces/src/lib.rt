@@ -3,8 +3,8 @@ mod link; // link.rt: links, of which one number says how many follow
 
 ghost use mathlib.Core.Path.{_≡_};
 ghost use mathlib.Core.Option.{none};
-ghost use lib.ListN.{drop};
-ghost use Rattle.fields.specs.Formats.{whole, mark-among, length-after, room-after};
+ghost use lib.ListN.{length, drop};
+ghost use Rattle.fields.specs.Formats.{whole, mark-among, fitting, over};
 ghost use Rattle.fields.specs.Drafts.{Holds};
 ghost use Rattle.traces.specs.Trace.{trace, found, read-trace, trace-bytes};
 use fields::Draft;
@@ -93,7 +93,7 @@ pub(crate) fn whole_of(s: &[u8], size: usize, what: Record) -> Found
 
 // The mark that the bytes start with, as a number; 0 where it is none of a trace's.
 fn mark_of(s: &[u8]) -> u16
-    ensures { λ r. ⌜ r ≡ mark-among (trace .rows) (now (s .entry)) ⌝ }
+    ensures { λ r. ⌜ r ≡ mark-among (trace .kinds) (now (s .entry)) ⌝ }
 {
     let mark = known(s, TK, 0);
     let mark = known(s, NQ, mark);
@@ -181,7 +181,7 @@ fn draft(r: Record) -> Draft
 
 // Writes a record at the start of the room lent, and answers its length: 0, with no byte changed, where it is not written or does not fit.
 pub fn write(r: Record, room: &mut [u8]) -> usize
-    ensures { λ n. ⌜ (n ≡ length-after (trace-bytes r) (now (room .entry))) × (now (room .exit) ≡ room-after (trace-bytes r) (now (room .entry))) ⌝ }
+    ensures { λ n. ⌜ (n ≡ length (fitting (trace-bytes r) (now (room .entry)))) × (now (room .exit) ≡ over (fitting (trace-bytes r) (now (room .entry))) (now (room .entry))) ⌝ }
 {
     draft(r).into_room(room)
 }

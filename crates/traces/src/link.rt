@@ -1,10 +1,13 @@
 // Links, read and written: the number of levels says how many bounds follow.
 ghost use mathlib.Core.Path.{_≡_};
+ghost use mathlib.Core.List.{_∷_};
 ghost use Prim.Native.Nat.{_<_};
-ghost use lib.ListN.{getD};
-ghost use Rattle.fields.specs.Formats.{read-row, laid};
+ghost use lib.ListN.{getD, replicate};
+ghost use Rattle.fields.specs.Numbers.{number, get-fields};
+ghost use Rattle.fields.specs.Formats.{read-kind, laid};
 ghost use Rattle.fields.specs.Drafts.{Holds};
-ghost use Rattle.traces.specs.Trace.{link-row, link-in, bound-in, found, link-written, link-layout};
+ghost use Rattle.traces.specs.Kinds.{LK};
+ghost use Rattle.traces.specs.Trace.{found, link-written, link-layout};
 use super::Found;
 use super::LK;
 use super::Record;
@@ -17,7 +20,7 @@ use fields::read::two;
 // Bound k, counted from 0, of a link with so many levels: 0 past them.
 fn bound(s: &[u8], levels: usize, k: usize) -> u16
     requires { ⌜ k < 8 ⌝ }
-    ensures { λ r. ⌜ r ≡ bound-in (now (s .entry)) levels k ⌝ }
+    ensures { λ r. ⌜ r ≡ getD (get-fields (replicate levels 2) (now (s .entry)) 6) k 0 ⌝ }
 {
     if k < levels {
         return two(s, 6 + 2 * k);
@@ -27,7 +30,7 @@ fn bound(s: &[u8], levels: usize, k: usize) -> u16
 
 // The link with so many levels that the bytes hold.
 fn link_of(s: &[u8], levels: u8) -> Record
-    ensures { λ r. ⌜ r ≡ link-in (now (s .entry)) levels ⌝ }
+    ensures { λ r. ⌜ r ≡ LK .make (λ i. getD (levels ∷ number 2 (now (s .entry)) 3 ∷ number 1 (now (s .entry)) 5 ∷ get-fields (replicate levels 2) (now (s .entry)) 6) i 0) ⌝ }
 {
     let n = levels as usize;
     Record::Link {
@@ -47,7 +50,7 @@ fn link_of(s: &[u8], levels: u8) -> Record
 
 // A link: the number of levels says how many bounds follow.
 pub(crate) fn read(s: &[u8]) -> Found
-    ensures { λ r. ⌜ r ≡ found (read-row link-row (getD (now (s .entry)) 2 0) (now (s .entry))) ⌝ }
+    ensures { λ r. ⌜ r ≡ found (read-kind LK (getD (now (s .entry)) 2 0) (now (s .entry))) ⌝ }
 {
     let levels = one(s, 2);
     match levels {

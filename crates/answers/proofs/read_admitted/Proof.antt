@@ -1,5 +1,5 @@
 -- `answers::read_admitted` meets its contract: each field stands where the widths before it end.
-use Rattle.fields.specs.Formats.{read-row}
+use Rattle.fields.specs.Formats.{read-kind}
 use Rattle.fields.specs.Numbers.{get-fields, sum}
 use borrow.Author.Needs.{needs}
 use Rattle.answers.proofs.read_admitted.Statement.{statement}
@@ -21,7 +21,7 @@ whole-of-requires : tie.Need-whole-of-requires
 whole-of-requires c κs = search needs
 
 returns : tie.Need-returns
-unfolding read-row get-fields sum
+unfolding read-kind get-fields sum
 returns c =
     rw (
       c .whole-of .ensures,

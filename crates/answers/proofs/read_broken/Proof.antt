@@ -3,7 +3,7 @@ use mathlib.Core.Path.{_≡_, sym, _∙_}
 use borrow.Author.Tests.{eq-eqb, ne-eqb}
 use lib.ListN.{getD}
 use Rattle.fields.proofs.NumberLaws.{one-byte}
-use Rattle.fields.specs.Formats.{read-row}
+use Rattle.fields.specs.Formats.{read-kind}
 use Rattle.fields.specs.Numbers.{get-fields, sum}
 use borrow.Author.Needs.{needs}
 use Rattle.answers.proofs.read_broken.Statement.{statement}
@@ -22,14 +22,14 @@ nothing-requires : tie.Need-nothing-requires
 nothing-requires c κs = search needs
 
 returns : tie.Need-returns
-unfolding read-row get-fields sum
+unfolding read-kind get-fields sum
 returns c =
     let s = c .before .before .before .before .before .args .s .now in
     let e : c .before .before .before .one .result ≡ 14 = search needs in
     rw (eq-eqb (getD s 2 0) 14 (sym (c .before .before .before .one .ensures ∙ one-byte s 2) ∙ e), c .whole-of .ensures, c .before .four .ensures)
 
 returns-2 : tie.Need-returns-2
-unfolding read-row
+unfolding read-kind
 returns-2 c =
     let s = c .before .before .before .before .args .s .now in
     let e : c .before .before .one .result ≡ 14 → ⊥ = search needs in

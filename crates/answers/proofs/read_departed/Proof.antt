@@ -1,5 +1,5 @@
 -- `answers::read_departed` meets its contract: each field stands where the widths before it end.
-use Rattle.fields.specs.Formats.{read-row}
+use Rattle.fields.specs.Formats.{read-kind}
 use Rattle.fields.specs.Numbers.{get-fields, sum}
 use borrow.Author.Needs.{needs}
 use Rattle.answers.proofs.read_departed.Statement.{statement}
@@ -24,7 +24,7 @@ whole-of-requires : tie.Need-whole-of-requires
 whole-of-requires c κs = search needs
 
 returns : tie.Need-returns
-unfolding read-row get-fields sum
+unfolding read-kind get-fields sum
 returns c = rw (c .whole-of .ensures, c .before .before .before .before .before .one .ensures, c .before .before .before .before .four .ensures, c .before .before .before .four2 .ensures, c .before .before .four3 .ensures, c .before .four4 .ensures)
 
 pub read-departed-spec : {M : Type 1} → statement M

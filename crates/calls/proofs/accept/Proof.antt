@@ -1,5 +1,7 @@
+use Rattle.state.proofs.SoundLaws as S
+use Rattle.state.specs.View.{tables}
 use Rattle.calls.proofs.ActLaws as A
-use Rattle.lines.proofs.MemberLaws as M
+use Rattle.connections.proofs.MemberLaws as M
 use native.Mathlib.Omega.{arith}
 use mathlib.Core.Path.{sym, _∙_}
 use Rattle.tables.specs.Places.{rows}
@@ -11,7 +13,7 @@ use Rattle.calls.proofs.accept.Tie as tie
 member-at-requires : tie.Need-member-at-requires
 member-at-requires c κs =
     let a = c .before .before .before .before .args in
-    omega (arith, A.offer-below (a .h) (a .cs .now) (a .t .now) (a .q .now) (c .before .before .before .before .pre .0) (a .c) (a .len) (a .tag) (c .before .before .before .before .pre .1), M.members-end (a .cs .now))
+    omega (arith, A.offer-below (a .h) (tables (a .members .now) (a .places .now) (a .notices .now)) (c .before .before .before .before .pre .0) (a .c) (a .len) (a .tag) (c .before .before .before .before .pre .1), M.members-end (a .members .now))
 
 next-eligibility-requires : tie.Need-next-eligibility-requires
 next-eligibility-requires c κs = search needs
@@ -19,28 +21,28 @@ next-eligibility-requires c κs = search needs
 cast-e : tie.Need-cast-e
 cast-e c =
     let a = c .before .before .before .before .before .before .args in
-    let e = A.offer-eligibility (a .h) (a .cs .now) (a .t .now) (a .q .now) (c .before .before .before .before .before .before .pre .0) (a .c) (a .len) (a .tag) (c .before .before .before .before .before .before .pre .1) (c .before .member-at .result) (c .next-eligibility .result) (c .before .member-at .ensures) (c .next-eligibility .ensures) in
-    omega (arith, e, A.offer-fits (a .h) (a .cs .now) (a .t .now) (a .q .now) (c .before .before .before .before .before .before .pre .0) (a .c) (a .len) (a .tag) (c .before .before .before .before .before .before .pre .1))
+    let e = A.offer-eligibility (a .h) (tables (a .members .now) (a .places .now) (a .notices .now)) (c .before .before .before .before .before .before .pre .0) (a .c) (a .len) (a .tag) (c .before .before .before .before .before .before .pre .1) (c .before .member-at .result) (c .next-eligibility .result) (c .before .member-at .ensures) (c .next-eligibility .ensures) in
+    omega (arith, e, A.offer-fits (a .h) (tables (a .members .now) (a .places .now) (a .notices .now)) (c .before .before .before .before .before .before .pre .0) (a .c) (a .len) (a .tag) (c .before .before .before .before .before .before .pre .1))
 
 count-requires : tie.Need-count-requires
 count-requires c κs =
     let s = c .before .before .before .before .before .before .before in
-    (A.places-kept (s .args .h) (s .args .cs .now) (s .args .t .now) (s .args .q .now) (s .pre .0), A.places-size (s .args .h) (s .args .cs .now) (s .args .t .now) (s .args .q .now) (s .pre .0))
+    (S.places-kept (s .args .h) (tables (s .args .members .now) (s .args .places .now) (s .args .notices .now)) (s .pre .0), S.places-size (s .args .h) (tables (s .args .members .now) (s .args .places .now) (s .args .notices .now)) (s .pre .0))
 
 append-requires : tie.Need-append-requires
 append-requires c κs =
     let s = c .before .before .before .before .before .before .before .before .before in
     let a = s .args in
-    let z = A.places-size (a .h) (a .cs .now) (a .t .now) (a .q .now) (s .pre .0) in (
-      A.places-kept (a .h) (a .cs .now) (a .t .now) (a .q .now) (s .pre .0) ∙ sym (is-places (a .t .now) (rows (a .t .now)) z),
+    let z = S.places-size (a .h) (tables (a .members .now) (a .places .now) (a .notices .now)) (s .pre .0) in (
+      S.places-kept (a .h) (tables (a .members .now) (a .places .now) (a .notices .now)) (s .pre .0) ∙ sym (is-places (a .places .now) (rows (a .places .now)) z),
       c .before .count .ensures,
-      omega (arith, z, c .before .count .ensures, A.offer-room (a .h) (a .cs .now) (a .t .now) (a .q .now) (s .pre .0) (a .c) (a .len) (a .tag) (s .pre .1)),
+      omega (arith, z, c .before .count .ensures, A.offer-room (a .h) (tables (a .members .now) (a .places .now) (a .notices .now)) (s .pre .0) (a .c) (a .len) (a .tag) (s .pre .1)),
     )
 
 put-past-requires : tie.Need-put-past-requires
 put-past-requires c κs =
     let a = c .before .before .before .before .before .before .before .before .before .before .before .before .before .args in
-    (A.members-kept (a .h) (a .cs .now) (a .t .now) (a .q .now) (c .before .before .before .before .before .before .before .before .before .before .before .before .before .pre .0), A.offer-below (a .h) (a .cs .now) (a .t .now) (a .q .now) (c .before .before .before .before .before .before .before .before .before .before .before .before .before .pre .0) (a .c) (a .len) (a .tag) (c .before .before .before .before .before .before .before .before .before .before .before .before .before .pre .1), A.members-size (a .h) (a .cs .now) (a .t .now) (a .q .now) (c .before .before .before .before .before .before .before .before .before .before .before .before .before .pre .0))
+    (S.members-kept (a .h) (tables (a .members .now) (a .places .now) (a .notices .now)) (c .before .before .before .before .before .before .before .before .before .before .before .before .before .pre .0), A.offer-below (a .h) (tables (a .members .now) (a .places .now) (a .notices .now)) (c .before .before .before .before .before .before .before .before .before .before .before .before .before .pre .0) (a .c) (a .len) (a .tag) (c .before .before .before .before .before .before .before .before .before .before .before .before .before .pre .1), S.members-size (a .h) (tables (a .members .now) (a .places .now) (a .notices .now)) (c .before .before .before .before .before .before .before .before .before .before .before .before .before .pre .0))
 
 say-requires : tie.Need-say-requires
 say-requires c κs = search needs
@@ -55,10 +57,10 @@ returns : tie.Need-returns
 returns c =
     let a = c .before .before .before .before .before .before .before .before .before .before .before .before .before .before .before .before .before .args in
     let e = c .before .before .before .before .before .before .before .before .before .before .before .next-eligibility .result in
-    A.offer-acts (a .h) (a .cs .now) (a .t .now) (a .q .now) (c .before .before .before .before .before .before .before .before .before .before .before .before .before .before .before .before .before .pre .0) (a .c) (a .len) (a .tag) (c .before .before .before .before .before .before .before .before .before .before .before .before .before .before .before .before .before .pre .1) (c .say .result) e (c .before .before .before .put-past .last .0) (c .before .before .before .before .before .before .before .append .last .0)
-    (A.offer-eligibility (a .h) (a .cs .now) (a .t .now) (a .q .now) (c .before .before .before .before .before .before .before .before .before .before .before .before .before .before .before .before .before .pre .0) (a .c) (a .len) (a .tag) (c .before .before .before .before .before .before .before .before .before .before .before .before .before .before .before .before .before .pre .1) (c .before .before .before .before .before .before .before .before .before .before .before .before .member-at .result) e (c .before .before .before .before .before .before .before .before .before .before .before .before .member-at .ensures) (c .before .before .before .before .before .before .before .before .before .before .before .next-eligibility .ensures))
+    A.offer-acts (a .h) (tables (a .members .now) (a .places .now) (a .notices .now)) (c .before .before .before .before .before .before .before .before .before .before .before .before .before .before .before .before .before .pre .0) (a .c) (a .len) (a .tag) (c .before .before .before .before .before .before .before .before .before .before .before .before .before .before .before .before .before .pre .1) (c .say .result) e (c .before .before .before .put-past .last .0) (c .before .before .before .before .before .before .before .append .last .0)
+    (A.offer-eligibility (a .h) (tables (a .members .now) (a .places .now) (a .notices .now)) (c .before .before .before .before .before .before .before .before .before .before .before .before .before .before .before .before .before .pre .0) (a .c) (a .len) (a .tag) (c .before .before .before .before .before .before .before .before .before .before .before .before .before .before .before .before .before .pre .1) (c .before .before .before .before .before .before .before .before .before .before .before .before .member-at .result) e (c .before .before .before .before .before .before .before .before .before .before .before .before .member-at .ensures) (c .before .before .before .before .before .before .before .before .before .before .before .next-eligibility .ensures))
     (c .say .ensures) (c .before .before .before .put-past .ensures)
-    (c .before .before .before .before .before .before .before .append .ensures ∙ is-places (a .t .now) _ (A.places-size (a .h) (a .cs .now) (a .t .now) (a .q .now) (c .before .before .before .before .before .before .before .before .before .before .before .before .before .before .before .before .before .pre .0)))
+    (c .before .before .before .before .before .before .before .append .ensures ∙ is-places (a .places .now) _ (S.places-size (a .h) (tables (a .members .now) (a .places .now) (a .notices .now)) (c .before .before .before .before .before .before .before .before .before .before .before .before .before .before .before .before .before .pre .0)))
 
 pub accept-spec : {M : Type 1} → statement M
 accept-spec =

@@ -1,61 +1,44 @@
-use borrow.Author.Needs.{needs}
+use Rattle.rules.specs.Model.{link}
+use native.Mathlib.Omega.{arith}
+use Rattle.state.specs.View.{tables}
+use mathlib.Core.Path.{refl}
+use Rattle.state.proofs.SoundLaws as S
 use Rattle.calls.proofs.ActLaws as A
 use Rattle.calls.proofs.VerdictLaws as W
-use Rattle.rules.specs.Model.{link}
-use borrow.Author.Tests.{not-true, not-false}
-use native.Mathlib.Omega.{arith}
-use mathlib.Core.Path.{refl, sym, _∙_}
-use Rattle.service.specs.View.{view}
 use borrow.Author.Needs.{needs}
 use Rattle.calls.proofs.link_tested.Statement.{statement}
 use Rattle.calls.proofs.link_tested.Tie as tie
+use Rattle.calls.proofs.link_tested.Reads as reads
+use Rattle.calls.proofs.link_tested.Lts as lts
+use Rattle.calls.proofs.verdicts.link_verdict.Reads as link-verdict-reads
+use Rattle.state.proofs.say.Reads as say-reads
 
+-- src/lib.rt:24:9
+link-verdict-requires : tie.Need-link-verdict-requires
+link-verdict-requires c κs = search needs
+
+-- src/lib.rt:26:9
 say-requires : tie.Need-say-requires
 say-requires c κs = search needs
 
+-- src/lib.rt:26:9
 returns : tie.Need-returns
 returns c =
-    let a = c .before .before .before .before .before .before .args in
-    let ok = c .before .before .before .before .before .before .pre in
-    let st = A.tested (a .h) (a .cs .now) (a .t .now) (a .q .now) ok .state in
-    let s = view (a .h) (a .cs .now) (a .t .now) (a .q .now) in
-    A.refuses (a .h) (a .cs .now) (a .t .now) (a .q .now) ok (link (a .l)) 3 2 0 (c .say .result) (W.link-set-already s st (a .l) (c .before .if1 .taken)) refl refl (c .say .ensures)
+    let z = c .before .before .before .before .before .before in
+    let t = tables (z .args .members .now) (z .args .places .now) (z .args .notices .now) in
+    A.refused (z .args .h) t (z .pre) (link (z .args .l)) _ 0 _ (c .before .before .link-verdict .ensures) (c .before .if1 .taken) refl refl (c .say .ensures)
 
-link-ok-requires : tie.Need-link-ok-requires
-link-ok-requires c κs = search needs
-
+-- src/lib.rt:30:5
 say-requires-2 : tie.Need-say-requires-2
 say-requires-2 c κs = search needs
 
+-- src/lib.rt:20:1
 returns-2 : tie.Need-returns-2
 returns-2 c =
-    let a = c .before .before .before .before .before .before .before .before .args in
-    let ok = c .before .before .before .before .before .before .before .before .pre in
-    let st = A.tested (a .h) (a .cs .now) (a .t .now) (a .q .now) ok .state in
-    let s = view (a .h) (a .cs .now) (a .t .now) (a .q .now) in
-    A.refuses (a .h) (a .cs .now) (a .t .now) (a .q .now) ok (link (a .l)) 4 3 0 (c .say2 .result) (W.link-broken s st (a .l) (omega (arith, c .before .before .before .if1 .left)) (sym (c .before .before .link-ok .ensures) ∙ not-true _ (c .before .if2 .taken))) refl refl (c .say2 .ensures)
-
-say-requires-3 : tie.Need-say-requires-3
-say-requires-3 c κs = search needs
-
-returns-3 : tie.Need-returns-3
-returns-3 c =
-    let a = c .before .before .before .before .before .before .before .before .args in
-    let ok = c .before .before .before .before .before .before .before .before .pre in
-    let st = A.tested (a .h) (a .cs .now) (a .t .now) (a .q .now) ok .state in
-    let s = view (a .h) (a .cs .now) (a .t .now) (a .q .now) in
-    A.acts (a .h) (a .cs .now) (a .t .now) (a .q .now) ok (link (a .l)) (c .say3 .result) (a .cs .now) (a .t .now) (a .q .now)
-    (W.link-good s st (a .l) (omega (arith, c .before .before .before .if1 .left)) (sym (c .before .before .link-ok .ensures) ∙ not-false _ (c .before .if2 .left)))
-    (c .say3 .ensures) (A.members-kept (a .h) (a .cs .now) (a .t .now) (a .q .now) ok) (A.places-kept (a .h) (a .cs .now) (a .t .now) (a .q .now) ok) (A.notices-kept (a .h) (a .cs .now) (a .t .now) (a .q .now) ok)
+    let z = c .before .before .before .before .before .before in
+    let t = tables (z .args .members .now) (z .args .places .now) (z .args .notices .now) in
+    A.linked (z .args .h) t (z .pre) (z .args .l) _ _ (W.zero-then _ _ (c .before .before .link-verdict .ensures) (omega (arith, c .before .if1 .left))) refl (c .say2 .ensures)
 
 pub link-tested-spec : {M : Type 1} → statement M
 link-tested-spec =
-    tie.close
-    (tie.spec
-    say-requires
-    returns
-    link-ok-requires
-    say-requires-2
-    returns-2
-    say-requires-3
-    returns-3)
+    tie.close (tie.spec link-verdict-requires say-requires returns say-requires-2 returns-2)

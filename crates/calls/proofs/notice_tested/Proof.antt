@@ -1,54 +1,66 @@
-use Rattle.calls.proofs.ActLaws as A
-use Prim.Native.Nat.{_-_}
-use native.Mathlib.Omega.{arith}
-use mathlib.Core.Path.{refl, sym, _∙_}
 use Rattle.rules.specs.Model.{notice}
+use native.Mathlib.Omega.{arith}
+use Rattle.state.specs.View.{tables}
+use mathlib.Core.Path.{refl}
+use Rattle.state.proofs.SoundLaws as S
+use Rattle.calls.proofs.ActLaws as A
+use Rattle.calls.proofs.VerdictLaws as W
 use borrow.Author.Needs.{needs}
 use Rattle.calls.proofs.notice_tested.Statement.{statement}
 use Rattle.calls.proofs.notice_tested.Tie as tie
+use Rattle.calls.proofs.notice_tested.Reads as reads
+use Rattle.calls.proofs.notice_tested.Lts as lts
+use Rattle.calls.proofs.verdicts.notice_verdict.Reads as notice-verdict-reads
+use Rattle.state.proofs.say.Reads as say-reads
+use Rattle.tables.proofs.append.Reads as append-reads
+use Rattle.tables.proofs.held.Reads as held-reads
 
+-- src/lib.rt:116:9
 held-requires : tie.Need-held-requires
 held-requires c κs = search needs
 
+-- src/lib.rt:117:9
 notice-verdict-requires : tie.Need-notice-verdict-requires
 notice-verdict-requires c κs = search needs
 
+-- src/lib.rt:119:9
 say-requires : tie.Need-say-requires
 say-requires c κs = search needs
 
+-- src/lib.rt:119:9
 same-length : tie.Need-same-length
 same-length c = search needs
 
+-- src/lib.rt:119:9
 returns : tie.Need-returns
 returns c =
-    let s = c .before .before .before .before .before .before .before .before .before in
-    let a = s .args in
-    let v = c .before .before .notice-verdict in
-    A.refuses (a .h) (a .cs .now) (a .t .now) (a .q .now) (s .pre) (notice (a .len) (a .tag)) (v .result) (v .result - 1) 0 (c .say .result) (sym (v .ensures)) (omega (arith, c .before .if1 .taken)) refl (c .say .ensures)
+    let z = c .before .before .before .before .before .before .before .before .before in
+    let t = tables (z .args .members .now) (z .args .places .now) (z .args .notices .now) in
+    A.refused (z .args .h) t (z .pre) (notice (z .args .len) (z .args .tag)) _ 0 _ (c .before .before .notice-verdict .ensures (z .args .tag)) (c .before .if1 .taken) refl refl (c .say .ensures)
 
+-- src/lib.rt:121:5
 append-requires : tie.Need-append-requires
 append-requires c κs =
-    let s = c .before .before .before .before .before .before .before .before .before in
-    let a = s .args in
-    let v = c .before .before .notice-verdict in
-    let n = c .before .before .before .before .held in (
-      A.notices-as-table (a .h) (a .cs .now) (a .t .now) (a .q .now) (s .pre),
-      n .ensures,
-      omega (arith, n .ensures, A.notice-room (a .h) (a .cs .now) (a .t .now) (a .q .now) (s .pre) (a .len) (a .tag) (sym (v .ensures) ∙ omega (arith, c .before .if1 .left))),
-    )
+    let z = c .before .before .before .before .before .before .before .before .before in
+    let t = tables (z .args .members .now) (z .args .places .now) (z .args .notices .now) in
+    let good = W.zero-then _ _ (c .before .before .notice-verdict .ensures (z .args .tag)) (omega (arith, c .before .if1 .left)) in
+    (S.notices-as-table (z .args .h) t (z .pre), c .before .before .before .before .held .ensures, omega (arith, c .before .before .before .before .held .ensures, A.notice-room (z .args .h) t (z .pre) (z .args .len) (z .args .tag) good))
 
+-- src/lib.rt:132:5
 say-requires-2 : tie.Need-say-requires-2
 say-requires-2 c κs = search needs
 
+-- src/lib.rt:112:1
 same-length-2 : tie.Need-same-length-2
 same-length-2 c = search needs
 
+-- src/lib.rt:112:1
 returns-2 : tie.Need-returns-2
 returns-2 c =
-    let s = c .before .before .before .before .before .before .before .before .before .before .before .before .before in
-    let a = s .args in
-    let v = c .before .before .before .before .before .before .notice-verdict in
-    A.notice-acts (a .h) (a .cs .now) (a .t .now) (a .q .now) (s .pre) (a .len) (a .tag) (sym (v .ensures) ∙ omega (arith, c .before .before .before .before .before .if1 .left)) (c .say2 .result) _ (c .say2 .ensures) (c .before .before .before .append .ensures)
+    let z = c .before .before .before .before .before .before .before .before .before .before .before .before .before in
+    let t = tables (z .args .members .now) (z .args .places .now) (z .args .notices .now) in
+    let good = W.zero-then _ _ (c .before .before .before .before .before .before .notice-verdict .ensures (z .args .tag)) (omega (arith, c .before .before .before .before .before .if1 .left)) in
+    A.notice-acts (z .args .h) t (z .pre) (z .args .len) (z .args .tag) good _ _ (c .say2 .ensures) (c .before .before .before .append .ensures)
 
 pub notice-tested-spec : {M : Type 1} → statement M
 notice-tested-spec =

@@ -1,7 +1,7 @@
 use Rattle.firmware.proofs.AskedLaws as A
 use native.Mathlib.Omega.{arith}
 use mathlib.Core.Path.{ap}
-use Rattle.rules.specs.Model.{Short}
+use Rattle.rules.specs.declared.Short.{Short}
 use borrow.Author.Needs.{needs}
 use Rattle.firmware.proofs.mtredovim_short_level.Statement.{statement}
 use Rattle.firmware.proofs.mtredovim_short_level.Tie as tie

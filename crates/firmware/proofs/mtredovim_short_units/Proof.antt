@@ -1,5 +1,5 @@
 use mathlib.Core.Path.{ap}
-use Rattle.rules.specs.Model.{Short}
+use Rattle.rules.specs.declared.Short.{Short}
 use borrow.Author.Needs.{needs}
 use Rattle.firmware.proofs.mtredovim_short_units.Statement.{statement}
 use Rattle.firmware.proofs.mtredovim_short_units.Tie as tie

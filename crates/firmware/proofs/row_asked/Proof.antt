@@ -1,5 +1,8 @@
-use mathlib.Core.Path.{_∙_}
 use Rattle.firmware.proofs.AskedLaws as A
+use Prim.Native.Nat.{_*_}
+use mathlib.Core.Path.{_∙_}
+use Rattle.fields.proofs.PartLaws.{part-all}
+use Rattle.firmware.specs.Questions.{row-bytes}
 use borrow.Author.Needs.{needs}
 use Rattle.firmware.proofs.row_asked.Statement.{statement}
 use Rattle.firmware.proofs.row_asked.Tie as tie
@@ -7,70 +10,44 @@ use Rattle.firmware.proofs.row_asked.Tie as tie
 mul-at : tie.Need-mul-at
 mul-at c = search needs
 
-element-copy-out-t11 : tie.Need-element-copy-out-t11
-element-copy-out-t11 c = search needs
+sub-row : tie.Need-sub-row
+sub-row c = search needs
 
-element-copy-out-t14 : tie.Need-element-copy-out-t14
-element-copy-out-t14 c = search needs
+part-row-start : tie.Need-part-row-start
+part-row-start c = search needs
 
-shared-slice-read-t16 : tie.Need-shared-slice-read-t16
-shared-slice-read-t16 c = search needs
+part-row-end : tie.Need-part-row-end
+part-row-end c = search needs
 
-add-t17 : tie.Need-add-t17
-add-t17 c = search needs
+one-requires : tie.Need-one-requires
+one-requires c κs = search needs
 
-shared-slice-read-t19 : tie.Need-shared-slice-read-t19
-shared-slice-read-t19 c = search needs
+two-requires : tie.Need-two-requires
+two-requires c κs = search needs
 
-add-t20 : tie.Need-add-t20
-add-t20 c = search needs
+two-requires-2 : tie.Need-two-requires-2
+two-requires-2 c κs = search needs
 
-shared-slice-read-t22 : tie.Need-shared-slice-read-t22
-shared-slice-read-t22 c = search needs
-
-add-t23 : tie.Need-add-t23
-add-t23 c = search needs
-
-shared-slice-read-t25 : tie.Need-shared-slice-read-t25
-shared-slice-read-t25 c = search needs
-
-add-t26 : tie.Need-add-t26
-add-t26 c = search needs
-
-shared-slice-read-t28 : tie.Need-shared-slice-read-t28
-shared-slice-read-t28 c = search needs
-
-slice-aggregate-read : tie.Need-slice-aggregate-read
-slice-aggregate-read c = search needs
-
-read-requires : tie.Need-read-requires
-read-requires c κs = search needs
-
-connection-of-requires : tie.Need-connection-of-requires
-connection-of-requires c κs = search needs
+connection-named-requires : tie.Need-connection-named-requires
+connection-named-requires c κs = search needs
 
 returns : tie.Need-returns
 returns c =
-    let s = c .before .before .before .before .before .before .before .before .before .before .before .before in
-    c .connection-of .ensures ∙ A.row-is (s .args .rows .now) (s .args .i) (s .pre) (c .before .read .result) (c .before .read .ensures)
+    let a = c .before .before .before .before .before .before .args in
+    c .connection-named .ensures
+    ∙ rw (c .before .before .before .one .ensures, c .before .before .two .ensures, c .before .two2 .ensures)
+    (A.row-is (a .rows .now) (a .i) _ (part-all (row-bytes * a .i) (a .rows .now)))
 
 pub row-asked-spec : {M : Type 1} → statement M
 row-asked-spec =
     tie.close
     (tie.spec
     mul-at
-    element-copy-out-t11
-    element-copy-out-t14
-    shared-slice-read-t16
-    add-t17
-    shared-slice-read-t19
-    add-t20
-    shared-slice-read-t22
-    add-t23
-    shared-slice-read-t25
-    add-t26
-    shared-slice-read-t28
-    slice-aggregate-read
-    read-requires
-    connection-of-requires
+    sub-row
+    part-row-start
+    part-row-end
+    one-requires
+    two-requires
+    two-requires-2
+    connection-named-requires
     returns)

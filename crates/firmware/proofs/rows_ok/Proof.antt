@@ -6,13 +6,13 @@ use mathlib.Core.Bool.{true}
 use borrow.Author.Tests.{not-true, not-false}
 use Rattle.rules.specs.Words.{every}
 use Rattle.rules.specs.SoundTest.{connection-sound}
-use Rattle.firmware.specs.Questions.{row-within}
+use Rattle.firmware.proofs.AskedLaws.{row-ok}
 use borrow.Author.Needs.{needs}
 use Rattle.firmware.proofs.rows_ok.Statement.{statement}
 use Rattle.firmware.proofs.rows_ok.Tie as tie
 
 abbrev Inv-loop : tie.InvT-loop
-Inv-loop l rows n i₀ i = (i ≤ n) × (every i (row-within l rows) ≡ true)
+Inv-loop l rows n i₀ i = (i ≤ n) × (every i (row-ok l rows) ≡ true)
 
 abbrev μ-loop : tie.MeasureT-loop
 μ-loop l rows n i₀ i = n - i
@@ -29,7 +29,7 @@ connection-ok-requires c κs = search needs
 returns : tie.Need-returns Inv-loop μ-loop
 returns c =
     let a = c .before .before .before .before .before .before .args in
-    E.every-fails (a .n) (row-within (a .l) (a .rows .now)) (c .before .before .before .before .loop .i) (search needs)
+    E.every-fails (a .n) (row-ok (a .l) (a .rows .now)) (c .before .before .before .before .loop .i) (search needs)
     (ap (connection-sound (a .l)) (sym (c .before .before .row-asked .ensures)) ∙ sym (c .before .connection-ok .ensures) ∙ not-true _ (c .if1 .taken))
 
 add-i : tie.Need-add-i Inv-loop μ-loop
@@ -43,7 +43,7 @@ loop-again c =
     let a = c .before .before .before .before .before .before .args in
     let k = c .before .before .before .before .loop in (
       search needs,
-      E.every-next (k .i) (row-within (a .l) (a .rows .now)) (k .inv .1)
+      E.every-next (k .i) (row-ok (a .l) (a .rows .now)) (k .inv .1)
           (ap (connection-sound (a .l)) (sym (c .before .before .row-asked .ensures)) ∙ sym (c .before .connection-ok .ensures) ∙ not-false _ (c .if1 .left)),
     )
 

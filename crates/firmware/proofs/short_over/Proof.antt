@@ -2,7 +2,7 @@ use Rattle.firmware.proofs.AskedLaws as A
 use Rattle.firmware.proofs.LaidLaws as L
 use mathlib.Core.Path.{sym, ap, _∙_, subst}
 use Rattle.rules.specs.Admission.{level-test}
-use Rattle.lines.specs.Within.{Within}
+use Rattle.connections.specs.Within.{Within}
 use borrow.Author.Needs.{needs}
 use Rattle.firmware.proofs.short_over.Statement.{statement}
 use Rattle.firmware.proofs.short_over.Tie as tie

@@ -1,32 +1,42 @@
-use Rattle.hub.proofs.DoesLaws as D
 use borrow.Author.Tests.{not-true, not-false}
-use mathlib.Core.Path.{refl}
-use mathlib.Core.Bool.{true, false}
+use mathlib.Core.Path.{refl, sym, _∙_}
 use Rattle.rules.specs.Model.{admit}
+use Rattle.state.specs.View.{tables}
+use Rattle.state.proofs.DoesLaws.{refuses-unsound}
 use borrow.Author.Needs.{needs}
 use Rattle.hub.proofs.admit.Statement.{statement}
 use Rattle.hub.proofs.admit.Tie as tie
 
+-- src/lib.rt:55:9
 is-sound-requires : tie.Need-is-sound-requires
 is-sound-requires c κs = search needs
 
+-- src/lib.rt:56:9
 say-requires : tie.Need-say-requires
 say-requires c κs = search needs
 
+-- src/lib.rt:56:9
 same-length : tie.Need-same-length
 same-length c = search needs
 
+-- src/lib.rt:56:9
 returns : tie.Need-returns
-returns c = let a = c .before .before .before .before .before .before .before .before .args in D.refuses-unsound (admit (a .x)) (a .h) (a .cs .now) (a .t .now) (a .q .now) (D.tested (admit (a .x)) (a .h) (a .cs .now) (a .t .now) (a .q .now) (c .before .before .is-sound .result) false (c .before .before .is-sound .ensures) (not-true _ (c .before .if1 .taken))) (c .say .result) 255 refl (c .say .ensures)
+returns c =
+    let z = c .before .before .before .before .before .before .before in
+    let t = tables (z .args .members .now) (z .args .places .now) (z .args .notices .now) in
+    refuses-unsound (admit (z .args .x)) (z .args .h) t (sym (c .before .before .is-sound .ensures) ∙ not-true _ (c .before .if1 .taken)) _ 255 refl (c .say .ensures)
 
+-- src/lib.rt:58:5
 admit-tested-requires : tie.Need-admit-tested-requires
-admit-tested-requires c κs = let a = c .before .before .before .before .before .before .before .before .args in (D.tested (admit (a .x)) (a .h) (a .cs .now) (a .t .now) (a .q .now) (c .before .before .is-sound .result) true (c .before .before .is-sound .ensures) (not-false _ (c .before .if1 .left)))
+admit-tested-requires c κs = sym (c .before .before .is-sound .ensures) ∙ not-false _ (c .before .if1 .left)
 
+-- src/lib.rt:52:1
 same-length-2 : tie.Need-same-length-2
 same-length-2 c = search needs
 
+-- src/lib.rt:52:1
 returns-2 : tie.Need-returns-2
-returns-2 c = let a = c .before .before .before .before .before .before .before .before .before .before .before .args in D.does (admit (a .x)) (a .h) (a .cs .now) (a .t .now) (a .q .now) (D.tested (admit (a .x)) (a .h) (a .cs .now) (a .t .now) (a .q .now) (c .before .before .before .before .before .is-sound .result) true (c .before .before .before .before .before .is-sound .ensures) (not-false _ (c .before .before .before .before .if1 .left))) (c .before .before .admit-tested .result) (c .before .before .admit-tested .last .1 .0) (a .t .now) (a .q .now) (c .before .before .admit-tested .ensures)
+returns-2 c = search needs
 
 pub admit-spec : {M : Type 1} → statement M
 admit-spec =

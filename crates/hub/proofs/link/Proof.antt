@@ -1,26 +1,34 @@
-use Rattle.hub.proofs.DoesLaws as D
 use borrow.Author.Tests.{not-true, not-false}
-use mathlib.Core.Path.{refl}
-use mathlib.Core.Bool.{true, false}
+use mathlib.Core.Path.{refl, sym, _∙_}
 use Rattle.rules.specs.Model.{link}
+use Rattle.state.specs.View.{tables}
+use Rattle.state.proofs.DoesLaws.{refuses-unsound}
 use borrow.Author.Needs.{needs}
 use Rattle.hub.proofs.link.Statement.{statement}
 use Rattle.hub.proofs.link.Tie as tie
 
+-- src/lib.rt:45:9
 is-sound-requires : tie.Need-is-sound-requires
 is-sound-requires c κs = search needs
 
+-- src/lib.rt:46:9
 say-requires : tie.Need-say-requires
 say-requires c κs = search needs
 
+-- src/lib.rt:46:9
 returns : tie.Need-returns
-returns c = let a = c .before .before .before .before .before .before .before .args in D.refuses-unsound (link (a .l)) (a .h) (a .cs .now) (a .t .now) (a .q .now) (D.tested (link (a .l)) (a .h) (a .cs .now) (a .t .now) (a .q .now) (c .before .before .is-sound .result) false (c .before .before .is-sound .ensures) (not-true _ (c .before .if1 .taken))) (c .say .result) 0 refl (c .say .ensures)
+returns c =
+    let z = c .before .before .before .before .before .before in
+    let t = tables (z .args .members .now) (z .args .places .now) (z .args .notices .now) in
+    refuses-unsound (link (z .args .l)) (z .args .h) t (sym (c .before .before .is-sound .ensures) ∙ not-true _ (c .before .if1 .taken)) _ 0 refl (c .say .ensures)
 
+-- src/lib.rt:48:5
 link-tested-requires : tie.Need-link-tested-requires
-link-tested-requires c κs = let a = c .before .before .before .before .before .before .args in (D.tested (link (a .l)) (a .h) (a .cs .now) (a .t .now) (a .q .now) (c .before .is-sound .result) true (c .before .is-sound .ensures) (not-false _ (c .if1 .left)))
+link-tested-requires c κs = sym (c .before .is-sound .ensures) ∙ not-false _ (c .if1 .left)
 
+-- src/lib.rt:42:1
 returns-2 : tie.Need-returns-2
-returns-2 c = let a = c .before .before .before .before .before .before .before .args in D.does (link (a .l)) (a .h) (a .cs .now) (a .t .now) (a .q .now) (D.tested (link (a .l)) (a .h) (a .cs .now) (a .t .now) (a .q .now) (c .before .before .is-sound .result) true (c .before .before .is-sound .ensures) (not-false _ (c .before .if1 .left))) (c .link-tested .result) (a .cs .now) (a .t .now) (a .q .now) (c .link-tested .ensures)
+returns-2 c = search needs
 
 pub link-spec : {M : Type 1} → statement M
 link-spec =

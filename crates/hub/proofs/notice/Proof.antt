@@ -1,32 +1,42 @@
-use Rattle.hub.proofs.DoesLaws as D
 use borrow.Author.Tests.{not-true, not-false}
-use mathlib.Core.Path.{refl}
-use mathlib.Core.Bool.{true, false}
+use mathlib.Core.Path.{refl, sym, _∙_}
 use Rattle.rules.specs.Model.{notice}
+use Rattle.state.specs.View.{tables}
+use Rattle.state.proofs.DoesLaws.{refuses-unsound}
 use borrow.Author.Needs.{needs}
 use Rattle.hub.proofs.notice.Statement.{statement}
 use Rattle.hub.proofs.notice.Tie as tie
 
+-- src/lib.rt:90:9
 is-sound-requires : tie.Need-is-sound-requires
 is-sound-requires c κs = search needs
 
+-- src/lib.rt:91:9
 say-requires : tie.Need-say-requires
 say-requires c κs = search needs
 
+-- src/lib.rt:91:9
 same-length : tie.Need-same-length
 same-length c = search needs
 
+-- src/lib.rt:91:9
 returns : tie.Need-returns
-returns c = let a = c .before .before .before .before .before .before .before .before .args in D.refuses-unsound (notice (a .len) (a .tag)) (a .h) (a .cs .now) (a .t .now) (a .q .now) (D.tested (notice (a .len) (a .tag)) (a .h) (a .cs .now) (a .t .now) (a .q .now) (c .before .before .is-sound .result) false (c .before .before .is-sound .ensures) (not-true _ (c .before .if1 .taken))) (c .say .result) 0 refl (c .say .ensures)
+returns c =
+    let z = c .before .before .before .before .before .before .before in
+    let t = tables (z .args .members .now) (z .args .places .now) (z .args .notices .now) in
+    refuses-unsound (notice (z .args .len) (z .args .tag)) (z .args .h) t (sym (c .before .before .is-sound .ensures) ∙ not-true _ (c .before .if1 .taken)) _ 0 refl (c .say .ensures)
 
+-- src/lib.rt:93:5
 notice-tested-requires : tie.Need-notice-tested-requires
-notice-tested-requires c κs = let a = c .before .before .before .before .before .before .before .before .args in (D.tested (notice (a .len) (a .tag)) (a .h) (a .cs .now) (a .t .now) (a .q .now) (c .before .before .is-sound .result) true (c .before .before .is-sound .ensures) (not-false _ (c .before .if1 .left)))
+notice-tested-requires c κs = sym (c .before .before .is-sound .ensures) ∙ not-false _ (c .before .if1 .left)
 
+-- src/lib.rt:80:1
 same-length-2 : tie.Need-same-length-2
 same-length-2 c = search needs
 
+-- src/lib.rt:80:1
 returns-2 : tie.Need-returns-2
-returns-2 c = let a = c .before .before .before .before .before .before .before .before .before .before .before .args in D.does (notice (a .len) (a .tag)) (a .h) (a .cs .now) (a .t .now) (a .q .now) (D.tested (notice (a .len) (a .tag)) (a .h) (a .cs .now) (a .t .now) (a .q .now) (c .before .before .before .before .before .is-sound .result) true (c .before .before .before .before .before .is-sound .ensures) (not-false _ (c .before .before .before .before .if1 .left))) (c .before .before .notice-tested .result) (a .cs .now) (a .t .now) (c .before .before .notice-tested .last .1 .1 .1 .0) (c .before .before .notice-tested .ensures)
+returns-2 c = search needs
 
 pub notice-spec : {M : Type 1} → statement M
 notice-spec =

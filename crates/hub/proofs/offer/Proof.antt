@@ -1,38 +1,50 @@
-use Rattle.hub.proofs.DoesLaws as D
 use borrow.Author.Tests.{not-true, not-false}
-use mathlib.Core.Path.{refl}
-use mathlib.Core.Bool.{true, false}
+use mathlib.Core.Path.{refl, sym, _∙_}
 use Rattle.rules.specs.Model.{offer}
+use Rattle.state.specs.View.{tables}
+use Rattle.state.proofs.DoesLaws.{refuses-unsound}
 use borrow.Author.Needs.{needs}
 use Rattle.hub.proofs.offer.Statement.{statement}
 use Rattle.hub.proofs.offer.Tie as tie
 
+-- src/lib.rt:73:9
 is-sound-requires : tie.Need-is-sound-requires
 is-sound-requires c κs = search needs
 
+-- src/lib.rt:74:9
 say-requires : tie.Need-say-requires
 say-requires c κs = search needs
 
+-- src/lib.rt:74:9
 same-length : tie.Need-same-length
 same-length c = search needs
 
+-- src/lib.rt:74:9
 same-length-2 : tie.Need-same-length-2
 same-length-2 c = search needs
 
+-- src/lib.rt:74:9
 returns : tie.Need-returns
-returns c = let a = c .before .before .before .before .before .before .before .before .before .args in D.refuses-unsound (offer (a .c) (a .len) (a .tag)) (a .h) (a .cs .now) (a .t .now) (a .q .now) (D.tested (offer (a .c) (a .len) (a .tag)) (a .h) (a .cs .now) (a .t .now) (a .q .now) (c .before .before .is-sound .result) false (c .before .before .is-sound .ensures) (not-true _ (c .before .if1 .taken))) (c .say .result) 0 refl (c .say .ensures)
+returns c =
+    let z = c .before .before .before .before .before .before .before .before in
+    let t = tables (z .args .members .now) (z .args .places .now) (z .args .notices .now) in
+    refuses-unsound (offer (z .args .c) (z .args .len) (z .args .tag)) (z .args .h) t (sym (c .before .before .is-sound .ensures) ∙ not-true _ (c .before .if1 .taken)) _ 0 refl (c .say .ensures)
 
+-- src/lib.rt:76:5
 offer-tested-requires : tie.Need-offer-tested-requires
-offer-tested-requires c κs = let a = c .before .before .before .before .before .before .before .before .before .before .args in (D.tested (offer (a .c) (a .len) (a .tag)) (a .h) (a .cs .now) (a .t .now) (a .q .now) (c .before .before .before .is-sound .result) true (c .before .before .before .is-sound .ensures) (not-false _ (c .before .before .if1 .left)))
+offer-tested-requires c κs = sym (c .before .before .before .is-sound .ensures) ∙ not-false _ (c .before .before .if1 .left)
 
+-- src/lib.rt:62:1
 same-length-3 : tie.Need-same-length-3
 same-length-3 c = search needs
 
+-- src/lib.rt:62:1
 same-length-4 : tie.Need-same-length-4
 same-length-4 c = search needs
 
+-- src/lib.rt:62:1
 returns-2 : tie.Need-returns-2
-returns-2 c = let a = c .before .before .before .before .before .before .before .before .before .before .before .before .before .before .before .args in D.does (offer (a .c) (a .len) (a .tag)) (a .h) (a .cs .now) (a .t .now) (a .q .now) (D.tested (offer (a .c) (a .len) (a .tag)) (a .h) (a .cs .now) (a .t .now) (a .q .now) (c .before .before .before .before .before .before .before .before .is-sound .result) true (c .before .before .before .before .before .before .before .before .is-sound .ensures) (not-false _ (c .before .before .before .before .before .before .before .if1 .left))) (c .before .before .before .before .offer-tested .result) (c .before .before .before .before .offer-tested .last .1 .0) (c .before .before .before .before .offer-tested .last .1 .1 .0) (a .q .now) (c .before .before .before .before .offer-tested .ensures)
+returns-2 c = search needs
 
 pub offer-spec : {M : Type 1} → statement M
 offer-spec =

@@ -1,38 +1,50 @@
-use Rattle.hub.proofs.DoesLaws as D
 use borrow.Author.Tests.{not-true, not-false}
-use mathlib.Core.Path.{refl}
-use mathlib.Core.Bool.{true, false}
+use mathlib.Core.Path.{refl, sym, _∙_}
 use Rattle.rules.specs.Model.{tick}
+use Rattle.state.specs.View.{tables}
+use Rattle.state.proofs.DoesLaws.{refuses-unsound}
 use borrow.Author.Needs.{needs}
 use Rattle.hub.proofs.tick.Statement.{statement}
 use Rattle.hub.proofs.tick.Tie as tie
 
+-- src/lib.rt:100:9
 is-sound-requires : tie.Need-is-sound-requires
 is-sound-requires c κs = search needs
 
+-- src/lib.rt:101:9
 say-requires : tie.Need-say-requires
 say-requires c κs = search needs
 
+-- src/lib.rt:101:9
 same-length : tie.Need-same-length
 same-length c = search needs
 
+-- src/lib.rt:101:9
 same-length-2 : tie.Need-same-length-2
 same-length-2 c = search needs
 
+-- src/lib.rt:101:9
 returns : tie.Need-returns
-returns c = let a = c .before .before .before .before .before .before .before .before .before .args in D.refuses-unsound tick (a .h) (a .cs .now) (a .t .now) (a .q .now) (D.tested tick (a .h) (a .cs .now) (a .t .now) (a .q .now) (c .before .before .is-sound .result) false (c .before .before .is-sound .ensures) (not-true _ (c .before .if1 .taken))) (c .say .result) 0 refl (c .say .ensures)
+returns c =
+    let z = c .before .before .before .before .before .before .before .before in
+    let t = tables (z .args .members .now) (z .args .places .now) (z .args .notices .now) in
+    refuses-unsound tick (z .args .h) t (sym (c .before .before .is-sound .ensures) ∙ not-true _ (c .before .if1 .taken)) _ 0 refl (c .say .ensures)
 
+-- src/lib.rt:103:5
 tick-tested-requires : tie.Need-tick-tested-requires
-tick-tested-requires c κs = let a = c .before .before .before .before .before .before .before .before .before .before .args in (D.tested tick (a .h) (a .cs .now) (a .t .now) (a .q .now) (c .before .before .before .is-sound .result) true (c .before .before .before .is-sound .ensures) (not-false _ (c .before .before .if1 .left)))
+tick-tested-requires c κs = sym (c .before .before .before .is-sound .ensures) ∙ not-false _ (c .before .before .if1 .left)
 
+-- src/lib.rt:97:1
 same-length-3 : tie.Need-same-length-3
 same-length-3 c = search needs
 
+-- src/lib.rt:97:1
 same-length-4 : tie.Need-same-length-4
 same-length-4 c = search needs
 
+-- src/lib.rt:97:1
 returns-2 : tie.Need-returns-2
-returns-2 c = let a = c .before .before .before .before .before .before .before .before .before .before .before .before .before .before .before .args in D.does tick (a .h) (a .cs .now) (a .t .now) (a .q .now) (D.tested tick (a .h) (a .cs .now) (a .t .now) (a .q .now) (c .before .before .before .before .before .before .before .before .is-sound .result) true (c .before .before .before .before .before .before .before .before .is-sound .ensures) (not-false _ (c .before .before .before .before .before .before .before .if1 .left))) (c .before .before .before .before .tick-tested .result) (a .cs .now) (c .before .before .before .before .tick-tested .last .1 .1 .0) (c .before .before .before .before .tick-tested .last .1 .1 .1 .0) (c .before .before .before .before .tick-tested .ensures)
+returns-2 c = search needs
 
 pub tick-spec : {M : Type 1} → statement M
 tick-spec =

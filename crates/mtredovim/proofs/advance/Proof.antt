@@ -1,5 +1,6 @@
+use Rattle.state.specs.View.{tables}
 use native.Mathlib.Omega.{arith}
-use mathlib.Core.Path.{_≡_, sym, _∙_, ap}
+use mathlib.Core.Path.{sym, _∙_}
 use lib.ListN.{length, length-take}
 use Rattle.mtredovim.proofs.TurnLaws.{window-drop, length-window, used-up, wanted, turned-still, turned-read, still-better, asked-better}
 use borrow.Author.Needs.{needs}
@@ -40,8 +41,8 @@ add-next c =
     let F = rw (length-window (a .buf .now) (a .v .from) (a .v .to) (R .order) (R .inside)) at (p .ensures .1) in
     record { fits = omega (arith, F .used, R .order, R .inside, c .before .before .before .before .before .before .before .before .before .before .before .before .before .before .before .before .before .before .before .before .before .before .before .before .before .good) }
 
-asks-requires : tie.Need-asks-requires
-asks-requires c κs = search needs
+reads-requires : tie.Need-reads-requires
+reads-requires c κs = search needs
 
 refill-requires : tie.Need-refill-requires
 refill-requires c κs =
@@ -73,9 +74,9 @@ returns c =
     let p = c .before .before .before .before .before .before .before .before .before .before .before .before .before .before .before .before .before .before .pump in
     let F = rw (length-window (a .buf .now) (a .v .from) (a .v .to) (R .order) (R .inside)) at (p .ensures .1) in
     let b = c .before .before .before .before .before .before .before .before .write-all .result in
-    let d = sym (c .before .before .before .before .before .asks .ensures) ∙ c .before .before .before .before .if1 .taken in
+    let d = sym (c .before .before .before .before .before .reads .ensures) ∙ c .before .before .before .before .if1 .taken in
     let r = c .before .before .refill in (
-      turned-read (a .v .cursor) (a .cs .now) (a .t .now) (a .q .now) _ (a .v .last) (a .out .now) (p .result) _ _ _ _ _ (p .ensures .0) b (r .result) d (F .wants)
+      turned-read (a .v .cursor) (tables (a .members .now) (a .places .now) (a .notices .now)) _ (a .v .last) (a .out .now) (p .result) _ _ _ (p .ensures .0) b (r .result) d (F .wants)
           (rw (← window-drop (a .buf .now) (a .v .from) (a .v .to) (p .result .used) (R .order)) (r .ensures .0)),
       λ o. asked-better (length (a .buf .now)) (a .v .cursor) (a .v .from) (a .v .to) R (a .v .last) (length (a .out .now)) (p .result) F b (r .result) d (r .ensures .1 o),
     )
@@ -105,9 +106,9 @@ returns-2 c =
     let p = c .before .before .before .before .before .before .before .before .before .before .before .before .before .before .before .pump in
     let F = rw (length-window (a .buf .now) (a .v .from) (a .v .to) (R .order) (R .inside)) at (p .ensures .1) in
     let b = c .before .before .before .before .before .write-all .result in
-    let d = sym (c .before .before .asks .ensures) ∙ c .before .if1 .left in
+    let d = sym (c .before .before .reads .ensures) ∙ c .before .if1 .left in
     rw (c .after-steps .ensures) (
-      turned-still (a .v .cursor) (a .cs .now) (a .t .now) (a .q .now) _ (a .v .last) (a .out .now) (p .result) _ _ _ _ _ (p .ensures .0) b (a .v .from) (a .v .to) _ d
+      turned-still (a .v .cursor) (tables (a .members .now) (a .places .now) (a .notices .now)) _ (a .v .last) (a .out .now) (p .result) _ _ _ (p .ensures .0) b (a .v .from) (a .v .to) _ d
           (used-up (a .buf .now) (a .v .from) (a .v .to) (p .result .used) (R .order) (R .inside) (F .used))
           (window-drop (a .buf .now) (a .v .from) (a .v .to) (p .result .used) (R .order)),
       λ o. still-better (length (a .buf .now)) (a .v .cursor) (a .v .from) (a .v .to) R (a .v .last) (length (a .out .now)) (p .result) F b _ d o,
@@ -125,7 +126,7 @@ advance-spec =
     slice-aggregate-write-all
     write-all-requires
     add-next
-    asks-requires
+    reads-requires
     refill-requires
     same-length
     same-length-2

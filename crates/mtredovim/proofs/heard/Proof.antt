@@ -4,7 +4,6 @@ use lib.IntN.{ℤ, pos}
 use lib.Signed.{ltZ}
 use mir.Facts.{toZ-ofZ}
 use Rattle.mtredovim.proofs.TurnLaws.{below-0, not-below, some-read}
-use borrow.Author.Needs.{needs}
 use Rattle.mtredovim.proofs.heard.Statement.{statement}
 use Rattle.mtredovim.proofs.heard.Tie as tie
 

@@ -25,7 +25,7 @@ slice-aggregate-replay-all-5 : tie.Need-slice-aggregate-replay-all-5
 slice-aggregate-replay-all-5 c = search needs
 
 replay-all-requires : tie.Need-replay-all-requires
-replay-all-requires c κs = (record { connections = refl; table = refl; queue = refl }, (search needs, search needs))
+replay-all-requires c κs = (refl, (search needs, search needs))
 
 tell-requires : tie.Need-tell-requires
 tell-requires c κs = search needs

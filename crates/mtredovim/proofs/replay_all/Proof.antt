@@ -1,13 +1,12 @@
-use native.Mathlib.Omega.{arith}
+use Rattle.state.specs.View.{tables}
 use mathlib.Core.Path.{_≡_, sym, _∙_}
 use Prim.Native.Nat.{_≤_}
 use lib.ListN.{length}
 use borrow.Author.Tests.{not-true, not-false}
 use Rattle.answers.specs.Answers.{longest-answer}
 use Rattle.mtredovim.specs.declared.End.the-variants.{On}
-use Rattle.mtredovim.specs.Turns.{window, load, Right}
-use Rattle.mtredovim.specs.Runs.{Made}
-use Rattle.mtredovim.proofs.RunLaws.{on-true, on-false, made-none, made-more}
+use Rattle.mtredovim.specs.Turns.{window, turns-left, Right}
+use Rattle.mtredovim.proofs.RunLaws.{on-true, on-false, Made, made-none, made-more}
 use borrow.Author.Needs.{needs}
 use Rattle.mtredovim.proofs.replay_all.Statement.{statement}
 use Rattle.mtredovim.proofs.replay_all.Tie as tie
@@ -22,10 +21,10 @@ Inv-loop cs₀ t₀ q₀ buf₀ out₀ v₀ cs t q buf out v =
     × (longest-answer ≤ length out)
     × (v .end ≡ On)
     × Right (length buf₀) (v .cursor) (v .from) (v .to)
-    × Made v cs t q (window buf (v .from) (v .to))
+    × Made v (tables cs t q) (window buf (v .from) (v .to))
 
 abbrev μ-loop : tie.MeasureT-loop
-μ-loop cs₀ t₀ q₀ buf₀ out₀ v₀ cs t q buf out v = load (length buf₀) (v .cursor) (v .from) (v .to) (v .last)
+μ-loop cs₀ t₀ q₀ buf₀ out₀ v₀ cs t q buf out v = turns-left (length buf₀) (v .cursor) (v .from) (v .to) (v .last)
 
 first-requires : tie.Need-first-requires Inv-loop μ-loop
 first-requires c κs = search needs
@@ -34,7 +33,7 @@ loop-holds : tie.Need-loop-holds Inv-loop μ-loop
 loop-holds c =
     let s = c .before .before .before .before .before .before .pre in
     rw (c .first .ensures)
-    (search needs, search needs, search needs, search needs, search needs, search needs, search needs, record { order = search needs; inside = search needs; place = search needs }, made-none _ _ _ (s .0))
+    (search needs, search needs, search needs, search needs, search needs, search needs, search needs, record { order = search needs; inside = search needs; place = search needs }, made-none _ (s .0))
 
 advance-requires : tie.Need-advance-requires Inv-loop μ-loop
 advance-requires c κs =
@@ -65,7 +64,8 @@ returns c =
     let a = c .before .before .before .before .before .before .before .before .before .before .before .before .before .before .before .before .before .before .before .before .before .before .before .before .before .args in
     let l = c .before .before .before .before .before .before .before .before .before .before .before .before .before .before .before .before .before .before .loop in
     let d = c .before .before .before .before .before .before .before .before .before .before .before .before .advance in
-    record { window = _; made = made-more (l .v) _ _ _ _ (l .inv .8) (l .inv .6) _ (l .inv .5) (d .result) _ _ _ _ _ (d .ensures .0); over = on-false (d .result .end) (sym (c .before .goes-on .ensures) ∙ not-true _ (c .if1 .taken)) }
+    let M = made-more (l .v) _ _ (l .inv .8) (l .inv .6) _ (l .inv .5) (d .result) _ _ _ (d .ensures .0) in
+    record { given = M .given; wrote = M .wrote; window = _; turns = M .turns; over = on-false (d .result .end) (sym (c .before .goes-on .ensures) ∙ not-true _ (c .if1 .taken)) }
 
 loop-less : tie.Need-loop-less Inv-loop μ-loop
 loop-less c =
@@ -83,7 +83,7 @@ loop-again c =
     let d = c .before .before .before .before .before .before .before .before .before .before .before .before .advance in
     let o = on-true (d .result .end) (sym (c .before .goes-on .ensures) ∙ not-false _ (c .if1 .left)) in
     let B = rw (l .inv .3) at (d .ensures .1 o) in
-    (search needs, search needs, search needs, search needs, search needs, search needs, o, B .right, made-more (l .v) _ _ _ _ (l .inv .8) (l .inv .6) _ (l .inv .5) (d .result) _ _ _ _ _ (d .ensures .0))
+    (search needs, search needs, search needs, search needs, search needs, search needs, o, B .right, made-more (l .v) _ _ (l .inv .8) (l .inv .6) _ (l .inv .5) (d .result) _ _ _ (d .ensures .0))
 
 pub replay-all-spec : {M : Type 1} → statement M
 replay-all-spec =

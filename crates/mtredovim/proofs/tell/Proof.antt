@@ -31,7 +31,7 @@ say-requires : tie.Need-say-requires
 say-requires c κs =
     let d = c .before .before .before .before .decimal in
     let e = c .before .before .enum-told3 .given .1 in
-    record { words = rw e; offset = rw e (rw (← d .ensures .0 .1) (d .ensures .1 .0), rw (← d .ensures .0 .1) (d .ensures .1 .1)) }
+    rw e (refl, (rw (← d .ensures .0 .1) (d .ensures .1 .0), rw (← d .ensures .0 .1) (d .ensures .1 .1)))
 
 enum-told-4 : tie.Need-enum-told-4
 enum-told-4 c = search needs
@@ -46,7 +46,7 @@ slice-aggregate-say-4 : tie.Need-slice-aggregate-say-4
 slice-aggregate-say-4 c = search needs
 
 say-requires-2 : tie.Need-say-requires-2
-say-requires-2 c κs = let e = c .before .before .enum-told4 .given .1 in record { words = rw e; offset = rw e refl }
+say-requires-2 c κs = let e = c .before .before .enum-told4 .given .1 in rw e (refl, refl)
 
 enum-told-5 : tie.Need-enum-told-5
 enum-told-5 c = search needs
@@ -61,7 +61,7 @@ slice-aggregate-say-6 : tie.Need-slice-aggregate-say-6
 slice-aggregate-say-6 c = search needs
 
 say-requires-3 : tie.Need-say-requires-3
-say-requires-3 c κs = let e = c .before .before .enum-told5 .given .1 in record { words = rw e; offset = rw e refl }
+say-requires-3 c κs = let e = c .before .before .enum-told5 .given .1 in rw e (refl, refl)
 
 returns : tie.Need-returns
 returns c = search needs

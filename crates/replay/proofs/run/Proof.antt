@@ -5,7 +5,7 @@ use mathlib.Core.Path.{_≡_, refl, sym, _∙_}
 use mathlib.Core.Bool.{true, false}
 use Prim.Native.Nat.{ℕ, _+_, _*_, _-_, _/_, _≤_, _<_}
 use lib.ListN.{length}
-use Rattle.calls.specs.Acts.{sound-hub}
+use Rattle.state.specs.View.{tables, sound-hub}
 use Rattle.steps.specs.declared.Status.the-variants.{GoOn}
 use Rattle.steps.specs.Steps.{is-go}
 use Rattle.replay.proofs.RunLaws.{Made, made-none, made-sound, made-more, made-on, run-stopped, run-ended}
@@ -28,7 +28,7 @@ sub-less : (n i : ℕ) → i < n → n - (i + 1) < n - i
 sub-less n i h = omega arith
 
 abbrev Inv-loop : tie.InvT-loop
-Inv-loop cs₀ t₀ q₀ window last out₀ n cur₀ used₀ wrote₀ i₀ cs t q out cur used wrote i = (n ≡ length out₀ / 19) × (19 ≤ length out₀) × (i ≤ n) × Made cur₀ cs₀ t₀ q₀ window last out₀ i GoOn cur cs t q out used wrote × (length out₀ < 18446744073709551616) × (sound-hub (cur₀ .hub) cs₀ t₀ q₀ ≡ true)
+Inv-loop cs₀ t₀ q₀ window last out₀ n cur₀ used₀ wrote₀ i₀ cs t q out cur used wrote i = (n ≡ length out₀ / 19) × (19 ≤ length out₀) × (i ≤ n) × Made cur₀ (tables cs₀ t₀ q₀) window last out₀ i GoOn cur (tables cs t q) out used wrote × (length out₀ < 18446744073709551616) × (sound-hub (cur₀ .hub) (tables cs₀ t₀ q₀) ≡ true)
 
 abbrev μ-loop : tie.MeasureT-loop
 μ-loop cs₀ t₀ q₀ window last out₀ n cur₀ used₀ wrote₀ i₀ cs t q out cur used wrote i = n - i
@@ -37,14 +37,14 @@ loop-holds : tie.Need-loop-holds Inv-loop μ-loop
 loop-holds c =
     let z = c .before .before .before .before .before in
     let a = z .args in
-    (refl, z .pre .1, search needs, made-none (a .c) (a .cs .now) (a .t .now) (a .q .now) (a .window .now) (a .last) (a .out .now) (z .pre .0), search needs, z .pre .0)
+    (refl, z .pre .1, search needs, made-none (a .c) (tables (a .members .now) (a .places .now) (a .notices .now)) (a .window .now) (a .last) (a .out .now) (z .pre .0), search needs, z .pre .0)
 
 step-at-requires : tie.Need-step-at-requires Inv-loop μ-loop
 step-at-requires c κs =
     let a = c .before .before .before .before .before .before .before .before .before .before .before .args in
     let l = c .before .before .before .before .before .loop in
     let M = l .inv .3 in (
-      made-sound (a .c) (a .cs .now) (a .t .now) (a .q .now) (a .window .now) (a .last) (a .out .now) (l .inv .5) (l .i) GoOn (l .cur) (l .cs) (l .t) (l .q) (l .out) (l .used) (l .wrote) M,
+      made-sound (a .c) (tables (a .members .now) (a .places .now) (a .notices .now)) (a .window .now) (a .last) (a .out .now) (l .inv .5) (l .i) GoOn (l .cur) (tables (l .members) (l .places) (l .notices)) (l .out) (l .used) (l .wrote) M,
       M .in-window,
       room-fits _ _ _ _ _ (M .in-room) (M .same-room) (c .before .before .before .before .loop-test .taken) (l .inv .0),
     )
@@ -68,7 +68,7 @@ same-length : tie.Need-same-length Inv-loop μ-loop
 same-length c =
     let l = c .before .before .before .before .before .before .before .before .before .before .before .before .before .before .before .before .before .before .before .loop in
     let s = c .before .before .before .before .before .before .before .before .before .before .before .before .before .step-at in
-    let k : length (s .last .1 .0) ≡ length (l .cs) = search needs in
+    let k : length (s .last .1 .0) ≡ length (l .members) = search needs in
     let e = k ∙ l .inv .3 .same-members in
     search needs
 
@@ -76,7 +76,7 @@ same-length-2 : tie.Need-same-length-2 Inv-loop μ-loop
 same-length-2 c =
     let l = c .before .before .before .before .before .before .before .before .before .before .before .before .before .before .before .before .before .before .before .loop in
     let s = c .before .before .before .before .before .before .before .before .before .before .before .before .before .step-at in
-    let k : length (s .last .1 .1 .0) ≡ length (l .t) = search needs in
+    let k : length (s .last .1 .1 .0) ≡ length (l .places) = search needs in
     let e = k ∙ l .inv .3 .same-table in
     search needs
 
@@ -84,7 +84,7 @@ same-length-3 : tie.Need-same-length-3 Inv-loop μ-loop
 same-length-3 c =
     let l = c .before .before .before .before .before .before .before .before .before .before .before .before .before .before .before .before .before .before .before .loop in
     let s = c .before .before .before .before .before .before .before .before .before .before .before .before .before .step-at in
-    let k : length (s .last .1 .1 .1 .0) ≡ length (l .q) = search needs in
+    let k : length (s .last .1 .1 .1 .0) ≡ length (l .notices) = search needs in
     let e = k ∙ l .inv .3 .same-queue in
     search needs
 
@@ -101,10 +101,10 @@ returns c =
     let a = c .before .before .before .before .before .before .before .before .before .before .before .before .before .before .before .before .before .before .before .before .before .before .before .before .before .args in
     let l = c .before .before .before .before .before .before .before .before .before .before .before .before .before .before .before .before .before .before .before .loop in
     let s = c .before .before .before .before .before .before .before .before .before .before .before .before .before .step-at in
-    let M = made-more (a .c) (a .cs .now) (a .t .now) (a .q .now) (a .window .now) (a .last) (a .out .now) (l .inv .5) (l .i) (l .cur) (l .cs) (l .t) (l .q) (l .out) (l .used) (l .wrote) (l .inv .3)
-    (s .result) (s .last .1 .0) (s .last .1 .1 .0) (s .last .1 .1 .1 .0) (s .last .1 .1 .1 .1 .1 .1 .1 .0) (s .ensures .0) (s .ensures .1) (search needs) (search needs) (search needs) (search needs) in
+    let M = made-more (a .c) (tables (a .members .now) (a .places .now) (a .notices .now)) (a .window .now) (a .last) (a .out .now) (l .inv .5) (l .i) (l .cur) (tables (l .members) (l .places) (l .notices)) (l .out) (l .used) (l .wrote) (l .inv .3)
+    (s .result) (tables (s .last .1 .0) (s .last .1 .1 .0) (s .last .1 .1 .1 .0)) (s .last .1 .1 .1 .1 .1 .1 .1 .0) (s .ensures .0) (s .ensures .1) (search needs) (search needs) (search needs) (search needs) in
     let g : is-go (s .result .status) ≡ false = sym (c .before .goes-on .ensures) ∙ not-true _ (c .if1 .taken) in
-    run-stopped (a .c) (a .cs .now) (a .t .now) (a .q .now) (a .window .now) (a .last) (a .out .now) (l .inv .5) (l .i + 1) (s .result .status) _ _ _ _ _ _ _ M g (next-le _ _ _ (c .before .before .before .before .before .before .before .before .before .before .before .before .before .before .before .before .before .before .loop-test .taken) (l .inv .0))
+    run-stopped (a .c) (tables (a .members .now) (a .places .now) (a .notices .now)) (a .window .now) (a .last) (a .out .now) (l .inv .5) (l .i + 1) (s .result .status) _ _ _ _ _ M g (next-le _ _ _ (c .before .before .before .before .before .before .before .before .before .before .before .before .before .before .before .before .before .before .loop-test .taken) (l .inv .0))
 
 add-i : tie.Need-add-i Inv-loop μ-loop
 add-i c =
@@ -119,10 +119,10 @@ loop-again c =
     let a = c .before .before .before .before .before .before .before .before .before .before .before .before .before .before .before .before .before .before .before .before .before .before .before .before .before .args in
     let l = c .before .before .before .before .before .before .before .before .before .before .before .before .before .before .before .before .before .before .before .loop in
     let s = c .before .before .before .before .before .before .before .before .before .before .before .before .before .step-at in
-    let M = made-more (a .c) (a .cs .now) (a .t .now) (a .q .now) (a .window .now) (a .last) (a .out .now) (l .inv .5) (l .i) (l .cur) (l .cs) (l .t) (l .q) (l .out) (l .used) (l .wrote) (l .inv .3)
-    (s .result) (s .last .1 .0) (s .last .1 .1 .0) (s .last .1 .1 .1 .0) (s .last .1 .1 .1 .1 .1 .1 .1 .0) (s .ensures .0) (s .ensures .1) (search needs) (search needs) (search needs) (search needs) in
+    let M = made-more (a .c) (tables (a .members .now) (a .places .now) (a .notices .now)) (a .window .now) (a .last) (a .out .now) (l .inv .5) (l .i) (l .cur) (tables (l .members) (l .places) (l .notices)) (l .out) (l .used) (l .wrote) (l .inv .3)
+    (s .result) (tables (s .last .1 .0) (s .last .1 .1 .0) (s .last .1 .1 .1 .0)) (s .last .1 .1 .1 .1 .1 .1 .1 .0) (s .ensures .0) (s .ensures .1) (search needs) (search needs) (search needs) (search needs) in
     let g : is-go (s .result .status) ≡ true = sym (c .before .goes-on .ensures) ∙ not-false _ (c .if1 .left) in
-    (refl, l .inv .1, next-le _ _ _ (c .before .before .before .before .before .before .before .before .before .before .before .before .before .before .before .before .before .before .loop-test .taken) refl, made-on (a .c) (a .cs .now) (a .t .now) (a .q .now) (a .window .now) (a .last) (a .out .now) (l .inv .5) (l .i + 1) (s .result .status) _ _ _ _ _ _ _ M g, l .inv .4, l .inv .5)
+    (refl, l .inv .1, next-le _ _ _ (c .before .before .before .before .before .before .before .before .before .before .before .before .before .before .before .before .before .before .loop-test .taken) refl, made-on (a .c) (tables (a .members .now) (a .places .now) (a .notices .now)) (a .window .now) (a .last) (a .out .now) (l .inv .5) (l .i + 1) (s .result .status) _ _ _ _ _ M g, l .inv .4, l .inv .5)
 
 same-length-5 : tie.Need-same-length-5 Inv-loop μ-loop
 same-length-5 c = search needs
@@ -141,7 +141,7 @@ returns-2 c =
     let a = c .before .before .before .before .before .before .before .args in
     let l = c .before .loop in
     let e : l .i ≡ length (a .out .now) / 19 = omega arith in
-    run-ended (a .c) (a .cs .now) (a .t .now) (a .q .now) (a .window .now) (a .last) (a .out .now) (l .inv .5) (l .i) GoOn (l .cur) (l .cs) (l .t) (l .q) (l .out) (l .used) (l .wrote) (l .inv .3) e (search needs)
+    run-ended (a .c) (tables (a .members .now) (a .places .now) (a .notices .now)) (a .window .now) (a .last) (a .out .now) (l .inv .5) (l .i) GoOn (l .cur) (tables (l .members) (l .places) (l .notices)) (l .out) (l .used) (l .wrote) (l .inv .3) e (search needs)
 
 pub run-spec : {M : Type 1} → statement M
 run-spec =

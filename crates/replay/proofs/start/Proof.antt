@@ -1,5 +1,5 @@
 use mathlib.Core.Path.{ap}
-use Rattle.service.specs.declared.Hub.{Hub}
+use Rattle.state.specs.declared.Hub.{Hub}
 use Rattle.steps.specs.declared.Phase.the-variants.{Reading}
 use Rattle.steps.specs.Tie.{cursor-at}
 use borrow.Author.Needs.{needs}

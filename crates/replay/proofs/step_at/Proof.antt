@@ -43,7 +43,7 @@ returns c =
     let k = c .before .before .before .before .before .before .before .before .step-tested in
     let d = rw (part-all (a .used) (a .window .now), part-all (a .wrote) (a .out .now)) at (k .ensures .0) in
     let f = rw (part-all (a .used) (a .window .now), part-all (a .wrote) (a .out .now), length-drop (a .wrote) (a .out .now), length-drop (a .used) (a .window .now)) at (k .ensures .1) in
-    (record { answers = d .answers; connections = d .connections; table = d .table; queue = d .queue; room = part-back (a .wrote) (a .out .now) _ _ (d .room) }, f)
+    (record { answers = d .answers; tables = d .tables; room = part-back (a .wrote) (a .out .now) _ _ (d .room) }, f)
 
 pub step-at-spec : {M : Type 1} → statement M
 step-at-spec =

@@ -1,5 +1,5 @@
 -- `service::choose` meets its contract. The loop's invariant: the best of the rows before i, against the choice of the rows from i on, is the
--- choice of all rows. The measure is the rows that are left. Assumes nothing.
+-- choice of all rows. The measure is the rows that are left.
 use Prim.Native.Nat.{_≤_, _-_}
 use native.Mathlib.Omega.{arith}
 use mathlib.Core.Path.{refl, sym, ap, _∙_}
@@ -27,12 +27,12 @@ count-requires c κs = search needs
 loop-holds : tie.Need-loop-holds Inv-loop μ-loop
 loop-holds c =
     let a = c .before .before .before .args in
-    (search needs, L.walk-start (level-in (a .cs .now)) (a .clock) (a .t .now) no-packet refl, nothing-leads (a .cs .now) (a .t .now))
+    (search needs, L.walk-start (level-in (a .members .now)) (a .clock) (a .places .now) no-packet refl, nothing-leads (a .members .now) (a .places .now))
 
 lead-with-requires : tie.Need-lead-with-requires Inv-loop μ-loop
 lead-with-requires c κs =
     let s = c .before .before .before .before .before in
-    (omega (arith, rows-end (s .args .t .now), c .before .before .count .ensures), c .before .loop .inv .2)
+    (omega (arith, rows-end (s .args .places .now), c .before .before .count .ensures), c .before .loop .inv .2)
 
 add-i : tie.Need-add-i Inv-loop μ-loop
 add-i c = search needs
@@ -45,7 +45,7 @@ loop-again c =
     let a = c .before .before .before .before .before .before .args in
     let l = c .before .before .loop in
     let r = c .lead-with in
-    (search needs, L.walk (level-in (a .cs .now)) (a .clock) (a .t .now) (l .i) (named (a .t .now) (l .lead)) (named (a .t .now) (r .result)) (row-at (a .t .now) (l .i)) (omega (arith, c .before .before .before .count .ensures)) refl (r .ensures .0) (l .inv .1), r .ensures .1)
+    (search needs, L.walk (level-in (a .members .now)) (a .clock) (a .places .now) (l .i) (named (a .places .now) (l .lead)) (named (a .places .now) (r .result)) (row-at (a .places .now) (l .i)) (omega (arith, c .before .before .before .count .ensures)) refl (r .ensures .0) (l .inv .1), r .ensures .1)
 
 no-packet-requires : tie.Need-no-packet-requires Inv-loop μ-loop
 no-packet-requires c κs = search needs
@@ -56,8 +56,8 @@ returns c =
     let a = m .before .before .before .before .before .args in
     let l = m .before .loop in
     ap (λ (q : Packet). record { found = false; packet = q }) (c .no-packet .ensures)
-    ∙ sym (named-none (a .t .now) (l .lead) (not-true _ (c .before .if1 .taken)))
-    ∙ L.walked (level-in (a .cs .now)) (a .clock) (a .t .now) (l .i) (named (a .t .now) (l .lead)) (omega (arith, m .before .before .count .ensures, l .inv .0)) (l .inv .1)
+    ∙ sym (named-none (a .places .now) (l .lead) (not-true _ (c .before .if1 .taken)))
+    ∙ L.walked (level-in (a .members .now)) (a .clock) (a .places .now) (l .i) (named (a .places .now) (l .lead)) (omega (arith, m .before .before .count .ensures, l .inv .0)) (l .inv .1)
 
 row-requires : tie.Need-row-requires Inv-loop μ-loop
 row-requires c κs = c .before .before .before .loop .inv .2 .inside (not-false _ (c .if1 .left))
@@ -68,8 +68,8 @@ returns-2 c =
     let a = m .before .before .before .before .before .args in
     let l = m .before .loop in
     ap (λ (q : Packet). record { found = true; packet = q }) (c .row .ensures)
-    ∙ sym (named-one (a .t .now) (l .lead) (not-false _ (c .before .if1 .left)))
-    ∙ L.walked (level-in (a .cs .now)) (a .clock) (a .t .now) (l .i) (named (a .t .now) (l .lead)) (omega (arith, m .before .before .count .ensures, l .inv .0)) (l .inv .1)
+    ∙ sym (named-one (a .places .now) (l .lead) (not-false _ (c .before .if1 .left)))
+    ∙ L.walked (level-in (a .members .now)) (a .clock) (a .places .now) (l .i) (named (a .places .now) (l .lead)) (omega (arith, m .before .before .count .ensures, l .inv .0)) (l .inv .1)
 
 pub choose-spec : {M : Type 1} → statement M
 choose-spec =

@@ -1,4 +1,4 @@
--- `service::depart` meets its contract: the row found is the first of the connection in service, and is the one removed. Assumes nothing.
+-- `service::depart` meets its contract: the row found is the first of the connection in service, and is the one removed.
 use native.Mathlib.Omega.{arith}
 use mathlib.Core.Path.{_≡_, sym, _∙_}
 use mathlib.Core.Bool.{true}
@@ -19,12 +19,12 @@ find-requires c κs = search needs
 row-requires : tie.Need-row-requires
 row-requires c κs =
     let s = c .before .before .before .before .before .before .before in
-    omega (arith, s .pre .0 .line (λ e. omega arith) (s .pre .2), rows-end (s .args .t .now))
+    omega (arith, s .pre .0 .line (λ e. omega arith) (s .pre .2), rows-end (s .args .places .now))
 
 remove-requires : tie.Need-remove-requires
 remove-requires c κs =
     let s = c .before .before .before .before .before .before .before .before .before in
-    let t = s .args .t .now in
+    let t = s .args .places .now in
     let l = s .pre .0 .line (λ e. omega arith) (s .pre .2) in
     let k = rows-end t in
     let w : t ≡ table-of (length t) (rows t) = s .pre .0 .table ∙ sym (is-places t (rows t) (s .pre .0 .size)) in
@@ -34,20 +34,20 @@ with-line-requires : tie.Need-with-line-requires
 with-line-requires c κs = search needs
 
 pass-requires : tie.Need-pass-requires
-pass-requires c κs = rw (c .with-line .ensures) (search needs)
+pass-requires c κs = rw (c .with-line .ensures L.any) (search needs)
 
 same-length : tie.Need-same-length
 same-length c = search needs
 
 returns : tie.Need-returns
-returns c =
+returns c m =
     let s = c .before .before .before .before .before .before .before .before .before .before .before .before .before .before in
     let a = s .args in
     let f = c .before .before .before .before .before .before .before .before .find in
     let l = s .pre .0 .line (λ e. omega arith) (s .pre .2) in
-    let k = L.goes-off (a .g) (a .t .now) (a .q .now) (s .pre .0 .table) (s .pre .0 .notices) (f .result) (s .pre .2) (f .ensures) (omega arith) in (
-      c .pass .ensures ∙ L.passes true (c .before .with-line .ensures) (c .before .before .before .before .before .before .row .ensures) ∙ k .0,
-      c .before .before .before .before .remove .ensures ∙ is-places (a .t .now) (cut (f .result) (rows (a .t .now))) (s .pre .0 .size) ∙ k .1,
+    let k = L.goes-off (a .g) m (a .places .now) (a .notices .now) (s .pre .0 .table) (s .pre .0 .notices) (f .result) (s .pre .2) (f .ensures) (omega arith) in (
+      c .pass .ensures L.any ∙ L.passes true (c .before .with-line .ensures L.any) (c .before .before .before .before .before .before .row .ensures) ∙ k .0,
+      c .before .before .before .before .remove .ensures ∙ is-places (a .places .now) (cut (f .result) (rows (a .places .now))) (s .pre .0 .size) ∙ k .1,
       k .2,
     )
 

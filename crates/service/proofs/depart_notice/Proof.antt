@@ -1,4 +1,4 @@
--- `service::depart_notice` meets its contract: the first row goes. Assumes nothing.
+-- `service::depart_notice` meets its contract: the first row goes.
 use native.Mathlib.Omega.{arith}
 use mathlib.Core.Path.{_≡_, sym, ap, _∙_}
 use mathlib.Core.Bool.{true}
@@ -16,12 +16,12 @@ held-requires : tie.Need-held-requires
 held-requires c κs = search needs
 
 row-requires : tie.Need-row-requires
-row-requires c κs = let s = c .before .before .before .before .before in omega (arith, notices-length-is (s .args .q .now) (s .pre .0 .notices))
+row-requires c κs = let s = c .before .before .before .before .before in omega (arith, notices-length-is (s .args .notices .now) (s .pre .0 .notices))
 
 remove-requires : tie.Need-remove-requires
 remove-requires c κs =
     let s = c .before .before .before .before .before .before .before in
-    let q = s .args .q .now in
+    let q = s .args .notices .now in
     let f = s .pre .0 .notices in
     let l = s .pre .0 .notice-line (λ e. omega arith) (s .pre .2) in
     let k = rows-end q in
@@ -32,18 +32,18 @@ with-line-requires : tie.Need-with-line-requires
 with-line-requires c κs = search needs
 
 pass-requires : tie.Need-pass-requires
-pass-requires c κs = rw (c .with-line .ensures) (search needs)
+pass-requires c κs = rw (c .with-line .ensures L.any) (search needs)
 
 same-length : tie.Need-same-length
 same-length c = search needs
 
 returns : tie.Need-returns
-returns c =
+returns c m =
     let s = c .before .before .before .before .before .before .before .before .before .before .before .before in
     let a = s .args in
     let l = s .pre .0 .notice-line (λ e. omega arith) (s .pre .2) in
-    let k = L.notice-goes-off (a .g) (a .t .now) (a .q .now) (s .pre .0 .table) (s .pre .0 .notices) (s .pre .2) l in (
-      c .pass .ensures ∙ L.passes true (c .before .with-line .ensures) (c .before .before .before .before .before .before .row .ensures) ∙ k .0,
+    let k = L.notice-goes-off (a .g) m (a .places .now) (a .notices .now) (s .pre .0 .table) (s .pre .0 .notices) (s .pre .2) l in (
+      c .pass .ensures L.any ∙ L.passes true (c .before .with-line .ensures L.any) (c .before .before .before .before .before .before .row .ensures) ∙ k .0,
       k .1,
       c .before .before .before .before .remove .ensures ∙ k .2,
     )

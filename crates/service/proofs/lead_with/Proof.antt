@@ -1,4 +1,4 @@
--- `service::lead_with` meets its contract: each way out is one law of the comparison. Assumes nothing.
+-- `service::lead_with` meets its contract: each way out is one law of the comparison.
 use borrow.Author.Needs.{needs}
 use borrow.Author.Tests.{not-true, not-false}
 use Rattle.service.proofs.LeadLaws as L
@@ -21,7 +21,7 @@ returns : tie.Need-returns
 returns c =
     let s = c .before .before .before .before in
     let a = s .args in
-    L.not-eligible (a .cs .now) (a .t .now) (a .clock) (a .lead) (a .i) (s .pre .1) (s .pre .0) (search needs)
+    L.not-eligible (a .members .now) (a .places .now) (a .clock) (a .lead) (a .i) (s .pre .1) (s .pre .0) (search needs)
 
 mul-level-of : tie.Need-mul-level-of
 mul-level-of c = search needs
@@ -40,7 +40,7 @@ returns-2 c =
     let l = c .before .before in
     let s = l .before .before .before .before .before .before in
     let a = s .args in
-    L.none-yet (a .cs .now) (a .t .now) (a .clock) (a .lead) (a .i) (s .pre .1) (s .pre .0) (search needs) (l .level-of .result) (l .level-of .ensures) (not-true _ (c .if2 .taken))
+    L.none-yet (a .members .now) (a .places .now) (a .clock) (a .lead) (a .i) (s .pre .1) (s .pre .0) (search needs) (l .level-of .result) (l .level-of .ensures) (not-true _ (c .if2 .taken))
 
 returns-3 : tie.Need-returns-3
 returns-3 c =
@@ -48,7 +48,7 @@ returns-3 c =
     let l = d .before .before in
     let s = l .before .before .before .before .before .before in
     let a = s .args in
-    L.lower-stays (a .cs .now) (a .t .now) (a .clock) (a .lead) (a .i) (s .pre .1) (s .pre .0) (search needs) (l .level-of .result) (l .level-of .ensures) (not-false _ (d .if2 .left)) (search needs)
+    L.lower-stays (a .members .now) (a .places .now) (a .clock) (a .lead) (a .i) (s .pre .1) (s .pre .0) (search needs) (l .level-of .result) (l .level-of .ensures) (not-false _ (d .if2 .left)) (search needs)
 
 returns-4 : tie.Need-returns-4
 returns-4 c =
@@ -56,7 +56,7 @@ returns-4 c =
     let l = d .before .before in
     let s = l .before .before .before .before .before .before in
     let a = s .args in
-    L.lower-comes (a .cs .now) (a .t .now) (a .clock) (a .lead) (a .i) (s .pre .1) (s .pre .0) (search needs) (l .level-of .result) (l .level-of .ensures) (not-false _ (d .if2 .left)) (search needs)
+    L.lower-comes (a .members .now) (a .places .now) (a .clock) (a .lead) (a .i) (s .pre .1) (s .pre .0) (search needs) (l .level-of .result) (l .level-of .ensures) (not-false _ (d .if2 .left)) (search needs)
 
 returns-5 : tie.Need-returns-5
 returns-5 c =
@@ -64,7 +64,7 @@ returns-5 c =
     let l = d .before .before in
     let s = l .before .before .before .before .before .before in
     let a = s .args in
-    L.as-early-stays (a .cs .now) (a .t .now) (a .clock) (a .lead) (a .i) (s .pre .1) (s .pre .0) (search needs) (l .level-of .result) (l .level-of .ensures) (not-false _ (d .if2 .left)) (search needs) (search needs)
+    L.as-early-stays (a .members .now) (a .places .now) (a .clock) (a .lead) (a .i) (s .pre .1) (s .pre .0) (search needs) (l .level-of .result) (l .level-of .ensures) (not-false _ (d .if2 .left)) (search needs) (search needs)
 
 returns-6 : tie.Need-returns-6
 returns-6 c =
@@ -72,7 +72,7 @@ returns-6 c =
     let l = d .before .before in
     let s = l .before .before .before .before .before .before in
     let a = s .args in
-    L.earlier-comes (a .cs .now) (a .t .now) (a .clock) (a .lead) (a .i) (s .pre .1) (s .pre .0) (search needs) (l .level-of .result) (l .level-of .ensures) (not-false _ (d .if2 .left)) (search needs) (search needs)
+    L.earlier-comes (a .members .now) (a .places .now) (a .clock) (a .lead) (a .i) (s .pre .1) (s .pre .0) (search needs) (l .level-of .result) (l .level-of .ensures) (not-false _ (d .if2 .left)) (search needs) (search needs)
 
 pub lead-with-spec : {M : Type 1} → statement M
 lead-with-spec =

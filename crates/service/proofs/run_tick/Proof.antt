@@ -1,4 +1,4 @@
--- `service::run_tick` meets its contract: the steps, one after the other. Assumes nothing.
+-- `service::run_tick` meets its contract: the steps, one after the other.
 use Rattle.service.proofs.TickLaws as L
 use borrow.Author.Needs.{needs}
 use Rattle.service.proofs.run_tick.Statement.{statement}
@@ -11,7 +11,7 @@ send-requires : tie.Need-send-requires
 send-requires c κs =
     let s = c .before .before .before .before .before .before .before .before in
     let a = s .args in
-    L.in-place-then (a .h) (a .cs .now) (a .t .now) (a .q .now) (s .pre .others) (s .pre .in-place) (c .before .before .start .result) (c .before .before .start .ensures)
+    L.in-place-then (a .h) (a .members .now) (a .places .now) (a .notices .now) (s .pre .others) (s .pre .in-place) (c .before .before .start .result) (c .before .before .start .ensures)
 
 same-length : tie.Need-same-length
 same-length c = search needs
@@ -23,7 +23,7 @@ returns : tie.Need-returns
 returns c =
     let a = c .before .before .before .before .before .before .before .before .before .before .before .before .before .args in
     let g = c .before .before .before .before .before .before .before .start in
-    L.ticks (a .h) (a .cs .now) (a .t .now) (a .q .now) (g .result) _ _ _ (g .ensures) (c .before .before .before .before .send .ensures)
+    L.ticks (a .h) (a .members .now) (a .places .now) (a .notices .now) (g .result) _ _ _ (g .ensures) (c .before .before .before .before .send .ensures (a .members .now))
 
 pub run-tick-spec : {M : Type 1} → statement M
 run-tick-spec = tie.close (tie.spec start-requires send-requires same-length same-length-2 returns)

@@ -1,4 +1,4 @@
--- `service::start` meets its contract: a line in service or in silence is left alone, an idle one takes what was chosen, else the first notice. Assumes nothing.
+-- `service::start` meets its contract: a line in service or in silence is left alone, an idle one takes what was chosen, else the first notice.
 use native.Mathlib.Omega.{arith}
 use mathlib.Core.Path.{ap, _∙_}
 use Rattle.rules.specs.declared.Packet.{Packet}
@@ -9,10 +9,10 @@ use Rattle.service.proofs.start.Statement.{statement}
 use Rattle.service.proofs.start.Tie as tie
 
 returns : tie.Need-returns
-returns c = let a = c .before .before .before .before .before .args in L.busy (a .h) (a .cs .now) (a .t .now) (a .q .now) (search needs)
+returns c = let a = c .before .before .before .before .before .args in L.busy (a .h) (a .members .now) (a .places .now) (a .notices .now) (search needs)
 
 returns-2 : tie.Need-returns-2
-returns-2 c = let a = c .before .before .before .before .before .before .before .args in L.waits (a .h) (a .cs .now) (a .t .now) (a .q .now) (search needs) (search needs)
+returns-2 c = let a = c .before .before .before .before .before .before .before .args in L.waits (a .h) (a .members .now) (a .places .now) (a .notices .now) (search needs) (search needs)
 
 choose-requires : tie.Need-choose-requires
 choose-requires c κs = search needs
@@ -25,10 +25,10 @@ returns-3 c =
     let b = c .before .before .choose in
     let i = c .before .before .before in
     let a = i .before .before .before .before .before .before .before .args in
-    c .with-line .ensures ∙ L.takes-packet (a .h) (a .cs .now) (a .t .now) (a .q .now) (b .result) (i .before .before .if1 .left) (search needs) (b .ensures) (c .before .if3 .taken)
+    c .with-line .ensures L.any ∙ L.takes-packet (a .h) (a .members .now) (a .places .now) (a .notices .now) (b .result) (i .before .before .if1 .left) (search needs) (b .ensures) (c .before .if3 .taken)
 
 row-requires : tie.Need-row-requires
-row-requires c κs = let s = c .before .before .before .before .before .before .before .before .before in omega (arith, notices-length-is (s .args .q .now) (s .pre .2))
+row-requires c κs = let s = c .before .before .before .before .before .before .before .before .before in omega (arith, notices-length-is (s .args .notices .now) (s .pre .2))
 
 with-line-requires-2 : tie.Need-with-line-requires-2
 with-line-requires-2 c κs = search needs
@@ -40,9 +40,9 @@ returns-4 c =
     let i = c .before .before .before .before in
     let s = i .before .before .before .before .before .before .before in
     let a = s .args in
-    c .with-line2 .ensures
+    c .with-line2 .ensures L.any
     ∙ ap (λ (p : Packet). L.lined (a .h) (p .connection, p .len) 0) (r .ensures)
-    ∙ L.takes-notice (a .h) (a .cs .now) (a .t .now) (a .q .now) (b .result) (i .before .before .if1 .left) (search needs) (b .ensures) (c .before .before .if3 .left) (s .pre .2)
+    ∙ L.takes-notice (a .h) (a .members .now) (a .places .now) (a .notices .now) (b .result) (i .before .before .if1 .left) (search needs) (b .ensures) (c .before .before .if3 .left) (s .pre .2)
 
 pub start-spec : {M : Type 1} → statement M
 start-spec = tie.close (tie.spec returns returns-2 choose-requires with-line-requires returns-3 row-requires with-line-requires-2 returns-4)

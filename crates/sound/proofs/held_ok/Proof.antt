@@ -1,39 +1,41 @@
-use borrow.Author.Needs.{needs}
-use Rattle.limits.proofs.ChainLaws as C
-use Rattle.sound.proofs.StateLaws as S
-use borrow.Author.Tests.{not-true, not-false, le-leb, lt-leb}
 use native.Mathlib.Omega.{arith}
-use mathlib.Core.Path.{sym, _∙_}
+use borrow.Author.Tests.{le-leb, lt-leb}
 use Rattle.rules.specs.Limits.{clock-end}
+use Rattle.rules.specs.SoundTest.{rows-sound}
+use Rattle.limits.proofs.ChainLaws as C
+use Rattle.sound.proofs.PartLaws as S
 use borrow.Author.Needs.{needs}
 use Rattle.sound.proofs.held_ok.Statement.{statement}
 use Rattle.sound.proofs.held_ok.Tie as tie
 
 returns : tie.Need-returns
-returns c = let a = c .before .before .before .args in C.fails _ _ (lt-leb (a .clock) clock-end (search needs)) ∙ sym (S.rows-read (a .l) (a .cs .now) (a .t .now) (a .clock))
+unfolding rows-sound
+returns c = λ q. C.fails _ _ (lt-leb (c .before .before .before .before .args .h .clock) clock-end (search needs))
 
 rows-ok-requires : tie.Need-rows-ok-requires
-rows-ok-requires c κs = search needs
+rows-ok-requires c κs = (c .before .before .before .before .pre .0 .count, c .before .before .before .before .pre .1 .count)
 
 returns-2 : tie.Need-returns-2
-returns-2 c = let a = c .before .before .before .before .before .args in C.goes-on _ _ _ (le-leb (a .clock) clock-end (search needs)) (C.fails _ _ (sym (c .before .rows-ok .ensures) ∙ not-true _ (c .if2 .taken))) ∙ sym (S.rows-read (a .l) (a .cs .now) (a .t .now) (a .clock))
+unfolding rows-sound
+returns-2 c =
+    let early = le-leb (c .before .before .before .before .before .before .args .h .clock) clock-end (search needs) in
+    λ q. C.goes-on _ _ _ early (S.stops _ (c .before .rows-ok .ensures) (c .if2 .taken))
 
 queues-ok-requires : tie.Need-queues-ok-requires
 queues-ok-requires c κs =
-    let a = c .before .before .before .before .before .args in
-    let k = c .before .before .before .before .before .pre .0 in (
-      k .connections,
-      k .rows,
-      c .before .before .before .before .before .pre .1,
-      record {
-        few-connections = omega (arith, k .connections, k .few-connections);
-        few-rows = omega (arith, k .rows, k .few-rows);
-        standing = S.rows-known (a .l) (a .cs .now) (a .t .now) (a .clock) (sym (c .before .rows-ok .ensures) ∙ not-false _ (c .if2 .left));
-      },
+    let s = c .before .before .before .before .before .before in
+    let n = s .pre .0 in
+    let k = s .pre .1 in
+    let facts = S.rows-known (s .args .members .now) (s .args .places .now) (s .args .h .clock) (S.holds (c .before .rows-ok .ensures) (c .if2 .left)) in (
+      (n .count, k .count),
+      (record { few-connections = omega (arith, n .count, n .few); few-rows = omega (arith, k .count, k .few); standing = facts }, s .pre .2),
     )
 
 returns-3 : tie.Need-returns-3
-returns-3 c = let a = c .before .before .before .before .before .before .args in C.goes-on _ _ _ (le-leb (a .clock) clock-end (search needs)) (C.goes-on _ _ _ (sym (c .before .before .rows-ok .ensures) ∙ not-false _ (c .before .if2 .left)) (c .queues-ok .ensures)) ∙ sym (S.rows-read (a .l) (a .cs .now) (a .t .now) (a .clock))
+unfolding rows-sound
+returns-3 c =
+    let early = le-leb (c .before .before .before .before .before .before .before .args .h .clock) clock-end (search needs) in
+    λ q. C.goes-on _ _ _ early (S.passes-on (c .before .before .rows-ok .ensures) (c .before .if2 .left) (c .queues-ok .ensures q))
 
 pub held-ok-spec : {M : Type 1} → statement M
 held-ok-spec = tie.close (tie.spec returns rows-ok-requires returns-2 queues-ok-requires returns-3)

@@ -1,22 +1,27 @@
-use Rattle.sound.proofs.StateLaws as S
 use borrow.Author.Needs.{needs}
+use borrow.Author.Tests.{eq-eqb, ne-eqb}
+use Rattle.rules.specs.SoundTest.{line-sound}
 use Rattle.sound.proofs.line_ok.Statement.{statement}
 use Rattle.sound.proofs.line_ok.Tie as tie
 
 returns : tie.Need-returns
-returns c = let a = c .before .before .before .before .args in S.line-serves (a .l) (a .t .now) (a .q .now) (a .clock) (a .serving) (a .units) (a .silent) (c .before .if1 .taken) (search needs)
+unfolding line-sound
+returns c = λ m. rw (eq-eqb (c .before .before .before .before .before .before .args .h .«to_go») 0 (c .before .before .if1 .taken))
 
 returns-2 : tie.Need-returns-2
-returns-2 c = let a = c .before .before .before .before .before .args in S.line-silent (a .l) (a .t .now) (a .q .now) (a .clock) (a .serving) (a .units) (a .silent) (c .before .before .if1 .taken) (search needs)
-
-returns-3 : tie.Need-returns-3
-returns-3 c = let a = c .before .before .before .before .args in S.line-not-alone (a .l) (a .t .now) (a .q .now) (a .clock) (a .serving) (a .units) (a .silent) (c .before .if1 .left) (search needs)
+unfolding line-sound
+returns-2 c =
+    let h = c .before .before .before .before .before .before .args .h in
+    λ m. rw (ne-eqb (h .«to_go») 0 (c .before .before .if1 .left), ne-eqb (h .silent) 0 (c .if2 .taken))
 
 service-ok-requires : tie.Need-service-ok-requires
 service-ok-requires c κs = search needs
 
-returns-4 : tie.Need-returns-4
-returns-4 c = let a = c .before .before .before .before .before .args in S.line-rest (a .l) (a .t .now) (a .q .now) (a .clock) (a .serving) (a .units) (a .silent) (c .before .before .if1 .left) (search needs) (c .service-ok .result) (c .service-ok .ensures)
+returns-3 : tie.Need-returns-3
+unfolding line-sound
+returns-3 c =
+    let h = c .before .before .before .before .before .before .before .args .h in
+    λ m. rw (ne-eqb (h .«to_go») 0 (c .before .before .before .if1 .left), eq-eqb (h .silent) 0 (c .before .if2 .left)) (c .service-ok .ensures m)
 
 pub line-ok-spec : {M : Type 1} → statement M
-line-ok-spec = tie.close (tie.spec returns returns-2 returns-3 service-ok-requires returns-4)
+line-ok-spec = tie.close (tie.spec returns returns-2 service-ok-requires returns-3)

@@ -1,8 +1,6 @@
-use Rattle.limits.proofs.ChainLaws as C
-use Rattle.sound.proofs.StateLaws as S
-use borrow.Author.Tests.{not-true, not-false}
-use mathlib.Core.Path.{sym, _∙_}
 use borrow.Author.Needs.{needs}
+use Rattle.state.specs.View.{tables}
+use Rattle.sound.proofs.PartLaws as S
 use Rattle.sound.proofs.linked_ok.Statement.{statement}
 use Rattle.sound.proofs.linked_ok.Tie as tie
 
@@ -10,37 +8,47 @@ admissions-ok-requires : tie.Need-admissions-ok-requires
 admissions-ok-requires c κs = search needs
 
 returns : tie.Need-returns
-returns c = let a = c .before .before .before .before .before .args in C.fails _ _ (sym (S.admissions-alone (a .l) (a .cs .now) (a .t .now) (a .q .now) (a .clock) (a .serving) (a .units) (a .silent)) ∙ sym (c .before .admissions-ok .ensures) ∙ not-true _ (c .if1 .taken))
+returns c =
+    let a = c .before .before .before .before .before .args in
+    S.stops _ (c .before .admissions-ok .ensures (a .places .now) (a .notices .now)) (c .if1 .taken)
 
 held-ok-requires : tie.Need-held-ok-requires
-held-ok-requires c κs = let a = c .before .before .before .before .before .args in (c .before .before .before .before .before .pre .0, S.admissions-safe (a .l) (a .cs .now) (sym (c .before .admissions-ok .ensures) ∙ not-false _ (c .if1 .left)))
+held-ok-requires c κs =
+    let s = c .before .before .before .before .before in
+    let a = s .args in
+    let admitted = S.holds (c .before .admissions-ok .ensures (a .places .now) (a .notices .now)) (c .if1 .left) in
+    (s .pre .0, s .pre .1, S.admissions-safe (a .h) (tables (a .members .now) (a .places .now) (a .notices .now)) (s .pre .0) admitted)
 
 returns-2 : tie.Need-returns-2
 returns-2 c =
-    let a = c .before .before .before .before .before .before .before .args in
-    C.goes-on _ _ _ (sym (S.admissions-alone (a .l) (a .cs .now) (a .t .now) (a .q .now) (a .clock) (a .serving) (a .units) (a .silent)) ∙ sym (c .before .before .before .admissions-ok .ensures) ∙ not-false _ (c .before .before .if1 .left))
-    (C.fails _ _ (sym (S.rows-alone (a .l) (a .cs .now) (a .t .now) (a .q .now) (a .clock) (a .serving) (a .units) (a .silent)) ∙ sym (c .before .held-ok .ensures) ∙ not-true _ (c .if2 .taken)))
+    let l = c .before .before .before in
+    let a = l .before .before .before .before .args in
+    S.passes-on (l .admissions-ok .ensures (a .places .now) (a .notices .now)) (c .before .before .if1 .left)
+    (S.stops _ (c .before .held-ok .ensures (a .notices .now)) (c .if2 .taken))
 
 notices-ok-requires : tie.Need-notices-ok-requires
 notices-ok-requires c κs = search needs
 
 returns-3 : tie.Need-returns-3
 returns-3 c =
-    let a = c .before .before .before .before .before .before .before .before .before .args in
-    C.goes-on _ _ _ (sym (S.admissions-alone (a .l) (a .cs .now) (a .t .now) (a .q .now) (a .clock) (a .serving) (a .units) (a .silent)) ∙ sym (c .before .before .before .before .before .admissions-ok .ensures) ∙ not-false _ (c .before .before .before .before .if1 .left))
-    (C.goes-on _ _ _ (sym (S.rows-alone (a .l) (a .cs .now) (a .t .now) (a .q .now) (a .clock) (a .serving) (a .units) (a .silent)) ∙ sym (c .before .before .before .held-ok .ensures) ∙ not-false _ (c .before .before .if2 .left))
-    (C.fails _ _ (sym (S.notices-alone (a .l) (a .cs .now) (a .t .now) (a .q .now) (a .clock) (a .serving) (a .units) (a .silent)) ∙ sym (c .before .notices-ok .ensures) ∙ not-true _ (c .if3 .taken))))
+    let k = c .before .before .before in
+    let l = k .before .before in
+    let a = l .before .before .before .before .args in
+    S.passes-on (l .admissions-ok .ensures (a .places .now) (a .notices .now)) (k .before .if1 .left)
+    (S.passes-on (k .held-ok .ensures (a .notices .now)) (c .before .before .if2 .left)
+    (S.stops _ (c .before .notices-ok .ensures (a .members .now) (a .places .now)) (c .if3 .taken)))
 
 line-ok-requires : tie.Need-line-ok-requires
 line-ok-requires c κs = search needs
 
 returns-4 : tie.Need-returns-4
 returns-4 c =
-    let a = c .before .before .before .before .before .before .before .before .before .before .args in
-    C.goes-on _ _ _ (sym (S.admissions-alone (a .l) (a .cs .now) (a .t .now) (a .q .now) (a .clock) (a .serving) (a .units) (a .silent)) ∙ sym (c .before .before .before .before .before .before .admissions-ok .ensures) ∙ not-false _ (c .before .before .before .before .before .if1 .left))
-    (C.goes-on _ _ _ (sym (S.rows-alone (a .l) (a .cs .now) (a .t .now) (a .q .now) (a .clock) (a .serving) (a .units) (a .silent)) ∙ sym (c .before .before .before .before .held-ok .ensures) ∙ not-false _ (c .before .before .before .if2 .left))
-    (C.goes-on _ _ _ (sym (S.notices-alone (a .l) (a .cs .now) (a .t .now) (a .q .now) (a .clock) (a .serving) (a .units) (a .silent)) ∙ sym (c .before .before .notices-ok .ensures) ∙ not-false _ (c .before .if3 .left))
-    (c .line-ok .ensures ∙ S.line-alone (a .l) (a .cs .now) (a .t .now) (a .q .now) (a .clock) (a .serving) (a .units) (a .silent))))
+    let k = c .before .before .before .before in
+    let l = k .before .before in
+    let a = l .before .before .before .before .args in
+    S.passes-on (l .admissions-ok .ensures (a .places .now) (a .notices .now)) (k .before .if1 .left)
+    (S.passes-on (k .held-ok .ensures (a .notices .now)) (c .before .before .before .if2 .left)
+    (S.passes-on (c .before .before .notices-ok .ensures (a .members .now) (a .places .now)) (c .before .if3 .left) (c .line-ok .ensures (a .members .now))))
 
 pub linked-ok-spec : {M : Type 1} → statement M
 linked-ok-spec = tie.close (tie.spec admissions-ok-requires returns held-ok-requires returns-2 notices-ok-requires returns-3 line-ok-requires returns-4)

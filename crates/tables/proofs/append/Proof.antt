@@ -12,7 +12,7 @@ same-length : tie.Need-same-length
 same-length c = search needs
 
 returns : tie.Need-returns
-returns c = let a = c .before .before .before .before .before .args in c .before .before .put-row .ensures ∙ L.append-table (length (a .t .now)) (a .t .now) (a .held) (a .p) (search needs) (search needs) (search needs)
+returns c = let a = c .before .before .before .before .before .args in c .before .before .put-row .ensures ∙ L.append-table (length (a .table .now)) (a .table .now) (a .held) (a .p) (search needs) (search needs) (search needs)
 
 pub append-spec : {M : Type 1} → statement M
 append-spec = tie.close (tie.spec put-row-requires same-length returns)

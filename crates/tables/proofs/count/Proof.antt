@@ -14,7 +14,7 @@ abbrev μ-loop : tie.MeasureT-loop
 μ-loop t low₀ high₀ low high = high - low
 
 loop-holds : tie.Need-loop-holds Inv-loop μ-loop
-loop-holds c = (omega arith, omega (arith, rows-end (c .args .t .now), c .pre .1), omega arith)
+loop-holds c = (omega arith, omega (arith, rows-end (c .args .table .now), c .pre .1), omega arith)
 
 sub-mid : tie.Need-sub-mid Inv-loop μ-loop
 sub-mid c = search needs
@@ -38,7 +38,7 @@ loop-less : tie.Need-loop-less Inv-loop μ-loop
 loop-less c = search needs
 
 loop-again : tie.Need-loop-again Inv-loop μ-loop
-loop-again c = let l = c .before .before .before .loop in (l .inv .0, used-below (c .before .before .before .before .args .t .now) (l .low + (l .high - l .low) / 2) (c .if1 .taken), omega (arith, l .inv .2))
+loop-again c = let l = c .before .before .before .loop in (l .inv .0, used-below (c .before .before .before .before .args .table .now) (l .low + (l .high - l .low) / 2) (c .if1 .taken), omega (arith, l .inv .2))
 
 add-low : tie.Need-add-low Inv-loop μ-loop
 add-low c = search needs
@@ -47,7 +47,7 @@ loop-less-2 : tie.Need-loop-less-2 Inv-loop μ-loop
 loop-less-2 c = search needs
 
 loop-again-2 : tie.Need-loop-again-2 Inv-loop μ-loop
-loop-again-2 c = let l = c .before .before .before .loop in let k = unused-above (c .before .before .before .before .args .t .now) (l .low + (l .high - l .low) / 2) (c .before .before .before .before .pre .0) (c .if1 .left) in (omega arith, l .inv .1, l .inv .2)
+loop-again-2 c = let l = c .before .before .before .loop in let k = unused-above (c .before .before .before .before .args .table .now) (l .low + (l .high - l .low) / 2) (c .before .before .before .before .pre .0) (c .if1 .left) in (omega arith, l .inv .1, l .inv .2)
 
 returns : tie.Need-returns Inv-loop μ-loop
 returns c = let l = c .before .loop in omega (arith, l .inv .0, l .inv .1)

@@ -18,10 +18,10 @@ loop-holds : tie.Need-loop-holds Inv-loop μ-loop
 loop-holds c = search needs
 
 row-requires : tie.Need-row-requires Inv-loop μ-loop
-row-requires c κs = omega (arith, L.rows-end (c .before .before .before .args .t .now))
+row-requires c κs = omega (arith, L.rows-end (c .before .before .before .args .table .now))
 
 returns : tie.Need-returns Inv-loop μ-loop
-returns c = let a = c .before .before .before .before .before .before .args in let i = c .before .before .before .before .loop .i in omega (arith, c .before .before .before .before .loop .inv .1, L.place-here (a .c) (a .t .now) i (omega arith) (rw (c .before .before .row .ensures) at (c .if1 .taken)))
+returns c = let a = c .before .before .before .before .before .before .args in let i = c .before .before .before .before .loop .i in omega (arith, c .before .before .before .before .loop .inv .1, L.place-here (a .c) (a .table .now) i (omega arith) (rw (c .before .before .row .ensures) at (c .if1 .taken)))
 
 add-i : tie.Need-add-i Inv-loop μ-loop
 add-i c = search needs
@@ -30,10 +30,10 @@ loop-less : tie.Need-loop-less Inv-loop μ-loop
 loop-less c = search needs
 
 loop-again : tie.Need-loop-again Inv-loop μ-loop
-loop-again c = let a = c .before .before .before .before .before .before .args in let i = c .before .before .before .before .loop .i in (search needs, omega (arith, c .before .before .before .before .loop .inv .1, L.place-next (a .c) (a .t .now) i (omega arith) (rw (c .before .before .row .ensures) at (c .if1 .left))))
+loop-again c = let a = c .before .before .before .before .before .before .args in let i = c .before .before .before .before .loop .i in (search needs, omega (arith, c .before .before .before .before .loop .inv .1, L.place-next (a .c) (a .table .now) i (omega arith) (rw (c .before .before .row .ensures) at (c .if1 .left))))
 
 returns-2 : tie.Need-returns-2 Inv-loop μ-loop
-returns-2 c = let a = c .before .before .before .args in let e : c .before .loop .i ≡ length (rows (a .t .now)) = omega arith in omega (arith, c .before .loop .inv .1, ap (λ (j : ℕ). place (a .c) (drop j (rows (a .t .now)))) e, L.place-end (a .c) (a .t .now))
+returns-2 c = let a = c .before .before .before .args in let e : c .before .loop .i ≡ length (rows (a .table .now)) = omega arith in omega (arith, c .before .loop .inv .1, ap (λ (j : ℕ). place (a .c) (drop j (rows (a .table .now)))) e, L.place-end (a .c) (a .table .now))
 
 pub find-spec : {M : Type 1} → statement M
 find-spec =

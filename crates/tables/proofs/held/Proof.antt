@@ -29,7 +29,7 @@ shared-slice-read-if1 : tie.Need-shared-slice-read-if1 Inv-loop μ-loop
 shared-slice-read-if1 c = search needs
 
 returns : tie.Need-returns Inv-loop μ-loop
-returns c = let a = c .before .before .before .before .args in let i = c .before .before .before .loop .i in L.rows-stop (a .t .now) i (search needs) (c .if1 .taken)
+returns c = let a = c .before .before .before .before .args in let i = c .before .before .before .loop .i in L.rows-stop (a .table .now) i (search needs) (c .if1 .taken)
 
 add-i : tie.Need-add-i Inv-loop μ-loop
 add-i c = search needs
@@ -38,10 +38,10 @@ loop-less : tie.Need-loop-less Inv-loop μ-loop
 loop-less c = search needs
 
 loop-again : tie.Need-loop-again Inv-loop μ-loop
-loop-again c = let a = c .before .before .before .before .args in let i = c .before .before .before .loop .i in let k = L.rows-more (a .t .now) i (omega arith) (c .if1 .left) (search needs) in (omega arith, search needs)
+loop-again c = let a = c .before .before .before .before .args in let i = c .before .before .before .loop .i in let k = L.rows-more (a .table .now) i (omega arith) (c .if1 .left) (search needs) in (omega arith, search needs)
 
 returns-2 : tie.Need-returns-2 Inv-loop μ-loop
-returns-2 c = let a = c .before .before .args in let i = c .before .loop .i in omega (arith, L.rows-end (a .t .now))
+returns-2 c = let a = c .before .before .args in let i = c .before .loop .i in omega (arith, L.rows-end (a .table .now))
 
 pub held-spec : {M : Type 1} → statement M
 held-spec =

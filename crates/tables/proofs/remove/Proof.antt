@@ -40,11 +40,11 @@ same-length c = search needs
 returns : tie.Need-returns
 returns c =
     let a = c .before .before .before .before .before .before .before .before .before .before .args in
-    let flat : c .before .before .put-row .last .0 ≡ put (shifted (a .t .now) (5 * a .i) (5 * (a .held - a .i - 1))) (a .held - 1) no-packet =
+    let flat : c .before .before .put-row .last .0 ≡ put (shifted (a .table .now) (5 * a .i) (5 * (a .held - a .i - 1))) (a .held - 1) no-packet =
     c .before .before .put-row .ensures
     ∙ ap (λ (u : List ℕ). put u (a .held - 1) (c .before .before .before .no-packet .result)) (c .before .before .before .before .before .before .before .shift .ensures)
-    ∙ ap (λ (p : Packet). put (shifted (a .t .now) (5 * a .i) (5 * (a .held - a .i - 1))) (a .held - 1) p) (c .before .before .before .no-packet .ensures) in
-    flat ∙ L.cut-table (length (a .t .now)) (a .t .now) (a .held) (a .i) (search needs) (search needs) (search needs) (search needs)
+    ∙ ap (λ (p : Packet). put (shifted (a .table .now) (5 * a .i) (5 * (a .held - a .i - 1))) (a .held - 1) p) (c .before .before .before .no-packet .ensures) in
+    flat ∙ L.cut-table (length (a .table .now)) (a .table .now) (a .held) (a .i) (search needs) (search needs) (search needs) (search needs)
 
 pub remove-spec : {M : Type 1} → statement M
 remove-spec =

@@ -15,28 +15,28 @@ abbrev μ-loop : tie.MeasureT-loop
 μ-loop t₀ from n j₀ t j = n - j
 
 loop-holds : tie.Need-loop-holds Inv-loop μ-loop
-loop-holds c = (search needs, search needs, L.shift-none (c .args .t .now) (c .args .from))
+loop-holds c = (search needs, search needs, L.shift-none (c .args .table .now) (c .args .from))
 
-add-t : tie.Need-add-t Inv-loop μ-loop
-add-t c = search needs
+add-table : tie.Need-add-table Inv-loop μ-loop
+add-table c = search needs
 
-add-t-2 : tie.Need-add-t-2 Inv-loop μ-loop
-add-t-2 c = search needs
+add-table-2 : tie.Need-add-table-2 Inv-loop μ-loop
+add-table-2 c = search needs
 
-mul-t : tie.Need-mul-t Inv-loop μ-loop
-mul-t c = search needs
+mul-table : tie.Need-mul-table Inv-loop μ-loop
+mul-table c = search needs
 
-slice-read-t : tie.Need-slice-read-t Inv-loop μ-loop
-slice-read-t c = search needs
+slice-read-table : tie.Need-slice-read-table Inv-loop μ-loop
+slice-read-table c = search needs
 
-add-t-3 : tie.Need-add-t-3 Inv-loop μ-loop
-add-t-3 c = search needs
+add-table-3 : tie.Need-add-table-3 Inv-loop μ-loop
+add-table-3 c = search needs
 
-mul-t-2 : tie.Need-mul-t-2 Inv-loop μ-loop
-mul-t-2 c = search needs
+mul-table-2 : tie.Need-mul-table-2 Inv-loop μ-loop
+mul-table-2 c = search needs
 
-slice-write-t : tie.Need-slice-write-t Inv-loop μ-loop
-slice-write-t c = search needs
+slice-write-table : tie.Need-slice-write-table Inv-loop μ-loop
+slice-write-table c = search needs
 
 add-j : tie.Need-add-j Inv-loop μ-loop
 add-j c = search needs
@@ -48,7 +48,7 @@ loop-again : tie.Need-loop-again Inv-loop μ-loop
 loop-again c =
     let a = c .before .before .before .args in
     let j = c .before .before .loop .j in
-    (search needs, simp length-set (search needs), rw (c .before .before .loop .inv .2) (L.shift-step (a .t .now) (a .from) j (omega arith)))
+    (search needs, simp length-set (search needs), rw (c .before .before .loop .inv .2) (L.shift-step (a .table .now) (a .from) j (omega arith)))
 
 same-length : tie.Need-same-length Inv-loop μ-loop
 same-length c = search needs
@@ -63,13 +63,13 @@ shift-spec =
     Inv-loop
     μ-loop
     loop-holds
-    add-t
-    add-t-2
-    mul-t
-    slice-read-t
-    add-t-3
-    mul-t-2
-    slice-write-t
+    add-table
+    add-table-2
+    mul-table
+    slice-read-table
+    add-table-3
+    mul-table-2
+    slice-write-table
     add-j
     loop-less
     loop-again

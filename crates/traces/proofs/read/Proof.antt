@@ -2,7 +2,7 @@
 use mathlib.Core.Path.{refl}
 use borrow.Author.Tests.{ne-eqb}
 use Rattle.fields.specs.Numbers.{number, get-fields, sum}
-use Rattle.fields.specs.Formats.{read-row}
+use Rattle.fields.specs.Formats.{read-kind}
 use Rattle.fields.proofs.MarkLaws.{numbered, read-numbered}
 use Rattle.traces.specs.Trace.{trace}
 use Rattle.traces.proofs.TraceLaws.{trace-marks}
@@ -59,35 +59,35 @@ returns : tie.Need-returns
 unfolding read-numbered number
 returns c =
     let m = c .before .before .before .mark-of in
-    rw (numbered (trace .rows) (c .before .before .before .before .before .args .s .now) (m .result) 0x4B4C trace-marks (m .ensures) (search needs))
+    rw (numbered (trace .kinds) (c .before .before .before .before .before .args .s .now) (m .result) 0x4B4C trace-marks (m .ensures) (search needs))
     (c .read .ensures)
 
 returns-2 : tie.Need-returns-2
-unfolding read-numbered number read-row get-fields sum
+unfolding read-numbered number read-kind get-fields sum
 returns-2 c =
     let m = c .before .before .before .before .before .mark-of in
-    rw (numbered (trace .rows) (c .before .before .before .before .before .before .before .args .s .now) (m .result) 0x4E43 trace-marks (m .ensures) (search needs))
+    rw (numbered (trace .kinds) (c .before .before .before .before .before .before .before .args .s .now) (m .result) 0x4E43 trace-marks (m .ensures) (search needs))
     (rw (c .whole-of .ensures, c .before .before .before .before .one .ensures, c .before .before .two .ensures, c .before .two2 .ensures))
 
 returns-3 : tie.Need-returns-3
-unfolding read-numbered number read-row get-fields sum
+unfolding read-numbered number read-kind get-fields sum
 returns-3 c =
     let m = c .before .before .before .before .before .mark-of in
-    rw (numbered (trace .rows) (c .before .before .before .before .before .before .before .args .s .now) (m .result) 0x4B50 trace-marks (m .ensures) (search needs))
+    rw (numbered (trace .kinds) (c .before .before .before .before .before .before .before .args .s .now) (m .result) 0x4B50 trace-marks (m .ensures) (search needs))
     (rw (c .whole-of2 .ensures, c .before .before .before .before .one .ensures, c .before .before .two3 .ensures, c .before .four .ensures))
 
 returns-4 : tie.Need-returns-4
-unfolding read-numbered number read-row get-fields sum
+unfolding read-numbered number read-kind get-fields sum
 returns-4 c =
     let m = c .before .before .before .before .before .mark-of in
-    rw (numbered (trace .rows) (c .before .before .before .before .before .before .before .args .s .now) (m .result) 0x514E trace-marks (m .ensures) (search needs))
+    rw (numbered (trace .kinds) (c .before .before .before .before .before .before .before .args .s .now) (m .result) 0x514E trace-marks (m .ensures) (search needs))
     (rw (c .whole-of3 .ensures, c .before .before .two4 .ensures, c .before .four2 .ensures))
 
 returns-5 : tie.Need-returns-5
-unfolding read-numbered number read-row get-fields sum
+unfolding read-numbered number read-kind get-fields sum
 returns-5 c =
     let m = c .before .before .before .before .mark-of in
-    rw (numbered (trace .rows) (c .before .before .before .before .before .before .args .s .now) (m .result) 0x4B54 trace-marks (m .ensures) (search needs))
+    rw (numbered (trace .kinds) (c .before .before .before .before .before .before .args .s .now) (m .result) 0x4B54 trace-marks (m .ensures) (search needs))
     (rw (c .whole-of4 .ensures, c .before .two5 .ensures))
 
 returns-6 : tie.Need-returns-6
@@ -95,7 +95,7 @@ unfolding read-numbered number
 returns-6 c =
     let m = c .before .before .before .mark-of in
     rw (
-      numbered (trace .rows) (c .before .before .before .before .before .args .s .now) (m .result) (m .result) trace-marks (m .ensures) refl,
+      numbered (trace .kinds) (c .before .before .before .before .before .args .s .now) (m .result) (m .result) trace-marks (m .ensures) refl,
       ne-eqb (m .result) 0x4B4C (search needs),
       ne-eqb (m .result) 0x4E43 (search needs),
       ne-eqb (m .result) 0x4B50 (search needs),

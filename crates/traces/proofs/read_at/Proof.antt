@@ -1,6 +1,6 @@
 -- `traces::read_at` meets its contract: what is left from the place on; nothing past the end.
 use mathlib.Core.Path.{ap, _∙_}
-use Rattle.fields.specs.Formats.{read-rows, starts}
+use Rattle.fields.specs.Formats.{read-kinds, starts}
 use Rattle.traces.specs.Trace.{read-trace}
 use lib.Seq.{take-all}
 use lib.ListN.{length, drop, length-drop, drop-of-length-le}
@@ -14,7 +14,7 @@ nothing-requires : tie.Need-nothing-requires
 nothing-requires c κs = search needs
 
 returns : tie.Need-returns
-unfolding read-rows starts
+unfolding read-kinds starts
 returns c =
     let a = c .before .before .before .args in
     rw (drop-of-length-le (a .buf .now) {i = a .at} (omega arith)) (c .nothing .ensures)

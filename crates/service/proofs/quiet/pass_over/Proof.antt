@@ -12,7 +12,7 @@ without-requires-2 : tie.Need-without-requires-2
 without-requires-2 c κs = search needs
 
 returns : tie.Need-returns
-returns c = rw (c .before .without .ensures, c .without2 .ensures)
+returns c t = rw (c .before .without .ensures, c .without2 .ensures)
 
 pub pass-over-spec : {M : Type 1} → statement M
 pass-over-spec = tie.close (tie.spec add-later without-requires without-requires-2 returns)

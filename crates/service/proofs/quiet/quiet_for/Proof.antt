@@ -2,7 +2,7 @@ use native.Mathlib.Omega.{arith}
 use mathlib.Core.Path.{_∙_}
 use lib.ListN.{length-map}
 use Rattle.tables.specs.Places.{rows}
-use Rattle.tables.specs.Notices.{notice-of, notices}
+use Rattle.tables.specs.Notices.{notice-of, notices-in}
 use Rattle.service.proofs.QuietCases.{in-service-for, silent-for, notice-waits, idle-for}
 use borrow.Author.Needs.{needs}
 use Rattle.service.proofs.quiet.quiet_for.Statement.{statement}
@@ -14,12 +14,12 @@ sub-result c = search needs
 returns : tie.Need-returns
 returns c =
     let a = c .before .before .before .before .before .args in
-    in-service-for (a .h .units) (a .h .silent) (rows (a .t .now)) (notices (a .q .now)) (a .h .clock) (c .before .if1 .taken)
+    in-service-for (a .h .«to_go») (a .h .silent) (rows (a .places .now)) (notices-in (a .notices .now)) (a .h .clock) (c .before .if1 .taken)
 
 returns-2 : tie.Need-returns-2
 returns-2 c =
     let a = c .before .before .before .before .before .before .args in
-    silent-for (a .h .units) (a .h .silent) (rows (a .t .now)) (notices (a .q .now)) (a .h .clock) (c .before .before .if1 .left) (c .if2 .taken)
+    silent-for (a .h .«to_go») (a .h .silent) (rows (a .places .now)) (notices-in (a .notices .now)) (a .h .clock) (c .before .before .if1 .left) (c .if2 .taken)
 
 held-requires : tie.Need-held-requires
 held-requires c κs = search needs
@@ -27,8 +27,8 @@ held-requires c κs = search needs
 returns-3 : tie.Need-returns-3
 returns-3 c =
     let a = c .before .before .before .before .before .before .before .before .args in
-    notice-waits (a .h .units) (a .h .silent) (rows (a .t .now)) (notices (a .q .now)) (a .h .clock) (c .before .before .before .before .if1 .left) (c .before .before .if2 .left)
-    (λ z. c .if3 .taken (omega (arith, c .before .held .ensures, length-map (rows (a .q .now)) notice-of)))
+    notice-waits (a .h .«to_go») (a .h .silent) (rows (a .places .now)) (notices-in (a .notices .now)) (a .h .clock) (c .before .before .before .before .if1 .left) (c .before .before .if2 .left)
+    (λ z. c .if3 .taken (omega (arith, c .before .held .ensures, length-map (rows (a .notices .now)) notice-of)))
 
 wait-requires : tie.Need-wait-requires
 wait-requires c κs = search needs
@@ -37,8 +37,8 @@ returns-4 : tie.Need-returns-4
 returns-4 c =
     let a = c .before .before .before .before .before .before .before .before .before .args in
     c .wait .ensures
-    ∙ idle-for (a .h .units) (a .h .silent) (rows (a .t .now)) (notices (a .q .now)) (a .h .clock) (c .before .before .before .before .before .if1 .left) (c .before .before .before .if2 .left)
-    (omega (arith, c .before .if3 .left, c .before .before .held .ensures, length-map (rows (a .q .now)) notice-of))
+    ∙ idle-for (a .h .«to_go») (a .h .silent) (rows (a .places .now)) (notices-in (a .notices .now)) (a .h .clock) (c .before .before .before .before .before .if1 .left) (c .before .before .before .if2 .left)
+    (omega (arith, c .before .if3 .left, c .before .before .held .ensures, length-map (rows (a .notices .now)) notice-of))
 
 pub quiet-for-spec : {M : Type 1} → statement M
 quiet-for-spec = tie.close (tie.spec sub-result returns returns-2 held-requires returns-3 wait-requires returns-4)

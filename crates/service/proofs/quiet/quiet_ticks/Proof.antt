@@ -1,5 +1,5 @@
 use native.Mathlib.Omega.{arith}
-use Rattle.service.specs.View.{view}
+use Rattle.state.specs.View.{tables, view}
 use Rattle.service.proofs.QuietCases.{none-without-link, clock-in-time, some-quiet}
 use borrow.Author.Needs.{needs}
 use Rattle.service.proofs.quiet.quiet_ticks.Statement.{statement}
@@ -9,7 +9,7 @@ returns : tie.Need-returns
 returns c =
     let s = c .before .before .before .before .before in
     let a = s .args in
-    none-without-link (view (a .h) (a .cs .now) (a .t .now) (a .q .now)) (s .pre .0) (a .left) (search needs)
+    none-without-link (view (a .h) (tables (a .members .now) (a .places .now) (a .notices .now))) (s .pre .0) (a .left) (search needs)
 
 quiet-for-requires : tie.Need-quiet-for-requires
 quiet-for-requires c κs = search needs
@@ -18,7 +18,7 @@ sub-least : tie.Need-sub-least
 sub-least c =
     let s = c .before .before .before .before .before .before .before in
     let a = s .args in
-    clock-in-time (view (a .h) (a .cs .now) (a .t .now) (a .q .now)) (s .pre .0) (a .left) (c .before .before .if1 .left)
+    clock-in-time (view (a .h) (tables (a .members .now) (a .places .now) (a .notices .now))) (s .pre .0) (a .left) (c .before .before .if1 .left)
 
 least-requires : tie.Need-least-requires
 least-requires c κs = search needs
@@ -30,13 +30,13 @@ returns-2 : tie.Need-returns-2
 returns-2 c =
     let s = c .before .before .before .before .before .before .before .before .before in
     let a = s .args in
-    some-quiet (view (a .h) (a .cs .now) (a .t .now) (a .q .now)) (s .pre .0) (a .left) (c .before .before .before .before .if1 .left) _ (omega (arith, c .before .least .ensures, c .before .before .before .quiet-for .ensures))
+    some-quiet (view (a .h) (tables (a .members .now) (a .places .now) (a .notices .now))) (s .pre .0) (a .left) (c .before .before .before .before .if1 .left) _ (omega (arith, c .before .least .ensures, c .before .before .before .quiet-for .ensures))
 
 returns-3 : tie.Need-returns-3
 returns-3 c =
     let s = c .before .before .before .before .before .before .before .before .before in
     let a = s .args in
-    some-quiet (view (a .h) (a .cs .now) (a .t .now) (a .q .now)) (s .pre .0) (a .left) (c .before .before .before .before .if1 .left) _ (omega (arith, c .before .least .ensures, c .before .before .before .quiet-for .ensures))
+    some-quiet (view (a .h) (tables (a .members .now) (a .places .now) (a .notices .now))) (s .pre .0) (a .left) (c .before .before .before .before .if1 .left) _ (omega (arith, c .before .least .ensures, c .before .before .before .quiet-for .ensures))
 
 pub quiet-ticks-spec : {M : Type 1} → statement M
 quiet-ticks-spec =

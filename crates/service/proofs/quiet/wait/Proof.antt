@@ -17,25 +17,25 @@ count-requires : tie.Need-count-requires Inv-loop μ-loop
 count-requires c κs = search needs
 
 loop-holds : tie.Need-loop-holds Inv-loop μ-loop
-loop-holds c = (omega arith, omega arith, seen-none (c .before .before .args .t .now))
+loop-holds c = (omega arith, omega arith, seen-none (c .before .before .args .places .now))
 
 mul-e : tie.Need-mul-e Inv-loop μ-loop
-mul-e c = let k = rows-end (c .before .before .before .before .args .t .now) in let e = c .before .before .count .ensures in search needs
+mul-e c = let k = rows-end (c .before .before .before .before .args .places .now) in let e = c .before .before .count .ensures in search needs
 
 add-e : tie.Need-add-e Inv-loop μ-loop
-add-e c = let k = rows-end (c .before .before .before .before .args .t .now) in let e = c .before .before .count .ensures in search needs
+add-e c = let k = rows-end (c .before .before .before .before .args .places .now) in let e = c .before .before .count .ensures in search needs
 
 mul-e-2 : tie.Need-mul-e-2 Inv-loop μ-loop
-mul-e-2 c = let k = rows-end (c .before .before .before .before .args .t .now) in let e = c .before .before .count .ensures in search needs
+mul-e-2 c = let k = rows-end (c .before .before .before .before .args .places .now) in let e = c .before .before .count .ensures in search needs
 
 shared-slice-read-e : tie.Need-shared-slice-read-e Inv-loop μ-loop
-shared-slice-read-e c = let k = rows-end (c .before .before .before .before .before .args .t .now) in let e = c .before .before .before .count .ensures in omega arith
+shared-slice-read-e c = let k = rows-end (c .before .before .before .before .before .args .places .now) in let e = c .before .before .before .count .ensures in omega arith
 
 returns : tie.Need-returns Inv-loop μ-loop
 returns c =
     let a = c .before .before .before .before .before .before .args in
     let l = c .before .before .before .loop in
-    seen-now (a .t .now) (l .i) (omega (arith, c .before .before .before .before .count .ensures)) (l .first) (a .clock) (l .inv .2) (search needs)
+    seen-now (a .places .now) (l .i) (omega (arith, c .before .before .before .before .count .ensures)) (l .first) (a .clock) (l .inv .2) (search needs)
 
 least-requires : tie.Need-least-requires Inv-loop μ-loop
 least-requires c κs = search needs
@@ -51,7 +51,7 @@ loop-again c =
     let a = c .before .before .before .before .before .before .before .args in
     let l = c .before .before .before .before .loop in
     let e = c .least .ensures in
-    (search needs, omega (arith, e, l .inv .1), rw e (seen-more (a .t .now) (l .i) (omega (arith, c .before .before .before .before .before .count .ensures)) (l .first) (l .inv .2)))
+    (search needs, omega (arith, e, l .inv .1), rw e (seen-more (a .places .now) (l .i) (omega (arith, c .before .before .before .before .before .count .ensures)) (l .first) (l .inv .2)))
 
 without-requires : tie.Need-without-requires Inv-loop μ-loop
 without-requires c κs = search needs
@@ -60,7 +60,7 @@ returns-2 : tie.Need-returns-2 Inv-loop μ-loop
 returns-2 c =
     let a = c .before .before .before .before .before .args in
     let l = c .before .before .loop in
-    rw (← seen-all (a .t .now) (l .first) (l .i) (l .inv .1) (omega (arith, c .before .before .before .count .ensures, l .inv .0)) (l .inv .2)) (c .without .ensures)
+    rw (← seen-all (a .places .now) (l .first) (l .i) (l .inv .1) (omega (arith, c .before .before .before .count .ensures, l .inv .0)) (l .inv .2)) (c .without .ensures)
 
 pub wait-spec : {M : Type 1} → statement M
 wait-spec =

@@ -1,9 +1,8 @@
 use mathlib.Core.Path.{ap, _∙_}
-use lib.ListN.{getD}
-use borrow.Author.Needs.{needs}
 use Rattle.rules.specs.declared.Connection.{Connection}
 use Rattle.rules.specs.SoundTest.{in-pace}
-use Rattle.sound.specs.Pace.{seen-option}
+use Rattle.sound.specs.Pace.{last-seen}
+use borrow.Author.Needs.{needs}
 use Rattle.sound.proofs.pace.row_in_pace.Statement.{statement}
 use Rattle.sound.proofs.pace.row_in_pace.Tie as tie
 
@@ -31,18 +30,8 @@ in-pace-requires c κs = search needs
 returns : tie.Need-returns
 returns c =
     let a = c .before .before .before .before .before .before .before .before .args in
-    let k = a .p .connection in
-    c .in-pace .ensures ∙ ap (λ (x : Connection). in-pace (x .gap) (a .clock) (seen-option (getD (a .seen .now) k 0) (getD (a .prev .now) k 0)) (a .p .eligibility)) (c .before .before .before .connection-at .ensures)
+    let o = last-seen (a .seen .now) (a .prev .now) (a .p .connection) in
+    c .in-pace .ensures ∙ ap (λ (x : Connection). in-pace (x .gap) (a .h .clock) o (a .p .eligibility)) (c .before .before .before .connection-at .ensures)
 
 pub row-in-pace-spec : {M : Type 1} → statement M
-row-in-pace-spec =
-    tie.close
-    (tie.spec
-    cast-c
-    connection-at-requires
-    mul-in-pace
-    shared-slice-read-in-pace
-    mul-in-pace-2
-    shared-slice-read-in-pace-2
-    in-pace-requires
-    returns)
+row-in-pace-spec = tie.close (tie.spec cast-c connection-at-requires mul-in-pace shared-slice-read-in-pace mul-in-pace-2 shared-slice-read-in-pace-2 in-pace-requires returns)

@@ -1,8 +1,9 @@
+use Rattle.state.proofs.DoesLaws.{told-as}
 use Rattle.rules.proofs.Results.{answers-fit}
-use Rattle.service.specs.View.{view}
-use Rattle.calls.proofs.ActLaws.{is-sound}
+use Rattle.state.specs.View.{Tables, tables, given, before, after, written, sound-hub, view}
+use Rattle.state.proofs.SoundLaws.{is-sound}
 use native.Mathlib.Omega.{arith}
-use Rattle.service.specs.declared.Told.{Told}
+use Rattle.state.specs.declared.Told.{Told}
 use Rattle.steps.proofs.CallLaws.{did-call}
 use mathlib.Core.Path.{ap, _∙_}
 use Prim.Native.Nat.{_%_}
@@ -30,8 +31,8 @@ cast-t17 c =
     let z = c .before .before .before .before .before .before .before .before .before .before .before .before .before in
     let a = z .args in
     let k = c .before .before .before .before .before .before .before .admit-tested in
-    let f = answers-fit (admit (a .x)) (view (a .h) (a .cs .now) (a .t .now) (a .q .now)) (is-sound (a .h) (a .cs .now) (a .t .now) (a .q .now) (z .pre .0)) in
-    omega (arith, f .units, ap (λ (y : Told). y .short .units) (k .ensures .answers))
+    let f = answers-fit (admit (a .x)) (view (a .h) (tables (a .members .now) (a .places .now) (a .notices .now))) (is-sound (a .h) (tables (a .members .now) (a .places .now) (a .notices .now)) (z .pre .0)) in
+    omega (arith, f .units, ap (λ (y : Told). y .short .units) (told-as (admit (a .x)) (a .h) (tables (a .members .now) (a .places .now) (a .notices .now)) (z .pre .0) _ _ (k .ensures)))
 
 answered-requires : tie.Need-answered-requires
 answered-requires c κs = search needs
@@ -44,14 +45,15 @@ same-length-2 c = search needs
 
 returns : tie.Need-returns
 returns c =
-    let a = c .before .before .before .before .before .before .before .before .before .before .before .before .before .before .before .before .before .args in
+    let z = c .before .before .before .before .before .before .before .before .before .before .before .before .before .before .before .before .before in
+    let a = z .args in
     let k = c .before .before .before .before .before .before .before .before .before .before .before .admit-tested in
     let w = c .before .before .answered .ensures in
     let v = c .before .before .before .before .before .before .before .low in
     let m = c .before .before .before .before .before .before .low2 in
     let l = c .before .before .before .before .before .low3 in
-    let e = k .ensures .answers in
-    did-call (admit (a .x)) (a .h) (a .cs .now) (a .t .now) (a .q .now) _ _ _ _ _ (k .result) (k .ensures) (a .at) (a .used) _ (Admitted (v .result) (m .result) (l .result) (k .result .short .units)) _
+    let e = told-as (admit (a .x)) (a .h) (tables (a .members .now) (a .places .now) (a .notices .now)) (z .pre .0) _ _ (k .ensures) in
+    did-call (admit (a .x)) (a .h) (tables (a .members .now) (a .places .now) (a .notices .now)) _ _ _ (k .result) (z .pre .0) (k .ensures) (a .at) (a .used) _ (Admitted (v .result) (m .result) (l .result) (k .result .short .units)) _
     (admitted-low _ _ _ _ _ _ _ _ (v .ensures ∙ ap (λ (y : Told). y .verdict % 256) e) (m .ensures ∙ ap (λ (y : Told). y .number % 256) e)
     (l .ensures ∙ ap (λ (y : Told). y .short .level % 256) e) (ap (λ (y : Told). y .short .units) e))
     (w .0) (w .1)

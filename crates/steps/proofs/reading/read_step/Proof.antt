@@ -1,4 +1,4 @@
-use Rattle.service.specs.View.{view}
+use Rattle.state.specs.View.{Tables, tables, given, before, after, written, sound-hub, view}
 use Rattle.log.proofs.ReadLaws.{read-lies}
 use Rattle.steps.specs.declared.Phase.the-variants.{Reading, Finished}
 use Rattle.steps.specs.declared.Status.the-variants.{MoreBytes, Done}
@@ -21,8 +21,8 @@ returns c =
     let s = c .before .before .before .before .before .before .before .before in
     let a = s .args in
     let w = c .waits in (
-      rw (next-end (a .at) (view (a .h) (a .cs .now) (a .t .now) (a .q .now)) (a .window .now) (a .last) (search needs) (search needs))
-          (did-kept (a .h) (a .cs .now) (a .t .now) (a .q .now) (s .pre .0) (a .at) Finished 0 [] Done (w .result) _ _ (w .ensures) refl),
+      rw (next-end (a .at) (view (a .h) (tables (a .members .now) (a .places .now) (a .notices .now))) (a .window .now) (a .last) (search needs) (search needs))
+          (did-kept (a .h) (tables (a .members .now) (a .places .now) (a .notices .now)) (s .pre .0) (a .at) Finished 0 [] Done (w .result) _ _ (w .ensures) refl),
       rw (w .ensures) (waits-facts (a .at) Reading Finished (a .h) (length (a .window .now)) (a .last) (length (a .out .now)) Done (omega arith) refl (λ z. cc)),
     )
 
@@ -48,7 +48,7 @@ returns-2 : tie.Need-returns-2
 returns-2 c =
     let z = c .before .before .before .before .before .before .before .before .before .before .before .before .before .before .before .before .before .before .before .before .before in
     let a = z .args in
-    let s = view (a .h) (a .cs .now) (a .t .now) (a .q .now) in
+    let s = view (a .h) (tables (a .members .now) (a .places .now) (a .notices .now)) in
     let k = c .before .before .before .before .before .before .before .before .record-step in
     let f = c .before .before .before .before .before .before .before .before .before .before .before .before .before .read-at in
     let lies = read-lies (a .at) (a .window .now) in
@@ -67,8 +67,8 @@ returns-3 c =
     let a = s .args in
     let w = c .waits2 in
     let l : a .last ≡ false = search needs in (
-      rw (next-more (a .at) (view (a .h) (a .cs .now) (a .t .now) (a .q .now)) (a .window .now) (a .last) l (search needs))
-          (did-kept (a .h) (a .cs .now) (a .t .now) (a .q .now) (s .pre .0) (a .at) Reading 0 [] MoreBytes (w .result) _ _ (w .ensures) refl),
+      rw (next-more (a .at) (view (a .h) (tables (a .members .now) (a .places .now) (a .notices .now))) (a .window .now) (a .last) l (search needs))
+          (did-kept (a .h) (tables (a .members .now) (a .places .now) (a .notices .now)) (s .pre .0) (a .at) Reading 0 [] MoreBytes (w .result) _ _ (w .ensures) refl),
       rw (w .ensures) (waits-facts (a .at) Reading Reading (a .h) (length (a .window .now)) (a .last) (length (a .out .now)) MoreBytes (omega arith) refl (λ z. l)),
     )
 
@@ -94,7 +94,7 @@ returns-4 : tie.Need-returns-4
 returns-4 c =
     let z = c .before .before .before .before .before .before .before .before .before .before .before .before .before .before .before .before .before .before .before .before .before in
     let a = z .args in
-    let s = view (a .h) (a .cs .now) (a .t .now) (a .q .now) in
+    let s = view (a .h) (tables (a .members .now) (a .places .now) (a .notices .now)) in
     let k = c .before .before .before .before .before .before .before .before .record-step2 in
     let f = c .before .before .before .before .before .before .before .before .before .before .before .before .before .read-at2 in
     let lies = read-lies (a .at) (a .window .now) in

@@ -1,3 +1,4 @@
+use Rattle.state.specs.View.{tables}
 use Rattle.steps.proofs.CallLaws.{did-kept}
 use mathlib.Core.Path.{refl}
 use mathlib.Core.List.{[]}
@@ -13,26 +14,26 @@ cast-to c = search needs
 add-to : tie.Need-add-to
 add-to c = search needs
 
-enum-told : tie.Need-enum-told
-enum-told c = search needs
+enum-known-what : tie.Need-enum-known-what
+enum-known-what c = search needs
 
-link-of-requires : tie.Need-link-of-requires
-link-of-requires c κs = search needs
+link-named-requires : tie.Need-link-named-requires
+link-named-requires c κs = search needs
 
 link-step-requires : tie.Need-link-step-requires
 link-step-requires c κs = search needs
 
-enum-told-2 : tie.Need-enum-told-2
-enum-told-2 c = search needs
+enum-known-what-2 : tie.Need-enum-known-what-2
+enum-known-what-2 c = search needs
 
-connection-of-requires : tie.Need-connection-of-requires
-connection-of-requires c κs = search needs
+connection-named-requires : tie.Need-connection-named-requires
+connection-named-requires c κs = search needs
 
 admit-step-requires : tie.Need-admit-step-requires
 admit-step-requires c κs = search needs
 
-enum-known-what : tie.Need-enum-known-what
-enum-known-what c = search needs
+enum-known-what-3 : tie.Need-enum-known-what-3
+enum-known-what-3 c = search needs
 
 cast-c : tie.Need-cast-c
 cast-c c = search needs
@@ -43,8 +44,8 @@ cast-offer-step c = search needs
 offer-step-requires : tie.Need-offer-step-requires
 offer-step-requires c κs = search needs
 
-enum-known-what-2 : tie.Need-enum-known-what-2
-enum-known-what-2 c = search needs
+enum-known-what-4 : tie.Need-enum-known-what-4
+enum-known-what-4 c = search needs
 
 cast-notice-step : tie.Need-cast-notice-step
 cast-notice-step c = search needs
@@ -52,14 +53,14 @@ cast-notice-step c = search needs
 notice-step-requires : tie.Need-notice-step-requires
 notice-step-requires c κs = search needs
 
-enum-known-what-3 : tie.Need-enum-known-what-3
-enum-known-what-3 c = search needs
+enum-known-what-5 : tie.Need-enum-known-what-5
+enum-known-what-5 c = search needs
 
 begin-ticks-requires : tie.Need-begin-ticks-requires
 begin-ticks-requires c κs = search needs
 
-enum-told-3 : tie.Need-enum-told-3
-enum-told-3 c = search needs
+enum-told : tie.Need-enum-told
+enum-told c = search needs
 
 broken-step-requires : tie.Need-broken-step-requires
 broken-step-requires c κs = search needs
@@ -79,8 +80,8 @@ same-length-4 c = search needs
 returns : tie.Need-returns
 returns c =
     let k = c .before .before .link-step in
-    let g = c .before .before .before .before .before .before .before .before .enum-told .given .1 in
-    (rw g (rw (c .before .before .before .before .before .before .before .link-of .ensures, g) at (k .ensures)), rw (k .ensures .answers) (omega arith))
+    let g = c .before .before .before .before .before .before .before .before .before .what .given .1 in
+    (rw g (rw (c .before .before .before .before .before .before .before .link-named .ensures) at (k .ensures)), rw (k .ensures .answers) (omega arith))
 
 same-length-5 : tie.Need-same-length-5
 same-length-5 c = search needs
@@ -97,8 +98,8 @@ same-length-8 c = search needs
 returns-2 : tie.Need-returns-2
 returns-2 c =
     let k = c .before .before .before .before .admit-step in
-    let g = c .before .before .before .before .before .before .before .before .before .before .enum-told2 .given .1 in
-    (rw g (rw (c .before .before .before .before .before .before .before .before .before .connection-of .ensures, g) at (k .ensures)), rw (k .ensures .answers) (omega arith))
+    let g = c .before .before .before .before .before .before .before .before .before .before .before .what2 .given .1 in
+    (rw g (rw (c .before .before .before .before .before .before .before .before .before .connection-named .ensures) at (k .ensures)), rw (k .ensures .answers) (omega arith))
 
 same-length-9 : tie.Need-same-length-9
 same-length-9 c = search needs
@@ -115,7 +116,7 @@ same-length-12 c = search needs
 returns-3 : tie.Need-returns-3
 returns-3 c =
     let k = c .before .before .before .before .before .before .offer-step in
-    (rw (c .before .before .before .before .before .before .before .before .before .before .before .before .what .given .1) (k .ensures), rw (k .ensures .answers) (omega arith))
+    (rw (c .before .before .before .before .before .before .before .before .before .before .before .before .what3 .given .1) (k .ensures), rw (k .ensures .answers) (omega arith))
 
 same-length-13 : tie.Need-same-length-13
 same-length-13 c = search needs
@@ -132,14 +133,14 @@ same-length-16 c = search needs
 returns-4 : tie.Need-returns-4
 returns-4 c =
     let k = c .before .before .before .before .notice-step in
-    (rw (c .before .before .before .before .before .before .before .before .before .before .what2 .given .1) (k .ensures), rw (k .ensures .answers) (omega arith))
+    (rw (c .before .before .before .before .before .before .before .before .before .before .what4 .given .1) (k .ensures), rw (k .ensures .answers) (omega arith))
 
 returns-5 : tie.Need-returns-5
 returns-5 c =
     let s = c .before .before .before .before .before .before .before .before in
     let a = s .args in
     let k = c .begin-ticks in
-    (rw (c .before .before .what3 .given .1) (did-kept (a .h) (a .cs .now) (a .t .now) (a .q .now) (s .pre .0) _ _ _ [] GoOn _ _ _ (k .ensures) refl), rw (k .ensures) (search needs))
+    (rw (c .before .before .what5 .given .1) (did-kept (a .h) (tables (a .members .now) (a .places .now) (a .notices .now)) (s .pre .0) _ _ _ [] GoOn _ _ _ (k .ensures) refl), rw (k .ensures) (search needs))
 
 same-length-17 : tie.Need-same-length-17
 same-length-17 c = search needs
@@ -149,7 +150,7 @@ returns-6 c =
     let s = c .before .before .before .before .before .before .before .before .before .before in
     let a = s .args in
     let k = c .before .before .broken-step in
-    (rw (c .before .before .before .before .enum-told3 .given .1) (did-kept (a .h) (a .cs .now) (a .t .now) (a .q .now) (s .pre .0) _ _ _ _ Done _ _ _ (k .ensures .0) (k .ensures .1)), rw (k .ensures .0) (omega arith))
+    (rw (c .before .before .before .before .enum-told .given .1) (did-kept (a .h) (tables (a .members .now) (a .places .now) (a .notices .now)) (s .pre .0) _ _ _ _ Done _ _ _ (k .ensures .0) (k .ensures .1)), rw (k .ensures .0) (omega arith))
 
 pub record-step-spec : {M : Type 1} → statement M
 record-step-spec =
@@ -157,22 +158,22 @@ record-step-spec =
     (tie.spec
     cast-to
     add-to
-    enum-told
-    link-of-requires
-    link-step-requires
-    enum-told-2
-    connection-of-requires
-    admit-step-requires
     enum-known-what
+    link-named-requires
+    link-step-requires
+    enum-known-what-2
+    connection-named-requires
+    admit-step-requires
+    enum-known-what-3
     cast-c
     cast-offer-step
     offer-step-requires
-    enum-known-what-2
+    enum-known-what-4
     cast-notice-step
     notice-step-requires
-    enum-known-what-3
+    enum-known-what-5
     begin-ticks-requires
-    enum-told-3
+    enum-told
     broken-step-requires
     same-length
     same-length-2

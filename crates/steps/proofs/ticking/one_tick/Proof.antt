@@ -1,3 +1,4 @@
+use Rattle.state.specs.View.{tables}
 use Rattle.steps.proofs.CallLaws.{did-refused, did-tick}
 use borrow.Author.Needs.{needs}
 use Rattle.steps.proofs.ticking.one_tick.Statement.{statement}
@@ -29,11 +30,12 @@ same-length-3 c = search needs
 
 returns : tie.Need-returns
 returns c =
-    let a = c .before .before .before .before .before .before .before .before .before .before .before .before .before .before .before .before .before .before .before .before .args in
+    let z = c .before .before .before .before .before .before .before .before .before .before .before .before .before .before .before .before .before .before .before .before in
+    let a = z .args in
     let k = c .before .before .answered .ensures in
     let w = c .before .before .before .before .before .before .before .before .before .before .before .before .before .tick-tested in
     let n = c .before .before .before .before .before .without in
-    did-refused (a .at) (a .asked) (a .left) (a .h) (a .cs .now) (a .t .now) (a .q .now) (w .result) _ _ (w .ensures) _ _ _ (c .before .before .before .before .before .before .if1 .taken) (c .before .before .before .before .low .result) (n .result) (c .before .before .before .before .low .ensures) (n .ensures) (k .0) (k .1)
+    did-refused (a .at) (a .asked) (a .left) (a .h) (tables (a .members .now) (a .places .now) (a .notices .now)) (z .pre .0) (w .result) _ (w .ensures) _ _ _ (c .before .before .before .before .before .before .if1 .taken) (c .before .before .before .before .low .result) (n .result) (c .before .before .before .before .low .ensures) (n .ensures) (k .0) (k .1)
 
 put-departure-requires : tie.Need-put-departure-requires
 put-departure-requires c κs = search needs
@@ -52,10 +54,11 @@ same-length-6 c = search needs
 
 returns-2 : tie.Need-returns-2
 returns-2 c =
-    let a = c .before .before .before .before .before .before .before .before .before .before .before .before .before .before .before .before .before .before .args in
+    let z = c .before .before .before .before .before .before .before .before .before .before .before .before .before .before .before .before .before .before in
+    let a = z .args in
     let k = c .before .before .put-departure .ensures in
     let w = c .before .before .before .before .before .before .before .before .before .before .before .tick-tested in
-    did-tick (a .at) (a .asked) (a .left) (a .h) (a .cs .now) (a .t .now) (a .q .now) (w .result) _ _ (w .ensures) _ _ _ (c .before .before .before .before .if1 .left) (rw (k .0)) (k .1)
+    did-tick (a .at) (a .asked) (a .left) (a .h) (tables (a .members .now) (a .places .now) (a .notices .now)) (z .pre .0) (w .result) _ (w .ensures) _ _ _ (c .before .before .before .before .if1 .left) (rw (k .0)) (k .1)
 
 pub one-tick-spec : {M : Type 1} → statement M
 one-tick-spec =

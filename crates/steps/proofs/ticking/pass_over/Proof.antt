@@ -9,7 +9,7 @@ sub-rest : tie.Need-sub-rest
 sub-rest c = search needs
 
 returns : tie.Need-returns
-returns c = rw (c .pass-over .ensures)
+returns c t = rw (c .pass-over .ensures t)
 
 pub pass-over-spec : {M : Type 1} → statement M
 pass-over-spec = tie.close (tie.spec pass-over-requires sub-rest returns)

@@ -1,6 +1,7 @@
+use Rattle.state.specs.View.{tables}
 use mathlib.Core.Path.{sym, _∙_}
 use Rattle.service.proofs.QuietCases.{quiet-room}
-use Rattle.calls.proofs.ActLaws.{tested, places-kept, places-size}
+use Rattle.state.proofs.SoundLaws.{sound-view, places-kept, places-size}
 use Rattle.steps.proofs.CallLaws.{did-all, did-quiet, did-one}
 use borrow.Author.Needs.{needs}
 use Rattle.steps.proofs.ticking.tick_step.Statement.{statement}
@@ -27,14 +28,14 @@ returns c =
     let a = s .args in
     let k = c .before .before .answered .ensures in
     let v = c .before .before .before .before .all-done-verdict in
-    did-all (a .at) (a .asked) (a .left) (a .h) (a .cs .now) (a .t .now) (a .q .now) (s .pre .0) (search needs) (v .result) _ _ _ (v .ensures) (k .0) (k .1)
+    did-all (a .at) (a .asked) (a .left) (a .h) (tables (a .members .now) (a .places .now) (a .notices .now)) (s .pre .0) (search needs) (v .result) _ _ _ (v .ensures) (k .0) (k .1)
 
 quiet-ticks-requires : tie.Need-quiet-ticks-requires
 quiet-ticks-requires c κs =
     let s = c .before .before .before .before .before .before .before in
     let a = s .args in
     let ok = s .pre .0 in
-    (tested (a .h) (a .cs .now) (a .t .now) (a .q .now) ok .state, places-kept (a .h) (a .cs .now) (a .t .now) (a .q .now) ok, places-size (a .h) (a .cs .now) (a .t .now) (a .q .now) ok)
+    (sound-view (a .h) (tables (a .members .now) (a .places .now) (a .notices .now)) ok, places-kept (a .h) (tables (a .members .now) (a .places .now) (a .notices .now)) ok, places-size (a .h) (tables (a .members .now) (a .places .now) (a .notices .now)) ok)
 
 pass-over-requires : tie.Need-pass-over-requires
 pass-over-requires c κs = let i = quiet-room (c .before .before .before .before .before .before .before .before .before .args .left) _ (c .before .quiet-ticks .ensures) (c .if2 .taken) in (i .few, i .quiet .in-time)
@@ -50,7 +51,7 @@ returns-2 c =
     let s = c .before .before .before .before .before .before .before .before .before .before in
     let a = s .args in
     let w = c .before .before .quiet-ticks in
-    did-quiet (a .at) (a .asked) (a .left) (a .h) (a .cs .now) (a .t .now) (a .q .now) (s .pre .0) (c .before .before .before .before .before .if1 .left) (w .result) (w .ensures) (c .before .if2 .taken) _ _ (c .pass-over .ensures)
+    did-quiet (a .at) (a .asked) (a .left) (a .h) (tables (a .members .now) (a .places .now) (a .notices .now)) (s .pre .0) (c .before .before .before .before .before .if1 .left) (w .result) (w .ensures) (c .before .if2 .taken) _ _ (c .pass-over .ensures (tables (a .members .now) (a .places .now) (a .notices .now)))
 
 one-tick-requires : tie.Need-one-tick-requires
 one-tick-requires c κs = search needs
@@ -66,9 +67,10 @@ same-length-8 c = search needs
 
 returns-3 : tie.Need-returns-3
 returns-3 c =
-    let a = c .before .before .before .before .before .before .before .before .before .before .before .before .before .before .before .before .before .before .before .args in
+    let z = c .before .before .before .before .before .before .before .before .before .before .before .before .before .before .before .before .before .before .before in
+    let a = z .args in
     let w = c .before .before .before .before .before .before .before .before .before .before .before .quiet-ticks in
-    did-one (a .at) (a .asked) (a .left) (a .h) (a .cs .now) (a .t .now) (a .q .now) (c .before .before .before .before .before .before .before .before .before .before .before .before .before .before .if1 .left) (sym (w .ensures) ∙ c .before .before .before .before .before .before .before .before .before .before .if2 .left) _ _ _ _ _ (c .before .before .before .before .before .before .one-tick .ensures)
+    did-one (a .at) (a .asked) (a .left) (a .h) (tables (a .members .now) (a .places .now) (a .notices .now)) (z .pre .0) (c .before .before .before .before .before .before .before .before .before .before .before .before .before .before .if1 .left) (sym (w .ensures) ∙ c .before .before .before .before .before .before .before .before .before .before .if2 .left) _ _ _ _ (c .before .before .before .before .before .before .one-tick .ensures)
 
 pub tick-step-spec : {M : Type 1} → statement M
 tick-step-spec =

@@ -2,14 +2,16 @@
 use mathlib.Core.Path.{_≡_, sym, _∙_}
 use Prim.Native.Nat.{_≤_, _-_}
 use lib.ListN.{length, drop}
-use Rattle.traces.specs.Trace.{zeros, link-written}
+use lib.Dec.{eqb}
+use Rattle.fields.specs.Numbers.{sum}
+use Rattle.traces.specs.Trace.{link-written}
 use Rattle.traces.proofs.LinkLaws.{zeros-stop, zeros-on, zeros-end, zero-unwritten, large-unwritten, zeros-decide}
 use borrow.Author.Needs.{needs}
 use Rattle.traces.proofs.link.is_written.Statement.{statement}
 use Rattle.traces.proofs.link.is_written.Tie as tie
 
 abbrev Inv-loop : tie.InvT-loop
-Inv-loop levels bounds i₀ i = (i ≤ 8) × (length bounds ≡ 8) × (zeros (drop i bounds) ≡ link-written levels bounds)
+Inv-loop levels bounds i₀ i = (i ≤ 8) × (length bounds ≡ 8) × (eqb (sum (drop i bounds)) 0 ≡ link-written levels bounds)
 
 abbrev μ-loop : tie.MeasureT-loop
 μ-loop levels bounds i₀ i = 8 - i

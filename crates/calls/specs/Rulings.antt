@@ -1,0 +1,25 @@
+-- What the code decides of a call's table of verdicts, and in which parts. Document 01, "Verdict numbers"; document 02, R-2.
+use Prim.Native.Nat.{ℕ}
+use mathlib.Core.Bool.{Bool, not}
+use mathlib.Core.List.{List, [], _∷_}
+use lib.Dec.{leb, eqb}
+use Rattle.rules.specs.declared.Link.{Link}
+use Rattle.rules.specs.declared.Connection.{Connection}
+use Rattle.rules.specs.Words.{within}
+use Rattle.rules.specs.Limits.{max-connections}
+use Rattle.rules.specs.Model.{State, Call}
+use Rattle.rules.specs.Admission.{level-within, figures-within}
+use Rattle.rules.specs.Calls.{verdict, refused-short}
+use Rattle.calls.specs.declared.verdicts.Ruling.{Ruling}
+
+-- the verdict of a call, and what the level test said where that is the cause
+abbrev pub ruling-of : Call → State → Ruling
+ruling-of k s = record { verdict = verdict k s; short = refused-short k s (verdict k s) }
+
+-- the rows of an admission's table that need no sum, where n connections stand
+abbrev pub early-admit : Link → ℕ → Connection → List (ℕ × Bool)
+early-admit l n x = (2, eqb (l .levels) 0) ∷ (5, not (level-within l x)) ∷ (6, not (figures-within l x)) ∷ (7, leb max-connections n) ∷ []
+
+-- the rows of an offer's table that need no walk over the places, of a connection with figures x; it has a size where it stands
+abbrev pub early-offer : Link → Connection → ℕ → List (ℕ × Bool)
+early-offer l x len = (2, eqb (l .levels) 0) ∷ (10, eqb (x .size) 0) ∷ (11, not (within 1 (x .size) len)) ∷ []

@@ -1,0 +1,218 @@
+// The verdict of each call on a sound state: what the table of verdicts asks, each by a function of its own, and the first number of which the test holds.
+// Document 01, "Verdict numbers"; document 02, R-1.
+ghost use mathlib.Core.Path.{_≡_};
+ghost use mathlib.Core.Bool.{true, cond, not};
+ghost use Prim.Native.Nat.{ℕ, _≤_};
+ghost use lib.Dec.{leb, eqb};
+ghost use lib.ListN.{length};
+ghost use Rattle.rules.specs.Words.{within, first-number};
+ghost use Rattle.rules.specs.Limits.{clock-end};
+ghost use Rattle.rules.specs.Model.{link, admit, offer, notice, tick};
+ghost use Rattle.rules.specs.Admission.{reservation};
+ghost use Rattle.rules.specs.Service.{of};
+ghost use Rattle.rules.specs.Calls.{verdict};
+ghost use Rattle.tables.specs.Places.{rows, written-places, places-length};
+ghost use Rattle.connections.specs.Members.{members-in};
+ghost use Rattle.state.specs.View.{given, before, view, sound-hub};
+ghost use Rattle.calls.specs.Rulings.{ruling-of, early-admit, early-offer};
+use limits::CLOCK_END;
+use limits::MAX_CONNECTIONS;
+use limits::MAX_NOTICES;
+use limits::MAX_RESERVED;
+use rules::Connection;
+use rules::Link;
+use rules::Short;
+use state::Hub;
+
+// The verdict of an admission, and what the level test said where it is 8.
+pub struct Ruling {
+    pub verdict: u32,
+    pub short: Short,
+}
+
+// ---- the decision
+
+// A row of the table: its number where its test holds, else what the rows behind it give.
+fn first_of(test: bool, number: u32, rest: u32) -> u32
+    ensures { λ r. ⌜ r ≡ cond test number rest ⌝ }
+{
+    if test {
+        return number;
+    }
+    rest
+}
+
+// ---- the tests
+
+// No link is set.
+fn unset(h: Hub) -> bool
+    ensures { λ r. ⌜ r ≡ eqb (h .link .levels) 0 ⌝ }
+{
+    h.link.levels == 0
+}
+
+// The clock has ended.
+fn ended(h: Hub) -> bool
+    ensures { λ r. ⌜ r ≡ leb clock-end (h .clock) ⌝ }
+{
+    CLOCK_END <= h.clock
+}
+
+// A length that is not from 1 to the largest.
+fn misfits(largest: u32, len: u32) -> bool
+    ensures { λ r. ⌜ r ≡ not (within 1 largest len) ⌝ }
+{
+    if len < 1 {
+        return true;
+    }
+    largest < len
+}
+
+fn one_if_same(a: u32, b: u32) -> u64
+    ensures { λ r. ⌜ r ≡ cond (eqb a b) 1 0 ⌝ }
+{
+    if a == b {
+        return 1;
+    }
+    0
+}
+
+// How many packets connection c holds.
+fn held_by(places: &[u32], c: u32) -> u64
+    requires { ⌜ (now places ≡ written-places (rows (now places))) × (length (now places) ≡ places-length) ⌝ }
+    ensures { λ r. ⌜ r ≡ length (of c (rows (now (places .entry)))) ⌝ }
+{
+    let held = tables::count(places);
+    let mut n: u64 = 0;
+    let mut i: usize = 0;
+    while i < held {
+        let p = tables::row(places, i);
+        n += one_if_same(p.connection, c);
+        i += 1;
+    }
+    n
+}
+
+// Connection c, with figures x, holds as many packets as its reservation.
+fn full(l: Link, x: Connection, places: &[u32], c: u32) -> bool
+    requires { ⌜ (1 ≤ x .gap) × (now places ≡ written-places (rows (now places))) × (length (now places) ≡ places-length) ⌝ }
+    ensures { λ r. ⌜ r ≡ leb (reservation l x) (length (of c (rows (now (places .entry))))) ⌝ }
+{
+    connections::reserve(l, x) <= held_by(places, c)
+}
+
+// ---- the calls
+
+pub(crate) fn link_verdict(h: Hub, members: &[u32], places: &[u32], notices: &[u32], l: Link) -> u32
+    requires { ⌜ sound-hub h (given members places notices) ≡ true ⌝ }
+    ensures { λ r. ⌜ r ≡ verdict (link l) (view h (before members places notices)) ⌝ }
+{
+    // a link that is set already is not looked at further
+    if !unset(h) {
+        return 3;
+    }
+    first_of(!limits::link_ok(l), 4, 0)
+}
+
+pub(crate) fn tick_verdict(h: Hub, members: &[u32], places: &[u32], notices: &[u32]) -> u32
+    requires { ⌜ sound-hub h (given members places notices) ≡ true ⌝ }
+    ensures { λ r. ⌜ r ≡ verdict tick (view h (before members places notices)) ⌝ }
+{
+    first_of(unset(h), 2, first_of(ended(h), 13, 0))
+}
+
+// What speaks against an admission before a sum is made.
+fn admit_refusal(h: Hub, n: usize, x: Connection) -> u32
+    ensures { λ r. ⌜ r ≡ first-number (early-admit (h .link) n x) ⌝ }
+{
+    let l = h.link;
+    let figures = first_of(
+        !limits::figures_ok(l, x),
+        6,
+        first_of(MAX_CONNECTIONS <= n, 7, 0),
+    );
+    first_of(unset(h), 2, first_of(!limits::level_ok(l, x), 5, figures))
+}
+
+pub(crate) fn admit_verdict(
+    h: Hub,
+    members: &[u32],
+    places: &[u32],
+    notices: &[u32],
+    n: usize,
+    x: Connection,
+) -> Ruling
+    requires { ⌜ (sound-hub h (given members places notices) ≡ true) × (n ≡ length (members-in (now members))) ⌝ }
+    ensures { λ r. ⌜ r ≡ ruling-of (admit x) (view h (before members places notices)) ⌝ }
+{
+    let l = h.link;
+    let early = admit_refusal(h, n, x);
+    if early != 0 {
+        return Ruling {
+            verdict: early,
+            short: connections::no_short(),
+        };
+    }
+    let short = connections::level_test(l, members, n, x);
+    if short.level != 0 {
+        return Ruling {
+            verdict: 8,
+            short: short,
+        };
+    }
+    let all = connections::reserved_by(l, members, n) + connections::reserve(l, x);
+    Ruling {
+        verdict: first_of(MAX_RESERVED < all, 9, 0),
+        short: short,
+    }
+}
+
+// What speaks against an offer to a connection with figures x before the rows are walked. A connection that stands has a size.
+fn offer_refusal(h: Hub, x: Connection, len: u32) -> u32
+    ensures { λ r. ⌜ r ≡ first-number (early-offer (h .link) x len) ⌝ }
+{
+    first_of(
+        unset(h),
+        2,
+        first_of(x.size == 0, 10, first_of(misfits(x.size, len), 11, 0)),
+    )
+}
+
+pub(crate) fn offer_verdict(
+    h: Hub,
+    members: &[u32],
+    places: &[u32],
+    notices: &[u32],
+    c: u32,
+    len: u32,
+) -> u32
+    requires { ⌜ sound-hub h (given members places notices) ≡ true ⌝ }
+    ensures { λ r. ⌜ ((tag : ℕ) → r ≡ verdict (offer c len tag) (view h (before members places notices))) ⌝ }
+{
+    let l = h.link;
+    let x = connections::figures_of(members, c);
+    let early = offer_refusal(h, x, len);
+    if early != 0 {
+        return early;
+    }
+    first_of(full(l, x, places, c), 12, first_of(ended(h), 13, 0))
+}
+
+pub(crate) fn notice_verdict(
+    h: Hub,
+    members: &[u32],
+    places: &[u32],
+    notices: &[u32],
+    waiting: usize,
+    len: u32,
+) -> u32
+    requires { ⌜ (sound-hub h (given members places notices) ≡ true) × (waiting ≡ length (rows (now notices))) ⌝ }
+    ensures { λ r. ⌜ ((tag : ℕ) → r ≡ verdict (notice len tag) (view h (before members places notices))) ⌝ }
+{
+    let late = first_of(ended(h), 13, first_of(MAX_NOTICES <= waiting, 15, 0));
+    first_of(
+        unset(h),
+        2,
+        first_of(misfits(h.link.largest, len), 11, late),
+    )
+}

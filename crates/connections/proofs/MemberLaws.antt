@@ -1,0 +1,153 @@
+-- Laws of the table of connections: its rows, its shape, and a past set in it.
+use mathlib.Core.Path.{_≡_, refl, sym, ap, _∙_}
+use mathlib.Core.Bool.{true, false}
+use mathlib.Core.List.{List, [], _∷_, _++_}
+use mathlib.Core.Logic.{_⊎_, inl, inr}
+use Prim.Native.Nat.{ℕ, zero, suc, _*_, _/_, _≤_, _<_}
+use native.Mathlib.Omega.{arith}
+use lib.ListN.{length-map, List·getD-map, List·getD-eq-default, length, getD, set, drop, replicate}
+use lib.Seq.{drop-cons}
+use Rattle.rules.specs.declared.Connection.{Connection}
+use Rattle.rules.specs.declared.Past.{Past}
+use Rattle.rules.specs.Limits.{max-connections}
+use Rattle.rules.specs.Model.{nth, no-connection, no-past}
+use Rattle.rules.proofs.Tests.{never}
+use Rattle.rules.proofs.Sums.{split, same}
+use Rattle.limits.specs.Zeros.{zeros}
+use Rattle.limits.proofs.ZeroLaws.{zeros-are}
+use Rattle.tables.specs.Table.{row-in, by-number, used, padded}
+use Rattle.tables.proofs.TableLaws.{listed-row, length-row, used-end, read-at, row-behind, row-last, put-at, put-last}
+use Rattle.connections.specs.declared.Member.{Member}
+use Rattle.connections.specs.Members.{member-width, members-length, row-of, member-of, no-member, member-in, put-member, members-in, None-free, connection-of, past-of, connections-in, pasts-in, member, paired, written-members}
+
+-- ---- a row
+
+pub row-back : (r : List ℕ) → length r ≡ member-width → row-of (member-of r) ≡ r
+row-back r e = listed-row member-width r e
+
+members-used : (t : List ℕ) → length (members-in t) ≡ length (used by-number member-width t)
+unfolding members-in
+members-used t = length-map (used by-number member-width t) member-of
+
+pub members-end : (t : List ℕ) → member-width * length (members-in t) ≤ length t
+members-end t = omega (arith, used-end by-number member-width t, members-used t)
+
+pub member-is : (t : List ℕ) (i : ℕ) → i < length (members-in t) → getD (members-in t) i no-member ≡ member-in t i
+unfolding members-in
+member-is t i h = read-at by-number member-width member-of t i (omega (arith, members-used t))
+
+-- ---- rows by number
+
+-- a free row, and one that is not there, read as no member
+free-row : (r : List ℕ) → zeros r ≡ true → length r ≡ member-width → member-of r ≡ no-member
+free-row r z e = ap member-of (zeros-are r z ∙ ap (λ (n : ℕ). replicate {A = ℕ} n 0) e)
+
+module _ (t : List ℕ) (i : ℕ) (l : i < length t / member-width) where
+  row-free : length (members-in t) ≤ i → zeros (row-in member-width t i) ≡ true
+  row-free h = row-behind member-width t i l (omega (arith, members-used t))
+
+  member-at-number : getD (members-in t) i no-member ≡ member-in t i
+  member-at-number = go (split (length (members-in t)) i)
+    where
+      go : (length (members-in t) ≤ i) ⊎ (i < length (members-in t)) → getD (members-in t) i no-member ≡ member-in t i
+      go (inl h) = List·getD-eq-default (members-in t) no-member h ∙ sym (free-row (row-in member-width t i) (row-free h) (length-row member-width t i (omega arith)))
+      go (inr h) = member-is t i h
+
+nth-member : (cs : List ℕ) (c : ℕ) → nth (connections-in cs) c ≡ connection-of (getD (members-in cs) c no-member)
+nth-member cs c = List·getD-map connection-of (members-in cs) c no-member
+
+pub connection-at-number : (cs : List ℕ) (c : ℕ) → c < length cs / member-width → nth (connections-in cs) c ≡ connection-of (member-in cs c)
+connection-at-number cs c l = nth-member cs c ∙ ap connection-of (member-at-number cs c l)
+
+pub connection-is : (cs : List ℕ) (c : ℕ) → c < length (members-in cs) → nth (connections-in cs) c ≡ connection-of (member-in cs c)
+connection-is cs c l = nth-member cs c ∙ ap connection-of (member-is cs c l)
+
+pub connection-none : (cs : List ℕ) (c : ℕ) → length (members-in cs) ≤ c → nth (connections-in cs) c ≡ no-connection
+connection-none cs c l = nth-member cs c ∙ ap connection-of (List·getD-eq-default (members-in cs) no-member l)
+
+pub connections-length : (cs : List ℕ) → length (connections-in cs) ≡ length (members-in cs)
+connections-length cs = length-map (members-in cs) connection-of
+
+-- ---- how many there are
+
+-- from the end: a free row is none of them, one that is not is the last
+module _ (t : List ℕ) (i : ℕ) (h : length (members-in t) ≤ suc i) where
+  pub end-lower : zeros (row-in member-width t i) ≡ true → length (members-in t) ≤ i
+  end-lower z = go (same (length (members-in t)) (suc i))
+    where
+      go : (length (members-in t) ≡ suc i) ⊎ (length (members-in t) ≡ suc i → ⊥) → length (members-in t) ≤ i
+      go (inl e) = never (sym (row-last member-width t i (sym (members-used t) ∙ e)) ∙ z)
+      go (inr n) = omega (arith, n)
+
+  pub end-here : i < length t / member-width → zeros (row-in member-width t i) ≡ false → suc i ≡ length (members-in t)
+  end-here l z = go (split (length (members-in t)) i)
+    where
+      go : (length (members-in t) ≤ i) ⊎ (i < length (members-in t)) → suc i ≡ length (members-in t)
+      go (inl k) = never (sym z ∙ row-free t i l k)
+      go (inr k) = omega arith
+
+-- from the start, where none is free between others: a row with no size is the first that is free
+module _ (t : List ℕ) (i : ℕ) (h : i ≤ length (members-in t)) where
+  pub size-stops : None-free t → member-in t i .size ≡ 0 → i ≡ length (members-in t)
+  size-stops f z = go (split (length (members-in t)) i)
+    where
+      go : (length (members-in t) ≤ i) ⊎ (i < length (members-in t)) → i ≡ length (members-in t)
+      go (inl k) = omega arith
+      go (inr k) = absurd (omega (arith, f i (omega (arith, connections-length t)), ap (λ (x : Connection). x .size) (connection-is t i k)))
+
+  pub size-goes : i < length t / member-width → (member-in t i .size ≡ 0 → ⊥) → i < length (members-in t)
+  size-goes l n = go (split (length (members-in t)) i)
+    where
+      go : (length (members-in t) ≤ i) ⊎ (i < length (members-in t)) → i < length (members-in t)
+      go (inl k) = absurd (n (ap (λ (m : Member). m .size) (sym (member-at-number t i l) ∙ List·getD-eq-default (members-in t) no-member k)))
+      go (inr k) = k
+
+pub members-from : (t : List ℕ) (i : ℕ) → i < length (members-in t) → drop i (members-in t) ≡ member-in t i ∷ drop (suc i) (members-in t)
+members-from t i h = drop-cons (members-in t) i no-member h ∙ ap (λ (p : Member). p ∷ drop (suc i) (members-in t)) (member-is t i h)
+
+pasts-length : (cs : List ℕ) → length (pasts-in cs) ≡ length (connections-in cs)
+pasts-length cs = length-map (members-in cs) past-of ∙ sym (connections-length cs)
+
+-- ---- a row written anew
+
+pub paired-all : (cs : List Connection) (hs : List Past) → length hs ≡ length cs → length (paired cs hs) ≡ length cs
+paired-all [] hs e = refl
+paired-all (c ∷ cs) [] e = absurd (omega arith)
+paired-all (c ∷ cs) (h ∷ hs) e = ap suc (paired-all cs hs (omega arith))
+
+paired-length : (t : List ℕ) → length (paired (connections-in t) (pasts-in t)) ≡ length (members-in t)
+paired-length t = paired-all (connections-in t) (pasts-in t) (pasts-length t) ∙ connections-length t
+
+paired-set : (cs : List Connection) (hs : List Past) (c : ℕ) (h : Past) → length hs ≡ length cs → paired cs (set hs c h) ≡ set (paired cs hs) c (member (nth cs c) h)
+paired-set [] hs c h e = refl
+paired-set (x ∷ cs) [] c h e = absurd (omega arith)
+paired-set (x ∷ cs) (k ∷ hs) zero h e = refl
+paired-set (x ∷ cs) (k ∷ hs) (suc c) h e = ap (λ (l : List Member). member x k ∷ l) (paired-set cs hs c h (omega arith))
+
+paired-snoc : (cs : List Connection) (hs : List Past) (x : Connection) (h : Past) → length hs ≡ length cs → paired (cs ++ x ∷ []) (hs ++ h ∷ []) ≡ paired cs hs ++ member x h ∷ []
+paired-snoc [] [] x h e = refl
+paired-snoc [] (k ∷ hs) x h e = absurd (omega arith)
+paired-snoc (c ∷ cs) [] x h e = absurd (omega arith)
+paired-snoc (c ∷ cs) (k ∷ hs) x h e = ap (λ (l : List Member). member c k ∷ l) (paired-snoc cs hs x h (omega arith))
+
+module _ (t : List ℕ) (w : t ≡ written-members (connections-in t) (pasts-in t)) (long : length t ≡ members-length) where
+  -- another past of connection c
+  pub set-past : (c : ℕ) (h : Past) → c < length (members-in t) → put-member t c (member (nth (connections-in t) c) h) ≡ written-members (connections-in t) (set (pasts-in t) c h)
+  unfolding written-members
+  set-past c h l =
+      let m : Member = member (nth (connections-in t) c) h in
+      let n : length (paired (connections-in t) (pasts-in t)) ≡ length (members-in t) = paired-length t in
+      ap (λ (u : List ℕ). put-member u c m) w
+      ∙ put-at member-width row-of (λ m. refl) members-length (paired (connections-in t) (pasts-in t)) c m (omega arith) (omega (arith, members-end t))
+      ∙ ap (padded member-width row-of members-length) (sym (paired-set (connections-in t) (pasts-in t) c h (pasts-length t)))
+
+  -- a new connection, behind the others
+  pub add-last : (n : ℕ) (x : Connection) → n ≡ length (members-in t) → n < max-connections
+      → put-member t n (member x no-past) ≡ written-members (connections-in t ++ x ∷ []) (pasts-in t ++ no-past ∷ [])
+  unfolding written-members
+  add-last n x e h =
+      let ln : length (paired (connections-in t) (pasts-in t)) ≡ n = paired-length t ∙ sym e in
+      ap (λ (u : List ℕ). put-member u n (member x no-past)) w
+      ∙ ap (λ (k : ℕ). put-member (padded member-width row-of members-length (paired (connections-in t) (pasts-in t))) k (member x no-past)) (sym ln)
+      ∙ put-last member-width row-of (λ m. refl) members-length (paired (connections-in t) (pasts-in t)) (member x no-past) (omega arith)
+      ∙ ap (padded member-width row-of members-length) (sym (paired-snoc (connections-in t) (pasts-in t) x no-past (pasts-length t)))

@@ -1,0 +1,80 @@
+-- The table of connections, a row for each, at its number: level, size, gap, 1 if a packet was accepted else 0, last eligibility. Document 01 leaves
+-- its form open; docs/DECISIONS.md says why this one.
+use Prim.Native.Nat.{ℕ, _*_, _<_}
+use mathlib.Core.Bool.{Bool, cond, not, _&&_}
+use mathlib.Core.List.{List, [], _∷_, map}
+use lib.Dec.{eqb, leb}
+use lib.ListN.{length, getD}
+use lib.Seq.{sets}
+use Rattle.rules.specs.declared.Connection.{Connection}
+use Rattle.rules.specs.declared.Past.{Past}
+use Rattle.rules.specs.Words.{each}
+use Rattle.rules.specs.Limits.{max-connections}
+use Rattle.rules.specs.Model.{nth}
+use Rattle.tables.specs.Table.{row-in, by-number, read, padded}
+use Rattle.connections.specs.declared.Member.{Member}
+
+abbrev pub member-width : ℕ
+member-width = 5
+
+-- the numbers of the table: a row for each connection
+abbrev pub members-length : ℕ
+members-length = member-width * max-connections
+
+-- ---- rows
+
+-- the numbers of a row, in their order, and the row that they make
+abbrev pub row-of : Member → List ℕ
+row-of m = m .level ∷ m .size ∷ m .gap ∷ m .sent ∷ m .last ∷ []
+
+abbrev pub member-of : List ℕ → Member
+member-of r = record { level = getD r 0 0; size = getD r 1 0; gap = getD r 2 0; sent = getD r 3 0; last = getD r 4 0 }
+
+abbrev pub no-member : Member
+no-member = member-of []
+
+-- row i of a table, used or not, and the table with another there
+abbrev pub member-in : List ℕ → ℕ → Member
+member-in t i = member-of (row-in member-width t i)
+
+abbrev pub put-member : List ℕ → ℕ → Member → List ℕ
+put-member t i m = sets t (member-width * i) (row-of m)
+
+-- the rows by number: number c is row c, and a free row, all zero, may stand between others
+unfoldable pub members-in : List ℕ → List Member
+members-in t = read by-number member-width member-of t
+
+-- ---- what they stand for
+
+abbrev pub connection-of : Member → Connection
+connection-of m = record { level = m .level; gap = m .gap; size = m .size }
+
+abbrev pub past-of : Member → Past
+past-of m = record { sent = not (eqb (m .sent) 0); last = m .last }
+
+abbrev pub connections-in : List ℕ → List Connection
+connections-in t = map connection-of (members-in t)
+
+abbrev pub pasts-in : List ℕ → List Past
+pasts-in t = map past-of (members-in t)
+
+-- no row is free between others
+abbrev pub None-free : List ℕ → Type 0
+None-free t = (c : ℕ) → c < length (connections-in t) → 0 < nth (connections-in t) c .size
+
+-- ---- writing
+
+abbrev pub member : Connection → Past → Member
+member x h = record { level = x .level; size = x .size; gap = x .gap; sent = cond (h .sent) 1 0; last = h .last }
+
+abbrev pub paired : List Connection → List Past → List Member
+paired [] hs = []
+paired (x ∷ xs) [] = []
+paired (x ∷ xs) (h ∷ hs) = member x h ∷ paired xs hs
+
+unfoldable pub written-members : List Connection → List Past → List ℕ
+written-members cs hs = padded member-width row-of members-length (paired cs hs)
+
+-- the table is what is written of what is read: its length, and marks that are 0 or 1
+unfoldable pub members-formed : List ℕ → Bool
+members-formed t = eqb (length t) members-length && each (λ m. leb (m .sent) 1) (members-in t)

@@ -1,0 +1,113 @@
+-- What a sound hub and its tables give: a sound state, and tables that are what is written of it.
+use Prim.Native.Nat.{ℕ, _≤_}
+use native.Mathlib.Omega.{arith}
+use mathlib.Core.Path.{_≡_, sym, ap, _∙_}
+use mathlib.Core.Bool.{true, _&&_}
+use borrow.Author.Tests.{ne-eqb}
+use lib.ListN.{length}
+use Rattle.rules.specs.Words.{All}
+use Rattle.rules.specs.Limits.{max-connections, notice-number}
+use Rattle.rules.specs.SoundState.{Sound-with-link, Sound}
+use Rattle.rules.specs.SoundTest.{nothing-used, admissions-sound, rows-sound, notices-sound, line-sound, sound}
+use Rattle.rules.proofs.Lists.{all-map}
+use Rattle.rules.proofs.Tests.{and-true}
+use Rattle.rules.proofs.Sums.{cond-is}
+use Rattle.rules.proofs.Standing.{stands-below}
+use Rattle.rules.proofs.SoundExact.{exact}
+use Rattle.tables.specs.Table.{formed}
+use Rattle.tables.specs.Places.{packet-width, places-length, rows, table-of}
+use Rattle.tables.specs.Notices.{notices-length, notices-formed}
+use Rattle.tables.proofs.TableLaws.{formed-length}
+use Rattle.tables.proofs.PlacesLaws.{table-back}
+use Rattle.tables.proofs.NoticeLaws.{notices-length-is, notices-table, notices-back}
+use Rattle.connections.specs.Members.{members-length, members-in, None-free, connections-in, members-formed}
+use Rattle.connections.specs.Within.{Within}
+use Rattle.connections.proofs.MemberLaws.{connections-length}
+use Rattle.connections.proofs.WrittenLaws.{members-written, members-long}
+use Rattle.state.specs.declared.Hub.{Hub}
+use Rattle.state.specs.View.{Tables, view, written, tables-formed, sound-hub}
+use Rattle.state.proofs.WrittenLaws.{writable}
+
+-- ---- formed tables
+
+pub record Formed (t : Tables) : Type 0 where
+  pub members-shape : members-formed (t .members) ≡ true
+  pub places-shape : formed packet-width places-length (t .places) ≡ true
+  pub notices-shape : notices-formed (t .notices) ≡ true
+
+module _ (t : Tables) (ok : tables-formed t ≡ true) where
+  pub shapes : Formed t
+  unfolding tables-formed
+  shapes =
+      let a = and-true (formed packet-width places-length (t .places)) _ ok in
+      let b = and-true (members-formed (t .members)) (notices-formed (t .notices)) (a .1) in
+      record { members-shape = b .0; places-shape = a .0; notices-shape = b .1 }
+
+module _ (h : Hub) (t : Tables) (ok : sound-hub h t ≡ true) where
+  pub formed-tables : tables-formed t ≡ true
+  unfolding sound-hub
+  formed-tables = and-true (tables-formed t) (sound (view h t)) ok .0
+
+  pub sound-view : sound (view h t) ≡ true
+  unfolding sound-hub
+  sound-view = and-true (tables-formed t) (sound (view h t)) ok .1
+
+  pub is-sound : Sound (view h t)
+  is-sound = exact (view h t) .0 sound-view
+
+  -- ---- the tables are what is written of what is read in them
+
+  pub members-kept : t .members ≡ written (view h t) .members
+  members-kept = members-written (t .members) (shapes t formed-tables .members-shape)
+
+  pub places-kept : t .places ≡ written (view h t) .places
+  places-kept = table-back (t .places) (shapes t formed-tables .places-shape)
+
+  pub notices-kept : t .notices ≡ written (view h t) .notices
+  notices-kept = notices-back (t .notices) (shapes t formed-tables .notices-shape)
+
+  pub tables-kept : t ≡ written (view h t)
+  tables-kept i = record { members = members-kept i; places = places-kept i; notices = notices-kept i }
+
+  -- ---- their lengths, and what each has room for
+
+  pub none-free : None-free (t .members)
+  none-free = writable (view h t) is-sound .used
+
+  pub members-size : length (t .members) ≡ members-length
+  members-size = members-long (t .members) (shapes t formed-tables .members-shape)
+
+  pub places-size : length (t .places) ≡ places-length
+  places-size = formed-length packet-width places-length (t .places) (shapes t formed-tables .places-shape)
+
+  pub notices-size : length (t .notices) ≡ notices-length
+  notices-size = notices-length-is (t .notices) (shapes t formed-tables .notices-shape)
+
+  pub notices-as-table : t .notices ≡ table-of (length (t .notices)) (rows (t .notices))
+  notices-as-table = notices-table (t .notices) (shapes t formed-tables .notices-shape) ∙ ap (λ (n : ℕ). table-of n (rows (t .notices))) (sym notices-size)
+
+  -- ---- with a link set
+
+  module _ (n : h .link .levels ≡ 0 → ⊥) where
+    pub linked : Sound-with-link (view h t)
+    linked = is-sound .with-one n
+
+    -- each row names a connection, which has another number than the notices
+    pub others : All (λ p. p .connection ≡ notice-number → ⊥) (rows (t .places))
+    others =
+        all-map (λ p f e. omega (arith, linked .few, stands-below (connections-in (t .members)) (p .connection) (f .standing))) (rows (t .places)) (linked .fit)
+
+    -- the line's clause of the test
+    pub line-holds : line-sound (view h t) ≡ true
+    unfolding sound
+    line-holds =
+        let s = view h t in
+        let a = and-true (admissions-sound s) _ (sym (cond-is (nothing-used s) _ (ne-eqb (h .link .levels) 0 n)) ∙ sound-view) in
+        let b = and-true (rows-sound s) (notices-sound s && line-sound s) (a .1) in
+        and-true (notices-sound s) (line-sound s) (b .1) .1
+
+    pub figures-in-limits : Within (h .link) (connections-in (t .members))
+    figures-in-limits = record { link-in = linked .link-in; figures-in = linked .figures-in }
+
+    pub few-members-of : (k : ℕ) → k ≡ length (members-in (t .members)) → k ≤ max-connections
+    few-members-of k e = omega (arith, linked .few, connections-length (t .members))
