@@ -61,7 +61,7 @@ def bodies(folder, file):
             owner = (IMPL.match(text).group(1),)
         if FUNCTION.match(text):
             found, line, begin = FUNCTION.match(text), number, 0
-        if found and text.endswith("{") and text in (found.group(1) + "{", found.string):
+        if found and not begin and text.endswith("{") and (text == found.string or text.startswith((found.group(1) + "{", found.group(1) + ")"))):
             begin = number
         elif begin and text == found.group(1) + "}":
             yield Body(file, (*above, *(owner if found.group(1) else ()), found.group(2)), line, begin, number)
