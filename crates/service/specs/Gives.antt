@@ -1,4 +1,4 @@
--- What a tick gives, and how the code writes a state's parts anew. Document 01, "One tick", step 3.
+-- What a tick gives. Document 01, "One tick", step 3.
 use Prim.Native.Nat.{ℕ, _+_}
 use mathlib.Core.Path.{_≡_}
 use mathlib.Core.Bool.{Bool}
