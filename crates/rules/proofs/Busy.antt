@@ -39,9 +39,9 @@ served s m = upto 1 (s .to-go) (upto (level-of s (s .serving)) m (cost-of (s .li
 
 -- ---- what holds between calls
 
--- a notice in service that has sent at least k units: no longer than the largest packet, and no held packet's
-pub record Notice-on-line (s : State) (k : ℕ) : Type 0 where
-  pub in-service : Notice-in-service s k
+-- a notice in service: no longer than the largest packet, and no held packet's
+pub record Notice-on-line (s : State) : Type 0 where
+  pub in-service : Notice-in-service s
   pub short : in-service .it .len ≤ s .link .largest
   pub alone : first (s .serving) (s .held) ≡ none
 
@@ -49,9 +49,9 @@ pub record Notice-on-line (s : State) (k : ℕ) : Type 0 where
 abbrev pub Free : State → Type 0
 Free s = (s .to-go ≡ 0) × (s .silent ≤ s .link .silence)
 
--- a free line, or something in service that has sent at least k units
-abbrev pub Line : State → ℕ → Type 0
-Line s k = Free s ⊎ (In-service s k ⊎ Notice-on-line s k)
+-- a free line, or something in service
+abbrev pub Line : State → Type 0
+Line s = Free s ⊎ (In-service s ⊎ Notice-on-line s)
 
 -- of the link and the connections
 pub record Facts (l : Link) (cs : List Connection) : Type 0 where
@@ -108,8 +108,8 @@ module _ (s : State) (m : ℕ) where
   served-idle z = upto-no 1 (s .to-go) (upto (level-of s (s .serving)) m (cost-of (s .link) (first (s .serving) (s .held)))) (omega arith)
 
   -- the packet in service counts in the demand
-  pub served-is : (k : ℕ) (r : In-service s k) → served s m ≡ due (s .link) (s .connections) m (s .clock) (r .it)
-  served-is k r =
+  pub served-is : (r : In-service s) → served s m ≡ due (s .link) (s .connections) m (s .clock) (r .it)
+  served-is r =
       upto-yes 1 (s .to-go) (upto (level-of s (s .serving)) m (cost-of (s .link) (first (s .serving) (s .held)))) (r .some-to-go)
       ∙ ap (λ (o : Option Packet). upto (level-of s (s .serving)) m (cost-of (s .link) o)) (r .is-first)
       ∙ ap (λ (c : ℕ). upto (level-of s c) m (cost (s .link) (r .it .len))) (sym (first-of (s .serving) (s .held) (r .it) (r .is-first)))
@@ -126,13 +126,13 @@ module _ (s : State) (m : ℕ) where
       )
 
   -- while something is due, at least one tick of work is left besides what is served
-  owed : (k : ℕ) → Line s k → 0 < demand s m (s .clock) → served s m + 1 ≤ demand s m (s .clock) + line-left s
-  owed k (inl z) h = omega (arith, served-idle (z .0))
-  owed k (inr (inr n)) h = omega (arith, served-notice (n .alone))
-  owed k (inr (inl r)) h =
+  owed : Line s → 0 < demand s m (s .clock) → served s m + 1 ≤ demand s m (s .clock) + line-left s
+  owed (inl z) h = omega (arith, served-idle (z .0))
+  owed (inr (inr n)) h = omega (arith, served-notice (n .alone))
+  owed (inr (inl r)) h =
       omega (
         arith,
-        served-is k r,
+        served-is r,
         total-without (s .serving) (due (s .link) (s .connections) m (s .clock)) (s .held) (r .it) (r .is-first),
         left-some s (r .some-to-go),
       )
@@ -141,21 +141,21 @@ module _ (s : State) (m : ℕ) where
 
 module _ (s : State) (acc : List Packet) (m : ℕ) (low : 1 ≤ m) (high : m ≤ s .link .levels) (F : Facts (s .link) (s .connections)) (R : Regular s acc) where
   -- while something of level m is due, there is a tick to spare
-  pub spare : (k : ℕ) → Line s k → (B : Busy s acc m (s .clock)) → 0 < demand s m (s .clock) → s .clock + 2 ≤ B .from + bound (s .link) m
-  spare k l B h =
+  pub spare : Line s → (B : Busy s acc m (s .clock)) → 0 < demand s m (s .clock) → s .clock + 2 ≤ B .from + bound (s .link) m
+  spare l B h =
       omega (
         arith,
         B .work,
         B .in-time,
-        owed s m k l h,
+        owed s m l h,
         F .tested m low high,
         arrived-le (s .link) (s .connections) m (B .from) (s .clock) (bound (s .link) m) (omega (arith, B .in-time)) acc (λ c i. F .each c i .some-gap) (R .fit) (R .spaced),
       )
 
   -- so every eligible packet of a level up to m still has time
-  pub held-spare : (k : ℕ) → Line s k → Busy s acc m (s .clock)
+  pub held-spare : Line s → Busy s acc m (s .clock)
       → All (λ p. level-of s (p .connection) ≤ m → p .eligibility ≤ s .clock → s .clock + 2 ≤ p .eligibility + bound (s .link) m) (s .held)
-  held-spare k l B =
+  held-spare l B =
       all-zip one (s .held) (B .since)
       (all-zip (λ p f d. (f, d)) (s .held) (fit-held s acc R) (total-each (due (s .link) (s .connections) m (s .clock)) (s .held)))
     where
@@ -169,5 +169,5 @@ module _ (s : State) (acc : List Packet) (m : ℕ) (low : 1 ≤ m) (high : m ≤
           omega (
             arith,
             since lv e,
-            spare k l B (omega (arith, cost-pos (s .link) (p .len) (f .0 .some-len), due-full (s .link) (s .connections) m (s .clock) p lv e)),
+            spare l B (omega (arith, cost-pos (s .link) (p .len) (f .0 .some-len), due-full (s .link) (s .connections) m (s .clock) p lv e)),
           )

@@ -27,7 +27,7 @@ module _ (s : State) (acc : List Packet) (R : Regular s acc) where
   pub taken-line : (o : Option Packet) → Chosen (level-of s) (s .clock) (s .held) o
       → (ns : List Notice) → s .notices ≡ ns → All (Notice-fits (s .link) (s .clock)) ns → All (λ p. p .connection ≡ notice-number → ⊥) (s .held)
       → s .silent ≤ s .link .silence
-      → Line (with-line s (takes o ns .0) (takes o ns .1) (s .silent)) 0
+      → Line (with-line s (takes o ns .0) (takes o ns .1) (s .silent))
   unfolding notice-serves
   taken-line (some p) k ns i f a q = inr (inl (taken-serves s (fit-held s acc R) p k))
   taken-line none k [] i f a q = inl (refl, q)
@@ -63,7 +63,7 @@ module _ (s : State) (acc : List Packet) (R : Regular s acc) where
                 served-idle s m z,
                 left-silent s z,
                 left-taken s (p .connection) (p .len) (s .silent) (f .some-len),
-                served-is (with-line s (p .connection) (p .len) (s .silent)) m 0 (taken-serves s (fit-held s acc R) p k),
+                served-is (with-line s (p .connection) (p .len) (s .silent)) m (taken-serves s (fit-held s acc R) p k),
                 due-full (s .link) (s .connections) m (s .clock) p lv (k .0),
               );
           in-time = B .in-time;
@@ -88,7 +88,7 @@ module _ (s : State) (acc : List Packet) (m : ℕ) where
   abbrev Left-busy : State → Type 0
   Left-busy r = Busy r acc m (s .clock)
 
-  packet-leaves : s .to-go ≡ 1 → In-service s 0 → (B : Busy s acc m (s .clock)) → s .clock + 2 ≤ B .from + bound (s .link) m
+  packet-leaves : s .to-go ≡ 1 → In-service s → (B : Busy s acc m (s .clock)) → s .clock + 2 ≤ B .from + bound (s .link) m
       → Left-busy (later s (without (s .serving) (s .held)) (s .notices) 0 0 (s .link .silence))
   packet-leaves e r B h = record {
     from = B .from;
@@ -98,7 +98,7 @@ module _ (s : State) (acc : List Packet) (m : ℕ) where
         omega (
           arith,
           B .work,
-          served-is s m 0 r,
+          served-is s m r,
           left-last s (without (s .serving) (s .held)) (s .notices) (s .serving) (s .silent),
           ap (λ (v : ℕ). line-left (with-line s (s .serving) v (s .silent))) e,
           total-without (s .serving) (due (s .link) (s .connections) m (s .clock)) (s .held) (r .it) (r .is-first),
@@ -124,7 +124,7 @@ module _ (s : State) (acc : List Packet) (m : ℕ) where
   }
 
   -- `away`: a packet in service bears no notice's number
-  pub unit-busy : (u : ℕ) → s .to-go ≡ u → 0 < line-left s → Line s 0 → (In-service s 0 → s .serving ≡ notice-number → ⊥)
+  pub unit-busy : (u : ℕ) → s .to-go ≡ u → 0 < line-left s → Line s → (In-service s → s .serving ≡ notice-number → ⊥)
       → (B : Busy s acc m (s .clock)) → s .clock + 2 ≤ B .from + bound (s .link) m
       → Left-busy (after-unit s u .next)
   unfolding going

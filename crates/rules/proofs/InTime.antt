@@ -81,7 +81,7 @@ held-in-time h I c below =
     let low = F .each c below .low-level in
     let high = F .each c below .high-level in
     all-map one (h .now .held)
-    (held-spare (h .now) (level-packets (h .accepted)) (level-of (h .now) c) low high F (I .regular) 1 (I .line) (I .busy (level-of (h .now) c) low high))
+    (held-spare (h .now) (level-packets (h .accepted)) (level-of (h .now) c) low high F (I .regular) (I .line) (I .busy (level-of (h .now) c) low high))
   where
     one : (q : Packet)
         → (level-of (h .now) (q .connection) ≤ level-of (h .now) c → q .eligibility ≤ h .now .clock → h .now .clock + 2 ≤ q .eligibility + bound-of (h .now) c)

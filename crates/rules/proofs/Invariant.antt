@@ -19,7 +19,7 @@ use Rattle.rules.proofs.Standing.{stands-below}
 use Rattle.rules.proofs.Figures.{link-facts, silence-below, cost-mono, sum-is}
 use Rattle.rules.proofs.SoundTick.{facts}
 use Rattle.rules.proofs.Line.{left-silent, left-below, left-below-notice}
-use Rattle.rules.proofs.Busy.{Line, Facts, Regular, fit-held, Busy}
+use Rattle.rules.proofs.Busy.{Free, Line, Facts, Regular, fit-held, Busy}
 
 -- a departure is of a connection that was admitted, and in time
 pub record On-time (s : State) (d : Departure) : Type 0 where
@@ -37,8 +37,8 @@ pub record Invariant (h : History) : Type 0 where
   pub sound : Sound (h .now)
   -- the accepted packets of levels are spaced, what is remembered follows from them, and the held ones are a part of them
   pub regular : Regular (h .now) (level-packets (h .accepted))
-  -- what is in service has sent at least one unit
-  pub line : Line (h .now) 1
+  -- what is on the line
+  pub line : Line (h .now)
   -- no level is further behind than its level test allows
   pub busy : (m : ℕ) → 1 ≤ m → m ≤ h .now .link .levels → Busy (h .now) (level-packets (h .accepted)) m (h .now .clock)
   -- for each number accepted = departed followed by what waits
@@ -83,15 +83,19 @@ some-bound s S m low high =
     let F = facts-of s S in
     omega (arith, F .tested m low high, F .some-largest (omega arith))
 
--- what is on the line between calls has used at least one tick: less is left than the largest packet takes
-pub left-below-largest : (s : State) (acc : List Packet) → Facts (s .link) (s .connections) → Regular s acc → Line s 1 → 1 ≤ s .link .levels → line-left s < cost (s .link) (s .link .largest)
-left-below-largest s acc F R (inl z) n = omega (arith, left-silent s (z .0), z .1, F .some-largest n)
-left-below-largest s acc F R (inr (inr r)) n = omega (arith, left-below-notice s 1 (r .in-service), cost-mono (s .link) (r .short))
-left-below-largest s acc F R (inr (inl r)) n =
+-- a silence is shorter than the largest packet takes
+pub free-below-largest : (s : State) → Facts (s .link) (s .connections) → Free s → 1 ≤ s .link .levels → line-left s < cost (s .link) (s .link .largest)
+free-below-largest s F z n = omega (arith, left-silent s (z .0), z .1, F .some-largest n)
+
+-- no more is on the line than the largest packet takes
+pub left-le-largest : (s : State) (acc : List Packet) → Facts (s .link) (s .connections) → Regular s acc → Line s → 1 ≤ s .link .levels → line-left s ≤ cost (s .link) (s .link .largest)
+left-le-largest s acc F R (inl z) n = omega (arith, free-below-largest s F z n)
+left-le-largest s acc F R (inr (inr r)) n = omega (arith, left-below-notice s (r .in-service), cost-mono (s .link) (r .short))
+left-le-largest s acc F R (inr (inl r)) n =
     let f : Fits (s .connections) (r .it) = first-all (s .serving) (Fits (s .connections)) (s .held) (r .it) (r .is-first) (fit-held s acc R) in
     omega (
       arith,
-      left-below s 1 r,
+      left-below s r,
       cost-mono (s .link) (f .len-le),
       cost-mono (s .link) (F .each (r .it .connection) (stands-below (s .connections) (r .it .connection) (f .standing)) .size-le),
     )

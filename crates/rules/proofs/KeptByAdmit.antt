@@ -22,7 +22,7 @@ use Rattle.rules.proofs.Line.{left-same}
 use Rattle.rules.proofs.Window.{weight, between}
 use Rattle.rules.proofs.Busy.{due, served, Free, Line, Regular, fit-held, Busy, served-idle, served-is, served-notice}
 use Rattle.rules.proofs.BusyTick.{restart}
-use Rattle.rules.proofs.Invariant.{Invariant, facts-of, some-bound, left-below-largest}
+use Rattle.rules.proofs.Invariant.{Invariant, facts-of, some-bound, free-below-largest}
 
 -- ---- an admission
 
@@ -52,15 +52,15 @@ module _ (s : State) (acc : List Packet) (x : Connection) (one-past-each : lengt
     part = R .part;
   }
 
-  joined-served : (m : ℕ) → Line s 1 → served (joined s x) m ≡ served s m
+  joined-served : (m : ℕ) → Line s → served (joined s x) m ≡ served s m
   joined-served m (inl z) = served-idle (joined s x) m (z .0) ∙ sym (served-idle s m (z .0))
   joined-served m (inr (inr n)) = served-notice (joined s x) m (n .alone) ∙ sym (served-notice s m (n .alone))
   joined-served m (inr (inl r)) =
-      served-is (joined s x) m 1 r
+      served-is (joined s x) m r
       ∙ same-due m (s .clock) (r .it) (first-all (s .serving) (Fits (s .connections)) (s .held) (r .it) (r .is-first) (fit-held s acc R))
-      ∙ sym (served-is s m 1 r)
+      ∙ sym (served-is s m r)
 
-  joined-busy : (m : ℕ) → Line s 1 → Busy s acc m (s .clock) → Busy (joined s x) acc m (s .clock)
+  joined-busy : (m : ℕ) → Line s → Busy s acc m (s .clock) → Busy (joined s x) acc m (s .clock)
   joined-busy m l B = record {
     from = B .from;
     started = B .started;
@@ -106,7 +106,7 @@ module _ (h : History) (I : Invariant h) where
         (I .on-time);
   }
     where
-      joined-line : Line s 1 → Line (joined s x) 1
+      joined-line : Line s → Line (joined s x)
       joined-line (inl z) = inl z
       joined-line (inr (inl r)) = inr (inl r)
       joined-line (inr (inr n)) = inr (inr (record { in-service = n .in-service; short = n .short; alone = n .alone }))
@@ -121,7 +121,7 @@ module _ (h : History) (I : Invariant h) where
     busy = λ m low high.
         restart new acc m (s .clock) (fit-held new acc R)
         (ap (λ (ps : List Packet). total (due l (s .connections) m (s .clock)) ps) (ap (λ (r : State). r .held) e))
-        (left-below-largest new acc (facts-of new T) R (inl free) (omega arith))
+        (free-below-largest new (facts-of new T) free (omega arith))
         (some-bound new T m low high);
     conserved = I .conserved;
     on-time = all-map (λ d k n. absurd (nobody (d .what .connection) (k n .admitted))) gone (I .on-time);

@@ -21,8 +21,8 @@ module _ (s : State) (len tag : ℕ) where
   new = record { len = len; tag = tag; arrival = s .clock }
 
   -- the notice in service is still the first
-  noted-notice : (k : ℕ) → Notice-on-line s k → Notice-on-line (noted s len tag) k
-  noted-notice k n =
+  noted-notice : Notice-on-line s → Notice-on-line (noted s len tag)
+  noted-notice n =
       let r = n .in-service in
       let f = first-notice-is (s .notices) (r .it) (r .is-first) in
       record {
@@ -37,10 +37,10 @@ module _ (s : State) (len tag : ℕ) where
         alone = n .alone;
       }
 
-  noted-line : (k : ℕ) → Line s k → Line (noted s len tag) k
-  noted-line k (inl z) = inl z
-  noted-line k (inr (inl r)) = inr (inl r)
-  noted-line k (inr (inr n)) = inr (inr (noted-notice k n))
+  noted-line : Line s → Line (noted s len tag)
+  noted-line (inl z) = inl z
+  noted-line (inr (inl r)) = inr (inl r)
+  noted-line (inr (inr n)) = inr (inr (noted-notice n))
 
   noted-busy : (acc : List Packet) (m : ℕ) → Busy s acc m (s .clock) → Busy (noted s len tag) acc m (s .clock)
   noted-busy acc m B = record {
@@ -59,7 +59,7 @@ module _ (h : History) (I : Invariant h) where
   noted-keeps len tag T = record {
     sound = T;
     regular = subst (Regular (noted s len tag)) (sym own) (record { fit = I .regular .fit; spaced = I .regular .spaced; remembered = I .regular .remembered; part = I .regular .part });
-    line = noted-line s len tag 1 (I .line);
+    line = noted-line s len tag (I .line);
     busy = λ m low high. subst (λ (acc : List Packet). Busy (noted s len tag) acc m (s .clock)) (sym own) (noted-busy s len tag (level-packets all) m (I .busy m low high));
     conserved = λ d.
         of-append d all (p ∷ [])

@@ -34,8 +34,8 @@ module _ (s : State) (acc : List Packet) (p : Packet) (hs : List Past) (level : 
   abbrev behind : State
   behind = with-held (with-connections s (s .connections) hs) (s .held ++ p ∷ [])
 
-  behind-service : (k : ℕ) → In-service s k → In-service behind k
-  behind-service k r = record {
+  behind-service : In-service s → In-service behind
+  behind-service r = record {
     it = r .it;
     is-first = first-append (s .serving) (s .held) (p ∷ []) (r .it) (r .is-first);
     eligible = r .eligible;
@@ -49,18 +49,18 @@ module _ (s : State) (acc : List Packet) (p : Packet) (hs : List Past) (level : 
       first-behind (s .serving) (s .held) (p ∷ []) a
       ∙ cond-is (some p) none (ne-eqb (p .connection) (s .serving) (λ i. level (i ∙ e)))
 
-  behind-line : (k : ℕ) → Line s k → Line behind k
-  behind-line k (inl z) = inl z
-  behind-line k (inr (inl r)) = inr (inl (behind-service k r))
-  behind-line k (inr (inr n)) = inr (inr (record { in-service = n .in-service; short = n .short; alone = still-alone (n .in-service .is-notice) (n .alone) }))
+  behind-line : Line s → Line behind
+  behind-line (inl z) = inl z
+  behind-line (inr (inl r)) = inr (inl (behind-service r))
+  behind-line (inr (inr n)) = inr (inr (record { in-service = n .in-service; short = n .short; alone = still-alone (n .in-service .is-notice) (n .alone) }))
 
-  behind-served : (m : ℕ) → Line s 1 → served behind m ≡ served s m
+  behind-served : (m : ℕ) → Line s → served behind m ≡ served s m
   unfolding behind-service
   behind-served m (inl z) = served-idle behind m (z .0) ∙ sym (served-idle s m (z .0))
   behind-served m (inr (inr n)) = served-notice behind m (still-alone (n .in-service .is-notice) (n .alone)) ∙ sym (served-notice s m (n .alone))
-  behind-served m (inr (inl r)) = served-is behind m 1 (behind-service 1 r) ∙ sym (served-is s m 1 r)
+  behind-served m (inr (inl r)) = served-is behind m (behind-service r) ∙ sym (served-is s m r)
 
-  behind-busy : (m : ℕ) → s .clock ≤ p .eligibility → Line s 1 → Busy s acc m (s .clock) → Busy behind (acc ++ p ∷ []) m (s .clock)
+  behind-busy : (m : ℕ) → s .clock ≤ p .eligibility → Line s → Busy s acc m (s .clock) → Busy behind (acc ++ p ∷ []) m (s .clock)
   behind-busy m late l B = record {
     from = B .from;
     started = B .started;
@@ -132,7 +132,7 @@ module _ (h : History) (I : Invariant h) where
   placed-keeps c len tag e few D T = record {
     sound = T;
     regular = subst (Regular (placed s c len tag)) (sym own) (placed-regular s (level-packets all) c len tag e (I .regular) D);
-    line = behind-line s (level-packets all) p hs level 1 (I .line);
+    line = behind-line s (level-packets all) p hs level (I .line);
     busy = λ m low high.
         subst (λ (acc : List Packet). Busy (placed s c len tag) acc m (s .clock)) (sym own)
         (behind-busy s (level-packets all) p hs level m (not-before (figures s c) (past s c) (s .clock)) (I .line) (I .busy m low high));

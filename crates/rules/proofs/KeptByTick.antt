@@ -10,7 +10,7 @@ use lib.ListN.{length}
 use Rattle.rules.specs.Words.{push}
 use Rattle.rules.specs.Limits.{notice-number}
 use Rattle.rules.specs.Model.{Packet, Notice, State, Answer, notice-packet, with-line}
-use Rattle.rules.specs.Admission.{bound}
+use Rattle.rules.specs.Admission.{bound, cost}
 use Rattle.rules.specs.Service.{of, first, without, level-of, chosen, later, line-after-start, packet-departs, after-unit, ticked, line-left}
 use Rattle.rules.specs.SoundState.{Fits, In-service, Sound-with-link, Sound}
 use Rattle.rules.specs.Runs.{Departure, History, leaving, in-hub}
@@ -18,15 +18,15 @@ use Rattle.rules.proofs.Lists.{All, all-map, all-snoc, Sub, sub-refl, t
 use Rattle.rules.proofs.Rows.{first-all, first-append, sub-without, moved, map-append}
 use Rattle.rules.proofs.Notices.{first-notice-is, level-packets, without-append, first-behind, without-behind}
 use Rattle.rules.proofs.Standing.{stands-below}
-use Rattle.rules.proofs.Line.{last-of-packet, last-of-notice, left-silent, left-some}
+use Rattle.rules.proofs.Line.{last-of-packet, last-of-notice, left-silent, left-some, left-unit}
 use Rattle.rules.proofs.SoundTick.{no-notice, choice-holds}
 use Rattle.rules.proofs.Busy.{due, demand, Notice-on-line, Line, Facts, Regular, fit-held, Busy, due-none, spare, held-spare}
 use Rattle.rules.proofs.BusyTick.{taken-line, taken-busy, unit-busy, restart, advance}
-use Rattle.rules.proofs.Invariant.{On-time, Level-on-time, whats, Invariant, facts-of, some-bound, left-below-largest}
+use Rattle.rules.proofs.Invariant.{On-time, Level-on-time, whats, Invariant, facts-of, some-bound, free-below-largest, left-le-largest}
 
 -- after step 1: a level with something due is busy, and something is on the line
 record Midway (s : State) (acc : List Packet) : Type 0 where
-  mid-line : Line s 0
+  mid-line : Line s
   mid-busy : (m : ℕ) → 1 ≤ m → m ≤ s .link .levels → (demand s m (s .clock) ≡ 0) ⊎ (Busy s acc m (s .clock) × (0 < line-left s) × (0 < demand s m (s .clock)))
 
 module _ (h : History) (I : Invariant h) (S : Sound-with-link (h .now)) where
@@ -97,12 +97,13 @@ module _ (h : History) (I : Invariant h) (S : Sound-with-link (h .now)) where
       → Sound (later s held ns serving to-go silent)
       → Sub held (s .held)
       → Sub held acc
-      → Line (later s held ns serving to-go silent) 1
+      → Line (later s held ns serving to-go silent)
+      → (1 ≤ s .link .levels → line-left (later s held ns serving to-go silent) < cost (s .link) (s .link .largest))
       → ((m : ℕ) → 1 ≤ m → m ≤ s .link .levels → (demand s m (s .clock) ≡ 0) ⊎ Busy (later s held ns serving to-go silent) acc m (s .clock))
       → ((c : ℕ) → of c all ≡ of c (whats ds) ++ of c (held ++ map notice-packet ns))
       → All (Level-on-time s) ds
       → Invariant (record { accepted = all; departed = ds; now = later s held ns serving to-go silent })
-  next held ns serving to-go silent ds sound sub part line busy cons time =
+  next held ns serving to-go silent ds sound sub part line below busy cons time =
       let R : Regular (later s held ns serving to-go silent) acc
       = record { fit = I .regular .fit; spaced = I .regular .spaced; remembered = I .regular .remembered; part = part } in
       record {
@@ -115,13 +116,17 @@ module _ (h : History) (I : Invariant h) (S : Sound-with-link (h .now)) where
             (λ z.
             restart (later s held ns serving to-go silent) acc m (s .clock) (fit-held (later s held ns serving to-go silent) acc R)
             (omega (arith, total-sub (due (s .link) (s .connections) m (s .clock)) sub))
-            (left-below-largest (later s held ns serving to-go silent) acc F R line (omega arith))
+            (below (omega arith))
             (some-bound s (I .sound) m low high))
             (λ B. B)
             (busy m low high));
         conserved = cons;
         on-time = all-map (λ d k n. record { admitted = k n .admitted; in-time = k n .in-time }) ds time;
       }
+
+  below-free : (held : List Packet) (ns : List Notice) (q : ℕ) → q ≤ s .link .silence → 1 ≤ s .link .levels
+      → line-left (later s held ns 0 0 q) < cost (s .link) (s .link .largest)
+  below-free held ns q z = free-below-largest (later s held ns 0 0 q) F (refl, z)
 
   module _ (w u : ℕ) (M : Midway (with-line s w u (s .silent)) acc) where
     unit-level : (m : ℕ) → 1 ≤ m → m ≤ s .link .levels
@@ -131,12 +136,12 @@ module _ (h : History) (I : Invariant h) (S : Sound-with-link (h .now)) where
         (λ z. inl z)
         (λ B.
         inr
-        (unit-busy (with-line s w u (s .silent)) acc m u refl (B .1) (M .mid-line) (no-notice s S w u (s .silent) 0) (B .0)
-        (spare (with-line s w u (s .silent)) acc m low high F (I .regular) 0 (M .mid-line) (B .0) (B .2))))
+        (unit-busy (with-line s w u (s .silent)) acc m u refl (B .1) (M .mid-line) (no-notice s S w u (s .silent)) (B .0)
+        (spare (with-line s w u (s .silent)) acc m low high F (I .regular) (M .mid-line) (B .0) (B .2))))
         (M .mid-busy m low high)
 
     -- the packet in service is in time if it leaves now
-    leaves : (r : In-service (with-line s w u (s .silent)) 0) → On-time s (record { what = r .it; finish = s .clock + 1 })
+    leaves : (r : In-service (with-line s w u (s .silent))) → On-time s (record { what = r .it; finish = s .clock + 1 })
     leaves r = record {
       admitted = below;
       in-time =
@@ -151,7 +156,7 @@ module _ (h : History) (I : Invariant h) (S : Sound-with-link (h .now)) where
           omega (
             arith,
             first-all w (λ p. level-of s (p .connection) ≤ m → p .eligibility ≤ s .clock → s .clock + 2 ≤ p .eligibility + bound (s .link) m) (s .held) (r .it) (r .is-first)
-                (held-spare (with-line s w u (s .silent)) acc m low high F (I .regular) 0 (M .mid-line) (B .0))
+                (held-spare (with-line s w u (s .silent)) acc m low high F (I .regular) (M .mid-line) (B .0))
                 (le-refl m) (r .eligible),
           ))
           (M .mid-busy m low high);
@@ -186,13 +191,14 @@ module _ (h : History) (I : Invariant h) (S : Sound-with-link (h .now)) where
       ∙ moved c w (whats gone) (in-hub s) p e
       ∙ ap (λ (l : List Packet). of c l ++ of c (without w (in-hub s))) (sym (map-append (λ (d : Departure). d .what) gone (left p ∷ [])))
 
-  packet-keeps : (w : ℕ) → Midway (with-line s w 1 (s .silent)) acc → (r : In-service (with-line s w 1 (s .silent)) 0) → Sound (after-unit (with-line s w 1 (s .silent)) 1 .next)
+  packet-keeps : (w : ℕ) → Midway (with-line s w 1 (s .silent)) acc → (r : In-service (with-line s w 1 (s .silent))) → Sound (after-unit (with-line s w 1 (s .silent)) 1 .next)
       → Kept-with (after-unit (with-line s w 1 (s .silent)) 1)
   packet-keeps w M r T =
       subst Kept-with (sym is) (
       subst (λ (o : Option Packet). Invariant (record { accepted = all; departed = push gone (leaving s o); now = later s (without w (s .held)) (s .notices) 0 0 (s .link .silence) })) (sym (r .is-first))
       (next (without w (s .held)) (s .notices) 0 0 (s .link .silence) (gone ++ left (r .it) ∷ []) (subst (λ (a : Answer). Sound (a .next)) is T)
       (sub-without w (sub-refl (s .held))) (sub-without w (I .regular .part)) (inl (refl, le-refl (s .link .silence)))
+      (below-free (without w (s .held)) (s .notices) (s .link .silence) (le-refl (s .link .silence)))
       (λ m low high. subst (λ (a : Answer). (demand s m (s .clock) ≡ 0) ⊎ Busy (a .next) acc m (s .clock)) is (unit-level w 1 M m low high))
       (λ c.
       goes c w (r .it) (first-append w (s .held) (map notice-packet (s .notices)) (r .it) (r .is-first))
@@ -201,9 +207,9 @@ module _ (h : History) (I : Invariant h) (S : Sound-with-link (h .now)) where
       )
     where
       is : after-unit (with-line s w 1 (s .silent)) 1 ≡ packet-departs (with-line s w 1 (s .silent))
-      is = last-of-packet (with-line s w 1 (s .silent)) (no-notice s S w 1 (s .silent) 0 r)
+      is = last-of-packet (with-line s w 1 (s .silent)) (no-notice s S w 1 (s .silent) r)
 
-  notice-keeps : (w : ℕ) → Midway (with-line s w 1 (s .silent)) acc → Notice-on-line (with-line s w 1 (s .silent)) 0 → Sound (after-unit (with-line s w 1 (s .silent)) 1 .next)
+  notice-keeps : (w : ℕ) → Midway (with-line s w 1 (s .silent)) acc → Notice-on-line (with-line s w 1 (s .silent)) → Sound (after-unit (with-line s w 1 (s .silent)) 1 .next)
       → Kept-with (after-unit (with-line s w 1 (s .silent)) 1)
   notice-keeps w M n T =
       let r = n .in-service in
@@ -212,6 +218,7 @@ module _ (h : History) (I : Invariant h) (S : Sound-with-link (h .now)) where
       subst Kept-with (sym is)
       (next (s .held) (k .0) 0 0 (s .link .silence) (gone ++ left (notice-packet (r .it)) ∷ []) (subst (λ (a : Answer). Sound (a .next)) is T)
       (sub-refl (s .held)) (I .regular .part) (inl (refl, le-refl (s .link .silence)))
+      (below-free (s .held) (k .0) (s .link .silence) (le-refl (s .link .silence)))
       (λ m low high. subst (λ (a : Answer). (demand s m (s .clock) ≡ 0) ⊎ Busy (a .next) acc m (s .clock)) is (unit-level w 1 M m low high))
       (λ c. first-goes c (r .it) (k .0) (k .1) (subst (λ (v : ℕ). first v (s .held) ≡ none) (r .is-notice) (n .alone)))
       (all-snoc (Level-on-time s) gone (left (notice-packet (r .it))) (I .on-time) (λ away. absurd (away refl))))
@@ -229,7 +236,8 @@ module _ (h : History) (I : Invariant h) (S : Sound-with-link (h .now)) where
 
   unit-keeps : (w u : ℕ) → Midway (with-line s w u (s .silent)) acc → Sound (after-unit (with-line s w u (s .silent)) u .next) → Kept-with (after-unit (with-line s w u (s .silent)) u)
   unit-keeps w zero M T =
-      next (s .held) (s .notices) 0 0 (s .silent - 1) gone T (sub-refl (s .held)) (I .regular .part) (inl (refl, omega (arith, S .silent-le))) (unit-level w zero M) (I .conserved) (I .on-time)
+      next (s .held) (s .notices) 0 0 (s .silent - 1) gone T (sub-refl (s .held)) (I .regular .part) (inl (refl, omega (arith, S .silent-le)))
+      (below-free (s .held) (s .notices) (s .silent - 1) (omega (arith, S .silent-le))) (unit-level w zero M) (I .conserved) (I .on-time)
   unit-keeps w (suc zero) M T =
       ⊎-elim (λ z. absurd (omega (arith, z .0))) (λ l. ⊎-elim (λ r. packet-keeps w M r T) (λ n. notice-keeps w M n T) l) (M .mid-line)
   unit-keeps w (suc (suc u)) M T =
@@ -250,6 +258,7 @@ module _ (h : History) (I : Invariant h) (S : Sound-with-link (h .now)) where
       }))
       l))
       (M .mid-line))
+      (λ n. omega (arith, left-unit s (s .held) (s .notices) w u (s .silent), left-le-largest (with-line s w (suc (suc u)) (s .silent)) acc F (I .regular) (M .mid-line) n))
       (unit-level w (suc (suc u)) M) (I .conserved) (I .on-time)
 
   pub ticked-keeps : Sound (ticked s .next) → Kept-with (ticked s)

@@ -83,14 +83,14 @@ left-some s h = omega (arith, left-busy s h, cost-pos (s .link) (s .to-go) h)
 pub left-taken : (s : State) (w len q : ℕ) → 1 ≤ len → line-left (with-line s w len q) ≡ cost (s .link) len
 left-taken s w len q h = left-busy (with-line s w len q) h
 
--- at most the cost of the packet in service, and less once a unit has gone
-pub left-below : (s : State) (k : ℕ) (r : In-service s k) → line-left s + k ≤ cost (s .link) (r .it .len)
+-- at most the cost of what is in service
+pub left-below : (s : State) (r : In-service s) → line-left s ≤ cost (s .link) (r .it .len)
 unfolding cost
-left-below s k r = omega (arith, left-busy s (r .some-to-go), r .to-go-le)
+left-below s r = omega (arith, left-busy s (r .some-to-go), r .to-go-le)
 
-pub left-below-notice : (s : State) (k : ℕ) (r : Notice-in-service s k) → line-left s + k ≤ cost (s .link) (r .it .len)
+pub left-below-notice : (s : State) (r : Notice-in-service s) → line-left s ≤ cost (s .link) (r .it .len)
 unfolding cost
-left-below-notice s k r = omega (arith, left-busy s (r .some-to-go), r .to-go-le)
+left-below-notice s r = omega (arith, left-busy s (r .some-to-go), r .to-go-le)
 
 -- a tick takes one: with a unit that is not the last, with the last, and in the silence
 pub left-unit : (s : State) (held : List Packet) (ns : List Notice) (w u q : ℕ)

@@ -125,27 +125,27 @@ notice-intro l t n f =
 module _ (s : State) where
   -- what the test says of the line: idle or serving, and silent only where nothing is in service
   abbrev Line-holds : Type 0
-  Line-holds = (Idle s ⊎ Serves s 0) × (s .silent ≤ s .link .silence) × (1 ≤ s .to-go → s .silent ≡ 0)
+  Line-holds = (Idle s ⊎ Serves s) × (s .silent ≤ s .link .silence) × (1 ≤ s .to-go → s .silent ≡ 0)
 
   line-true : line-sound s ≡ true → Line-holds
   unfolding line-sound
   line-true h = go (eqb (s .to-go) 0) refl h
     where
-      serving : (o : Option Packet) → first (s .serving) (s .held) ≡ o → serves o (s .to-go) (s .clock) ≡ true → In-service s 0
+      serving : (o : Option Packet) → first (s .serving) (s .held) ≡ o → serves o (s .to-go) (s .clock) ≡ true → In-service s
       serving none i e = never e
       serving (some p) i e =
           let k = and-true (within 1 (p .len) (s .to-go)) (leb (p .eligibility) (s .clock)) e in
           let w = within-true 1 (p .len) (s .to-go) (k .0) in
           record { it = p; is-first = i; eligible = leb-true _ _ (k .1); some-to-go = w .0; to-go-le = omega arith }
 
-      noticed : (o : Option Notice) → first-notice (s .notices) ≡ o → s .serving ≡ notice-number → serves-notice o (s .to-go) ≡ true → Notice-in-service s 0
+      noticed : (o : Option Notice) → first-notice (s .notices) ≡ o → s .serving ≡ notice-number → serves-notice o (s .to-go) ≡ true → Notice-in-service s
       noticed none i w e = never e
       noticed (some n) i w e =
           let k = within-true 1 (n .len) (s .to-go) e in
           record { it = n; is-first = i; is-notice = w; some-to-go = k .0; to-go-le = omega arith }
 
       busy : (t : Bool) → eqb (s .serving) notice-number ≡ t
-          → cond t (serves-notice (first-notice (s .notices)) (s .to-go)) (serves (first (s .serving) (s .held)) (s .to-go) (s .clock)) ≡ true → Serves s 0
+          → cond t (serves-notice (first-notice (s .notices)) (s .to-go)) (serves (first (s .serving) (s .held)) (s .to-go) (s .clock)) ≡ true → Serves s
       busy true i e = inr (noticed (first-notice (s .notices)) refl (eqb-true _ _ i) e)
       busy false i e = inl (serving (first (s .serving) (s .held)) refl e)
 
@@ -164,7 +164,7 @@ module _ (s : State) where
       cond-is (eqb (s .serving) 0 && leb (s .silent) (s .link .silence)) (eqb (s .silent) 0 && busy-sound s) (ne-eqb (s .to-go) 0 (λ i. omega arith))
       ∙ ap (λ (b : Bool). b && busy-sound s) (eq-eqb (s .silent) 0 (alone l))
 
-  line-intro : (In-service s 0 → s .serving ≡ notice-number → ⊥) → Line-holds → line-sound s ≡ true
+  line-intro : (In-service s → s .serving ≡ notice-number → ⊥) → Line-holds → line-sound s ≡ true
   unfolding line-sound
   line-intro away (inl z, quiet, alone) =
       cond-is (eqb (s .serving) 0 && leb (s .silent) (s .link .silence)) (eqb (s .silent) 0 && busy-sound s) (eq-eqb (s .to-go) 0 (z .0))
@@ -246,7 +246,7 @@ module _ (s : State) where
       (and-intro (notices-sound s) (line-sound s)
       (and-intro (leb (length (s .notices)) max-notices) _ (le-leb _ _ (S .few-notices))
       (each-intro (notice-sound (s .link) (s .clock)) (s .notices) (all-map (λ n f. notice-intro (s .link) (s .clock) n f) (s .notices) (S .notices-fit))))
-      (line-intro s (no-notice s S (s .serving) (s .to-go) (s .silent) 0) (S .line, S .silent-le, S .silent-alone))))
+      (line-intro s (no-notice s S (s .serving) (s .to-go) (s .silent)) (S .line, S .silent-le, S .silent-alone))))
     where
       chained : (j : ℕ) → j < length (s .connections) → Chained (figures s j .gap) (s .clock) (past s j) (eligibilities j (s .held))
       chained j l = queue-chained (figures s j) (s .clock) (past s j) (eligibilities j (s .held)) (S .queue j l)

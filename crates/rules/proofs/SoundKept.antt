@@ -70,7 +70,7 @@ module _ (s : State) (S : Sound-with-link s) (len tag : ℕ) (D : Notice-done s 
   new = record { len = len; tag = tag; arrival = s .clock }
 
   -- the first notice stays the first
-  still-first : Notice-in-service s 0 → Notice-in-service (noted s len tag) 0
+  still-first : Notice-in-service s → Notice-in-service (noted s len tag)
   still-first r = record {
     it = r .it;
     is-first =

@@ -47,7 +47,7 @@ module _ (s : State) (S : Sound-with-link s) (c len tag : ℕ) (D : Offer-done s
       (omega (arith, D .room, ap length (of-snoc-same c (s .held) p refl), length-append (of c (s .held)) (p ∷ [])))
   room-placed d l (inr e) = omega (arith, S .room d l, ap length (of-snoc-other d (s .held) p e))
 
-  behind : In-service s 0 → In-service (placed s c len tag) 0
+  behind : In-service s → In-service (placed s c len tag)
   behind r = record {
     it = r .it;
     is-first = first-append (s .serving) (s .held) (packet s c len tag ∷ []) (r .it) (r .is-first);

@@ -23,20 +23,20 @@ use Rattle.rules.proofs.Choice.{Rising, Chosen, chosen-law}
 
 -- the packet that is chosen comes into service whole
 unfoldable pub taken-serves : (s : State) → All (Fits (s .connections)) (s .held) → (p : Packet) → Chosen (level-of s) (s .clock) (s .held) (some p)
-    → In-service (with-line s (p .connection) (p .len) (s .silent)) 0
+    → In-service (with-line s (p .connection) (p .len) (s .silent))
 taken-serves s F p k =
     let f : Fits (s .connections) p = first-all (p .connection) (Fits (s .connections)) (s .held) p (k .2) F in
     record { it = p; is-first = k .2; eligible = k .0; some-to-go = f .some-len; to-go-le = omega arith }
 
 -- .. or the first notice does
 unfoldable pub notice-serves : (s : State) (n : Notice) (ns : List Notice) → s .notices ≡ n ∷ ns → All (Notice-fits (s .link) (s .clock)) (n ∷ ns)
-    → Notice-in-service (with-line s notice-number (n .len) (s .silent)) 0
+    → Notice-in-service (with-line s notice-number (n .len) (s .silent))
 notice-serves s n ns e f = record { it = n; is-first = ap first-notice e; is-notice = refl; some-to-go = f .0 .some-len; to-go-le = omega arith }
 
 module _ (s : State) (S : Sound-with-link s) where
   -- a packet in service bears no notice's number
-  pub no-notice : (w u q k : ℕ) → In-service (with-line s w u q) k → w ≡ notice-number → ⊥
-  no-notice w u q k r e =
+  pub no-notice : (w u q : ℕ) → In-service (with-line s w u q) → w ≡ notice-number → ⊥
+  no-notice w u q r e =
       omega (
         arith,
         S .few,
@@ -64,7 +64,7 @@ module _ (s : State) (S : Sound-with-link s) where
         → ((c : ℕ) → c < length (s .connections) → Queue (figures s c) (s .clock) (past s c) (eligibilities c held))
         → length ns ≤ max-notices
         → All (Notice-fits (s .link) (s .clock)) ns
-        → Idle (later s held ns serving to-go silent) ⊎ Serves (later s held ns serving to-go silent) 0
+        → Idle (later s held ns serving to-go silent) ⊎ Serves (later s held ns serving to-go silent)
         → silent ≤ s .link .silence
         → (1 ≤ to-go → silent ≡ 0)
         → Sound-with-link (later s held ns serving to-go silent)
@@ -91,7 +91,7 @@ module _ (s : State) (S : Sound-with-link s) where
     }
 
     -- the packet in service has sent its last unit
-    sound-departed : (w : ℕ) → In-service (with-line s w 1 (s .silent)) 0 → Sound-with-link (later s (without w (s .held)) (s .notices) 0 0 (s .link .silence))
+    sound-departed : (w : ℕ) → In-service (with-line s w 1 (s .silent)) → Sound-with-link (later s (without w (s .held)) (s .notices) 0 0 (s .link .silence))
     sound-departed w r =
         sound-later (without w (s .held)) (s .notices) 0 0 (s .link .silence) (sub-without w (sub-refl (s .held))) (λ c. fewer c (same w c)) (λ c l. shorter c l (same w c))
         (S .few-notices) (S .notices-fit) (inl (refl, refl)) (omega arith) (λ n. absurd (omega arith))
@@ -121,20 +121,20 @@ module _ (s : State) (S : Sound-with-link s) where
         (inl (refl, refl)) (omega arith) (λ n. absurd (omega arith))
 
     -- something else than a last unit goes, or nothing
-    sound-on : (w u q : ℕ) → Idle (later s (s .held) (s .notices) w u q) ⊎ Serves (later s (s .held) (s .notices) w u q) 0
+    sound-on : (w u q : ℕ) → Idle (later s (s .held) (s .notices) w u q) ⊎ Serves (later s (s .held) (s .notices) w u q)
         → q ≤ s .link .silence → (1 ≤ u → q ≡ 0)
         → Sound-with-link (later s (s .held) (s .notices) w u q)
     sound-on w u q line quiet alone = sound-later (s .held) (s .notices) w u q (sub-refl (s .held)) (λ c. omega arith) (S .queue) (S .few-notices) (S .notices-fit) line quiet alone
 
     -- the line after step 1: idle or serving, and silent only where nothing is in service
     abbrev Line-ready : ℕ → ℕ → Type 0
-    Line-ready w u = (Idle (with-line s w u (s .silent)) ⊎ Serves (with-line s w u (s .silent)) 0) × (1 ≤ u → s .silent ≡ 0)
+    Line-ready w u = (Idle (with-line s w u (s .silent)) ⊎ Serves (with-line s w u (s .silent))) × (1 ≤ u → s .silent ≡ 0)
 
     sound-unit : (w u : ℕ) → Line-ready w u → Sound-with-link (after-unit (with-line s w u (s .silent)) u .next)
     sound-unit w zero k = sound-on 0 0 (s .silent - 1) (inl (refl, refl)) (omega (arith, S .silent-le)) (λ n. absurd (omega arith))
     sound-unit w (suc zero) (inl z, a) = absurd (omega (arith, z .0))
     sound-unit w (suc zero) (inr (inl r), a) =
-        subst (λ (a : Answer). Sound-with-link (a .next)) (sym (last-of-packet (with-line s w 1 (s .silent)) (no-notice w 1 (s .silent) 0 r))) (sound-departed w r)
+        subst (λ (a : Answer). Sound-with-link (a .next)) (sym (last-of-packet (with-line s w 1 (s .silent)) (no-notice w 1 (s .silent) r))) (sound-departed w r)
     sound-unit w (suc zero) (inr (inr r), a) =
         let k = first-notice-is (s .notices) (r .it) (r .is-first) in
         subst (λ (a : Answer). Sound-with-link (a .next)) (sym (last-of-notice (with-line s w 1 (s .silent)) (r .it) (k .0) (r .is-notice) (k .1)))
@@ -153,7 +153,7 @@ module _ (s : State) (S : Sound-with-link s) where
     sound-start zero zero e f = subst (λ (l : ℕ × ℕ). Line-ready (l .0) (l .1)) (sym (start-idle s)) (go (chosen s) choice-holds (s .notices) refl, λ _. f)
       where
         go : (o : Option Packet) → Chosen (level-of s) (s .clock) (s .held) o → (ns : List Notice) → s .notices ≡ ns
-            → Idle (with-line s (takes o ns .0) (takes o ns .1) (s .silent)) ⊎ Serves (with-line s (takes o ns .0) (takes o ns .1) (s .silent)) 0
+            → Idle (with-line s (takes o ns .0) (takes o ns .1) (s .silent)) ⊎ Serves (with-line s (takes o ns .0) (takes o ns .1) (s .silent))
         go (some p) k ns i = inr (inl (taken-serves s (S .fit) p k))
         go none k [] i = inl (refl, refl)
         go none k (n ∷ ns) i = inr (inr (notice-serves s n ns i (subst (All (Notice-fits (s .link) (s .clock))) i (S .notices-fit))))

@@ -66,31 +66,31 @@ pub record Notice-fits (l : Link) (t : ℕ) (n : Notice) : Type 0 where
 
 -- ---- the line
 
--- a packet in service: the first row of its connection, eligible, with 1 to its length units to go (at least k fewer, where k is not 0)
-pub record In-service-of (held : List Packet) (serving to-go t k : ℕ) : Type 0 where
+-- a packet in service: the first row of its connection, eligible, with 1 to its length units to go
+pub record In-service-of (held : List Packet) (serving to-go t : ℕ) : Type 0 where
   pub it : Packet
   pub is-first : first serving held ≡ some it
   pub eligible : it .eligibility ≤ t
   pub some-to-go : 1 ≤ to-go
-  pub to-go-le : to-go + k ≤ it .len
+  pub to-go-le : to-go ≤ it .len
 
-abbrev pub In-service : State → ℕ → Type 0
-In-service s k = In-service-of (s .held) (s .serving) (s .to-go) (s .clock) k
+abbrev pub In-service : State → Type 0
+In-service s = In-service-of (s .held) (s .serving) (s .to-go) (s .clock)
 
--- a notice in service: the first one, marked by the queue's number, with 1 to its length units to go (at least k fewer, where k is not 0)
-pub record Notice-in-service-of (notices : List Notice) (serving to-go k : ℕ) : Type 0 where
+-- a notice in service: the first one, marked by the queue's number, with 1 to its length units to go
+pub record Notice-in-service-of (notices : List Notice) (serving to-go : ℕ) : Type 0 where
   pub it : Notice
   pub is-first : first-notice notices ≡ some it
   pub is-notice : serving ≡ notice-number
   pub some-to-go : 1 ≤ to-go
-  pub to-go-le : to-go + k ≤ it .len
+  pub to-go-le : to-go ≤ it .len
 
-abbrev pub Notice-in-service : State → ℕ → Type 0
-Notice-in-service s k = Notice-in-service-of (s .notices) (s .serving) (s .to-go) k
+abbrev pub Notice-in-service : State → Type 0
+Notice-in-service s = Notice-in-service-of (s .notices) (s .serving) (s .to-go)
 
 -- something is in service
-abbrev pub Serves : State → ℕ → Type 0
-Serves s k = In-service s k ⊎ Notice-in-service s k
+abbrev pub Serves : State → Type 0
+Serves s = In-service s ⊎ Notice-in-service s
 
 -- an idle line: everything unused is zero
 abbrev pub Idle : State → Type 0
@@ -119,7 +119,7 @@ pub record Sound-with-link (s : State) : Type 0 where
   pub few-notices : length (s .notices) ≤ max-notices
   pub notices-fit : All (Notice-fits (s .link) (s .clock)) (s .notices)
   -- the line
-  pub line : Idle s ⊎ Serves s 0
+  pub line : Idle s ⊎ Serves s
   -- the silence still to run: at most the link's, and none while something is in service
   pub silent-le : s .silent ≤ s .link .silence
   pub silent-alone : 1 ≤ s .to-go → s .silent ≡ 0

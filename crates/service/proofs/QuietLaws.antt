@@ -58,7 +58,7 @@ module _ (s : State) (k : ℕ) (Q : Quiet s (suc k)) where
   not-serving : s .to-go ≡ 0 → s .serving ≡ 0
   not-serving z = go (Q .sound-state .with-one (Q .set) .line)
     where
-      go : Idle s ⊎ Serves s 0 → s .serving ≡ 0
+      go : Idle s ⊎ Serves s → s .serving ≡ 0
       go (inl i) = i .1
       go (inr (inl v)) = absurd (omega (arith, v .some-to-go))
       go (inr (inr v)) = absurd (omega (arith, v .some-to-go))
