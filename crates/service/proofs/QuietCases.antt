@@ -2,20 +2,22 @@
 use Prim.Native.Nat.{ℕ, zero, suc, _+_, _*_, _-_, _≤_, _<_, min}
 use native.Mathlib.Omega.{arith}
 use mathlib.Core.Path.{_≡_, refl, ap, _∙_}
-use mathlib.Core.Bool.{true}
+use mathlib.Core.Bool.{true, false}
 use mathlib.Core.List.{List, [], _∷_}
 use lib.ListN.{length, getD, drop}
+use lib.Dec.{leb}
 use lib.Seq.{drop-length}
-use borrow.Author.Tests.{eq-eqb, ne-eqb}
+use borrow.Author.Tests.{leb-true, eq-eqb, ne-eqb}
 use Rattle.rules.specs.Limits.{clock-end}
 use Rattle.rules.specs.declared.Packet.{Packet}
 use Rattle.rules.specs.declared.Notice.{Notice}
 use Rattle.rules.specs.Model.{State}
 use Rattle.rules.specs.SoundTest.{sound}
+use Rattle.rules.proofs.Tests.{never}
 use Rattle.rules.proofs.SoundExact.{exact}
 use Rattle.tables.specs.Places.{rows}
-use Rattle.tables.proofs.PlacesLaws.{rows-from}
-use Rattle.service.specs.Quiet.{first-eligible, quiet-for, quiet-ticks}
+use Rattle.tables.proofs.PlacesLaws.{rows-stop, rows-more, rows-from}
+use Rattle.service.specs.Quiet.{first-eligible, first-starts, quiet-for, quiet-ticks}
 use Rattle.service.proofs.QuietLaws.{Quiets, quiets}
 
 -- ---- the first eligibility, row by row
@@ -50,6 +52,24 @@ module _ (t : List ℕ) where
     -- a row that is eligible: nothing to wait for
     pub seen-now : (first clock : ℕ) → Seen t first i → getD t (5 * i + 4) 0 ≤ clock → 0 ≡ first-eligible (rows t) - clock
     seen-now first clock s l = omega (arith, next-row)
+
+-- ---- the first row by itself
+
+module _ (t : List ℕ) (clock : ℕ) where
+  pub no-first : getD t 1 0 ≡ 0 → first-starts (rows t) clock ≡ false
+  no-first z = go (rows t) (rows-stop t 0 (omega arith) z)
+    where
+      go : (ps : List Packet) → 0 ≡ length ps → first-starts ps clock ≡ false
+      go [] e = refl
+      go (p ∷ ps) e = absurd (omega arith)
+
+  pub first-is : 5 ≤ length t → (getD t 1 0 ≡ 0 → ⊥) → first-starts (rows t) clock ≡ leb (getD t 4 0) clock
+  first-is l n = ap (λ (ps : List Packet). first-starts ps clock) (rows-from t 0 (rows-more t 0 l n (omega arith)))
+
+-- where it is eligible, there is nothing to wait for
+pub first-now : (ps : List Packet) (clock : ℕ) → first-starts ps clock ≡ true → 0 ≡ first-eligible ps - clock
+first-now [] clock e = never e
+first-now (p ∷ ps) clock e = omega (arith, leb-true (p .eligibility) clock e)
 
 -- ---- the line
 

@@ -1,9 +1,9 @@
 -- QUIET TICKS: those in which nothing starts and nothing departs, so that many can be passed over at once. Document 01, "One tick"; document 02, R-1
 -- and R-4.
 use Prim.Native.Nat.{ℕ, zero, suc, _+_, _-_, min}
-use mathlib.Core.Bool.{not, cond, _&&_}
+use mathlib.Core.Bool.{Bool, false, not, cond, _&&_}
 use mathlib.Core.List.{List, [], _∷_}
-use lib.Dec.{eqb}
+use lib.Dec.{eqb, leb}
 use Rattle.rules.specs.declared.Packet.{Packet}
 use Rattle.rules.specs.declared.Notice.{Notice}
 use Rattle.rules.specs.Limits.{clock-end}
@@ -18,6 +18,11 @@ passed s k = with-line (with-clock s (s .clock + k)) (s .serving) (s .to-go - k)
 abbrev pub first-eligible : List Packet → ℕ
 first-eligible [] = clock-end
 first-eligible (p ∷ ps) = min (p .eligibility) (first-eligible ps)
+
+-- the first of some packets is eligible
+abbrev pub first-starts : List Packet → ℕ → Bool
+first-starts [] clock = false
+first-starts (p ∷ ps) clock = leb (p .eligibility) clock
 
 -- the ticks in which nothing starts and nothing departs: until a packet is eligible, if no notice waits, or the rest of a silence, or all but the last unit
 -- of what is in service

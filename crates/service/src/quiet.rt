@@ -8,7 +8,7 @@ ghost use Rattle.rules.specs.SoundTest.{sound};
 ghost use Rattle.tables.specs.Places.{rows, written-places, places-length};
 ghost use Rattle.tables.specs.Notices.{notices-in};
 ghost use Rattle.state.specs.View.{Tables, given, before, view, hub-of};
-ghost use Rattle.service.specs.Quiet.{passed, first-eligible, quiet-for, quiet-ticks};
+ghost use Rattle.service.specs.Quiet.{passed, first-eligible, first-starts, quiet-for, quiet-ticks};
 use super::without;
 use limits::CLOCK_END;
 use limits::PACKET_WIDTH;
@@ -44,6 +44,17 @@ fn wait(places: &[u32], clock: u32) -> u32
     without(first, clock)
 }
 
+// Whether the first packet is eligible. No row is counted for it.
+fn first_starts(places: &[u32], clock: u32) -> bool
+    requires { ⌜ length (now places) ≡ places-length ⌝ }
+    ensures { λ r. ⌜ r ≡ first-starts (rows (now (places .entry))) clock ⌝ }
+{
+    if places[1] == 0 {
+        return false;
+    }
+    places[4] <= clock
+}
+
 // The ticks in which nothing starts and nothing departs, by the line, the places and the notices alone.
 fn quiet_for(h: Hub, places: &[u32], notices: &[u32]) -> u32
     requires { ⌜ (now places ≡ written-places (rows (now places))) × (length (now places) ≡ places-length) ⌝ }
@@ -58,6 +69,10 @@ fn quiet_for(h: Hub, places: &[u32], notices: &[u32]) -> u32
     }
     // a notice that waits starts at once
     if tables::held(notices) != 0 {
+        return 0;
+    }
+    // so does the first packet, where it is eligible
+    if first_starts(places, h.clock) {
         return 0;
     }
     wait(places, h.clock)

@@ -1,9 +1,9 @@
 use native.Mathlib.Omega.{arith}
-use mathlib.Core.Path.{_∙_}
+use mathlib.Core.Path.{sym, _∙_}
 use lib.ListN.{length-map}
 use Rattle.tables.specs.Places.{rows}
 use Rattle.tables.specs.Notices.{notice-of, notices-in}
-use Rattle.service.proofs.QuietCases.{in-service-for, silent-for, notice-waits, idle-for}
+use Rattle.service.proofs.QuietCases.{in-service-for, silent-for, notice-waits, idle-for, first-now}
 use borrow.Author.Needs.{needs}
 use Rattle.service.proofs.quiet.quiet_for.Statement.{statement}
 use Rattle.service.proofs.quiet.quiet_for.Tie as tie
@@ -30,15 +30,25 @@ returns-3 c =
     notice-waits (a .h .«to_go») (a .h .silent) (rows (a .places .now)) (notices-in (a .notices .now)) (a .h .clock) (c .before .before .before .before .if1 .left) (c .before .before .if2 .left)
     (λ z. c .if3 .taken (omega (arith, c .before .held .ensures, length-map (rows (a .notices .now)) notice-of)))
 
-wait-requires : tie.Need-wait-requires
-wait-requires c κs = search needs
+first-starts-requires : tie.Need-first-starts-requires
+first-starts-requires c κs = search needs
 
 returns-4 : tie.Need-returns-4
 returns-4 c =
-    let a = c .before .before .before .before .before .before .before .before .before .args in
+    let a = c .before .before .before .before .before .before .before .before .before .before .args in
+    first-now (rows (a .places .now)) (a .h .clock) (sym (c .before .first-starts .ensures) ∙ c .if4 .taken)
+    ∙ idle-for (a .h .«to_go») (a .h .silent) (rows (a .places .now)) (notices-in (a .notices .now)) (a .h .clock) (c .before .before .before .before .before .before .if1 .left) (c .before .before .before .before .if2 .left)
+    (omega (arith, c .before .before .if3 .left, c .before .before .before .held .ensures, length-map (rows (a .notices .now)) notice-of))
+
+wait-requires : tie.Need-wait-requires
+wait-requires c κs = search needs
+
+returns-5 : tie.Need-returns-5
+returns-5 c =
+    let a = c .before .before .before .before .before .before .before .before .before .before .before .args in
     c .wait .ensures
-    ∙ idle-for (a .h .«to_go») (a .h .silent) (rows (a .places .now)) (notices-in (a .notices .now)) (a .h .clock) (c .before .before .before .before .before .if1 .left) (c .before .before .before .if2 .left)
-    (omega (arith, c .before .if3 .left, c .before .before .held .ensures, length-map (rows (a .notices .now)) notice-of))
+    ∙ idle-for (a .h .«to_go») (a .h .silent) (rows (a .places .now)) (notices-in (a .notices .now)) (a .h .clock) (c .before .before .before .before .before .before .before .if1 .left) (c .before .before .before .before .before .if2 .left)
+    (omega (arith, c .before .before .before .if3 .left, c .before .before .before .before .held .ensures, length-map (rows (a .notices .now)) notice-of))
 
 pub quiet-for-spec : {M : Type 1} → statement M
-quiet-for-spec = tie.close (tie.spec sub-result returns returns-2 held-requires returns-3 wait-requires returns-4)
+quiet-for-spec = tie.close (tie.spec sub-result returns returns-2 held-requires returns-3 first-starts-requires returns-4 wait-requires returns-5)
