@@ -1,9 +1,9 @@
-/* The questions that the hub's firmware asks (document 01, "Two questions from C firmware"; document 02, R-2 and R-4), answered by the same rules as
+/* The questions that the hub's firmware asks (document 01, "Two questions from C firmware"; document 02, R-2, R-4 and R-6), answered by the same rules as
    the hub's own calls: the archive's functions are proved equal to the rules' definitions.
 
    Link with the archive that `rt staticlib firmware` writes, target/staticlib/libfirmware.a, for x86-64. It needs `memset` of the C library
    and nothing else. The functions may be called at any time and from any thread: they keep nothing, write nothing that the caller can see,
-   take no memory but some 1,600 bytes of stack, and always return. */
+   take no memory but some 6,000 bytes of stack, and always return. */
 #ifndef MTREDOVIM_H
 #define MTREDOVIM_H
 
@@ -14,21 +14,26 @@
 extern "C" {
 #endif
 
-/* The tick at which the next packet of a connection is eligible, were it accepted now. Any numbers are allowed, also those that no hub gives.
+/* The tick at which the next packet of a connection without an average is eligible, were it accepted now. Any numbers are allowed, also those that no
+   hub gives.
      flag  0: no packet of the connection was accepted yet; any other number: one was
      last  the eligibility of the one accepted last, in ticks; with flag 0 it doesn't count
      gap   the connection's gap, in ticks
      now   the present tick
-   Answer, in ticks: `now` with flag 0, else the greater of `now` and `last` + `gap`. The sum can pass 32 bits, the answer can't pass 64. */
+   Answer, in ticks: `now` with flag 0, else the greater of `now` and `last` + `gap`. The sum can pass 32 bits, the answer can't pass 64.
+   With an average of n packets to a window, ask twice: what this answers, and the same with the eligibility of the n-th packet before (flag 0 where there
+   is none) and the window for `last` and `gap`. The greater of the two answers is the tick. */
 uint64_t mtredovim_next_eligibility(uint32_t flag, uint32_t last, uint32_t gap, uint32_t now);
 
 /* Which level would be short, were the connections of all these rows admitted to the link.
      lk    one whole `LK` record: 4C 4B, n (1 byte), S (2, units), silence (1, ticks), n delay bounds (2 each, ticks); numbers low byte first;
            lk_len is 6 + 2n
-     rows  a connection to each 5 bytes, in any order: level (1), gap (2, ticks), size (2, units); rows_len is 5 times their number, at most 64
+     rows  a connection to each 9 bytes, in any order, as a `CN` record has them behind its mark: level (1), gap (2, ticks), size (2, units), window (2,
+           ticks), average gap (2, ticks), the last two both 0 where it has no average; rows_len is 9 times their number, at most 64
    Answer: 0 if the level test holds at every level, else the lowest level 1 to 8 at which it fails. 255 if the question is not well asked: a
-   length doesn't fit, the bytes are no `LK`, a limit of the link or of a connection is broken, or there are more than 64 rows. A bad row gives
-   255 wherever it stands, also where a level fails. No rows and a good `LK`: 0. Whether all reservations find room is not asked.
+   length doesn't fit, the bytes are no `LK`, a limit of the link or of a connection is broken, or there are more than 64 rows. The limits of an
+   average: the average gap is at least the gap and divides the window, 1 to 16 times; one of the two alone breaks them. A bad row gives 255
+   wherever it stands, also where a level fails. No rows and a good `LK`: 0. Whether all reservations find room is not asked.
 
    The caller sees to it that each pointer is valid for reading as many bytes as its length says, while the function runs. With length 0 any
    pointer will do that is not null: nothing is read there. Null is never allowed. */

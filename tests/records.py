@@ -5,7 +5,7 @@ import struct
 # Of each mark its name in print and the fields behind it, each with its width in bytes. An `LK` has a bound for each level besides.
 TRACE = {
     b"LK": ("link", [("levels", 1), ("largest", 2), ("silence", 1)]),
-    b"CN": ("admit", [("level", 1), ("gap", 2), ("size", 2)]),
+    b"CN": ("admit", [("level", 1), ("gap", 2), ("size", 2), ("window", 2), ("average", 2)]),
     b"PK": ("offer", [("connection", 1), ("length", 2), ("tag", 4)]),
     b"NQ": ("notice", [("length", 2), ("tag", 4)]),
     b"TK": ("ticks", [("asked", 2)]),
@@ -67,8 +67,9 @@ def link(largest, silence, bounds):
     return written(b"LK", len(bounds), largest, silence) + b"".join(struct.pack("<H", bound) for bound in bounds)
 
 
-def admit(level, gap, size):
-    return written(b"CN", level, gap, size)
+def admit(level, gap, size, window=0, average=0):
+    """A connection; window and average gap are both 0 where it has no average."""
+    return written(b"CN", level, gap, size, window, average)
 
 
 def offer(connection, length, tag):

@@ -1,7 +1,8 @@
 """Pairs of traces that differ in everything but one line (R-3).
 
-One line keeps its gap and makes the same offers at the same ticks in both; the other lines,
-the notices and the calls around it are drawn anew for each. The line's number may differ.
+One line keeps its word, which is its gap and, with an average, n packets to a window (R-6), and
+makes the same offers at the same ticks in both; the other lines, the notices and the calls around
+it are drawn anew for each. The line's number may differ.
 """
 
 import random
@@ -22,6 +23,13 @@ def answers(output):
     return [written(mark, *numbers) for _, mark, _, numbers in records(output, ANSWERS) if mark != b"DP"]
 
 
+def some_average(numbers, gap):
+    """A window and an average gap for a line of this gap; none half of the time."""
+    packets = numbers.choice((0, 0, 0, 1, 2, numbers.randint(1, 16)))
+    average = numbers.randint(gap, 3 * gap + 10) if packets else 0
+    return packets * average, average
+
+
 class Line:
     """The line that both traces share: its figures, the tick of its admission, its offers."""
 
@@ -29,16 +37,29 @@ class Line:
         self.level = numbers.randint(1, len(bounds))
         self.gap = numbers.randint(1, 40 + 2 * silence)
         self.size = numbers.randint(1, largest)
+        self.window, self.average = some_average(numbers, self.gap)
         self.admitted = numbers.randint(0, 20)
         self.offers = {}
-        due = self.admitted + numbers.randint(0, 10)
+        sent = []
+        start = self.admitted + numbers.randint(0, 10)
         for tick in range(self.admitted, LAST_TICK):
-            if tick >= due and numbers.random() < 0.8:
+            if tick >= max(start, self.earliest(sent)) and numbers.random() < 0.8:
                 self.add(tick, numbers.randint(1, self.size), numbers)
-                due = tick + self.gap
+                sent.append(tick)
             if numbers.random() < 0.05:
                 self.add(tick, numbers.choice((0, self.size + 1, 65_535)), numbers)
         self.at_end = numbers.randint(1, self.size) if numbers.random() < 0.05 else None
+
+    def admission(self):
+        return admit(self.level, self.gap, self.size, self.window, self.average)
+
+    def earliest(self, sent):
+        """When it may send next, by its word."""
+        earliest = sent[-1] + self.gap if sent else 0
+        packets = self.window // self.average if self.average else 0
+        if packets and len(sent) >= packets:
+            earliest = max(earliest, sent[-packets] + self.window)
+        return earliest
 
     def add(self, tick, length, numbers):
         self.offers.setdefault(tick, []).append((length, numbers.getrandbits(32)))
@@ -70,8 +91,8 @@ class Ward:
         numbers = self.numbers
         choice = numbers.random()
         if choice < 0.15:
-            level = numbers.randint(0, len(self.bounds) + 1)
-            return admit(level, numbers.randint(1, 300), numbers.randint(1, self.largest))
+            level, gap = numbers.randint(0, len(self.bounds) + 1), numbers.randint(1, 300)
+            return admit(level, gap, numbers.randint(1, self.largest), *some_average(numbers, gap))
         if choice < 0.3:
             return notice(numbers.randint(0, self.largest + 1), numbers.getrandbits(32))
         if choice < 0.33:
@@ -89,7 +110,7 @@ class Ward:
             self.crowd()
             self.records.append(ticks(1))
         self.crowd()
-        self.records.append(admit(self.line.level, self.line.gap, self.line.size))
+        self.records.append(self.line.admission())
         return b"".join(self.records)
 
     def ask(self, tick, length, tag):

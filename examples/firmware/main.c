@@ -1,5 +1,5 @@
 /* How firmware asks the hub's questions: the admissions P1 to P7 and the offers of P8 and P10 of document 01, "Table of proved examples"; P1 to P3
-   once more on a line that needs a tick of silence after each packet (document 02, R-4). */
+   once more on a line that needs a tick of silence after each packet (document 02, R-4); and a camera that sends in bursts (R-6). */
 #include <inttypes.h>
 #include <stdio.h>
 
@@ -10,31 +10,45 @@ enum { LINK = 10 };
 static const uint8_t link_a[LINK] = {0x4C, 0x4B, 2, 4, 0, 0, 10, 0, 20, 0};
 static const uint8_t silent_a[LINK] = {0x4C, 0x4B, 2, 4, 0, 1, 10, 0, 20, 0};
 
-/* Rows of level, gap and size. */
-enum { ROW = 5 };
+/* Rows of level, gap, size, window and average gap. */
+enum { ROW = 9 };
 
 /* P1, P2, P3, P5 and P6, one after the other. */
 static const uint8_t in_turn[] = {
-    1, 10, 0, 4, 0,
-    2, 20, 0, 4, 0,
-    1, 9,  0, 1, 0,
-    2, 20, 0, 1, 0,
-    2, 20, 0, 1, 0,
+    1, 10, 0, 4, 0, 0, 0, 0, 0,
+    2, 20, 0, 4, 0, 0, 0, 0, 0,
+    1, 9,  0, 1, 0, 0, 0, 0, 0,
+    2, 20, 0, 1, 0, 0, 0, 0, 0,
+    2, 20, 0, 1, 0, 0, 0, 0, 0,
 };
 
 /* P4 instead of P3. */
 static const uint8_t instead[] = {
-    1, 10, 0, 4, 0,
-    2, 20, 0, 4, 0,
-    1, 9,  0, 2, 0,
+    1, 10, 0, 4, 0, 0, 0, 0, 0,
+    2, 20, 0, 4, 0, 0, 0, 0, 0,
+    1, 9,  0, 2, 0, 0, 0, 0, 0,
 };
 
 /* P7: three of level 2, and one of level 1. */
 static const uint8_t behind_three[] = {
-    2, 20, 0, 4, 0,
-    2, 20, 0, 4, 0,
-    2, 20, 0, 4, 0,
-    1, 10, 0, 4, 0,
+    2, 20, 0, 4, 0, 0, 0, 0, 0,
+    2, 20, 0, 4, 0, 0, 0, 0, 0,
+    2, 20, 0, 4, 0, 0, 0, 0, 0,
+    1, 10, 0, 4, 0, 0, 0, 0, 0,
+};
+
+/* P1, and a camera of level 2 with a gap of 2, and size 1: without an average, with 3 packets to a window of 24, and with one that is no average. */
+static const uint8_t bursts[] = {
+    1, 10, 0, 4, 0, 0, 0, 0, 0,
+    2, 2,  0, 1, 0, 0, 0, 0, 0,
+};
+static const uint8_t camera[] = {
+    1, 10, 0, 4, 0, 0, 0, 0, 0,
+    2, 2,  0, 1, 0, 24, 0, 8, 0,
+};
+static const uint8_t no_camera[] = {
+    1, 10, 0, 4, 0, 0, 0, 0, 0,
+    2, 2,  0, 1, 0, 24, 0, 7, 0,
 };
 
 /* Would the last of these rows be let in beside the others? */
@@ -56,6 +70,15 @@ static void when(const char *name, uint32_t flag, uint32_t last, uint32_t gap, u
     printf("%s: eligible at %" PRIu64 "\n", name, mtredovim_next_eligibility(flag, last, gap, now));
 }
 
+/* The same with an average, where the n-th packet before it was eligible at `nth`. */
+static void when_averaged(const char *name, uint32_t last, uint32_t gap, uint32_t nth, uint32_t window, uint32_t now)
+{
+    uint64_t spaced = mtredovim_next_eligibility(1, last, gap, now);
+    uint64_t behind_nth = mtredovim_next_eligibility(1, nth, window, now);
+
+    printf("%s: eligible at %" PRIu64 "\n", name, spaced > behind_nth ? spaced : behind_nth);
+}
+
 int main(void)
 {
     may_join("no rows", link_a, in_turn, 0);
@@ -72,5 +95,10 @@ int main(void)
     when("P8, connection 1 at 0", 0, 0, 20, 0);
     when("P8, connection 0 at 1", 0, 0, 10, 1);
     when("P10, connection 0 at 8", 1, 1, 10, 8);
+    may_join("the camera without its average", link_a, bursts, 2);
+    may_join("the camera", link_a, camera, 2);
+    may_join("the camera, with an average gap of 7", link_a, no_camera, 2);
+    when("its third packet at 3", 1, 2, 2, 3);
+    when_averaged("its fourth packet at 5", 4, 2, 0, 24, 5);
     return 0;
 }

@@ -1,15 +1,16 @@
 //! The questions of the firmware (section "Two questions from C firmware"; units by R-2,
-//! the silence in `LK` by R-4).
+//! the silence in `LK` by R-4, averages in the rows by R-6).
 
 use crate::hub;
 use crate::level_test::lowest_shortage;
 use crate::link::{Connection, Link, MOST_CONNECTIONS};
-use crate::record::Record;
+use crate::record::{whole_figures, Record};
 
 /// The answer to the level question if it cannot be asked.
 pub const NOT_TO_BE_ASKED: u8 = 255;
 
-const ROW: usize = 5;
+/// A row is laid out as in `CN` after its mark.
+const ROW: usize = 9;
 
 /// Question (a): the next eligibility. Flag 0: no earlier packet; any other number: one.
 pub fn next_eligibility(flag: u32, last: u32, gap: u32, now: u32) -> u64 {
@@ -62,18 +63,6 @@ fn all_connections(link: &Link, rows: &[u8]) -> Option<Vec<Connection>> {
     if rows.len() > MOST_CONNECTIONS {
         return None;
     }
-    rows.map(|row| one_connection(link, row)).collect()
-}
-
-/// A row is laid out as in `CN` after its mark: level (1), gap (2), size (2).
-fn one_connection(link: &Link, row: &[u8]) -> Option<Connection> {
-    let (level, gap_low, gap_high, size_low, size_high) = match row {
-        &[level, gap_low, gap_high, size_low, size_high] => {
-            (level, gap_low, gap_high, size_low, size_high)
-        }
-        _ => return None,
-    };
-    let gap = u16::from_le_bytes([gap_low, gap_high]);
-    let size = u16::from_le_bytes([size_low, size_high]);
-    Connection::new(link, level, gap, size).ok()
+    rows.map(|row| Connection::new(link, whole_figures(row)?).ok())
+        .collect()
 }

@@ -2,8 +2,9 @@
 
 use crate::departure::{Departure, Tick};
 use crate::level_test::lowest_shortage;
-use crate::link::{Connection, Link, MOST_CONNECTIONS, MOST_RESERVED};
+use crate::link::{Connection, Figures, Link, MOST_CONNECTIONS, MOST_RESERVED};
 use crate::notices::{Notice, Notices};
+use crate::recent::Recent;
 use crate::verdict::Refusal;
 
 /// The clock begins at 0 and ends here (section "Link, connections, places").
@@ -20,11 +21,27 @@ struct Held {
     eligibility: Tick,
 }
 
-/// An accepted connection and the eligibility of its last accepted packet, if there was one.
-#[derive(Clone, Copy, Debug)]
+/// An accepted connection and the eligibilities of its last accepted packets.
+#[derive(Clone, Debug)]
 struct Standing {
     connection: Connection,
-    last_eligibility: Option<Tick>,
+    recent: Recent,
+}
+
+impl Standing {
+    /// Eligibility of a packet that arrives now: a gap behind the last accepted one and, with an
+    /// average, also I behind the n-th accepted one before it.
+    fn next_eligibility(&self, arrival: Tick) -> Tick {
+        let gap = Tick::from(self.connection.gap());
+        let spaced = next_eligibility(self.recent.back(1), gap, arrival);
+        match self.connection.average() {
+            None => spaced,
+            Some(average) => {
+                let nth = self.recent.back(usize::from(average.packets()));
+                next_eligibility(nth, Tick::from(average.window()), spaced)
+            }
+        }
+    }
 }
 
 /// What the output line is doing. A silence with no tick to go is an idle line.
@@ -103,6 +120,12 @@ impl Hub {
             .count()
     }
 
+    /// When a packet that is offered now would be eligible; nothing for a number that nobody has.
+    pub fn eligibility_now(&self, connection: u8) -> Option<Tick> {
+        let standing = self.standing.get(usize::from(connection))?;
+        Some(standing.next_eligibility(self.clock))
+    }
+
     /// How many notices wait; one in service counts until its last unit has gone.
     pub fn notices_waiting(&self) -> usize {
         self.notices.count()
@@ -127,9 +150,9 @@ impl Hub {
 
     /// Admits a connection and gives its number: verdicts 2, 5, 6, 7, 8, 9 in that order. With 8
     /// comes which level is short and by how much, the newcomer counted.
-    pub fn admit(&mut self, level: u8, gap: u16, size: u16) -> Result<u8, Refusal> {
+    pub fn admit(&mut self, figures: Figures) -> Result<u8, Refusal> {
         let link = self.link()?;
-        let newcomer = Connection::new(link, level, gap, size)?;
+        let newcomer = Connection::new(link, figures)?;
         let number = self.standing.len();
         if number >= MOST_CONNECTIONS {
             return Err(Refusal::AllConnectionsStand);
@@ -145,7 +168,7 @@ impl Hub {
         }
         self.standing.push(Standing {
             connection: newcomer,
-            last_eligibility: None,
+            recent: Recent::default(),
         });
         Ok(number as u8)
     }
@@ -168,9 +191,8 @@ impl Hub {
         if self.clock >= CLOCK_END {
             return Err(Refusal::ClockEnded);
         }
-        let gap = Tick::from(terms.gap());
-        let eligibility = next_eligibility(standing.last_eligibility, gap, self.clock);
-        standing.last_eligibility = Some(eligibility);
+        let eligibility = standing.next_eligibility(self.clock);
+        standing.recent.remember(eligibility);
         self.places.push(Held {
             connection,
             level: terms.level(),

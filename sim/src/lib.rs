@@ -12,6 +12,7 @@ pub mod level_test;
 pub mod link;
 pub mod notices;
 pub mod random;
+pub mod recent;
 pub mod record;
 pub mod replay;
 pub mod stats;

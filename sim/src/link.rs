@@ -1,5 +1,5 @@
 //! Link and connection with their limits (section "Link, connections, places"; the silence by
-//!
+//! R-4, averages by R-6).
 
 use crate::verdict::Refusal;
 
@@ -9,6 +9,10 @@ pub const MOST_SILENCE: u8 = 64;
 pub const HIGHEST_BOUND: u16 = 32_768;
 pub const MOST_CONNECTIONS: usize = 64;
 pub const MOST_RESERVED: u64 = 512;
+
+/// The most packets that a connection with an average may have to a window: n is 1 to 16. So many
+/// of its eligibilities a connection remembers.
+pub const MOST_PER_WINDOW: u16 = 16;
 
 /// A link within its limits: n levels, the largest packet S, the silence after each packet, a
 /// delay bound per level.
@@ -72,24 +76,84 @@ impl Link {
     }
 }
 
-/// A connection within the limits of its link: level, gap X and size.
+/// The figures of a connection as they are handed in: window I and average gap are both 0 where it
+/// has no average.
+#[derive(Clone, Copy, Debug, PartialEq, Eq)]
+pub struct Figures {
+    pub level: u8,
+    pub gap: u16,
+    pub size: u16,
+    pub window: u16,
+    pub average: u16,
+}
+
+impl Figures {
+    /// Those of a connection without an average.
+    pub fn plain(level: u8, gap: u16, size: u16) -> Figures {
+        Figures {
+            level,
+            gap,
+            size,
+            window: 0,
+            average: 0,
+        }
+    }
+
+    pub fn with_average(self, window: u16, average: u16) -> Figures {
+        Figures {
+            window,
+            average,
+            ..self
+        }
+    }
+}
+
+/// An average rate: n packets to each window of I ticks.
+#[derive(Clone, Copy, Debug, PartialEq, Eq)]
+pub struct Average {
+    window: u16,
+    packets: u16,
+}
+
+impl Average {
+    /// I, the averaging window, in ticks.
+    pub fn window(&self) -> u16 {
+        self.window
+    }
+
+    /// n: I divided by the average gap.
+    pub fn packets(&self) -> u16 {
+        self.packets
+    }
+}
+
+/// A connection within the limits of its link: level, gap X, size and perhaps an average.
 #[derive(Clone, Copy, Debug, PartialEq, Eq)]
 pub struct Connection {
     level: u8,
     gap: u16,
     size: u16,
+    average: Option<Average>,
 }
 
 impl Connection {
     /// The connection, or verdict 5 or 6 (section "Verdict numbers").
-    pub fn new(link: &Link, level: u8, gap: u16, size: u16) -> Result<Connection, Refusal> {
+    pub fn new(link: &Link, figures: Figures) -> Result<Connection, Refusal> {
+        let Figures {
+            level, gap, size, ..
+        } = figures;
         if !(1..=link.levels()).contains(&level) {
             return Err(Refusal::NoSuchLevel);
         }
         if gap == 0 || !(1..=link.largest()).contains(&size) {
-            return Err(Refusal::GapOrSize);
+            return Err(Refusal::ConnectionLimit);
         }
-        Ok(Connection { level, gap, size })
+        Ok(Connection {
+            level,
+            gap,
+            size,
+            average: average_of(figures)?,
+        })
     }
 
     pub fn level(&self) -> u8 {
@@ -104,13 +168,53 @@ impl Connection {
         self.size
     }
 
-    /// A bound divided by the gap, rounded up: packets that fit into the bound.
-    pub fn packets_within(&self, bound: u16) -> u64 {
-        (u64::from(bound) + u64::from(self.gap) - 1) / u64::from(self.gap)
+    pub fn average(&self) -> Option<Average> {
+        self.average
     }
 
-    /// Reservation: d of the connection's own level divided by X, rounded up.
+    /// The most packets that a stretch of so many ticks can hold: the ticks divided by X, rounded
+    /// up; with an average no more than n for each whole I, and for the rest the smaller of n and
+    /// the rest divided by X, rounded up.
+    pub fn packets_within(&self, ticks: u16) -> u64 {
+        let by_gap = rounded_up(ticks, self.gap);
+        match self.average {
+            None => by_gap,
+            Some(Average { window, packets }) => {
+                let whole = u64::from(ticks / window) * u64::from(packets);
+                let rest = rounded_up(ticks % window, self.gap).min(u64::from(packets));
+                by_gap.min(whole + rest)
+            }
+        }
+    }
+
+    /// Reservation: the most packets that d of the connection's own level can hold.
     pub fn reservation(&self, link: &Link) -> u64 {
         self.packets_within(link.bound(self.level))
     }
+}
+
+/// The average of figures whose gap is at least 1, or verdict 6: the average gap is at least
+/// X and divides I, which gives n.
+fn average_of(figures: Figures) -> Result<Option<Average>, Refusal> {
+    let Figures {
+        gap,
+        window,
+        average,
+        ..
+    } = figures;
+    if window == 0 && average == 0 {
+        return Ok(None);
+    }
+    if average < gap || window % average != 0 {
+        return Err(Refusal::ConnectionLimit);
+    }
+    let packets = window / average;
+    if !(1..=MOST_PER_WINDOW).contains(&packets) {
+        return Err(Refusal::ConnectionLimit);
+    }
+    Ok(Some(Average { window, packets }))
+}
+
+fn rounded_up(ticks: u16, gap: u16) -> u64 {
+    (u64::from(ticks) + u64::from(gap) - 1) / u64::from(gap)
 }

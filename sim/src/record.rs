@@ -1,8 +1,9 @@
 //! Trace and answer records (section "Trace and answer records"; `NQ` and `NA` by R-1,
-//! level and units in `CA` by R-2, the silence in `LK` by R-4).
+//! level and units in `CA` by R-2, the silence in `LK` by R-4, window and average gap in `CN` by
+//!
 
 use crate::departure::{Departure, Tick};
-use crate::link::MOST_LEVELS;
+use crate::link::{Figures, MOST_LEVELS};
 use crate::verdict::{Refusal, Shortage};
 
 /// The longest trace record: an `LK` with 8 bounds.
@@ -20,11 +21,7 @@ pub enum Record {
         silence: u8,
         bounds: [u16; MOST_LEVELS],
     },
-    Connection {
-        level: u8,
-        gap: u16,
-        size: u16,
-    },
+    Connection(Figures),
     Packet {
         connection: u8,
         length: u16,
@@ -45,11 +42,7 @@ impl Record {
         let mut fields = Fields { rest: bytes };
         let record = match &fields.take::<2>()? {
             b"LK" => read_link(&mut fields)?,
-            b"CN" => Record::Connection {
-                level: fields.one()?,
-                gap: fields.two()?,
-                size: fields.two()?,
-            },
+            b"CN" => Record::Connection(read_figures(&mut fields)?),
             b"PK" => Record::Packet {
                 connection: fields.one()?,
                 length: fields.two()?,
@@ -76,12 +69,7 @@ impl Record {
                 silence,
                 bounds,
             } => append_link(out, levels, largest, silence, &bounds),
-            Record::Connection { level, gap, size } => {
-                out.extend_from_slice(b"CN");
-                out.push(level);
-                out.extend_from_slice(&gap.to_le_bytes());
-                out.extend_from_slice(&size.to_le_bytes());
-            }
+            Record::Connection(figures) => append_connection(out, &figures),
             Record::Packet {
                 connection,
                 length,
@@ -119,6 +107,32 @@ fn append_link(
     for bound in bounds.iter().take(usize::from(levels)) {
         out.extend_from_slice(&bound.to_le_bytes());
     }
+}
+
+fn append_connection(out: &mut Vec<u8>, figures: &Figures) {
+    out.extend_from_slice(b"CN");
+    out.push(figures.level);
+    out.extend_from_slice(&figures.gap.to_le_bytes());
+    out.extend_from_slice(&figures.size.to_le_bytes());
+    out.extend_from_slice(&figures.window.to_le_bytes());
+    out.extend_from_slice(&figures.average.to_le_bytes());
+}
+
+/// Whole figures as a `CN` has them behind its mark, and not a byte more.
+pub fn whole_figures(bytes: &[u8]) -> Option<Figures> {
+    let mut fields = Fields { rest: bytes };
+    let figures = read_figures(&mut fields)?;
+    fields.rest.is_empty().then_some(figures)
+}
+
+fn read_figures(fields: &mut Fields) -> Option<Figures> {
+    Some(Figures {
+        level: fields.one()?,
+        gap: fields.two()?,
+        size: fields.two()?,
+        window: fields.two()?,
+        average: fields.two()?,
+    })
 }
 
 /// An `LK` with n outside 1 to 8 is malformed, with any silence it is not; bounds past n are read

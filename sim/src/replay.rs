@@ -4,7 +4,7 @@ use std::io::{self, Read, Write};
 
 use crate::departure::Tick;
 use crate::hub::Hub;
-use crate::link::Link;
+use crate::link::{Figures, Link};
 use crate::record::{Answer, Record, LONGEST_RECORD, NO_CONNECTION};
 use crate::verdict::{number_of, Refusal, DONE};
 
@@ -54,7 +54,7 @@ impl Job {
                 silence,
                 bounds,
             } => self.set_link(Link::new(levels, largest, silence, bounds)),
-            Record::Connection { level, gap, size } => self.admit(level, gap, size),
+            Record::Connection(figures) => self.admit(figures),
             Record::Packet {
                 connection,
                 length,
@@ -73,8 +73,8 @@ impl Job {
         }
     }
 
-    fn admit(&mut self, level: u8, gap: u16, size: u16) -> Answer {
-        let result = self.hub.admit(level, gap, size);
+    fn admit(&mut self, figures: Figures) -> Answer {
+        let result = self.hub.admit(figures);
         let short = match result {
             Err(Refusal::LevelTest(shortage)) => Some(shortage),
             _ => None,

@@ -4,7 +4,7 @@
 use sim::departure::Departure;
 use sim::hub::Hub;
 use sim::level_test::level_sum;
-use sim::link::{Connection, Link};
+use sim::link::{Connection, Figures, Link};
 use sim::replay::{answers, Pace};
 use sim::verdict::{Refusal, Shortage};
 
@@ -21,8 +21,8 @@ fn hub_a() -> Hub {
 /// Link A with the connections of P1 and P2.
 fn hub_after_p2() -> Hub {
     let mut hub = hub_a();
-    assert_eq!(hub.admit(1, 10, 4), Ok(0));
-    assert_eq!(hub.admit(2, 20, 4), Ok(1));
+    assert_eq!(hub.admit(Figures::plain(1, 10, 4)), Ok(0));
+    assert_eq!(hub.admit(Figures::plain(2, 20, 4)), Ok(1));
     hub
 }
 
@@ -30,7 +30,8 @@ fn hub_after_p2() -> Hub {
 fn sums_with(hub: &Hub, level: u8, gap: u16, size: u16) -> (u64, u64) {
     let link = link_a();
     let mut counted = hub.connections();
-    counted.push(Connection::new(&link, level, gap, size).expect("within its limits"));
+    counted
+        .push(Connection::new(&link, Figures::plain(level, gap, size)).expect("within its limits"));
     (level_sum(&link, &counted, 1), level_sum(&link, &counted, 2))
 }
 
@@ -52,23 +53,23 @@ fn run(hub: &mut Hub, ticks: usize) -> Vec<Departure> {
 fn p1_first_connection() {
     let mut hub = hub_a();
     assert_eq!(sums_with(&hub, 1, 10, 4), (8, 12));
-    assert_eq!(hub.admit(1, 10, 4), Ok(0));
+    assert_eq!(hub.admit(Figures::plain(1, 10, 4)), Ok(0));
     assert_eq!(reservation(&hub, 0), 1);
 }
 
 #[test]
 fn p2_second_connection() {
     let mut hub = hub_a();
-    assert_eq!(hub.admit(1, 10, 4), Ok(0));
+    assert_eq!(hub.admit(Figures::plain(1, 10, 4)), Ok(0));
     assert_eq!(sums_with(&hub, 2, 20, 4), (8, 16));
-    assert_eq!(hub.admit(2, 20, 4), Ok(1));
+    assert_eq!(hub.admit(Figures::plain(2, 20, 4)), Ok(1));
 }
 
 #[test]
 fn p3_rounded_up() {
     let mut hub = hub_after_p2();
     assert_eq!(sums_with(&hub, 1, 9, 1), (10, 19));
-    assert_eq!(hub.admit(1, 9, 1), Ok(2));
+    assert_eq!(hub.admit(Figures::plain(1, 9, 1)), Ok(2));
     assert_eq!(reservation(&hub, 2), 2);
 }
 
@@ -76,28 +77,28 @@ fn p3_rounded_up() {
 fn p4_sum_past_level_1() {
     let mut hub = hub_after_p2();
     assert_eq!(sums_with(&hub, 1, 9, 2).0, 12);
-    assert_eq!(hub.admit(1, 9, 2), short(1, 2));
+    assert_eq!(hub.admit(Figures::plain(1, 9, 2)), short(1, 2));
 }
 
 #[test]
 fn p5_and_p6_exactly_the_bound_and_one_more() {
     let mut hub = hub_after_p2();
-    assert_eq!(hub.admit(1, 9, 1), Ok(2));
+    assert_eq!(hub.admit(Figures::plain(1, 9, 1)), Ok(2));
     assert_eq!(sums_with(&hub, 2, 20, 1).1, 20);
-    assert_eq!(hub.admit(2, 20, 1), Ok(3));
+    assert_eq!(hub.admit(Figures::plain(2, 20, 1)), Ok(3));
     assert_eq!(sums_with(&hub, 2, 20, 1).1, 21);
-    assert_eq!(hub.admit(2, 20, 1), short(2, 1));
+    assert_eq!(hub.admit(Figures::plain(2, 20, 1)), short(2, 1));
 }
 
 #[test]
 fn p7_a_level_below_fails() {
     let mut hub = hub_a();
     for number in 0..3 {
-        assert_eq!(hub.admit(2, 20, 4), Ok(number));
+        assert_eq!(hub.admit(Figures::plain(2, 20, 4)), Ok(number));
     }
     assert_eq!(level_sum(&link_a(), &hub.connections(), 2), 16);
     assert_eq!(sums_with(&hub, 1, 10, 4), (8, 24));
-    assert_eq!(hub.admit(1, 10, 4), short(2, 4));
+    assert_eq!(hub.admit(Figures::plain(1, 10, 4)), short(2, 4));
 }
 
 /// P8: finishes 4 and 8; the hub is left at clock 8.
@@ -141,7 +142,7 @@ fn p10_spaced_from_the_last_eligibility() {
 fn whole_run_on_link_b() {
     let trace = [
         &b"LK\x01\x04\x00\x00\x0A\x00"[..],
-        b"CN\x01\x0A\x00\x04\x00",
+        b"CN\x01\x0A\x00\x04\x00\x00\x00\x00\x00",
         b"PK\x00\x02\x00\x07\x00\x00\x00",
         b"TK\x02\x00",
     ]

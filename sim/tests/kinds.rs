@@ -32,6 +32,7 @@ fn both_paces_agree() {
         "noticelimit",
         "noticeend",
         "silenceend",
+        "averageend",
     ];
     for kind in KINDS.iter().filter(|kind| !slow.contains(&kind.name)) {
         for seed in 0..SEEDS {
@@ -66,7 +67,7 @@ fn traffic_departs() {
 }
 
 #[test]
-fn lines_that_keep_their_gap_are_never_full() {
+fn lines_that_keep_their_word_are_never_full() {
     let quiet = total("quiet");
     assert_eq!(quiet.verdict(12), 0);
     assert!(total("flooded").verdict(12) > 500);
@@ -110,9 +111,24 @@ fn silences_are_met() {
 }
 
 #[test]
+fn averages_are_accepted_refused_and_flooded() {
+    let bursts = total("bursts");
+    assert!(bursts.departures > 500 && bursts.verdict(12) > 100);
+    let flooded = total("averageflood");
+    assert!(flooded.departures > 1_000 && flooded.verdict(12) > 300);
+    let figures = total("averagefigures");
+    for verdict in [2, 5, 6, 7, 8, 9] {
+        assert!(figures.verdict(verdict) > 5, "verdict {verdict}");
+    }
+    assert!(figures.departures > 300);
+    assert!(total("averagememory").departures > 1_000);
+    assert!(total("averageend").verdict(13) > 50);
+}
+
+#[test]
 fn damage_is_noticed() {
     let malformed = total("malformed");
-    assert!(malformed.verdict(14) > SEEDS / 2);
+    assert!(malformed.verdict(14) > SEEDS / 3);
     assert!(malformed.departures > 50);
     assert_eq!(total("badrecord").verdict(14), SEEDS);
     assert!(total("noticedamage").verdict(14) > SEEDS / 2);

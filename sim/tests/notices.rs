@@ -5,7 +5,7 @@
 
 use sim::departure::Departure;
 use sim::hub::{Hub, CLOCK_END};
-use sim::link::Link;
+use sim::link::{Figures, Link};
 use sim::verdict::Refusal;
 
 const S: u16 = 4;
@@ -14,8 +14,8 @@ fn hub() -> Hub {
     let mut hub = Hub::new();
     let link = Link::new(2, S, 0, [10, 20, 0, 0, 0, 0, 0, 0]);
     assert_eq!(hub.set_link(link), Ok(()));
-    assert_eq!(hub.admit(1, 10, 4), Ok(0));
-    assert_eq!(hub.admit(2, 20, 4), Ok(1));
+    assert_eq!(hub.admit(Figures::plain(1, 10, 4)), Ok(0));
+    assert_eq!(hub.admit(Figures::plain(2, 20, 4)), Ok(1));
     hub
 }
 

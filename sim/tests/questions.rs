@@ -81,18 +81,18 @@ fn no_rows() {
 #[test]
 fn a_bad_row_wins_over_a_failing_level() {
     let link = b"LK\x01\x04\x00\x00\x0A\x00";
-    let failing = [1, 1, 0, 4, 0];
-    let bad = [1, 0, 0, 4, 0];
+    let failing = [1, 1, 0, 4, 0, 0, 0, 0, 0];
+    let bad = [1, 0, 0, 4, 0, 0, 0, 0, 0];
     assert_eq!(level_answer(link, &failing), 1);
     assert_eq!(level_answer(link, &[failing, bad].concat()), 255);
     assert_eq!(level_answer(link, &[bad, failing].concat()), 255);
-    assert_eq!(level_answer(link, &failing[..4]), 255);
+    assert_eq!(level_answer(link, &failing[..8]), 255);
 }
 
 #[test]
 fn reservations_are_not_asked_about() {
     // One row of 32,768 packets of one unit, S 1: 32,769 is one too many; gap 2 holds.
     let link = b"LK\x01\x01\x00\x00\x00\x80";
-    assert_eq!(level_answer(link, &[1, 1, 0, 1, 0]), 1);
-    assert_eq!(level_answer(link, &[1, 2, 0, 1, 0]), 0);
+    assert_eq!(level_answer(link, &[1, 1, 0, 1, 0, 0, 0, 0, 0]), 1);
+    assert_eq!(level_answer(link, &[1, 2, 0, 1, 0, 0, 0, 0, 0]), 0);
 }

@@ -4,7 +4,7 @@ use std::collections::BTreeSet;
 
 use sim::hub::Hub;
 use sim::kinds::{Kind, KINDS};
-use sim::link::{Connection, Link};
+use sim::link::{Figures, Link};
 use sim::record::{Answer, Record};
 use sim::replay::{answers, Job, Pace};
 use sim::verdict::{Refusal, Shortage};
@@ -26,7 +26,7 @@ fn short(level: u8, units: u64) -> Result<u8, Refusal> {
 
 fn admission(level: u8, gap: u16, size: u16) -> Vec<u8> {
     let mut bytes = Vec::new();
-    Record::Connection { level, gap, size }.append_to(&mut bytes);
+    Record::Connection(Figures::plain(level, gap, size)).append_to(&mut bytes);
     bytes
 }
 
@@ -109,18 +109,27 @@ fn reservations_past_512_and_a_65th_connection_give_0_and_0() {
 #[test]
 fn the_lowest_of_several_failing_levels() {
     // Each level fails: 44, 84 and 124 of 10, 20 and 30.
-    assert_eq!(hub(4, &[10, 20, 30]).admit(1, 1, 4), short(1, 34));
+    assert_eq!(
+        hub(4, &[10, 20, 30]).admit(Figures::plain(1, 1, 4)),
+        short(1, 34)
+    );
     // Levels 2 and 3 fail, by 64 and 94; level 3 alone.
-    assert_eq!(hub(4, &[10, 20, 30]).admit(2, 1, 4), short(2, 64));
-    assert_eq!(hub(4, &[10, 20, 30]).admit(3, 1, 4), short(3, 94));
+    assert_eq!(
+        hub(4, &[10, 20, 30]).admit(Figures::plain(2, 1, 4)),
+        short(2, 64)
+    );
+    assert_eq!(
+        hub(4, &[10, 20, 30]).admit(Figures::plain(3, 1, 4)),
+        short(3, 94)
+    );
     // P7 with a third level: 8 of 10, 24 of 20, 3 * 4 + 3 * 2 * 4 + 4 = 40 of 30.
     let mut hub = hub(4, &[10, 20, 30]);
     for number in 0..3 {
-        assert_eq!(hub.admit(2, 20, 4), Ok(number));
+        assert_eq!(hub.admit(Figures::plain(2, 20, 4)), Ok(number));
     }
-    assert_eq!(hub.admit(1, 10, 4), short(2, 4));
+    assert_eq!(hub.admit(Figures::plain(1, 10, 4)), short(2, 4));
     // A newcomer of level 1 for which only the third level has no room: 5, 18 and 31 of 30.
-    assert_eq!(hub.admit(1, 10, 1), short(3, 1));
+    assert_eq!(hub.admit(Figures::plain(1, 10, 1)), short(3, 1));
 }
 
 #[test]
@@ -129,11 +138,17 @@ fn every_level_of_eight() {
     // and gap 2 adds 9 there and nothing above.
     let bounds = [10, 11, 12, 13, 14, 15, 16, 17];
     for level in 1..=8 {
-        assert_eq!(hub(1, &bounds).admit(level, 1, 1), short(level, 1));
+        assert_eq!(
+            hub(1, &bounds).admit(Figures::plain(level, 1, 1)),
+            short(level, 1)
+        );
         let mut hub = hub(1, &bounds);
-        assert_eq!(hub.admit(8, 2, 1), Ok(0));
+        assert_eq!(hub.admit(Figures::plain(8, 2, 1)), Ok(0));
         let others = if level == 8 { 9 } else { 0 };
-        assert_eq!(hub.admit(level, 1, 1), short(level, 1 + others));
+        assert_eq!(
+            hub.admit(Figures::plain(level, 1, 1)),
+            short(level, 1 + others)
+        );
     }
 }
 
@@ -151,11 +166,10 @@ fn the_most_units_that_an_admission_can_be_over() {
     assert_eq!(given, b"CA\x08\xFF\x01\x00\x88\xFF\x03");
 }
 
-/// What a `CN` met: the link, the connections that stood, and its answer.
+/// What a `CN` met: the link, the connections counted, itself the last, and its answer.
 struct Met {
     link: Link,
-    standing: Vec<Connection>,
-    record: (u8, u16, u16),
+    counted: Vec<Figures>,
     verdict: u8,
     short: Option<Shortage>,
 }
@@ -163,9 +177,9 @@ struct Met {
 /// Every admission of a trace on a link that was set.
 fn admissions(trace: &[u8]) -> Vec<Met> {
     let (mut job, mut all, mut rest) = (Job::new(Pace::Passing), Vec::new(), trace);
+    let mut standing = Vec::new();
     while let Some((record, length)) = Record::read(rest) {
         rest = &rest[length..];
-        let standing = job.hub().connections();
         let mut last = None;
         let result: Result<(), ()> = job.carry_out(record, &mut |answer| {
             last = Some(answer);
@@ -173,15 +187,19 @@ fn admissions(trace: &[u8]) -> Vec<Met> {
         });
         assert_eq!(result, Ok(()));
         if let (
-            Record::Connection { level, gap, size },
+            Record::Connection(figures),
             Some(Answer::Connection { verdict, short, .. }),
             Ok(link),
         ) = (record, last, job.hub().link())
         {
+            let mut counted = standing.clone();
+            counted.push(figures);
+            if verdict == 0 {
+                standing.clone_from(&counted);
+            }
             all.push(Met {
                 link: *link,
-                standing,
-                record: (level, gap, size),
+                counted,
                 verdict,
                 short,
             });
@@ -190,23 +208,32 @@ fn admissions(trace: &[u8]) -> Vec<Met> {
     all
 }
 
+/// How many packets a connection gets through before a tick, if it sends from 0 on whenever its gap
+/// and its average allow it: packet by packet.
+fn sent_before(end: u64, figures: &Figures) -> i64 {
+    let (gap, window) = (u64::from(figures.gap), u64::from(figures.window));
+    let mut sent: Vec<u64> = Vec::new();
+    loop {
+        let mut next = sent.last().map_or(0, |last| last + gap);
+        if window > 0 {
+            let nth = usize::from(figures.window / figures.average) - 1;
+            next = next.max(sent.iter().rev().nth(nth).map_or(0, |one| one + window));
+        }
+        if next >= end {
+            return sent.len() as i64;
+        }
+        sent.push(next);
+    }
+}
+
 /// Level and units counted here once more, by whole packets from the rule's words.
 fn counted(met: &Met) -> (u8, u64) {
-    let mut lines: Vec<_> = met
-        .standing
-        .iter()
-        .map(|one| (one.level(), one.gap(), one.size()))
-        .collect();
-    lines.push(met.record);
     for (index, &bound) in met.link.bounds().iter().enumerate() {
         let level = index as u8 + 1;
         let silence = i64::from(met.link.silence());
         let mut room = i64::from(bound) - i64::from(met.link.largest()) - silence;
-        for &(of, gap, size) in &lines {
-            let packets = (0..i64::from(bound)).step_by(usize::from(gap)).count();
-            if of <= level {
-                room -= packets as i64 * (i64::from(size) + silence);
-            }
+        for one in met.counted.iter().filter(|one| one.level <= level) {
+            room -= sent_before(u64::from(bound), one) * (i64::from(one.size) + silence);
         }
         if room < 0 {
             return (level, room.unsigned_abs());
@@ -252,7 +279,8 @@ fn the_kind_short_meets_first_middle_and_last_levels() {
             first += usize::from(short.level == 1);
             middle += usize::from((2..met.link.levels()).contains(&short.level));
             last += usize::from(short.level == met.link.levels());
-            below += usize::from(short.level > met.record.0);
+            let newcomer = met.counted.last().expect("a newcomer");
+            below += usize::from(short.level > newcomer.level);
             units.insert(short.units);
         }
     }

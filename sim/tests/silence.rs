@@ -6,7 +6,7 @@
 use sim::departure::Departure;
 use sim::hub::{Hub, CLOCK_END};
 use sim::level_test::level_sum;
-use sim::link::{Connection, Link};
+use sim::link::{Connection, Figures, Link};
 use sim::replay::{answers, Pace};
 use sim::verdict::{Refusal, Shortage};
 
@@ -19,8 +19,8 @@ fn link(largest: u16, silence: u8, used: &[u16]) -> Option<Link> {
 fn hub() -> Hub {
     let mut hub = Hub::new();
     assert_eq!(hub.set_link(link(4, 3, &[14, 35])), Ok(()));
-    assert_eq!(hub.admit(1, 14, 4), Ok(0));
-    assert_eq!(hub.admit(2, 35, 4), Ok(1));
+    assert_eq!(hub.admit(Figures::plain(1, 14, 4)), Ok(0));
+    assert_eq!(hub.admit(Figures::plain(2, 35, 4)), Ok(1));
     hub
 }
 
@@ -164,17 +164,17 @@ fn each_size_and_s_grow_in_the_level_test() {
     // 2 * (4 + 3) + 7 = 21.
     let link = link(4, 3, &[20]).expect("within its limits");
     for (size, sum) in [(2, 17), (3, 19), (4, 21)] {
-        let one = Connection::new(&link, 1, 10, size).expect("within its limits");
+        let one = Connection::new(&link, Figures::plain(1, 10, size)).expect("within its limits");
         assert_eq!(level_sum(&link, &[one], 1), sum);
         // The reservation is what it was: 20 / 10.
         assert_eq!(one.reservation(&link), 2);
     }
     let mut hub = Hub::new();
     assert_eq!(hub.set_link(Some(link)), Ok(()));
-    assert_eq!(hub.admit(1, 10, 4), short(1, 1));
-    assert_eq!(hub.admit(1, 10, 3), Ok(0));
+    assert_eq!(hub.admit(Figures::plain(1, 10, 4)), short(1, 1));
+    assert_eq!(hub.admit(Figures::plain(1, 10, 3)), Ok(0));
     // 19 and 1 * (1 + 3) are 3 over.
-    assert_eq!(hub.admit(1, 20, 1), short(1, 3));
+    assert_eq!(hub.admit(Figures::plain(1, 20, 1)), short(1, 3));
 }
 
 #[test]
@@ -184,11 +184,11 @@ fn the_most_units_that_an_admission_can_be_over() {
     let mut hub = Hub::new();
     assert_eq!(hub.set_link(link(2_048, 64, &[32_768])), Ok(()));
     for number in 0..14 {
-        assert_eq!(hub.admit(1, 32_768, 2_048), Ok(number));
+        assert_eq!(hub.admit(Figures::plain(1, 32_768, 2_048)), Ok(number));
     }
-    assert_eq!(hub.admit(1, 32_768, 1_024), Ok(14));
-    assert_eq!(hub.admit(1, 65_535, 1), short(1, 65));
-    assert_eq!(hub.admit(1, 1, 2_048), short(1, 69_206_016));
+    assert_eq!(hub.admit(Figures::plain(1, 32_768, 1_024)), Ok(14));
+    assert_eq!(hub.admit(Figures::plain(1, 65_535, 1)), short(1, 65));
+    assert_eq!(hub.admit(Figures::plain(1, 1, 2_048)), short(1, 69_206_016));
 }
 
 #[test]

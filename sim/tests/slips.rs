@@ -2,7 +2,7 @@
 
 use sim::firmware::{level_answer, units_answer};
 use sim::hub::Hub;
-use sim::link::Link;
+use sim::link::{Figures, Link};
 use sim::verdict::{Refusal, Shortage};
 
 fn hub(largest: u16, bounds: [u16; 2]) -> Hub {
@@ -20,9 +20,9 @@ fn short(level: u8, units: u64) -> Result<u8, Refusal> {
 #[test]
 fn rounding_down() {
     // Two packets of gap 9 fit into 10 ticks: 4 + 2 * 3 is 10, 4 + 2 * 4 is 12.
-    assert_eq!(hub(4, [10, 20]).admit(1, 9, 4), short(1, 2));
+    assert_eq!(hub(4, [10, 20]).admit(Figures::plain(1, 9, 4)), short(1, 2));
     let mut hub = hub(4, [10, 20]);
-    assert_eq!(hub.admit(1, 9, 3), Ok(0));
+    assert_eq!(hub.admit(Figures::plain(1, 9, 3)), Ok(0));
     assert_eq!(hub.offer(0, 1, 0), Ok(0));
     assert_eq!(hub.offer(0, 1, 1), Ok(9));
     assert_eq!(hub.offer(0, 1, 2), Err(Refusal::ReservationFull));
@@ -32,15 +32,15 @@ fn rounding_down() {
 fn testing_only_the_level_of_the_newcomer() {
     let mut hub = hub(4, [10, 20]);
     for number in 0..3 {
-        assert_eq!(hub.admit(2, 20, 4), Ok(number));
+        assert_eq!(hub.admit(Figures::plain(2, 20, 4)), Ok(number));
     }
-    assert_eq!(hub.admit(1, 10, 4), short(2, 4));
+    assert_eq!(hub.admit(Figures::plain(1, 10, 4)), short(2, 4));
 }
 
 #[test]
 fn spacing_from_the_last_arrival() {
     let mut hub = hub(1, [40, 50]);
-    assert_eq!(hub.admit(1, 10, 1), Ok(0));
+    assert_eq!(hub.admit(Figures::plain(1, 10, 1)), Ok(0));
     assert_eq!(hub.offer(0, 1, 0), Ok(0));
     assert_eq!(hub.offer(0, 1, 1), Ok(10));
     assert_eq!(hub.offer(0, 1, 2), Ok(20));
@@ -53,7 +53,7 @@ fn spacing_from_the_last_arrival() {
 #[test]
 fn moving_the_last_eligibility_on_a_refused_offer() {
     let mut hub = hub(4, [10, 20]);
-    assert_eq!(hub.admit(1, 10, 4), Ok(0));
+    assert_eq!(hub.admit(Figures::plain(1, 10, 4)), Ok(0));
     assert_eq!(hub.offer(0, 4, 0), Ok(0));
     assert_eq!(hub.offer(0, 4, 1), Err(Refusal::ReservationFull));
     assert_eq!(hub.offer(0, 5, 1), Err(Refusal::Length));
@@ -67,7 +67,7 @@ fn moving_the_last_eligibility_on_a_refused_offer() {
 fn gap_and_bound_in_each_others_place() {
     // 20 / 40 rounds up to 1, 40 / 20 is 2.
     let mut hub = hub(4, [10, 20]);
-    assert_eq!(hub.admit(2, 40, 4), Ok(0));
+    assert_eq!(hub.admit(Figures::plain(2, 40, 4)), Ok(0));
     assert_eq!(hub.offer(0, 1, 0), Ok(0));
     assert_eq!(hub.offer(0, 1, 1), Err(Refusal::ReservationFull));
 }
@@ -76,7 +76,7 @@ fn gap_and_bound_in_each_others_place() {
 fn summing_in_32_bits() {
     // 64 rows of 32,768 packets of 2,048 units: 4,294,967,296, which is 0 in 32 bits.
     let link = b"LK\x01\x00\x08\x00\x00\x80";
-    let row = [1, 1, 0, 0x00, 0x08];
+    let row = [1, 1, 0, 0x00, 0x08, 0, 0, 0, 0];
     assert_eq!(level_answer(link, &row.repeat(64)), 1);
     assert_eq!(level_answer(link, &row.repeat(65)), 255);
     assert_eq!(units_answer(link, &row.repeat(64)), 4_294_936_576);
@@ -87,7 +87,7 @@ fn summing_in_32_bits() {
 fn a_first_packet_is_known_by_a_flag() {
     // A first packet accepted at 0 has a last eligibility of 0 and still spaces the next one.
     let mut hub = hub(4, [20, 30]);
-    assert_eq!(hub.admit(1, 10, 1), Ok(0));
+    assert_eq!(hub.admit(Figures::plain(1, 10, 1)), Ok(0));
     assert_eq!(hub.offer(0, 1, 0), Ok(0));
     assert_eq!(hub.offer(0, 1, 1), Ok(10));
 }

@@ -5,12 +5,13 @@ use std::io::{self, Read};
 use sim::departure::Departure;
 use sim::hub::CLOCK_END;
 use sim::kinds::KINDS;
+use sim::link::Connection;
 use sim::notices::NOTICE_NUMBER;
 use sim::record::{Answer, Record};
 use sim::replay::{answers, replay, Job, Pace, SIZE_LIMIT};
 
 const LINK: &[u8] = b"LK\x02\x04\x00\x00\x0A\x00\x14\x00";
-const CONNECTION: &[u8] = b"CN\x01\x0A\x00\x04\x00";
+const CONNECTION: &[u8] = b"CN\x01\x0A\x00\x04\x00\x00\x00\x00\x00";
 const PACKET: &[u8] = b"PK\x00\x02\x00\x07\x00\x00\x00";
 const TICKS: &[u8] = b"TK\x02\x00";
 
@@ -127,7 +128,7 @@ fn offers_and_admissions_at_the_clocks_end() {
     assert_eq!(answered_after(&run, missing), b"PA\x0A\x00\x00\x00\x00");
     let too_long = b"PK\x00\x05\x00\x07\x00\x00\x00";
     assert_eq!(answered_after(&run, too_long), b"PA\x0B\x00\x00\x00\x00");
-    let newcomer = b"CN\x02\x14\x00\x04\x00";
+    let newcomer = b"CN\x02\x14\x00\x04\x00\x00\x00\x00\x00";
     let accepted = b"CA\x00\x01\x00\x00\x00\x00\x00";
     assert_eq!(answered_after(&run, newcomer), accepted);
     assert_eq!(answered_after(&run, LINK), b"LA\x03");
@@ -151,7 +152,7 @@ fn a_packet_in_service_at_the_clocks_end_stays_held() {
 fn eligibility_beyond_the_clocks_end() {
     // Accepted, never served, held for ever.
     let run = near_the_end(3);
-    let newcomer = b"CN\x02\xFF\xFF\x04\x00";
+    let newcomer = b"CN\x02\xFF\xFF\x04\x00\x00\x00\x00\x00";
     let offer = b"PK\x01\x01\x00\x00\x00\x00\x00";
     let rest = [newcomer, &offer[..], &ticks(1), offer, &ticks(3), offer].concat();
     let beyond = (CLOCK_END - 3 + 65_535) as u32;
@@ -286,22 +287,38 @@ fn check_bounds(trace: &[u8], kind: &str, seed: u64) {
 }
 
 #[test]
-fn lines_that_keep_their_gap_are_eligible_on_arrival() {
-    let mut checked = 0;
+fn lines_that_keep_their_word_are_eligible_on_arrival() {
+    let (mut plain, mut with_average) = (0, 0);
     for kind in KINDS.iter().filter(|kind| !kind.name.ends_with("limit")) {
         for seed in 0..10 {
-            checked += check_gaps(&kind.trace(seed, None), kind.name, seed);
+            let checked = check_words(&kind.trace(seed, None), kind.name, seed);
+            plain += checked.0;
+            with_average += checked.1;
         }
     }
-    assert!(checked > 2_000, "only {checked} offers");
+    assert!(plain > 2_000, "only {plain} offers");
+    assert!(with_average > 1_000, "only {with_average} offers");
 }
 
-/// Offers of allowed length that never came closer than their gap: no 12, eligible on arrival.
-fn check_gaps(trace: &[u8], kind: &str, seed: u64) -> usize {
+/// Whether an offer now keeps a connection's word: its gap behind the last of its offers of allowed
+/// length and, with an average, I behind the n-th of them before it.
+fn in_its_word(terms: &Connection, offered: &[u64], now: u64) -> bool {
+    let gap = u64::from(terms.gap());
+    let keeps_gap = offered.last().map_or(true, |last| last + gap <= now);
+    let nth = |n: u16| offered.iter().rev().nth(usize::from(n) - 1);
+    keeps_gap
+        && terms.average().map_or(true, |average| {
+            nth(average.packets()).map_or(true, |one| one + u64::from(average.window()) <= now)
+        })
+}
+
+/// Offers of allowed length of lines that have kept their word: no 12, eligible on arrival. Gives
+/// how many there were, of plain lines and of those with an average.
+fn check_words(trace: &[u8], kind: &str, seed: u64) -> (usize, usize) {
     let mut job = Job::new(Pace::Passing);
-    let mut last_offer = [None; 64];
+    let mut offered = vec![Vec::new(); 64];
     let mut keeps = [true; 64];
-    let (mut rest, mut checked) = (trace, 0);
+    let (mut rest, mut checked) = (trace, (0, 0));
     while let Some((record, length)) = Record::read(rest) {
         rest = &rest[length..];
         let mut last_answer = None;
@@ -324,16 +341,18 @@ fn check_gaps(trace: &[u8], kind: &str, seed: u64) -> usize {
         if length == 0 || length > terms.size() || clock >= CLOCK_END {
             continue;
         }
-        let gap = u64::from(terms.gap());
-        keeps[line] &= last_offer[line].map_or(true, |last| last + gap <= clock);
-        last_offer[line] = Some(clock);
+        keeps[line] &= in_its_word(&terms, &offered[line], clock);
+        offered[line].push(clock);
         if keeps[line] {
             let on_arrival = Answer::Packet {
                 verdict: 0,
                 eligibility: clock,
             };
             assert_eq!(last_answer, Some(on_arrival), "{kind} {seed}");
-            checked += 1;
+            match terms.average() {
+                None => checked.0 += 1,
+                Some(_) => checked.1 += 1,
+            }
         }
     }
     checked

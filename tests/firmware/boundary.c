@@ -1,4 +1,5 @@
 /* Every limit at its last good and first bad value, every length, every mark, rows in every order, sums about their bounds and about 2^32. */
+#include <stdbool.h>
 #include <string.h>
 
 #include "questions.h"
@@ -164,6 +165,59 @@ static void row_limits(void)
             }
 }
 
+/* Windows and average gaps about their limits beside a gap of 7: an average gap of at least 7 that goes into the window 1 to 16 times without a rest is
+   allowed. With or without it there are at most 3 packets of 4 units in the bound of 16, and S 4. */
+static void average_limits(void)
+{
+    static const unsigned edges[] = {0, 1, 6, 7, 8, 14, 16, 17, 255, 256, 4095, 4369, 32767, 32768, 65535};
+    enum { EDGES = sizeof edges / sizeof edges[0], GAP = 7 };
+    struct question q;
+
+    for (unsigned a = 0; a < EDGES; a++)
+        for (unsigned n = 0; n <= 18; n++)
+            for (unsigned away = 0; away < 3; away++) {
+                unsigned average = edges[a], window = n * average + away - 1;
+                bool none = average == 0 && window == 0;
+                bool good = average >= GAP && window % average == 0 && window / average >= 1 && window / average <= 16;
+
+                if (n * average + away < 1 || window > MOST_GAP)
+                    continue;
+                plain_link(&q, 1);
+                put_average_row(&q, 1, GAP, 4, window, average);
+                expect(&q, none || good ? 0 : REFUSED, "a window and an average gap");
+            }
+}
+
+/* n packets of one unit to each window. A bound of so many windows and a rest holds n for each window and, for the rest, one for each gap begun, at
+   most n; S fills what is left of the bound but for a unit too little, none, or one too much. */
+static void average_sums(void)
+{
+    struct question q;
+    unsigned bound[1];
+
+    for (unsigned n = 1; n <= 16; n++)
+        for (unsigned gap = 1; gap <= 5; gap++)
+            for (unsigned average = gap + 1; average <= gap + 3; average++)
+                for (unsigned windows = 0; windows <= 3; windows++)
+                    for (unsigned rest = 0; rest < n * average; rest++) {
+                        unsigned begun = (rest + gap - 1) / gap;
+                        unsigned packets = windows * n + (begun < n ? begun : n);
+
+                        bound[0] = windows * n * average + rest;
+                        if (bound[0] <= packets)
+                            continue;
+                        for (unsigned away = 0; away < 3; away++) {
+                            unsigned largest = bound[0] - packets + away - 1;
+
+                            if (largest < 1 || largest > bound[0])
+                                continue;
+                            put_link(&q, 1, largest, 0, bound);
+                            put_average_row(&q, 1, gap, 1, n * average, average);
+                            expect_over(&q, away < 2 ? 0 : 1, away < 2 ? 0 : 1, "a sum with an average");
+                        }
+                    }
+}
+
 /* At each level of each link: a sum one below its bound, at it and one above it. */
 static void sums_about_the_bound(void)
 {
@@ -295,6 +349,8 @@ void boundary_questions(void)
     link_limits();
     silences();
     row_limits();
+    average_limits();
+    average_sums();
     sums_about_the_bound();
     sums_with_silence();
     gaps_about_divisors();

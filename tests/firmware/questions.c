@@ -23,11 +23,18 @@ void put_link(struct question *q, unsigned n, unsigned largest, unsigned silence
 
 void put_row(struct question *q, unsigned level, unsigned gap, unsigned size)
 {
+    put_average_row(q, level, gap, size, 0, 0);
+}
+
+void put_average_row(struct question *q, unsigned level, unsigned gap, unsigned size, unsigned window, unsigned average)
+{
     uint8_t *row = q->rows + q->rows_len;
 
     row[0] = (uint8_t)level;
     put_two(row + 1, gap);
     put_two(row + 3, size);
+    put_two(row + 5, window);
+    put_two(row + 7, average);
     q->rows_len += ROW;
 }
 

@@ -7,7 +7,7 @@
 
 #include "asking.h"
 
-enum { ROW = 5, MOST_ROWS = 64, MOST_LEVELS = 8, BOUNDS = 10 };
+enum { ROW = 9, MOST_ROWS = 64, MOST_LEVELS = 8, BOUNDS = 10 };
 
 /* A level question while it is put together, with room for two levels too many. */
 struct question {
@@ -20,8 +20,11 @@ struct question {
 /* An LK with S, a silence and n bounds, at most BOUNDS. */
 void put_link(struct question *q, unsigned n, unsigned largest, unsigned silence, const unsigned *bounds);
 
-/* A row more. */
+/* A row more, without an average. */
 void put_row(struct question *q, unsigned level, unsigned gap, unsigned size);
+
+/* The same with one. */
+void put_average_row(struct question *q, unsigned level, unsigned gap, unsigned size, unsigned window, unsigned average);
 
 struct shortage ask(const struct question *q);
 

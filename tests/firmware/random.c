@@ -72,6 +72,22 @@ static void random_link(struct question *q, unsigned n)
     put_link(q, n, largest, silence, bounds);
 }
 
+/* A row, sometimes with an average: of up to 18 packets to a window, now and then with a rest or below the gap. Where it has one the gap is shorter, so
+   that the average counts. */
+static void random_row(struct question *q, unsigned level, unsigned gap, unsigned size)
+{
+    unsigned n = between(0, 3) == 0 ? between(1, between(0, 9) == 0 ? 18 : 16) : 0;
+    unsigned average = between(0, 19) == 0 ? between(0, gap) : between(gap, 2 * gap);
+    unsigned window = n * average + (between(0, 39) == 0);
+
+    if (n == 0)
+        put_row(q, level, gap, size);
+    else if (window > 65535)
+        put_average_row(q, level, gap, size, 65535, 65535);
+    else
+        put_average_row(q, level, between(1, gap), size, window, average);
+}
+
 /* Rows whose packets together fill about the line: a gap of rows times size and silence. Most are of one level or above it, so that each level
    comes to be the lowest that fails. */
 static void random_rows(struct question *q, unsigned n, unsigned count)
@@ -84,7 +100,7 @@ static void random_rows(struct question *q, unsigned n, unsigned count)
         unsigned fair = (size + q->lk[5]) * count * between(1, 4) / 2 + 1;
         unsigned gap = between(0, 9) == 0 ? between(1, 65535) : between(fair / 2 + 1, 2 * fair);
 
-        put_row(q, between(0, 3) == 0 ? between(1, n) : between(low, n), gap > 65535 ? 65535 : gap, size);
+        random_row(q, between(0, 3) == 0 ? between(1, n) : between(low, n), gap > 65535 ? 65535 : gap, size);
     }
 }
 
@@ -102,7 +118,7 @@ static void damage(struct question *q)
         q->rows_len = between(0, (unsigned)q->rows_len);
         break;
     default:
-        q->rows[between(0, (unsigned)q->rows_len)] = (uint8_t)between(0, 10);
+        q->rows[between(0, (unsigned)q->rows_len)] = (uint8_t)between(0, 20);
         break;
     }
 }

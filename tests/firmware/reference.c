@@ -1,5 +1,5 @@
-/* Document 01, "Eligibility", "Link, connections, places", "The level test" and "Two questions from C firmware"; docs/RULES-AFTER-BASE.md, R-2
-   and R-4. */
+/* Document 01, "Eligibility", "Link, connections, places", "The level test" and "Two questions from C firmware"; docs/RULES-AFTER-BASE.md, R-2,
+   R-4 and R-6. */
 #include <stdbool.h>
 
 #include "reference.h"
@@ -10,7 +10,8 @@ enum {
     MOST_SILENCE = 64,
     LAST_BOUND = 32768,
     MOST_ROWS = 64,
-    ROW = 5,
+    MOST_PER_WINDOW = 16,
+    ROW = 9,
     REFUSED = 255
 };
 
@@ -19,6 +20,14 @@ struct link {
     unsigned largest;
     unsigned silence;
     unsigned bound[MOST_LEVELS + 1]; /* by level, from 1 */
+};
+
+struct row {
+    unsigned level;
+    unsigned gap;
+    unsigned size;
+    unsigned window;
+    unsigned average;
 };
 
 uint64_t reference_next(uint32_t flag, uint32_t last, uint32_t gap, uint32_t now)
@@ -61,26 +70,62 @@ static bool link_allowed(const struct link *link)
     return link->bound[link->levels] <= LAST_BOUND;
 }
 
-/* Level 1 to n; gap at least 1, and two bytes hold no more than 65,535; size 1 to S. */
-static bool row_allowed(const struct link *link, const uint8_t *row)
+static struct row read_row(const uint8_t *bytes)
 {
-    unsigned size = two_bytes(row + 3);
-
-    return row[0] >= 1 && row[0] <= link->levels && two_bytes(row + 1) >= 1 && size >= 1 && size <= link->largest;
+    return (struct row){bytes[0], two_bytes(bytes + 1), two_bytes(bytes + 3), two_bytes(bytes + 5), two_bytes(bytes + 7)};
 }
 
-/* Over all rows of levels 1 to m: bound divided by gap, rounded up, times size; and S; the silence is added to each size and to S. */
+/* No average, or one whose gap is not below the row's gap and goes into the window 1 to 16 times without a rest. */
+static bool average_allowed(const struct row *row)
+{
+    if (row->window == 0 && row->average == 0)
+        return true;
+    for (unsigned n = 1; n <= MOST_PER_WINDOW; n++)
+        if (n * row->average == row->window)
+            return row->average >= row->gap;
+    return false;
+}
+
+/* Level 1 to n; gap at least 1, and two bytes hold no more than 65,535; size 1 to S. */
+static bool row_allowed(const struct link *link, const struct row *row)
+{
+    if (row->level < 1 || row->level > link->levels || row->gap < 1 || row->size < 1 || row->size > link->largest)
+        return false;
+    return average_allowed(row);
+}
+
+static unsigned rounded_up(unsigned ticks, unsigned gap)
+{
+    return ticks / gap + (ticks % gap != 0);
+}
+
+static unsigned smaller(unsigned one, unsigned other)
+{
+    return one < other ? one : other;
+}
+
+/* So many packets a stretch of ticks can hold: ticks divided by gap, rounded up. With an average the smaller of that and n for each whole window and,
+   for the rest, the smaller of n and the rest divided by the gap, rounded up. */
+static unsigned packets_within(unsigned ticks, const struct row *row)
+{
+    unsigned by_gap = rounded_up(ticks, row->gap);
+
+    if (row->average == 0)
+        return by_gap;
+    unsigned n = row->window / row->average;
+    return smaller(by_gap, ticks / row->window * n + smaller(n, rounded_up(ticks % row->window, row->gap)));
+}
+
+/* Over all rows of levels 1 to m: packets within the bound times size; and S; the silence is added to each size and to S. */
 static uint64_t level_sum(const struct link *link, unsigned m, const uint8_t *rows, size_t count)
 {
     uint64_t sum = link->largest + link->silence;
 
     for (size_t i = 0; i < count; i++) {
-        const uint8_t *row = rows + ROW * i;
-        unsigned gap = two_bytes(row + 1);
-        uint64_t packets = link->bound[m] / gap + (link->bound[m] % gap != 0);
+        struct row row = read_row(rows + ROW * i);
 
-        if (row[0] <= m)
-            sum += packets * (two_bytes(row + 3) + link->silence);
+        if (row.level <= m)
+            sum += (uint64_t)packets_within(link->bound[m], &row) * (row.size + link->silence);
     }
     return sum;
 }
@@ -94,9 +139,12 @@ static uint8_t level_and_units(const uint8_t *lk, size_t lk_len, const uint8_t *
     *units = 0;
     if (!read_link(lk, lk_len, &link) || !link_allowed(&link) || rows_len % ROW != 0 || count > MOST_ROWS)
         return REFUSED;
-    for (size_t i = 0; i < count; i++)
-        if (!row_allowed(&link, rows + ROW * i))
+    for (size_t i = 0; i < count; i++) {
+        struct row row = read_row(rows + ROW * i);
+
+        if (!row_allowed(&link, &row))
             return REFUSED;
+    }
     for (unsigned m = 1; m <= link.levels; m++) {
         uint64_t sum = level_sum(&link, m, rows, count);
 

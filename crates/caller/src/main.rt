@@ -1,4 +1,4 @@
-// A caller of the hub, to read and to copy: a link, two lines, four offers and a notice, 20 ticks. It prints each answer and each departure; its README.md works
+// A caller of the hub, to read and to copy: a link, two lines, six offers and a notice, 22 ticks. It prints each answer and each departure; its README.md works
 // out by hand what they must be. docs/CALLERS.md has every type and every call.
 use libc::STDOUT_FILENO;
 use rules::Connection;
@@ -67,29 +67,35 @@ fn ticks(
     h
 }
 
-// A link, and lines that ask to be admitted. A line says its level, the gap that it keeps between packets and their largest size; the number that it is given
+// A link, and lines that ask to be admitted. A line says its level, the gap that it keeps between packets and their largest size; one that sends in bursts also
+// an averaging window and an average gap, and no window has more packets than that gap goes into it; for the others both are 0. The number that a line is given
 // names it in its offers.
 fn open(fresh: Hub, members: &mut Connections, places: &Places, notices: &Notices) -> Hub {
-    // packets of up to 4 units, a tick of silence after each; bound 10 for level 1, which is the most urgent, 20 for level 2, and 0 past the levels
+    // packets of up to 4 units, a tick of silence after each; bound 10 for level 1, which is the most urgent, 40 for level 2, and 0 past the levels
     let line = Link {
         levels: 2,
         largest: 4,
         silence: 1,
-        bounds: [10, 20, 0, 0, 0, 0, 0, 0],
+        bounds: [10, 40, 0, 0, 0, 0, 0, 0],
     };
     let urgent = Connection {
         level: 1,
         gap: 10,
         size: 4,
+        window: 0,
+        average: 0,
     };
-    let patient = Connection {
+    // two packets in each 20 ticks, which may follow each other after 2
+    let camera = Connection {
         level: 2,
-        gap: 20,
-        size: 4,
+        gap: 2,
+        size: 2,
+        window: 20,
+        average: 10,
     };
     let h = show(b"link", hub::link(fresh, members, places, notices, line));
     let h = show(b"admit", hub::admit(h, members, places, notices, urgent));
-    let h = show(b"admit", hub::admit(h, members, places, notices, patient));
+    let h = show(b"admit", hub::admit(h, members, places, notices, camera));
     show(b"admit", hub::admit(h, members, places, notices, urgent))
 }
 
@@ -97,15 +103,17 @@ fn open(fresh: Hub, members: &mut Connections, places: &Places, notices: &Notice
 fn send(opened: Hub, members: &mut Connections, places: &mut Places, notices: &mut Notices) -> Hub {
     let h = show(
         b"offer",
-        hub::offer(opened, members, places, notices, 1, 4, 100),
+        hub::offer(opened, members, places, notices, 1, 2, 100),
     );
+    let h = show(b"offer", hub::offer(h, members, places, notices, 1, 2, 101));
+    let h = show(b"offer", hub::offer(h, members, places, notices, 1, 2, 102));
     let h = ticks(h, members, places, notices, 1);
     let h = show(b"offer", hub::offer(h, members, places, notices, 0, 3, 90));
     let h = show(b"offer", hub::offer(h, members, places, notices, 0, 3, 91));
     let h = show(b"notice", hub::notice(h, members, places, notices, 2, 7));
     let h = ticks(h, members, places, notices, 7);
     let h = show(b"offer", hub::offer(h, members, places, notices, 0, 4, 92));
-    ticks(h, members, places, notices, 12)
+    ticks(h, members, places, notices, 14)
 }
 
 fn main() {

@@ -5,22 +5,20 @@ use mathlib.Core.Path.{_≡_, refl, sym, ap, _∙_}
 use mathlib.Core.Bool.{Bool, true, false, cond, not}
 use mathlib.Core.List.{List, [], _∷_, _++_}
 use lib.Dec.{eqb}
-use lib.ListN.{length, getD, set, drop, length-append, length-map, List·getD-map}
+use lib.ListN.{length, getD, set, drop, length-append, length-map}
 use lib.Seq.{getD-append-seam, drop-length}
 use Rattle.rules.specs.declared.Link.{Link}
 use Rattle.rules.specs.declared.Connection.{Connection}
-use Rattle.rules.specs.declared.Past.{Past}
 use Rattle.rules.specs.declared.Packet.{Packet}
 use Rattle.rules.specs.declared.Short.{Short}
 use Rattle.rules.specs.Words.{sum}
 use Rattle.rules.specs.Limits.{max-connections, clock-end, beyond-32-bits, notice-number}
-use Rattle.rules.specs.Model.{Call, link, admit, offer, notice, tick, no-short, no-past, nth, past, figures, notice-packet}
+use Rattle.rules.specs.Model.{Past, Call, link, admit, offer, notice, tick, no-short, no-past, nth, past, figures, notice-packet}
 use Rattle.rules.specs.Admission.{reservation, reserved}
 use Rattle.rules.specs.Service.{next-eligibility, remember, of, ticked}
 use Rattle.rules.specs.Calls.{verdict, refused-number, refused-short, eligibility-now, placed}
 use Rattle.rules.proofs.Rows.{map-append}
 use Rattle.rules.proofs.Sums.{sum-eq}
-use Rattle.rules.proofs.Spacing.{by-gap-alone}
 use Rattle.rules.proofs.Standing.{nth-old, stands-below}
 use Rattle.rules.proofs.Line.{tick-leaves}
 use Rattle.rules.proofs.Bounds.{rows-fit-places, eligibilities-fit-32}
@@ -30,16 +28,16 @@ use Rattle.tables.specs.Places.{places-length, rows, written-places, table-of, 
 use Rattle.tables.specs.Notices.{notices-length, notice-of, notices-in}
 use Rattle.tables.proofs.NoticeLaws.{notice-rows}
 use Rattle.connections.specs.declared.Member.{Member}
-use Rattle.connections.specs.Members.{no-member, member-in, members-in, connections-in, pasts-in, connection-of, past-of, written-members}
-use Rattle.connections.specs.Within.{gap-only}
-use Rattle.connections.proofs.MemberLaws.{member-is, connections-length}
+use Rattle.connections.specs.Members.{member-in, members-in, connections-in, pasts-in, connection-of, past-of, written-members}
+use Rattle.connections.proofs.MemberLaws.{connections-length}
+use Rattle.connections.proofs.RegulatorLaws.{Member-facts, member-facts}
 use Rattle.connections.proofs.FigureLaws.{sum-more}
 use Rattle.state.specs.declared.Hub.{Hub}
 use Rattle.state.specs.declared.Told.{Told}
 use Rattle.state.specs.View.{Tables, tables, view, written, sound-hub}
 use Rattle.state.specs.Told.{refusal}
 use Rattle.state.specs.Does.{Does}
-use Rattle.state.proofs.SoundLaws.{shapes, formed-tables, is-sound, members-kept, places-kept, notices-kept, tables-kept, notices-size, line-holds, others}
+use Rattle.state.proofs.SoundLaws.{shapes, formed-tables, is-sound, members-kept, places-kept, notices-kept, tables-kept, notices-size, line-holds, others, figures-in-limits}
 use Rattle.state.proofs.DoesLaws.{refuses, acts}
 use Rattle.service.specs.Ready.{Ready}
 use Rattle.service.specs.Gives.{Gives}
@@ -147,13 +145,14 @@ module _ (h : Hub) (t : Tables) (ok : sound-hub h t ≡ true) (c len tag : ℕ) 
       )
 
   -- the eligibility of the row read
-  pub offer-eligibility : (m : Member) (e : ℕ) → m ≡ member-in (t .members) c → e ≡ next-eligibility (gap-only (m .gap)) (record { sent = not (eqb (m .sent) 0); last = m .last }) (h .clock) → e ≡ eligibility-now (view h t) c
+  pub offer-reads : (m : Member) → m ≡ member-in (t .members) c → Member-facts (h .link) (t .members) c m
+  offer-reads m e = member-facts (h .link) (t .members) c m (shapes t (formed-tables h t ok) .members-shape) offer-below (figures-in-limits h t ok (did .set)) e
+
+  pub offer-eligibility : (m : Member) (e : ℕ) → m ≡ member-in (t .members) c → e ≡ next-eligibility (connection-of m) (past-of m) (h .clock) → e ≡ eligibility-now (view h t) c
   offer-eligibility m e i j =
       j
-      ∙ by-gap-alone (gap-only (m .gap)) (past-of m) (h .clock) (connection-of m) refl
-      ∙ ap (λ (m : Member). next-eligibility (connection-of m) (past-of m) (h .clock)) (i ∙ sym (member-is (t .members) c offer-below))
-      ∙ ap (λ (x : Connection). next-eligibility x (past-of (getD (members-in (t .members)) c no-member)) (h .clock)) (sym (List·getD-map connection-of (members-in (t .members)) c no-member))
-      ∙ ap (λ (y : Past). next-eligibility (figures (view h t) c) y (h .clock)) (sym (List·getD-map past-of (members-in (t .members)) c no-member))
+      ∙ ap (λ (x : Connection). next-eligibility x (past-of m) (h .clock)) (offer-reads m i .figures)
+      ∙ ap (λ (y : Past). next-eligibility (figures (view h t) c) y (h .clock)) (offer-reads m i .past)
 
   pub offer-fits : eligibility-now (view h t) c < beyond-32-bits
   offer-fits = eligibilities-fit-32 (view h t) (is-sound h t ok) .1 c .1

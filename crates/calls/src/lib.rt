@@ -85,7 +85,7 @@ fn accept(
 {
     let k = c as usize;
     let m = connections::member_at(members, k);
-    let e = connections::next_eligibility(m.sent, m.last, m.gap, h.clock) as u32;
+    let e = connections::regulator::next_eligibility(m, h.clock) as u32;
     let held = tables::count(places);
     tables::append(
         places,

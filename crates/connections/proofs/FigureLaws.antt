@@ -1,26 +1,26 @@
 -- Laws that the figures of connections give the code: bounds by level, counts, shares and sums.
 use mathlib.Core.Path.{_≡_, refl, sym, ap, _∙_, subst}
-use mathlib.Core.Bool.{true, not, _&&_}
+use mathlib.Core.Bool.{true, _&&_}
 use mathlib.Core.List.{List, [], _∷_, _++_}
-use Prim.Native.Nat.{ℕ, zero, suc, _+_, _*_, _-_, _/_, _≤_, _<_, max}
-use native.Mathlib.Nat.{mul-le-mul-right, mul-le-mul-left, le-trans}
+use Prim.Native.Nat.{ℕ, zero, suc, _+_, _*_, _-_, _/_, _%_, _≤_, _<_, min}
+use native.Mathlib.Nat.{mul-le-mul-right, mul-le-mul-left, le-trans, pos-of-div-pos}
 use native.Mathlib.Omega.{arith}
 use native.Mathlib.Numerals.{add-one}
-use lib.Dec.{leb, eqb}
-use borrow.Author.Tests.{leb-true, le-leb, lt-leb, eq-eqb, ne-eqb}
+use lib.Dec.{leb}
+use borrow.Author.Tests.{leb-true, le-leb, lt-leb}
 use lib.ListN.{length, getD, List·getD-eq-default}
 use Rattle.rules.specs.declared.Link.{Link}
 use Rattle.rules.specs.declared.Connection.{Connection}
 use Rattle.rules.specs.Words.{within, sum}
-use Rattle.rules.specs.Limits.{max-levels, max-largest, max-silence, max-bound, max-gap}
+use Rattle.rules.specs.Limits.{max-levels, max-largest, max-silence, max-bound, max-gap, max-burst, beyond-32-bits}
 use Rattle.rules.specs.Model.{nth}
-use Rattle.rules.specs.Admission.{rising, link-within, figures-within, bound, count, cost, load, level-sum, short-from, level-test}
-use Rattle.rules.specs.Service.{next-eligibility}
+use Rattle.rules.specs.Admission.{rising, link-within, burst, average-within, figures-within, bound, rounded-up, average-count, count, cost, load, level-sum, short-from, level-test}
 use Rattle.rules.proofs.Tests.{never, and-true, within-true}
 use Rattle.rules.proofs.Sums.{upto-yes, upto-no, cond-is}
-use Rattle.rules.proofs.Spacing.{first-on-arrival, later-by-gap, count-is, count-le}
+use Rattle.rules.proofs.Figures.{few-at-once}
+use Rattle.rules.proofs.Count.{rounded-up-le, count-plain, count-average}
 use Rattle.rules.proofs.Shortage.{load-newcomer}
-use Rattle.connections.specs.Within.{Within, share-of, most-share, gap-only}
+use Rattle.connections.specs.Within.{Within, share-of, most-share}
 
 -- ---- bounds
 
@@ -71,19 +71,43 @@ pub record Figure-limits (l : Link) (x : Connection) : Type 0 where
   pub some-gap : 1 ≤ x .gap
   pub some-size : 1 ≤ x .size
   pub size-le : x .size ≤ l .largest
+  pub burst-le : burst x ≤ max-burst
 
 pub figure-limits : (l : Link) (x : Connection) → figures-within l x ≡ true → Figure-limits l x
 unfolding figures-within
 figure-limits l x e =
-    let a = and-true (within 1 max-gap (x .gap)) (within 1 (l .largest) (x .size)) e in
-    let b = within-true 1 (l .largest) (x .size) (a .1) in
-    record { some-gap = within-true 1 max-gap (x .gap) (a .0) .0; some-size = b .0; size-le = b .1 }
+    let a = and-true (within 1 max-gap (x .gap)) (within 1 (l .largest) (x .size) && average-within x) e in
+    let b = within-true 1 (l .largest) (x .size) (and-true (within 1 (l .largest) (x .size)) (average-within x) (a .1) .0) in
+    record { some-gap = within-true 1 max-gap (x .gap) (a .0) .0; some-size = b .0; size-le = b .1; burst-le = few-at-once l x e }
 
 -- ---- counts and shares
 
--- what the code divides is the count, and no more than the window
-pub counted : (x : Connection) (w a b c : ℕ) → a ≡ w → b ≡ x .gap → c ≡ x .gap → 1 ≤ x .gap → ((a + (b - 1)) / c ≡ count x w) × ((a + (b - 1)) / c ≤ w)
-counted x w a b c e f g h = let q = sym (count-is x w) in rw (e, f, g) (q, subst (λ (n : ℕ). n ≤ w) (sym q) (count-le x w h))
+-- what the code divides, rounded up, is no more than what is divided
+pub divided-up : (w x a b c : ℕ) → a ≡ w → b ≡ x → c ≡ x → 1 ≤ x → ((a + (b - 1)) / c ≡ rounded-up w x) × ((a + (b - 1)) / c ≤ w)
+divided-up w x a b c e f g h = rw (e, f, g) (refl, rounded-up-le w x h)
+
+pub burst-is : (x : Connection) → x .window / x .average ≡ burst x
+unfolding burst
+burst-is x = refl
+
+-- the quotient of a window that is not 0
+pub window-some : (x : Connection) → 1 ≤ burst x → 1 ≤ x .window
+unfolding burst
+window-some x h = pos-of-div-pos (x .average) h
+
+pub average-is : (x : Connection) (w n q r : ℕ) → n ≡ burst x → q ≡ w / x .window → r ≡ min n (rounded-up (w % x .window) (x .gap)) → q * n + r ≡ average-count x w
+unfolding average-count
+average-is x w n q r e f g = rw (g, f, e)
+
+-- two numbers of 32 bits, and a third
+pub product-fits : (q n r : ℕ) → q < beyond-32-bits → n < beyond-32-bits → r < beyond-32-bits → q * n + r < beyond-32-bits * beyond-32-bits
+product-fits q n r a b c = omega (arith, mul-le-mul-right {m = q} {n = beyond-32-bits - 1} n (omega arith), mul-le-mul-left {m = n} {n = beyond-32-bits - 1} (beyond-32-bits - 1) (omega arith))
+
+pub count-by-gap : (x : Connection) (w r n : ℕ) → r ≡ rounded-up w (x .gap) → n ≡ burst x → n ≡ 0 → r ≡ count x w
+count-by-gap x w r n e f z = e ∙ sym (count-plain x w (sym f ∙ z))
+
+pub count-by-both : (x : Connection) (w r a n : ℕ) → r ≡ rounded-up w (x .gap) → a ≡ average-count x w → n ≡ burst x → (n ≡ 0 → ⊥) → min r a ≡ count x w
+count-by-both x w r a n e f g z = rw (e, f) (sym (count-average x w (λ k. z (g ∙ k))))
 
 pub share-is : (l : Link) (m d : ℕ) (x : Connection) → x .level ≤ m → count x d * (x .size + l .silence) ≡ share-of l m d x
 unfolding cost
@@ -164,19 +188,3 @@ module _ (l : Link) (cs : List Connection) (x : Connection) (above : l .levels <
   pub test-same : level-test l (cs ++ x ∷ []) ≡ level-test l cs
   unfolding level-test
   test-same = short-same 1 (l .levels) (omega arith)
-
--- ---- the next eligibility
-
-module _ (flag last gap now : ℕ) where
-  pub next-first : flag ≡ 0 → now ≡ next-eligibility (gap-only gap) (record { sent = not (eqb flag 0); last = last }) now
-  next-first e = sym (first-on-arrival (gap-only gap) (record { sent = not (eqb flag 0); last = last }) now (ap not (eq-eqb flag 0 e)))
-
-  module _ (n : flag ≡ 0 → ⊥) (free : ℕ) (e : free ≡ last + gap) where
-    later : next-eligibility (gap-only gap) (record { sent = not (eqb flag 0); last = last }) now ≡ max now (last + gap)
-    later = later-by-gap (gap-only gap) (record { sent = not (eqb flag 0); last = last }) now (ap not (ne-eqb flag 0 n))
-
-    pub next-now : free < now → now ≡ next-eligibility (gap-only gap) (record { sent = not (eqb flag 0); last = last }) now
-    next-now h = omega (arith, later)
-
-    pub next-free : now ≤ free → free ≡ next-eligibility (gap-only gap) (record { sent = not (eqb flag 0); last = last }) now
-    next-free h = omega (arith, later)

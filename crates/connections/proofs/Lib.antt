@@ -1,3 +1,4 @@
 pub mod MemberLaws
 pub mod FigureLaws
 pub mod WrittenLaws
+pub mod RegulatorLaws

@@ -1,29 +1,64 @@
 -- Laws of the table of connections: its rows, its shape, and a past set in it.
 use mathlib.Core.Path.{_≡_, refl, sym, ap, _∙_}
 use mathlib.Core.Bool.{true, false}
-use mathlib.Core.List.{List, [], _∷_, _++_}
+use mathlib.Core.List.{List, [], _∷_, _++_, append-nil}
 use mathlib.Core.Logic.{_⊎_, inl, inr}
-use Prim.Native.Nat.{ℕ, zero, suc, _*_, _/_, _≤_, _<_}
+use Prim.Native.Nat.{ℕ, zero, suc, _+_, _*_, _-_, _/_, _≤_, _<_}
 use native.Mathlib.Omega.{arith}
-use lib.ListN.{length-map, List·getD-map, List·getD-eq-default, length, getD, set, drop, replicate}
-use lib.Seq.{drop-cons}
+use native.Mathlib.Numerals.{unary-clauses}
+use lib.ListN.{length-map, length-drop, length-replicate, List·getD-map, List·getD-eq-default, drop-of-length-le, length, getD, set, take, drop, replicate}
+use lib.Seq.{sets, sets-eq, take-nil, length-take-le, drop-drop, drop-cons}
 use Rattle.rules.specs.declared.Connection.{Connection}
-use Rattle.rules.specs.declared.Past.{Past}
-use Rattle.rules.specs.Limits.{max-connections}
-use Rattle.rules.specs.Model.{nth, no-connection, no-past}
+use Rattle.rules.specs.Limits.{max-connections, max-remembered}
+use Rattle.rules.specs.Model.{Past, nth, no-connection, no-past}
 use Rattle.rules.proofs.Tests.{never}
 use Rattle.rules.proofs.Sums.{split, same}
 use Rattle.limits.specs.Zeros.{zeros}
 use Rattle.limits.proofs.ZeroLaws.{zeros-are}
-use Rattle.tables.specs.Table.{row-in, by-number, used, padded}
-use Rattle.tables.proofs.TableLaws.{listed-row, length-row, used-end, read-at, row-behind, row-last, put-at, put-last}
+use Rattle.tables.specs.Table.{row-in, numbers, by-number, used, padded}
+use Rattle.tables.proofs.TableLaws.{numbers-all, length-row, used-end, read-at, row-behind, row-last, put-at, put-last}
 use Rattle.connections.specs.declared.Member.{Member}
-use Rattle.connections.specs.Members.{member-width, members-length, row-of, member-of, no-member, member-in, put-member, members-in, None-free, connection-of, past-of, connections-in, pasts-in, member, paired, written-members}
+use Rattle.connections.specs.Members.{member-head, member-width, members-length, row-of, member-of, no-member, member-in, put-member, members-in, None-free, connection-of, past-of, connections-in, pasts-in, member, paired, written-members}
 
 -- ---- a row
 
 pub row-back : (r : List ℕ) → length r ≡ member-width → row-of (member-of r) ≡ r
-row-back r e = listed-row member-width r e
+row-back [] e = absurd (omega arith)
+row-back (a ∷ []) e = absurd (omega arith)
+row-back (a ∷ b ∷ []) e = absurd (omega arith)
+row-back (a ∷ b ∷ c ∷ []) e = absurd (omega arith)
+row-back (a ∷ b ∷ c ∷ d ∷ []) e = absurd (omega arith)
+row-back (a ∷ b ∷ c ∷ d ∷ f ∷ []) e = absurd (omega arith)
+row-back (a ∷ b ∷ c ∷ d ∷ f ∷ g ∷ r) e = ap (λ (l : List ℕ). a ∷ b ∷ c ∷ d ∷ f ∷ g ∷ l) (numbers-all max-remembered r (omega arith))
+
+-- the remembered eligibilities of a row, read and written as a part of the table
+
+drop-take : (a b : ℕ) (l : List ℕ) → drop a (take (a + b) l) ≡ take b (drop a l)
+drop-take zero b l = let e : 0 + b ≡ b = omega arith in ap (λ (k : ℕ). take k l) e
+drop-take (suc a) b [] = let e : suc a + b ≡ suc (a + b) = omega arith in ap (λ (k : ℕ). drop (suc a) (take k [])) e ∙ sym (take-nil b)
+drop-take (suc a) b (x ∷ l) = let e : suc a + b ≡ suc (a + b) = omega arith in ap (λ (k : ℕ). drop (suc a) (take k (x ∷ l))) e ∙ drop-take a b l
+
+-- numbers copied over as many zeros
+pub copied-over : (v : List ℕ) (n : ℕ) → length v ≡ n → sets (replicate n 0) 0 v ≡ v
+copied-over v n e =
+    sets-eq v (replicate n 0) 0 (omega (arith, length-replicate {A = ℕ} n 0))
+    ∙ ap (λ (l : List ℕ). v ++ l) (drop-of-length-le (replicate n 0) {i = 0 + length v} (omega (arith, length-replicate {A = ℕ} n 0)))
+    ∙ append-nil v
+
+pub ticks-read : (t : List ℕ) (i : ℕ) → member-width * i + member-width ≤ length t
+    → sets (replicate max-remembered 0) 0 (take (member-width * i + member-width - (member-width * i + member-head)) (drop (member-width * i + member-head) t)) ≡ member-in t i .ticks
+ticks-read t i h =
+    let k : member-width * i + member-width - (member-width * i + member-head) ≡ max-remembered = omega arith in
+    let v : List ℕ = take max-remembered (drop (member-width * i + member-head) t) in
+    let n : length v ≡ max-remembered = length-take-le max-remembered (drop (member-width * i + member-head) t) (omega (arith, length-drop (member-width * i + member-head) t)) in
+    let r : drop member-head (row-in member-width t i) ≡ v = drop-take member-head max-remembered (drop (member-width * i) t) ∙ ap (take max-remembered) (drop-drop member-head (member-width * i) t) in
+    ap (λ (j : ℕ). sets (replicate max-remembered 0) 0 (take j (drop (member-width * i + member-head) t))) k
+    ∙ copied-over v max-remembered n
+    ∙ sym (ap (numbers max-remembered) r ∙ numbers-all max-remembered v n)
+
+pub put-parts : (t : List ℕ) (at : ℕ) (m : Member) → length (m .ticks) ≡ max-remembered
+    → sets (set (set (set (set (set (set t at (m .level)) (at + 1) (m .size)) (at + 2) (m .gap)) (at + 3) (m .window)) (at + 4) (m .average)) (at + 5) (m .known)) (at + member-head) (m .ticks) ≡ sets t at (row-of m)
+put-parts t at m e = rw (← numbers-all max-remembered (m .ticks) e) (simp unary-clauses)
 
 members-used : (t : List ℕ) → length (members-in t) ≡ length (used by-number member-width t)
 unfolding members-in
@@ -65,6 +100,9 @@ connection-is cs c l = nth-member cs c ∙ ap connection-of (member-is cs c l)
 pub connection-none : (cs : List ℕ) (c : ℕ) → length (members-in cs) ≤ c → nth (connections-in cs) c ≡ no-connection
 connection-none cs c l = nth-member cs c ∙ ap connection-of (List·getD-eq-default (members-in cs) no-member l)
 
+pub past-is : (cs : List ℕ) (c : ℕ) → c < length (members-in cs) → getD (pasts-in cs) c no-past ≡ past-of (member-in cs c)
+past-is cs c l = List·getD-map past-of (members-in cs) c no-member ∙ ap past-of (member-is cs c l)
+
 pub connections-length : (cs : List ℕ) → length (connections-in cs) ≡ length (members-in cs)
 connections-length cs = length-map (members-in cs) connection-of
 
@@ -105,7 +143,7 @@ module _ (t : List ℕ) (i : ℕ) (h : i ≤ length (members-in t)) where
 pub members-from : (t : List ℕ) (i : ℕ) → i < length (members-in t) → drop i (members-in t) ≡ member-in t i ∷ drop (suc i) (members-in t)
 members-from t i h = drop-cons (members-in t) i no-member h ∙ ap (λ (p : Member). p ∷ drop (suc i) (members-in t)) (member-is t i h)
 
-pasts-length : (cs : List ℕ) → length (pasts-in cs) ≡ length (connections-in cs)
+pub pasts-length : (cs : List ℕ) → length (pasts-in cs) ≡ length (connections-in cs)
 pasts-length cs = length-map (members-in cs) past-of ∙ sym (connections-length cs)
 
 -- ---- a row written anew

@@ -1,21 +1,24 @@
--- The table of connections, a row for each, at its number: level, size, gap, 1 if a packet was accepted else 0, last eligibility. Document 01 leaves
--- its form open; docs/DECISIONS.md says why this one.
+-- The table of connections, a row for each, at its number: level, size, gap, averaging window, average gap, how many eligibilities are remembered, and these,
+-- newest first. Document 01 leaves its form open; docs/RULES-AFTER-BASE.md, R-6, has it.
 use Prim.Native.Nat.{ℕ, _*_, _<_}
-use mathlib.Core.Bool.{Bool, cond, not, _&&_}
+use mathlib.Core.Bool.{Bool, _&&_}
 use mathlib.Core.List.{List, [], _∷_, map}
 use lib.Dec.{eqb, leb}
-use lib.ListN.{length, getD}
+use lib.ListN.{length, getD, take, drop}
 use lib.Seq.{sets}
 use Rattle.rules.specs.declared.Connection.{Connection}
-use Rattle.rules.specs.declared.Past.{Past}
 use Rattle.rules.specs.Words.{each}
-use Rattle.rules.specs.Limits.{max-connections}
-use Rattle.rules.specs.Model.{nth}
-use Rattle.tables.specs.Table.{row-in, by-number, read, padded}
+use Rattle.rules.specs.Limits.{max-connections, max-remembered}
+use Rattle.rules.specs.Model.{Past, nth}
+use Rattle.limits.specs.Zeros.{zeros}
+use Rattle.tables.specs.Table.{row-in, numbers, by-number, read, padded}
 use Rattle.connections.specs.declared.Member.{Member}
 
+abbrev pub member-head : ℕ
+member-head = 6
+
 abbrev pub member-width : ℕ
-member-width = 5
+member-width = 22
 
 -- the numbers of the table: a row for each connection
 abbrev pub members-length : ℕ
@@ -25,10 +28,18 @@ members-length = member-width * max-connections
 
 -- the numbers of a row, in their order, and the row that they make
 abbrev pub row-of : Member → List ℕ
-row-of m = m .level ∷ m .size ∷ m .gap ∷ m .sent ∷ m .last ∷ []
+row-of m = m .level ∷ m .size ∷ m .gap ∷ m .window ∷ m .average ∷ m .known ∷ numbers max-remembered (m .ticks)
 
 abbrev pub member-of : List ℕ → Member
-member-of r = record { level = getD r 0 0; size = getD r 1 0; gap = getD r 2 0; sent = getD r 3 0; last = getD r 4 0 }
+member-of r = record {
+  level = getD r 0 0;
+  size = getD r 1 0;
+  gap = getD r 2 0;
+  window = getD r 3 0;
+  average = getD r 4 0;
+  known = getD r 5 0;
+  ticks = numbers max-remembered (drop member-head r);
+}
 
 abbrev pub no-member : Member
 no-member = member-of []
@@ -47,10 +58,10 @@ members-in t = read by-number member-width member-of t
 -- ---- what they stand for
 
 abbrev pub connection-of : Member → Connection
-connection-of m = record { level = m .level; gap = m .gap; size = m .size }
+connection-of m = record { level = m .level; gap = m .gap; size = m .size; window = m .window; average = m .average }
 
 abbrev pub past-of : Member → Past
-past-of m = record { sent = not (eqb (m .sent) 0); last = m .last }
+past-of m = take (m .known) (m .ticks)
 
 abbrev pub connections-in : List ℕ → List Connection
 connections-in t = map connection-of (members-in t)
@@ -65,7 +76,15 @@ None-free t = (c : ℕ) → c < length (connections-in t) → 0 < nth (connectio
 -- ---- writing
 
 abbrev pub member : Connection → Past → Member
-member x h = record { level = x .level; size = x .size; gap = x .gap; sent = cond (h .sent) 1 0; last = h .last }
+member x h = record {
+  level = x .level;
+  size = x .size;
+  gap = x .gap;
+  window = x .window;
+  average = x .average;
+  known = length h;
+  ticks = numbers max-remembered h;
+}
 
 abbrev pub paired : List Connection → List Past → List Member
 paired [] hs = []
@@ -75,6 +94,9 @@ paired (x ∷ xs) (h ∷ hs) = member x h ∷ paired xs hs
 unfoldable pub written-members : List Connection → List Past → List ℕ
 written-members cs hs = padded member-width row-of members-length (paired cs hs)
 
--- the table is what is written of what is read: its length, and marks that are 0 or 1
+-- the table is what is written of what is read: its length, no more eligibilities remembered than there is room for, and zeros behind them
+abbrev pub member-formed : Member → Bool
+member-formed m = leb (m .known) max-remembered && zeros (drop (m .known) (m .ticks))
+
 unfoldable pub members-formed : List ℕ → Bool
-members-formed t = eqb (length t) members-length && each (λ m. leb (m .sent) 1) (members-in t)
+members-formed t = eqb (length t) members-length && each member-formed (members-in t)

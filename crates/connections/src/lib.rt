@@ -1,31 +1,36 @@
 // The table of connections, and what is asked of its figures: reservations and the level test.
+pub mod regulator; // regulator.rt: the next eligibility of a connection, and what it remembers
+
 ghost use mathlib.Core.Path.{_≡_};
+ghost use mathlib.Core.Bool.{true};
 ghost use mathlib.Core.List.{[], _∷_, _++_};
-ghost use mathlib.Core.Bool.{not};
-ghost use Prim.Native.Nat.{_+_, _*_, _-_, _/_, _<_, _≤_};
-ghost use lib.Dec.{eqb};
-ghost use lib.ListN.{length, getD, set};
+ghost use Prim.Native.Nat.{_+_, _*_, _-_, _/_, _<_, _≤_, min};
+ghost use lib.ListN.{length, getD, set, drop};
 ghost use Rattle.rules.specs.Limits.{max-largest, max-silence, max-bound, max-connections, beyond-32-bits};
 ghost use Rattle.rules.specs.Model.{no-short, nth, no-past};
-ghost use Rattle.rules.specs.Admission.{bound, count, reservation, reserved, load, level-sum, level-test};
-ghost use Rattle.rules.specs.Service.{next-eligibility, remember};
+ghost use Rattle.rules.specs.Admission.{bound, burst, rounded-up, average-count, count, reservation, reserved, load, level-sum, level-test};
+ghost use Rattle.rules.specs.Service.{remember};
 ghost use Rattle.limits.specs.Zeros.{zeros};
 ghost use Rattle.tables.specs.Table.{row-in};
-ghost use Rattle.connections.specs.Members.{member-width, members-length, member-in, put-member, members-in, None-free, connections-in, pasts-in, written-members};
-ghost use Rattle.connections.specs.Within.{Within, most-share, share-of, gap-only};
+ghost use Rattle.connections.specs.Members.{member-width, members-length, member-in, put-member, members-in, None-free, connection-of, connections-in, pasts-in, written-members, members-formed};
+ghost use Rattle.connections.specs.Within.{Within, most-share, share-of};
 use limits::MAX_LEVELS;
+use limits::MAX_REMEMBERED;
+use limits::MEMBER_HEAD;
 use limits::MEMBER_WIDTH;
 use rules::Connection;
 use rules::Link;
 use rules::Short;
 
-// A row of the table: a connection's figures, 1 if a packet of it was accepted else 0, and the last eligibility.
+// A row of the table: a connection's figures, how many eligibilities of its accepted packets are remembered, and these, newest first.
 pub struct Member {
     pub level: u32,
     pub size: u32,
     pub gap: u32,
-    pub sent: u32,
-    pub last: u32,
+    pub window: u32,
+    pub average: u32,
+    pub known: u32,
+    pub ticks: [u32; MAX_REMEMBERED],
 }
 
 // Number k of row i.
@@ -36,17 +41,46 @@ fn number(members: &[u32], i: usize, k: usize) -> u32
     members[MEMBER_WIDTH * i + k]
 }
 
+// The eligibilities in row i, remembered or not.
+fn ticks_at(members: &[u32], i: usize) -> [u32; MAX_REMEMBERED]
+    requires { ⌜ member-width * i + member-width ≤ length (now members) ⌝ }
+    ensures { λ r. ⌜ r ≡ member-in (now (members .entry)) i .ticks ⌝ }
+{
+    let end = MEMBER_WIDTH * i + MEMBER_WIDTH;
+    let at = MEMBER_WIDTH * i + MEMBER_HEAD;
+    let mut ticks = [0u32; MAX_REMEMBERED];
+    tables::copy(&mut ticks, 0, &members[at..end]);
+    ticks
+}
+
+// The figures in row i.
+fn figures_at(members: &[u32], i: usize) -> Connection
+    requires { ⌜ member-width * i + member-width ≤ length (now members) ⌝ }
+    ensures { λ r. ⌜ r ≡ connection-of (member-in (now (members .entry)) i) ⌝ }
+{
+    Connection {
+        level: number(members, i, 0),
+        gap: number(members, i, 2),
+        size: number(members, i, 1),
+        window: number(members, i, 3),
+        average: number(members, i, 4),
+    }
+}
+
 // Row i of the table.
 pub fn member_at(members: &[u32], i: usize) -> Member
     requires { ⌜ member-width * i + member-width ≤ length (now members) ⌝ }
     ensures { λ r. ⌜ r ≡ member-in (now (members .entry)) i ⌝ }
 {
+    let x = figures_at(members, i);
     Member {
-        level: number(members, i, 0),
-        size: number(members, i, 1),
-        gap: number(members, i, 2),
-        sent: number(members, i, 3),
-        last: number(members, i, 4),
+        level: x.level,
+        size: x.size,
+        gap: x.gap,
+        window: x.window,
+        average: x.average,
+        known: number(members, i, 5),
+        ticks: ticks_at(members, i),
     }
 }
 
@@ -59,8 +93,11 @@ fn put_member(members: &mut [u32], i: usize, m: Member)
     members[at] = m.level;
     members[at + 1] = m.size;
     members[at + 2] = m.gap;
-    members[at + 3] = m.sent;
-    members[at + 4] = m.last;
+    members[at + 3] = m.window;
+    members[at + 4] = m.average;
+    members[at + 5] = m.known;
+    let ticks = m.ticks;
+    tables::copy(members, at + MEMBER_HEAD, &ticks);
 }
 
 // Row i is free: all its numbers are 0.
@@ -95,8 +132,7 @@ pub fn standing(members: &[u32]) -> usize
     let n = members.len() / MEMBER_WIDTH;
     let mut i: usize = 0;
     while i < n {
-        let m = member_at(members, i);
-        if m.size == 0 {
+        if number(members, i, 1) == 0 {
             return i;
         }
         i += 1;
@@ -116,8 +152,10 @@ pub fn add_member(members: &mut [u32], n: usize, x: Connection)
             level: x.level,
             size: x.size,
             gap: x.gap,
-            sent: 0,
-            last: 0,
+            window: x.window,
+            average: x.average,
+            known: 0,
+            ticks: [0u32; MAX_REMEMBERED],
         },
     );
 }
@@ -128,17 +166,14 @@ pub fn figures_of(members: &[u32], c: u32) -> Connection
 {
     let k = c as usize;
     if k < members.len() / MEMBER_WIDTH {
-        let m = member_at(members, k);
-        return Connection {
-            level: m.level,
-            gap: m.gap,
-            size: m.size,
-        };
+        return figures_at(members, k);
     }
     Connection {
         level: 0,
         gap: 0,
         size: 0,
+        window: 0,
+        average: 0,
     }
 }
 
@@ -152,24 +187,23 @@ pub fn level_of(members: &[u32], c: u32) -> u32
 
 // Connection c has had a packet accepted, with the eligibility e.
 pub fn put_past(members: &mut [u32], c: usize, e: u32)
-    requires { ⌜ (now members ≡ written-members (connections-in (now members)) (pasts-in (now members))) × (c < length (members-in (now members))) × (length (now members) ≡ members-length) ⌝ }
+    requires { ⌜ (members-formed (now members) ≡ true) × (c < length (members-in (now members))) ⌝ }
     ensures { λ r. ⌜ now (members .exit) ≡ written-members (connections-in (now (members .entry))) (set (pasts-in (now (members .entry))) c (remember (getD (pasts-in (now (members .entry))) c no-past) e)) ⌝ }
 {
     let m = member_at(members, c);
-    put_member(
-        members,
-        c,
-        Member {
-            level: m.level,
-            size: m.size,
-            gap: m.gap,
-            sent: 1,
-            last: e,
-        },
-    );
+    put_member(members, c, regulator::remembering(m, e));
 }
 
-fn wide(x: u32) -> u64
+// Connection c forgets its newest n.
+pub fn forget(members: &mut [u32], c: usize, n: u32)
+    requires { ⌜ (members-formed (now members) ≡ true) × (c < length (members-in (now members))) ⌝ }
+    ensures { λ r. ⌜ now (members .exit) ≡ written-members (connections-in (now (members .entry))) (set (pasts-in (now (members .entry))) c (drop n (getD (pasts-in (now (members .entry))) c no-past))) ⌝ }
+{
+    let m = member_at(members, c);
+    put_member(members, c, regulator::forgetting(m, n));
+}
+
+pub(crate) fn wide(x: u32) -> u64
     ensures { λ r. ⌜ (r ≡ x) × (r < beyond-32-bits) ⌝ }
 {
     x as u64
@@ -189,12 +223,53 @@ pub fn bound_of(l: Link, level: u32) -> u32
     l.bounds[k]
 }
 
-// How many packets may be eligible within w ticks: w / gap, rounded up.
+// w / x, rounded up.
+fn quotient_up(w: u32, x: u32) -> u64
+    requires { ⌜ 1 ≤ x ⌝ }
+    ensures { λ r. ⌜ (r ≡ rounded-up w x) × (r ≤ w) ⌝ }
+{
+    (wide(w) + (wide(x) - 1)) / wide(x)
+}
+
+fn least(a: u64, b: u64) -> u64
+    ensures { λ r. ⌜ r ≡ min a b ⌝ }
+{
+    if a < b {
+        return a;
+    }
+    b
+}
+
+// The packets that an averaging window may hold; 0 where there is no average.
+pub fn packets_in(window: u32, average: u32) -> u32
+    ensures { λ r. ⌜ r ≡ window / average ⌝ }
+{
+    if average == 0 {
+        return 0;
+    }
+    window / average
+}
+
+// What the average allows within w ticks: n for each whole window, and for the rest n at most.
+fn average_in(x: Connection, n: u32, w: u32) -> u64
+    requires { ⌜ (1 ≤ x .gap) × (n ≡ burst x) × (1 ≤ n) ⌝ }
+    ensures { λ r. ⌜ r ≡ average-count x w ⌝ }
+{
+    let rest = least(wide(n), quotient_up(w % x.window, x.gap));
+    wide(w / x.window) * wide(n) + rest
+}
+
+// How many packets may be eligible within w ticks: w / gap, rounded up, or what the average allows where that is less.
 pub fn count_in(x: Connection, w: u32) -> u64
     requires { ⌜ 1 ≤ x .gap ⌝ }
     ensures { λ r. ⌜ (r ≡ count x w) × (r ≤ w) ⌝ }
 {
-    (wide(w) + (wide(x.gap) - 1)) / wide(x.gap)
+    let most = quotient_up(w, x.gap);
+    let n = packets_in(x.window, x.average);
+    if n == 0 {
+        return most;
+    }
+    least(most, average_in(x, n, w))
 }
 
 // The places reserved for a connection.
@@ -230,12 +305,7 @@ pub fn connection_at(members: &[u32], i: usize) -> Connection
     requires { ⌜ i < length (members-in (now members)) ⌝ }
     ensures { λ r. ⌜ r ≡ nth (connections-in (now (members .entry))) i ⌝ }
 {
-    let m = member_at(members, i);
-    Connection {
-        level: m.level,
-        gap: m.gap,
-        size: m.size,
-    }
+    figures_at(members, i)
 }
 
 // The sum of level m over the first n connections.
@@ -298,6 +368,8 @@ pub fn standing_test(l: Link, members: &[u32], n: usize) -> Short
         level: l.levels + 1,
         gap: 1,
         size: 0,
+        window: 0,
+        average: 0,
     };
     level_test(l, members, n, nobody)
 }
@@ -315,18 +387,4 @@ pub fn reserved_by(l: Link, members: &[u32], n: usize) -> u64
         i += 1;
     }
     sum
-}
-
-// The next eligibility of a connection: on arrival where no packet was accepted (flag 0), else the greater of now and the last one plus the gap.
-pub fn next_eligibility(flag: u32, last: u32, gap: u32, now: u32) -> u64
-    ensures { λ r. ⌜ r ≡ next-eligibility (gap-only gap) (record { sent = not (eqb flag 0); last = last }) now ⌝ }
-{
-    if flag == 0 {
-        return wide(now);
-    }
-    let free = wide(last) + wide(gap);
-    if free < wide(now) {
-        return wide(now);
-    }
-    free
 }

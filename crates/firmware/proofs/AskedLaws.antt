@@ -2,7 +2,7 @@
 use Prim.Native.Nat.{ℕ, zero, suc, _+_, _*_, _≤_, _<_}
 use native.Mathlib.Omega.{arith}
 use mathlib.Core.Path.{_≡_, refl, sym, ap, _∙_, subst}
-use mathlib.Core.Bool.{Bool, true, false, cond, not, _&&_}
+use mathlib.Core.Bool.{Bool, true, false, cond, _&&_}
 use mathlib.Core.Logic.{_⊎_, inl, inr, ⊎-elim}
 use mathlib.Core.List.{List, [], _∷_, _++_}
 use mathlib.Core.Option.{Option, none, some}
@@ -38,7 +38,7 @@ use Rattle.traces.specs.declared.Found.{Found}
 use Rattle.traces.specs.Kinds.{LK, CN, PK, NQ, TK}
 use Rattle.traces.specs.Trace.{found, read-trace}
 use Rattle.named.specs.Named.{link-named, connection-named}
-use Rattle.connections.specs.Within.{Within, gap-only}
+use Rattle.connections.specs.Within.{Within, gap-only, last-only}
 use Rattle.connections.proofs.FigureLaws.{figure-limits, link-limits}
 use Rattle.limits.proofs.ChainLaws.{fails, goes-on}
 use Rattle.firmware.specs.Questions.{next-asked, link-asked, row-bytes, rows-asked, row-asked, first-rows, all-rows}
@@ -46,8 +46,7 @@ use Rattle.firmware.specs.Questions.{testable, well-asked, short-asked}
 
 -- ---- (a)
 
-pub next-is : (flag last gap now : ℕ)
-    → next-eligibility (gap-only gap) (record { sent = not (eqb flag 0); last = last }) now ≡ next-asked flag last gap now
+pub next-is : (flag last gap now : ℕ) → next-eligibility (gap-only gap) (last-only flag last) now ≡ next-asked flag last gap now
 unfolding next-asked
 next-is flag last gap now = refl
 
@@ -70,7 +69,7 @@ eight-of (a ∷ b ∷ c ∷ d ∷ e ∷ f ∷ g ∷ h ∷ l) = refl
 -- the link that a record names; none where it is of another kind
 abbrev pub linked-by : Record → Option Link
 linked-by (LinkRecord n s silence d1 d2 d3 d4 d5 d6 d7 d8) = some (link-named (n ∷ s ∷ silence ∷ d1 ∷ d2 ∷ d3 ∷ d4 ∷ d5 ∷ d6 ∷ d7 ∷ d8 ∷ []))
-linked-by (Admit level gap size) = none
+linked-by (Admit level gap size window average) = none
 linked-by (Offer c len tag) = none
 linked-by (Notice len tag) = none
 linked-by (Ticks n) = none
@@ -82,7 +81,7 @@ made-link n s silence ds = rw (eight-of ds)
 -- a record of no other kind names one, as the code tells it apart: by the number of its variant
 pub of-no-link : (r : Record) → OneOf (1 ∷ 2 ∷ 3 ∷ 4 ∷ 5 ∷ []) (tagOf the-type r) → linked-by r ≡ none
 of-no-link (LinkRecord n s silence d1 d2 d3 d4 d5 d6 d7 d8) h = absurd (miss (1 ∷ 2 ∷ 3 ∷ 4 ∷ 5 ∷ []) 0 tt h)
-of-no-link (Admit level gap size) h = refl
+of-no-link (Admit level gap size window average) h = refl
 of-no-link (Offer c len tag) h = refl
 of-no-link (Notice len tag) h = refl
 of-no-link (Ticks n) h = refl
@@ -160,11 +159,11 @@ module _ (lk : List ℕ) where
 module _ (rows : List ℕ) where
   -- a row's bytes, read where they start
   pub row-is : (i : ℕ) → (bs : List ℕ) → bs ≡ drop (row-bytes * i) rows
-      → connection-named (number 1 bs 0 ∷ number 2 bs 1 ∷ number 2 bs 3 ∷ []) ≡ row-asked rows i
+      → connection-named (number 1 bs 0 ∷ number 2 bs 1 ∷ number 2 bs 3 ∷ number 2 bs 5 ∷ number 2 bs 7 ∷ []) ≡ row-asked rows i
   unfolding row-asked get-fields
   row-is i bs e =
       let z : row-bytes * i + 0 ≡ row-bytes * i = omega arith in
-      let ws : List ℕ = 1 ∷ 2 ∷ 2 ∷ [] in
+      let ws : List ℕ = 1 ∷ 2 ∷ 2 ∷ 2 ∷ 2 ∷ [] in
       ap (λ (l : List ℕ). connection-named (get-fields ws l 0)) e
       ∙ ap connection-named (sym (fields-on ws (row-bytes * i) rows 0))
       ∙ ap (λ (k : ℕ). connection-named (get-fields ws rows k)) z

@@ -1,5 +1,5 @@
 -- THE PROOFS of the statements in specs/Promises, each under its name in small letters.
-use Prim.Native.Nat.{ℕ, _+_, _<_}
+use Prim.Native.Nat.{ℕ, _+_, _<_, max}
 use native.Mathlib.Omega.{arith}
 use mathlib.Core.Path.{_≡_, refl, sym, ap, _∙_, subst}
 use mathlib.Core.Bool.{Bool, true, false, not, _&&_}
@@ -14,9 +14,9 @@ use Rattle.rules.specs.declared.Connection.{Connection}
 use Rattle.rules.specs.Words.{within}
 use Rattle.rules.specs.Limits.{max-levels, max-connections}
 use Rattle.rules.specs.declared.Short.{Short}
-use Rattle.rules.specs.Model.{State, admit, offer, no-short, Answer, no-connection, nth, past, figures}
-use Rattle.rules.specs.Admission.{link-within, level-within, figures-within, cost, level-sum, level-test, passes}
-use Rattle.rules.specs.Service.{next-eligibility}
+use Rattle.rules.specs.Model.{Past, State, admit, offer, no-short, Answer, no-connection, nth, past, figures}
+use Rattle.rules.specs.Admission.{link-within, level-within, figures-within, burst, cost, level-sum, level-test, passes}
+use Rattle.rules.specs.Service.{nth-before, ticks-after, next-eligibility}
 use Rattle.rules.specs.SoundState.{Sound}
 use Rattle.rules.specs.SoundTest.{sound}
 use Rattle.rules.specs.Calls.{verdicts, verdict, answer}
@@ -25,28 +25,46 @@ use Rattle.rules.specs.Promises.{No-level-fails}
 use Rattle.rules.proofs.Sums.{same}
 use Rattle.rules.proofs.Tests.{never-number, and-true, within-true, every-true, not-true-false}
 use Rattle.rules.proofs.Verdicts.{settled}
-use Rattle.rules.proofs.Figures.{link-facts}
+use Rattle.rules.proofs.Figures.{link-facts, burst-none}
+use Rattle.rules.proofs.Spacing.{earliest-is, next-is}
 use Rattle.rules.proofs.SoundExact.{exact}
 use Rattle.rules.proofs.Results.{answer-verdict, level-test-tells, short-is-told}
-use Rattle.firmware.specs.Questions.{next-asked, link-asked, rows-asked, row-asked, all-rows, testable, well-asked, short-asked}
-use Rattle.firmware.specs.Promises.{Same-eligibility-as-an-offer, Refused-exactly, Holds-exactly, No-units-exactly}
+use Rattle.firmware.specs.Questions.{past-asked, next-asked, link-asked, rows-asked, row-asked, all-rows, testable, well-asked, short-asked}
+use Rattle.firmware.specs.Promises.{Same-eligibility-as-an-offer, Greater-with-an-average, Refused-exactly, Holds-exactly, No-units-exactly}
 use Rattle.firmware.specs.Promises.{Names-the-lowest, No-rows-hold, Same-test-as-an-admission}
 use Rattle.firmware.proofs.AskedLaws.{row-ok, length-first, nth-first, Asked, asked, refuses, answers, is-level}
 
 -- ---- (a)
 
--- only the gap counts of a connection, and of the flag whether it is 0
-same-next : (x : Connection) (sent : Bool) (flag last now : ℕ) → not (eqb flag 0) ≡ sent
-    → next-eligibility x (record { sent = sent; last = last }) now ≡ next-asked flag last (x .gap) now
-unfolding next-eligibility next-asked
-same-next x sent flag last now e = rw e
+-- now, or the gap after the packet before
+asked-is : (flag last gap now : ℕ) → next-asked flag last gap now ≡ max now (ticks-after gap (nth-before 1 (past-asked flag last)))
+unfolding next-asked
+asked-is flag last gap now =
+    let x : Connection = record { level = 0; gap = gap; size = 0; window = 0; average = 0 } in
+    let h : Past = past-asked flag last in
+    omega (arith, next-is x h now, earliest-is x h, ap (λ (n : ℕ). ticks-after 0 (nth-before n h)) (burst-none x refl))
+
+-- of what is remembered only the packet before counts for the gap
+same-next : (x : Connection) (h : Past) (flag last now : ℕ) → nth-before 1 h ≡ nth-before 1 (past-asked flag last)
+    → next-eligibility x h now ≡ max (next-asked flag last (x .gap) now) (ticks-after (x .window) (nth-before (burst x) h))
+same-next x h flag last now e =
+    omega (arith, next-is x h now, earliest-is x h, asked-is flag last (x .gap) now, ap (ticks-after (x .gap)) e)
+
+pub greater-with-an-average : Greater-with-an-average
+greater-with-an-average s c len tag flag last e =
+    settled
+    (λ (a : Answer). a .verdict ≡ 0 → a .number ≡ max (next-asked flag last (figures s c .gap) (s .clock)) (ticks-after (figures s c .window) (nth-before (burst (figures s c)) (past s c))))
+    (offer c len tag) s (verdict (offer c len tag) s)
+    (λ _ _. same-next (figures s c) (past s c) flag last (s .clock) e)
+    (λ w z. absurd (omega (arith, z)))
 
 pub same-eligibility-as-an-offer : Same-eligibility-as-an-offer
-same-eligibility-as-an-offer s c len tag flag e =
-    settled (λ (a : Answer). a .verdict ≡ 0 → a .number ≡ next-asked flag (past s c .last) (figures s c .gap) (s .clock))
-    (offer c len tag) s (verdict (offer c len tag) s)
-    (λ _ _. same-next (figures s c) (past s c .sent) flag (past s c .last) (s .clock) e)
-    (λ w z. absurd (omega (arith, z)))
+same-eligibility-as-an-offer s c len tag flag last p e v =
+    omega (
+      arith,
+      greater-with-an-average s c len tag flag last e v,
+      ap (λ (n : ℕ). ticks-after (figures s c .window) (nth-before n (past s c))) (burst-none (figures s c) (p .0)),
+    )
 
 -- ---- (b)
 

@@ -1,8 +1,7 @@
 -- The table of connections that the code lays the rows out in, so that the hub's own level test reads them.
 use Prim.Native.Nat.{ℕ, zero, suc}
 use mathlib.Core.List.{List, [], _∷_, _++_}
-use Rattle.rules.specs.declared.Past.{Past}
-use Rattle.rules.specs.Model.{no-past}
+use Rattle.rules.specs.Model.{Past, no-past}
 use Rattle.connections.specs.Members.{written-members}
 use Rattle.firmware.specs.Questions.{first-rows}
 

@@ -1,28 +1,39 @@
 -- THE STATEMENTS of the questions, apart from their proofs: each is proved in proofs/Results under the same name in small letters.
-use Prim.Native.Nat.{ℕ}
+use Prim.Native.Nat.{ℕ, max}
 use mathlib.Core.Path.{_≡_}
-use mathlib.Core.Bool.{true, not}
+use mathlib.Core.Bool.{true}
 use mathlib.Core.Logic.{_↔_}
 use mathlib.Core.List.{List, [], _∷_, _++_}
-use lib.Dec.{eqb}
 use Rattle.rules.specs.declared.Connection.{Connection}
 use Rattle.rules.specs.Model.{State, admit, offer, past, figures}
-use Rattle.rules.specs.Admission.{link-within}
+use Rattle.rules.specs.Admission.{link-within, burst}
+use Rattle.rules.specs.Service.{nth-before, ticks-after}
+use Rattle.rules.specs.WithoutAverage.{Plain}
 use Rattle.rules.specs.SoundState.{Sound}
 use Rattle.rules.specs.Calls.{answer}
 use Rattle.rules.specs.Promises as R
 use Rattle.rules.specs.Promises.{No-level-fails}
-use Rattle.firmware.specs.Questions.{next-asked, link-asked, all-rows, well-asked, short-asked}
+use Rattle.firmware.specs.Questions.{past-asked, next-asked, link-asked, all-rows, well-asked, short-asked}
 
--- ---- (a) is the eligibility that the hub gives
+-- ---- (a) and the eligibility that the hub gives
 
--- an accepted offer's, where the flag says whether a packet was accepted before it
+-- an accepted offer's, where the flag says whether a packet was accepted before it, and the last eligibility is that packet's: of a connection without an average
 abbrev pub Same-eligibility-as-an-offer : Type 0
 Same-eligibility-as-an-offer =
-    (s : State) (c len tag flag : ℕ)
-    → not (eqb flag 0) ≡ past s c .sent
+    (s : State) (c len tag flag last : ℕ)
+    → Plain (figures s c)
+    → nth-before 1 (past s c) ≡ nth-before 1 (past-asked flag last)
     → answer (offer c len tag) s .verdict ≡ 0
-    → answer (offer c len tag) s .number ≡ next-asked flag (past s c .last) (figures s c .gap) (s .clock)
+    → answer (offer c len tag) s .number ≡ next-asked flag last (figures s c .gap) (s .clock)
+
+-- .. and of any connection the greater of that and I after the n-th before (document 02, R-6)
+abbrev pub Greater-with-an-average : Type 0
+Greater-with-an-average =
+    (s : State) (c len tag flag last : ℕ)
+    → nth-before 1 (past s c) ≡ nth-before 1 (past-asked flag last)
+    → answer (offer c len tag) s .verdict ≡ 0
+    → answer (offer c len tag) s .number
+    ≡ max (next-asked flag last (figures s c .gap) (s .clock)) (ticks-after (figures s c .window) (nth-before (burst (figures s c)) (past s c)))
 
 -- ---- (b), by the sums themselves
 

@@ -1,6 +1,6 @@
--- THE QUESTIONS, answered by the rules' own definitions. Document 01, "Two questions from C firmware"; document 02, R-2.
+-- THE QUESTIONS, answered by the rules' own definitions. Document 01, "Two questions from C firmware"; document 02, R-2 and R-6.
 use Prim.Native.Nat.{ℕ, zero, suc, _*_, _/_}
-use mathlib.Core.Bool.{Bool, cond, not, _&&_}
+use mathlib.Core.Bool.{Bool, cond, _&&_}
 use mathlib.Core.List.{List, [], _∷_, _++_}
 use lib.Dec.{eqb, leb}
 use lib.ListN.{length, getD}
@@ -9,7 +9,7 @@ use Rattle.rules.specs.declared.Connection.{Connection}
 use Rattle.rules.specs.Words.{every}
 use Rattle.rules.specs.Limits.{max-connections}
 use Rattle.rules.specs.declared.Short.{Short}
-use Rattle.rules.specs.Model.{no-link}
+use Rattle.rules.specs.Model.{Past, no-link}
 use Rattle.rules.specs.Admission.{link-within, level-test}
 use Rattle.rules.specs.SoundTest.{connection-sound}
 use Rattle.rules.specs.Service.{next-eligibility}
@@ -21,10 +21,13 @@ use Rattle.named.specs.Named.{link-named, connection-named}
 
 -- ---- (a)
 
--- "from a flag (0: no earlier packet; any other number: one), the last eligibility, a gap and the present tick .. the next eligibility":
--- of a connection only its gap counts
+-- "from a flag (0: no earlier packet; any other number: one), the last eligibility": what is remembered
+abbrev pub past-asked : ℕ → ℕ → Past
+past-asked flag last = cond (eqb flag 0) [] (last ∷ [])
+
+-- ".., a gap and the present tick .. the next eligibility": of a connection only its gap counts; it has no average (R-6)
 unfoldable pub next-asked : ℕ → ℕ → ℕ → ℕ → ℕ
-next-asked flag last gap now = next-eligibility (record { level = 0; gap = gap; size = 0 }) (record { sent = not (eqb flag 0); last = last }) now
+next-asked flag last gap now = next-eligibility (record { level = 0; gap = gap; size = 0; window = 0; average = 0 }) (past-asked flag last) now
 
 -- ---- (b)
 
@@ -33,9 +36,9 @@ next-asked flag last gap now = next-eligibility (record { level = 0; gap = gap; 
 unfoldable pub link-asked : List ℕ → Link
 link-asked lk = cond (starts (LK .mark) lk && eqb (read-trace lk .taken) (length lk)) (link-named (get-fields (LK .widths (getD lk 2 0)) lk 2)) no-link
 
--- "a table of 5-byte rows laid out as in `CN` after its mark": how many, row i, and the connections of the first n
+-- a table of "rows laid out as in `CN` after its mark", which are of 9 bytes since R-6: how many, row i, and the connections of the first n
 abbrev pub row-bytes : ℕ
-row-bytes = 5
+row-bytes = 9
 
 abbrev pub rows-asked : List ℕ → ℕ
 rows-asked rows = length rows / row-bytes

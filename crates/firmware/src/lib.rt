@@ -1,4 +1,5 @@
-// The questions that the hub's firmware asks across the C boundary. Document 01, "Two questions from C firmware", and R-2; for C: include/mtredovim.h.
+// The questions that the hub's firmware asks across the C boundary. Document 01, "Two questions from C firmware", and document 02, R-2 and R-6; for C:
+// include/mtredovim.h.
 ghost use mathlib.Core.Path.{_≡_};
 ghost use mathlib.Core.Bool.{true};
 ghost use Prim.Native.Nat.{ℕ, _+_, _*_, _<_, _≤_};
@@ -18,18 +19,18 @@ use rules::Link;
 use rules::Short;
 use traces::Record;
 
-// The bytes of a row.
-const ROW: usize = 5;
+// The bytes of a row: level (1), gap, size, averaging window and average gap (2 each).
+const ROW: usize = 9;
 
 // The level of a question that is not well asked.
 const NOT_WELL_ASKED: u32 = 255;
 
-// The next eligibility of a connection, from a flag (0: no packet of it was accepted), the last eligibility, its gap and the present tick.
+// The next eligibility of a connection without an average, from a flag (0: no packet of it was accepted), the last eligibility, its gap and the present tick.
 #[no_mangle]
 pub extern "C" fn mtredovim_next_eligibility(flag: u32, last: u32, gap: u32, now: u32) -> u64
     ensures { λ r. ⌜ r ≡ next-asked flag last gap now ⌝ }
 {
-    connections::next_eligibility(flag, last, gap, now)
+    connections::regulator::gap_eligibility(flag, last, gap, now)
 }
 
 // The link that the bytes of one whole `LK` name.
@@ -67,7 +68,13 @@ fn row_asked(rows: &[u8], i: usize) -> Connection
 {
     let at = ROW * i;
     let row = &rows[at..];
-    named::connection_named(one(row, 0), two(row, 1), two(row, 3))
+    named::connection_named(
+        one(row, 0),
+        two(row, 1),
+        two(row, 3),
+        two(row, 5),
+        two(row, 7),
+    )
 }
 
 // The first n rows are within the limits of connections.

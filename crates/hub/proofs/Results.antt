@@ -18,7 +18,7 @@ use Rattle.rules.specs.Service.{Spaced, of, first, notice-departs, packet-depar
 use Rattle.rules.specs.SoundState.{Sound}
 use Rattle.rules.specs.SoundTest.{sound}
 use Rattle.rules.specs.Calls.{verdict, done, refused-number, answer}
-use Rattle.rules.specs.Runs.{Departure, History, taken, leaving, after, run-from, nothing-yet, run, departures, in-hub, bound-of, allowed, offer-tick, offer-ticks-from, offer-ticks, Keeps-its-gap, Exchange, exchange, exchanges-from, exchanges, own-answer}
+use Rattle.rules.specs.Runs.{Departure, History, taken, leaving, after, run-from, nothing-yet, run, departures, in-hub, bound-of, allowed, offer-tick, offer-ticks-from, offer-ticks, Keeps-its-word, Exchange, exchange, exchanges-from, exchanges, own-answer}
 use Rattle.rules.specs.Promises.{Kept-promise}
 use Rattle.rules.proofs.Sums.{cond-is}
 use Rattle.rules.proofs.Verdicts.{settled}
@@ -35,7 +35,7 @@ use Rattle.state.specs.Does.{tells, leaves, Does}
 use Rattle.state.proofs.WrittenLaws.{writable, read-written, written-sound}
 use Rattle.state.proofs.SoundLaws.{is-sound, tables-kept}
 use Rattle.state.proofs.DoesLaws.{told-as, left-as}
-use Rattle.hub.specs.Sequence.{Notes, brought, went, call, calls-from, blank, calls, state-of, notes-of, seen-ticks-from, seen-ticks, Seen-to-keep-its-gap, heard, heard-from, all-heard}
+use Rattle.hub.specs.Sequence.{Notes, brought, went, call, calls-from, blank, calls, state-of, notes-of, seen-ticks-from, seen-ticks, Seen-to-keep-its-word, heard, heard-from, all-heard}
 use Rattle.hub.specs.Promises.{One-outcome, Written-reads-back, Sound-is-written, Demand-1-of-the-code, Verdict-1-of-the-code, Sound-is-kept-by-the-code, Follows-the-rules, Conservation-of-the-code, Noted-by, Demand-3-first-of-the-code, Kept-by-the-code, Demand-3-second-of-the-code, Told-by-its-own-of-the-code, Bed-nine-and-bed-ten-of-the-code, Counted-of-the-code}
 
 -- ---- one outcome
@@ -164,7 +164,7 @@ same-figures ks c = ap (λ (s : State). figures s c) (state-is ks)
 same-bound : (ks : List Call) (c : ℕ) → bound-of (state-of (calls ks)) c ≡ bound-of (run ks .now) c
 same-bound ks c = ap (λ (s : State). bound-of s c) (state-is ks)
 
--- ---- a connection that keeps its gap
+-- ---- a connection that keeps its word
 
 -- the ticks seen in the calls are those of the rules' run
 ticks-all : (c : ℕ) (ks : List Call) (h : History) (ts : List ℕ) → Sound (h .now) → seen-ticks-from c (notes-of h) ts ks ≡ offer-ticks-from c h ts ks
@@ -177,9 +177,9 @@ ticks-all c (k ∷ ks) h ts S =
 ticks-are : (c : ℕ) (ks : List Call) → seen-ticks c ks ≡ offer-ticks c ks
 ticks-are c ks = ap (λ (g : Notes). seen-ticks-from c g [] ks) blank-is ∙ ticks-all c ks nothing-yet [] (fresh-invariant .sound)
 
--- so to be seen to keep its gap is to keep it in the rules' run
-gap-is : (c : ℕ) (ks : List Call) → Seen-to-keep-its-gap c ks ≡ Keeps-its-gap c ks
-gap-is c ks = ap (λ (x : Connection). Spaced x (seen-ticks c ks)) (same-figures ks c) ∙ ap (Spaced (figures (run ks .now) c)) (ticks-are c ks)
+-- so to be seen to keep its word is to keep it in the rules' run
+word-is : (c : ℕ) (ks : List Call) → Seen-to-keep-its-word c ks ≡ Keeps-its-word c ks
+word-is c ks = ap (λ (x : Connection). Spaced x (seen-ticks c ks)) (same-figures ks c) ∙ ap (Spaced (figures (run ks .now) c)) (ticks-are c ks)
 
 -- ---- conservation
 
@@ -202,10 +202,10 @@ demand-3-first-of-the-code ks c i p level is over =
       in-time = omega (arith, b, k .in-time);
     }
 
-module _ (earlier later : List Call) (c len tag : ℕ) (word : Seen-to-keep-its-gap c (earlier ++ offer c len tag ∷ [])) (good : allowed (state-of (calls earlier)) c len ≡ true) where
+module _ (earlier later : List Call) (c len tag : ℕ) (word : Seen-to-keep-its-word c (earlier ++ offer c len tag ∷ [])) (good : allowed (state-of (calls earlier)) c len ≡ true) where
   promise : Kept-promise earlier later c len tag
   promise =
-      demand-3-second earlier later c len tag (transport (gap-is c (earlier ++ offer c len tag ∷ [])) word)
+      demand-3-second earlier later c len tag (transport (word-is c (earlier ++ offer c len tag ∷ [])) word)
       (subst (λ (s : State). allowed s c len ≡ true) (state-is earlier) good)
 
   same-clock : calls earlier .hub .clock ≡ run earlier .now .clock
@@ -279,13 +279,13 @@ heard-is c ks = ap (λ (g : Notes). heard-from c g [] ks) blank-is ∙ heard-all
 pub told-by-its-own-of-the-code : Told-by-its-own-of-the-code
 told-by-its-own-of-the-code ks c word =
     subst (λ (x : Connection). All (λ (e : Exchange). e ≡ own-answer x (e .asked)) (all-heard c ks)) (sym (same-figures ks c))
-    (subst (All (λ (e : Exchange). e ≡ own-answer (figures (run ks .now) c) (e .asked))) (sym (heard-is c ks)) (told-by-its-own ks c (transport (gap-is c ks) word)))
+    (subst (All (λ (e : Exchange). e ≡ own-answer (figures (run ks .now) c) (e .asked))) (sym (heard-is c ks)) (told-by-its-own ks c (transport (word-is c ks) word)))
 
 pub bed-nine-and-bed-ten-of-the-code : Bed-nine-and-bed-ten-of-the-code
 bed-nine-and-bed-ten-of-the-code ks ms c d alike asked word =
     heard-is c ks
     ∙ bed-nine-and-bed-ten ks ms c d (sym (same-figures ks c) ∙ alike ∙ same-figures ms d)
-    (ap asks (sym (heard-is c ks)) ∙ asked ∙ ap asks (heard-is d ms)) (transport (gap-is c ks) word)
+    (ap asks (sym (heard-is c ks)) ∙ asked ∙ ap asks (heard-is d ms)) (transport (word-is c ks) word)
     ∙ sym (heard-is d ms)
 
 pub counted-of-the-code : Counted-of-the-code

@@ -17,7 +17,7 @@ use Rattle.state.specs.declared.Hub.{Hub}
 use Rattle.state.specs.declared.Told.{Told}
 use Rattle.state.specs.View.{Tables, view, hub-of, written, sound-hub}
 use Rattle.state.specs.Does.{Does}
-use Rattle.hub.specs.Sequence.{Notes, calls, state-of, notes-of, Seen-to-keep-its-gap, all-heard}
+use Rattle.hub.specs.Sequence.{Notes, calls, state-of, notes-of, Seen-to-keep-its-word, all-heard}
 
 -- document 01, "What the hub's answers must settle": any two answers and tables that a contract allows are equal
 abbrev pub One-outcome : Type 0
@@ -86,8 +86,8 @@ Demand-3-first-of-the-code =
     → p .eligibility + bound-of (state-of (calls ks)) c ≤ calls ks .hub .clock
     → Noted-by (calls ks) c i p (p .eligibility + bound-of (state-of (calls ks)) c)
 
--- and a connection that keeps its gap is never refused for room: while the clock runs its offer is accepted, eligible on arrival, and leaves within the bound of
--- its arrival. Any calls `earlier`, an offer of c of allowed length, any calls `later`; c has kept its gap up to this offer
+-- and a connection that keeps its word is never refused for room: while the clock runs its offer is accepted, eligible on arrival, and leaves within the bound of
+-- its arrival. Any calls `earlier`, an offer of c of allowed length, any calls `later`; c has kept its word up to this offer
 pub record Kept-by-the-code (earlier later : List Call) (c len tag : ℕ) : Type 0 where
   pub never-for-room : (told : Told) (after : Tables) → Does (offer c len tag) (calls earlier .hub) (calls earlier .tables) told after → told .verdict ≡ 12 → ⊥
   pub accepted : (told : Told) (after : Tables) → Does (offer c len tag) (calls earlier .hub) (calls earlier .tables) told after
@@ -102,17 +102,17 @@ pub record Kept-by-the-code (earlier later : List Call) (c len tag : ℕ) : Type
 abbrev pub Demand-3-second-of-the-code : Type 0
 Demand-3-second-of-the-code =
     (earlier later : List Call) (c len tag : ℕ)
-    → Seen-to-keep-its-gap c (earlier ++ offer c len tag ∷ [])
+    → Seen-to-keep-its-word c (earlier ++ offer c len tag ∷ [])
     → allowed (state-of (calls earlier)) c len ≡ true
     → Kept-by-the-code earlier later c len tag
 
 -- ---- bed nine and bed ten, of the code (document 02, R-3)
 
--- whatever the other connections call, each answer to a connection that keeps its gap is the one that its own figures and its own offer decide
+-- whatever the other connections call, each answer to a connection that keeps its word is the one that its own figures and its own offer decide
 abbrev pub Told-by-its-own-of-the-code : Type 0
 Told-by-its-own-of-the-code =
     (ks : List Call) (c : ℕ)
-    → Seen-to-keep-its-gap c ks
+    → Seen-to-keep-its-word c ks
     → All (λ (e : Exchange). e ≡ own-answer (figures (state-of (calls ks)) c) (e .asked)) (all-heard c ks)
 
 -- so through any two sequences of calls a connection with the same figures and the same offers at the same ticks gets the same answers, whatever its number in each
@@ -121,7 +121,7 @@ Bed-nine-and-bed-ten-of-the-code =
     (ks ms : List Call) (c d : ℕ)
     → figures (state-of (calls ks)) c ≡ figures (state-of (calls ms)) d
     → map (λ (e : Exchange). e .asked) (all-heard c ks) ≡ map (λ (e : Exchange). e .asked) (all-heard d ms)
-    → Seen-to-keep-its-gap c ks
+    → Seen-to-keep-its-word c ks
     → all-heard c ks ≡ all-heard d ms
 
 -- for every connection, counted in the caller's notes: accepted since the hub was fresh = departed plus held

@@ -65,7 +65,7 @@ state-of g = view (g .hub) (g .tables)
 abbrev pub notes-of : History → Notes
 notes-of h = record { accepted = h .accepted; departed = h .departed; hub = hub-of (h .now); tables = written (h .now) }
 
--- ---- a connection that keeps its gap, seen in the calls and in what the caller keeps between them
+-- ---- a connection that keeps its word, seen in the calls and in what the caller keeps between them
 
 -- the ticks of the offers to connection c of allowed length, in order
 abbrev pub seen-ticks-from : ℕ → Notes → List ℕ → List Call → List ℕ
@@ -75,9 +75,9 @@ seen-ticks-from c g ts (k ∷ ks) = seen-ticks-from c (call g k) (push ts (offer
 abbrev pub seen-ticks : ℕ → List Call → List ℕ
 seen-ticks c ks = seen-ticks-from c blank [] ks
 
--- they are never closer than the spacing of c asks
-abbrev pub Seen-to-keep-its-gap : ℕ → List Call → Type 0
-Seen-to-keep-its-gap c ks = Spaced (figures (state-of (calls ks)) c) (seen-ticks c ks)
+-- they keep the spacing of c: its gap and, with an average, I behind the n-th before (document 02, R-6)
+abbrev pub Seen-to-keep-its-word : ℕ → List Call → Type 0
+Seen-to-keep-its-word c ks = Spaced (figures (state-of (calls ks)) c) (seen-ticks c ks)
 
 -- ---- what a connection asks and is told, read off the answers (document 02, R-3)
 

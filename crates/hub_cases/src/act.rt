@@ -4,6 +4,7 @@ use crate::text::count;
 use crate::text::find;
 use crate::world;
 use crate::world::ASKED;
+use crate::world::AVERAGE;
 use crate::world::CALL;
 use crate::world::CLOCK;
 use crate::world::LENT;
@@ -20,6 +21,7 @@ use crate::world::connection;
 use crate::world::copy;
 use crate::world::get;
 use crate::world::notice;
+use crate::world::past;
 use crate::world::place;
 use crate::world::put;
 use rules::Packet;
@@ -28,21 +30,21 @@ use std::num::wrapping_add_u32;
 use std::num::wrapping_add_usize;
 use std::num::wrapping_sub_u32;
 
-// Which form it is: 0 to 12 calls; 13 more; 14 to 17 looks; 18 to 23 acts; 24 to 47 numbers changed by hand; then end, group, recipe, and nothing at all.
+// Which form it is: 0 to 14 calls; 15 more; 16 to 19 looks; 20 to 25 acts; 26 to 51 numbers changed by hand; then end, group, recipe, and nothing at all.
 pub fn number_of(f: Form) -> u32 {
     let forms =
         b":link##########=#:admit###=##:offer###=##:refusedtick=#:tick=##:ticks#=##:gone######:notice##=##:gonenotice###:link##########silence#=#\
-        :tick=##silent#:ticks#=##silent#:admit###=##short##:more######:clockis#:rowsare#:noticesare#:silentis#:fresh:undo:lengths##\
-        :connectionsall#:placesall#:noticesall#:clock#:serving#:units#:silent#:levels#:largest#:bound##:level##:size##:gap##:sent##:last##\
-        :connection##:length##:tag##:arrival##:eligibility##:noticeconnection##:noticelength##:noticetag##:noticearrival##:noticeeligibility##\
-        :noticeslent#:silence#:end:group:recipe::";
+        :tick=##silent#:ticks#=##silent#:admit###=##short##:admit#####=##:admit#####=##short##:more######:clockis#:rowsare#:noticesare#:silentis#\
+        :fresh:undo:lengths##:connectionsall#:placesall#:noticesall#:clock#:serving#:units#:silent#:levels#:largest#:bound##\
+        :level##:size##:gap##:window##:average##:known##:connection##:length##:tag##:arrival##:eligibility##\
+        :noticeconnection##:noticelength##:noticetag##:noticearrival##:noticeeligibility##:noticeslent#:silence#:past###:end:group:recipe::";
     let text = f.text;
     wrapping_sub_u32(count(forms, find(forms, text, f.bytes), b':'), 2)
 }
 
 // The fresh hub, tables of zeros, lent in their lengths.
 pub fn fresh() -> World {
-    let zeros = World { n: [0; 3862] };
+    let zeros = World { n: [0; NOWHERE] };
     let none = Packet {
         connection: 0,
         len: 0,
@@ -58,20 +60,21 @@ pub fn fresh() -> World {
         packet: none,
         hub: hub::fresh_hub(),
     };
-    let tables = put(put(world::told(zeros, told), LENT, 320), LENT + 1, 2560);
+    let tables = put(put(world::told(zeros, told), LENT, 1408), LENT + 1, 2560);
     put(tables, LENT_NOTICES, 320)
 }
 
-// Where the number stands that a form changes by hand, in the row n where there are rows.
-pub fn changed(k: u32, n: u32) -> usize {
+// Where the number stands that a form changes by hand, in the row n where there are rows; m the second number of the form.
+pub fn changed(k: u32, n: u32, m: u32) -> usize {
     match k {
-        24..=29 => CLOCK + (k - 24) as usize,
-        30 => bound(n),
-        31..=35 => connection(n) + (k - 31) as usize,
-        36..=40 => place(n) + (k - 36) as usize,
-        41..=45 => notice(n) + (k - 41) as usize,
-        46 => LENT_NOTICES,
-        47 => SILENCE,
+        26..=31 => CLOCK + (k - 26) as usize,
+        32 => bound(n),
+        33..=38 => connection(n) + (k - 33) as usize,
+        39..=43 => place(n) + (k - 39) as usize,
+        44..=48 => notice(n) + (k - 44) as usize,
+        49 => LENT_NOTICES,
+        50 => SILENCE,
+        51 => past(n, m),
         _ => NOWHERE,
     }
 }
@@ -80,12 +83,23 @@ pub fn changed(k: u32, n: u32) -> usize {
 pub fn acted(w: World, k: u32) -> World {
     let v = get(w, VALUE);
     match k {
-        20 => copy(w, LENT, READ, 2),
+        22 => copy(w, LENT, READ, 2),
         // a number that goes to the next place, and on from there, fills them all
-        21 => copy(put(w, 0, v), 1, 0, 319),
-        23 => copy(put(w, NOTICES, v), NOTICES + 1, NOTICES, 319),
+        23 => copy(put(w, 0, v), 1, 0, 1407),
+        25 => copy(put(w, NOTICES, v), NOTICES + 1, NOTICES, 319),
         _ => copy(put(w, PLACES, v), PLACES + 1, PLACES, 2559),
     }
+}
+
+// The numbers of the last call are those that were read.
+pub fn asked(w: World) -> World {
+    copy(w, ASKED, READ, 15)
+}
+
+// Those of an admission with an average: window and average gap, which stand before the answer in the script, go to their places.
+pub fn asked_average(w: World) -> World {
+    let x = copy(asked(w), ASKED + 3, READ + 5, 5);
+    copy(x, AVERAGE, READ + 3, 2)
 }
 
 // How often a call is made: many ticks are one call.

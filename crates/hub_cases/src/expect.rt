@@ -1,10 +1,12 @@
 // What a call is expected to answer and to leave, by its numbers in the script.
 use crate::world::ASKED;
+use crate::world::AVERAGE;
 use crate::world::CALL;
 use crate::world::CLOCK;
 use crate::world::GONE;
 use crate::world::NONE;
 use crate::world::NOTICES;
+use crate::world::NOWHERE;
 use crate::world::NUMBER;
 use crate::world::PACKET;
 use crate::world::PLACES;
@@ -17,10 +19,12 @@ use crate::world::World;
 use crate::world::connection;
 use crate::world::copy;
 use crate::world::get;
+use crate::world::known;
 use crate::world::link_asked;
 use crate::world::notice;
 use crate::world::place;
 use crate::world::put;
+use crate::world::put_all;
 use std::num::wrapping_add_u32;
 use std::num::wrapping_add_usize;
 
@@ -46,22 +50,37 @@ pub fn notices(w: World) -> u32 {
     used(w, NOTICES + 1, 80)
 }
 
-// A row of the connections: level, size, gap.
+// A row of the connections: level, size, gap, window, average gap.
 fn admitted(w: World) -> World {
     let at = connection(get(w, NUMBER));
     let x = copy(w, at, ASKED, 1);
     let y = copy(x, at + 1, ASKED + 2, 1);
-    copy(y, at + 2, ASKED + 1, 1)
+    let z = copy(y, at + 2, ASKED + 1, 1);
+    copy(z, at + 3, AVERAGE, 2)
 }
 
-// A row behind the others, and what is remembered of the connection.
+// One more is remembered of a connection, whose numbers were the old ones: the newest first, and of 17 the oldest is forgotten.
+fn remembered(w: World, old: [u32; NOWHERE], c: u32, e: u32) -> World {
+    let at = known(c);
+    if NOWHERE <= at + 16 {
+        return w;
+    }
+    let x = put_all(w, at + 2, &old[at + 1..at + 16]);
+    let y = put(x, at + 1, e);
+    if get(w, at) == 16 {
+        return y;
+    }
+    put(y, at, wrapping_add_u32(get(w, at), 1))
+}
+
+// A row behind the others, and its eligibility is remembered.
 fn offered(w: World) -> World {
     let at = place(rows(w));
     let x = copy(w, at, ASKED, 3);
     let y = copy(x, at + 3, CLOCK, 1);
     let z = copy(y, at + 4, NUMBER, 1);
-    let past = connection(get(w, ASKED)) + 3;
-    copy(put(z, past, 1), past + 1, NUMBER, 1)
+    let old = w.n;
+    remembered(z, old, get(w, ASKED), get(w, NUMBER))
 }
 
 // A notice behind the others: its mark, and the eligibility that was answered.

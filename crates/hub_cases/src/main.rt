@@ -5,11 +5,14 @@ mod run;
 mod text;
 mod world;
 
+ghost use mathlib.Core.Path.{_≡_};
+ghost use lib.ListN.{length};
 use run::State;
+use world::NOWHERE;
 use world::World;
 
 fn follow(text: &[u8]) {
-    let none = World { n: [0; 3862] };
+    let none = World { n: [0; NOWHERE] };
     let mut s = State {
         now: none,
         kept: none,
@@ -33,8 +36,15 @@ fn follow(text: &[u8]) {
     }
 }
 
+// Room for the script, which is longer than `io::large_buffer`.
+fn room() -> [u8; 131072]
+    ensures { λ r. ⌜ 131072 ≡ length r ⌝ }
+{
+    [0; 131072]
+}
+
 fn main() {
-    let mut buf = io::large_buffer();
+    let mut buf = room();
     let n = io::read_full(0, &mut buf);
     follow(&buf[..n]);
 }

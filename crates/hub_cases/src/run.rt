@@ -3,7 +3,6 @@ use crate::act;
 use crate::expect;
 use crate::text;
 use crate::text::Form;
-use crate::world::ASKED;
 use crate::world::CALL;
 use crate::world::CLOCK;
 use crate::world::NOWHERE;
@@ -11,7 +10,6 @@ use crate::world::READ;
 use crate::world::SILENT;
 use crate::world::VALUE;
 use crate::world::World;
-use crate::world::copy;
 use crate::world::get;
 use crate::world::put;
 use crate::world::put_all;
@@ -156,7 +154,7 @@ fn repeated(s: State) -> State {
 // A number is changed by hand, if there is such a place.
 fn changed(text: &[u8], s: State, k: u32) -> State {
     let w = s.now;
-    let at = act::changed(k, get(w, READ));
+    let at = act::changed(k, get(w, READ), get(w, READ + 1));
     if NOWHERE <= at {
         complain(text, s.here);
         return s;
@@ -172,37 +170,39 @@ fn obey(text: &[u8], f: Form, s: State, k: u32) -> State {
     let w = s.now;
     let mut x = s;
     match k {
-        0..=12 => case(s, put(copy(w, ASKED, READ, 15), CALL, k)),
-        13 => repeated(s),
-        14 => counted(s, w, get(w, CLOCK) == get(w, READ)),
-        15 => counted(s, w, expect::rows(w) == get(w, READ)),
-        16 => counted(s, w, expect::notices(w) == get(w, READ)),
-        17 => counted(s, w, get(w, SILENT) == get(w, READ)),
-        18 => {
+        0..=12 => case(s, put(act::asked(w), CALL, k)),
+        // with an average, and with or without what is short, it is an admission as any other
+        13 | 14 => case(s, put(act::asked_average(w), CALL, 1)),
+        15 => repeated(s),
+        16 => counted(s, w, get(w, CLOCK) == get(w, READ)),
+        17 => counted(s, w, expect::rows(w) == get(w, READ)),
+        18 => counted(s, w, expect::notices(w) == get(w, READ)),
+        19 => counted(s, w, get(w, SILENT) == get(w, READ)),
+        20 => {
             let y = act::fresh();
             x.now = y;
             x.kept = y;
             x
         }
-        19 => {
+        21 => {
             let y = s.kept;
             x.now = y;
             x
         }
-        20..=23 => {
+        22..=25 => {
             let y = act::acted(w, k);
             x.now = y;
             x
         }
-        24..=47 => changed(text, s, k),
-        48 => ended(text, s),
-        49 => opened(text, s),
+        26..=51 => changed(text, s, k),
+        52 => ended(text, s),
+        53 => opened(text, s),
         // the script ends where the recipes begin
-        50 => {
+        54 => {
             x.next = text.len();
             x
         }
-        51 => s,
+        55 => s,
         _ => called(text, f, s),
     }
 }

@@ -7,57 +7,65 @@ use state::Told;
 use std::num::wrapping_add_usize;
 
 pub struct World {
-    pub n: [u32; 3862],
+    pub n: [u32; NOWHERE],
 }
 
-// Rows of connections stand from 0 on: 80, of which 64 are lent as a rule; then as many of notices.
-pub const NOTICES: usize = 400;
+// Rows of connections stand from 0 on: 80, of which 64 are lent as a rule. A row has 22 numbers, six before those that are remembered; the sixth is their count.
+const ROW: usize = 22;
+
+const HEAD: usize = 6;
+
+// As many rows of notices, of five numbers.
+pub const NOTICES: usize = 80 * ROW;
 
 // The last answer: verdict, number, 1 if a packet has gone, the packet.
-pub const VERDICT: usize = 800;
+pub const VERDICT: usize = NOTICES + 400;
 
-pub const NUMBER: usize = 801;
+pub const NUMBER: usize = VERDICT + 1;
 
-pub const GONE: usize = 802;
+pub const GONE: usize = VERDICT + 2;
 
-pub const PACKET: usize = 803;
+pub const PACKET: usize = VERDICT + 3;
 
 // The hub: clock, serving, units, silence to run, levels, largest packet, eight bounds, the link's silence.
-pub const CLOCK: usize = 808;
+pub const CLOCK: usize = PACKET + 5;
 
-pub const SERVING: usize = 809;
+pub const SERVING: usize = CLOCK + 1;
 
-pub const SILENT: usize = 811;
+pub const SILENT: usize = CLOCK + 3;
 
-pub const LEVELS: usize = 812;
+pub const LEVELS: usize = CLOCK + 4;
 
-pub const BOUNDS: usize = 814;
+pub const BOUNDS: usize = CLOCK + 6;
 
-pub const SILENCE: usize = 822;
+pub const SILENCE: usize = CLOCK + 14;
 
 // How many numbers are lent as connections, as places, and as notices.
-pub const LENT: usize = 823;
+pub const LENT: usize = SILENCE + 1;
 
-pub const LENT_NOTICES: usize = 825;
+pub const LENT_NOTICES: usize = LENT + 2;
 
 // The last number that was read, then all numbers that were; those of the last call, which are at most 12, so that three zeros end them; which call it was.
-pub const VALUE: usize = 826;
+pub const VALUE: usize = LENT + 3;
 
-pub const READ: usize = 827;
+pub const READ: usize = VALUE + 1;
 
-pub const ASKED: usize = 843;
+pub const ASKED: usize = READ + 16;
 
-pub const NONE: usize = 855;
+pub const NONE: usize = ASKED + 12;
 
-pub const CALL: usize = 858;
+// Among those of an admission, behind all that one without an average has: window and average gap.
+pub const AVERAGE: usize = ASKED + 8;
+
+pub const CALL: usize = ASKED + 15;
 
 // Of the last answer: the level that was short, and its units, low half first.
-pub const SHORT: usize = 859;
+pub const SHORT: usize = CALL + 1;
 
-pub const PLACES: usize = 862;
+pub const PLACES: usize = SHORT + 3;
 
 // No place: what is put there makes the world differ from every other.
-pub const NOWHERE: usize = 3862;
+pub const NOWHERE: usize = PLACES + 3000;
 
 pub fn get(w: World, at: usize) -> u32 {
     if NOWHERE <= at {
@@ -119,17 +127,35 @@ pub fn same(a: World, b: World) -> bool {
 
 // Where a row of the connections begins.
 pub fn connection(k: u32) -> usize
-    ensures { λ r. ⌜ r ≤ 3862 ⌝ }
+    ensures { λ r. ⌜ r ≤ 5222 ⌝ }
 {
     if 80 <= k {
         return NOWHERE;
     }
-    5 * (k as usize)
+    ROW * (k as usize)
+}
+
+// Where the count of what is remembered of a connection stands.
+pub fn known(c: u32) -> usize
+    ensures { λ r. ⌜ r ≤ 5227 ⌝ }
+{
+    connection(c) + HEAD - 1
+}
+
+// Where the k-th newest of it stands, k from 1 to 16.
+pub fn past(c: u32, k: u32) -> usize {
+    if k < 1 {
+        return NOWHERE;
+    }
+    if 16 < k {
+        return NOWHERE;
+    }
+    known(c) + k as usize
 }
 
 // Where a row of the notices begins.
 pub fn notice(k: u32) -> usize
-    ensures { λ r. ⌜ r ≤ 3862 ⌝ }
+    ensures { λ r. ⌜ r ≤ 5222 ⌝ }
 {
     if 80 <= k {
         return NOWHERE;
@@ -139,7 +165,7 @@ pub fn notice(k: u32) -> usize
 
 // Where a row of the places begins.
 pub fn place(k: u32) -> usize
-    ensures { λ r. ⌜ r ≤ 3862 ⌝ }
+    ensures { λ r. ⌜ r ≤ 5222 ⌝ }
 {
     if 600 <= k {
         return NOWHERE;
@@ -158,24 +184,24 @@ pub fn bound(k: u32) -> usize {
 fn hub_of(w: World) -> Hub {
     Hub {
         link: Link {
-            levels: get(w, 812),
-            largest: get(w, 813),
-            silence: get(w, 822),
+            levels: get(w, LEVELS),
+            largest: get(w, LEVELS + 1),
+            silence: get(w, SILENCE),
             bounds: [
-                get(w, 814),
-                get(w, 815),
-                get(w, 816),
-                get(w, 817),
-                get(w, 818),
-                get(w, 819),
-                get(w, 820),
-                get(w, 821),
+                get(w, BOUNDS),
+                get(w, BOUNDS + 1),
+                get(w, BOUNDS + 2),
+                get(w, BOUNDS + 3),
+                get(w, BOUNDS + 4),
+                get(w, BOUNDS + 5),
+                get(w, BOUNDS + 6),
+                get(w, BOUNDS + 7),
             ],
         },
-        clock: get(w, 808),
-        serving: get(w, 809),
-        to_go: get(w, 810),
-        silent: get(w, 811),
+        clock: get(w, CLOCK),
+        serving: get(w, SERVING),
+        to_go: get(w, SERVING + 1),
+        silent: get(w, SILENT),
     }
 }
 
@@ -187,24 +213,24 @@ pub fn told(w: World, r: Told) -> World {
     let b = l.bounds;
     let s = r.short;
     let x = put_all(w, BOUNDS, &b);
-    let x = put(x, 859, s.level);
-    let x = put(x, 860, (s.units % 4294967296) as u32);
-    let x = put(x, 861, (s.units / 4294967296) as u32);
-    let x = put(x, 800, r.verdict);
-    let x = put(x, 801, r.number);
-    let x = put(x, 802, r.gone as u32);
-    let x = put(x, 803, p.connection);
-    let x = put(x, 804, p.len);
-    let x = put(x, 805, p.tag);
-    let x = put(x, 806, p.arrival);
-    let x = put(x, 807, p.eligibility);
-    let x = put(x, 808, h.clock);
-    let x = put(x, 809, h.serving);
-    let x = put(x, 810, h.to_go);
-    let x = put(x, 811, h.silent);
-    let x = put(x, 812, l.levels);
-    let x = put(x, 813, l.largest);
-    put(x, 822, l.silence)
+    let x = put(x, SHORT, s.level);
+    let x = put(x, SHORT + 1, (s.units % 4294967296) as u32);
+    let x = put(x, SHORT + 2, (s.units / 4294967296) as u32);
+    let x = put(x, VERDICT, r.verdict);
+    let x = put(x, NUMBER, r.number);
+    let x = put(x, GONE, r.gone as u32);
+    let x = put(x, PACKET, p.connection);
+    let x = put(x, PACKET + 1, p.len);
+    let x = put(x, PACKET + 2, p.tag);
+    let x = put(x, PACKET + 3, p.arrival);
+    let x = put(x, PACKET + 4, p.eligibility);
+    let x = put(x, CLOCK, h.clock);
+    let x = put(x, SERVING, h.serving);
+    let x = put(x, SERVING + 1, h.to_go);
+    let x = put(x, SILENT, h.silent);
+    let x = put(x, LEVELS, l.levels);
+    let x = put(x, LEVELS + 1, l.largest);
+    put(x, SILENCE, l.silence)
 }
 
 // The link that a call asks for: levels, largest packet, eight bounds, and its silence where one is given.
@@ -232,6 +258,8 @@ fn ask(w: World, members: &mut [u32], places: &mut [u32], notices: &mut [u32]) -
                 level: a,
                 gap: b,
                 size: c,
+                window: get(w, AVERAGE),
+                average: get(w, AVERAGE + 1),
             };
             hub::admit(h, members, places, notices, x)
         }
@@ -253,7 +281,7 @@ fn lent(w: World, at: usize, most: usize) -> usize
 }
 
 // The numbers of a world, and from a place on those of another.
-fn joined(w: World, behind: [u32; 3862], from: usize) -> World {
+fn joined(w: World, behind: [u32; NOWHERE], from: usize) -> World {
     let mut x = w;
     let mut i: usize = from;
     while i < NOWHERE {
@@ -264,11 +292,16 @@ fn joined(w: World, behind: [u32; 3862], from: usize) -> World {
 }
 
 // The world after the call: each table is lent of a copy of its numbers.
-pub fn call(w: World, lines: [u32; 3862], notices: [u32; 3862], places: [u32; 3862]) -> World {
+pub fn call(
+    w: World,
+    lines: [u32; NOWHERE],
+    notices: [u32; NOWHERE],
+    places: [u32; NOWHERE],
+) -> World {
     let mut x = lines;
     let mut y = notices;
     let mut z = places;
-    let a = lent(w, LENT, 400);
+    let a = lent(w, LENT, NOTICES);
     let b = PLACES + lent(w, LENT + 1, 3000);
     let c = NOTICES + lent(w, LENT_NOTICES, 400);
     let r = ask(w, &mut x[0..a], &mut z[PLACES..b], &mut y[NOTICES..c]);

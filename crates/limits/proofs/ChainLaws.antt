@@ -17,6 +17,11 @@ pub goes-on : (a b r : Bool) → a ≡ true → r ≡ b → r ≡ (a && b)
 goes-on true b r e h = h
 goes-on false b r e h = never e
 
+-- the rest fails, whatever the first says
+pub and-false : (a b : Bool) → b ≡ false → (a && b) ≡ false
+and-false true b e = e
+and-false false b e = refl
+
 -- a number outside its limits
 pub too-low : (a b x : ℕ) → x < a → within a b x ≡ false
 too-low a b x h = sym (fails (leb a x) (leb x b) (lt-leb a x h))

@@ -1,22 +1,23 @@
 -- The limits of links and connections, test by test in the order of the code.
-use Prim.Native.Nat.{ℕ, suc, _+_, _-_, _≤_, _<_}
+use Prim.Native.Nat.{ℕ, suc, _+_, _-_, _/_, _%_, _≤_, _<_}
 use native.Mathlib.Omega.{arith}
 use native.Mathlib.Numerals.{add-one}
 use mathlib.Core.Path.{_≡_, refl, sym, ap, _∙_}
-use mathlib.Core.Bool.{Bool, true, false, _&&_}
+use native.Mathlib.Nat.{zero-div}
+use mathlib.Core.Bool.{Bool, true, false, _&&_, _||_}
 use mathlib.Core.List.{List, [], _∷_}
 use lib.Dec.{leb, eqb}
 use lib.ListN.{length, getD, drop}
 use lib.Seq.{drop-cons}
-use borrow.Author.Tests.{le-leb, lt-leb}
+use borrow.Author.Tests.{le-leb, lt-leb, eq-eqb, ne-eqb}
 use Rattle.rules.specs.declared.Link.{Link}
 use Rattle.rules.specs.declared.Connection.{Connection}
 use Rattle.rules.specs.Words.{within}
-use Rattle.rules.specs.Limits.{max-levels, max-largest, max-silence, max-bound, max-gap}
-use Rattle.rules.specs.Admission.{rising, cost, link-within, level-within, figures-within}
+use Rattle.rules.specs.Limits.{max-levels, max-largest, max-silence, max-bound, max-gap, max-window, max-burst}
+use Rattle.rules.specs.Admission.{rising, cost, link-within, level-within, burst, average-within, figures-within}
 use Rattle.rules.proofs.Tests.{within-intro}
 use Rattle.limits.specs.Zeros.{zeros}
-use Rattle.limits.proofs.ChainLaws.{fails, goes-on, too-low, too-high}
+use Rattle.limits.proofs.ChainLaws.{fails, goes-on, and-false, too-low, too-high}
 
 -- ---- a connection
 
@@ -41,11 +42,53 @@ module _ (l : Link) (x : Connection) where
     module _ (h : x .gap ≤ max-gap) where
       pub size-low : x .size < 1 → false ≡ figures-within l x
       unfolding figures-within
-      size-low k = goes-on (within 1 max-gap (x .gap)) _ false (within-intro 1 max-gap (x .gap) g h) (sym (too-low 1 (l .largest) (x .size) k))
+      size-low k = goes-on (within 1 max-gap (x .gap)) _ false (within-intro 1 max-gap (x .gap) g h) (fails (within 1 (l .largest) (x .size)) _ (too-low 1 (l .largest) (x .size) k))
 
-      pub size-rest : 1 ≤ x .size → leb (x .size) (l .largest) ≡ figures-within l x
-      unfolding figures-within
-      size-rest k = goes-on (within 1 max-gap (x .gap)) _ _ (within-intro 1 max-gap (x .gap) g h) (goes-on (leb 1 (x .size)) _ _ (le-leb 1 (x .size) k) refl)
+      module _ (k : 1 ≤ x .size) where
+        pub size-high : l .largest < x .size → false ≡ figures-within l x
+        unfolding figures-within
+        size-high m = goes-on (within 1 max-gap (x .gap)) _ false (within-intro 1 max-gap (x .gap) g h) (fails (within 1 (l .largest) (x .size)) _ (too-high 1 (l .largest) (x .size) k m))
+
+        pub average-rest : x .size ≤ l .largest → (r : Bool) → r ≡ average-within x → r ≡ figures-within l x
+        unfolding figures-within
+        average-rest m r e = goes-on (within 1 max-gap (x .gap)) _ r (within-intro 1 max-gap (x .gap) g h) (goes-on (within 1 (l .largest) (x .size)) _ r (within-intro 1 (l .largest) (x .size) k m) e)
+
+-- ---- an average
+
+module _ (x : Connection) where
+  -- without a window
+  pub no-window : x .window ≡ 0 → eqb (x .average) 0 ≡ average-within x
+  unfolding burst
+  no-window e = rw e (go (eqb (x .average) 0))
+    where
+      none : within 1 max-burst (0 / x .average) ≡ false
+      none = rw (zero-div (x .average)) refl
+
+      go : (b : Bool) → b ≡ (b || (leb 0 max-window && (leb (x .gap) (x .average) && (eqb (0 % x .average) 0 && within 1 max-burst (0 / x .average)))))
+      go true = refl
+      go false = sym (and-false (leb 0 max-window) _ (and-false (leb (x .gap) (x .average)) _ (and-false (eqb (0 % x .average) 0) _ none)))
+
+  module _ (some : x .window ≡ 0 → ⊥) where
+    behind-none : (r : Bool) → r ≡ (leb (x .window) max-window && (leb (x .gap) (x .average) && (eqb (x .window % x .average) 0 && within 1 max-burst (burst x)))) → r ≡ average-within x
+    behind-none r e = rw (ne-eqb (x .window) 0 some) e
+
+    pub window-high : max-window < x .window → false ≡ average-within x
+    window-high h = behind-none false (fails (leb (x .window) max-window) _ (lt-leb (x .window) max-window h))
+
+    module _ (w : x .window ≤ max-window) where
+      pub average-low : x .average < x .gap → false ≡ average-within x
+      average-low h = behind-none false (goes-on (leb (x .window) max-window) _ false (le-leb (x .window) max-window w) (fails (leb (x .gap) (x .average)) _ (lt-leb (x .gap) (x .average) h)))
+
+      module _ (g : x .gap ≤ x .average) where
+        behind-gap : (r : Bool) → r ≡ (eqb (x .window % x .average) 0 && within 1 max-burst (burst x)) → r ≡ average-within x
+        behind-gap r e = behind-none r (goes-on (leb (x .window) max-window) _ r (le-leb (x .window) max-window w) (goes-on (leb (x .gap) (x .average)) _ r (le-leb (x .gap) (x .average) g) e))
+
+        pub uneven : (x .window % x .average ≡ 0 → ⊥) → false ≡ average-within x
+        uneven n = behind-gap false (fails (eqb (x .window % x .average) 0) _ (ne-eqb (x .window % x .average) 0 n))
+
+        pub burst-rest : x .window % x .average ≡ 0 → within 1 max-burst (x .window / x .average) ≡ average-within x
+        unfolding burst
+        burst-rest e = behind-gap (within 1 max-burst (x .window / x .average)) (goes-on (eqb (x .window % x .average) 0) _ _ (eq-eqb (x .window % x .average) 0 e) refl)
 
 -- ---- a link
 

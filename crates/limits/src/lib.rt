@@ -4,13 +4,13 @@ ghost use mathlib.Core.Path.{_≡_};
 ghost use Prim.Native.Nat.{_≤_};
 ghost use lib.ListN.{length, drop};
 ghost use Rattle.rules.specs.Limits.{max-levels};
-ghost use Rattle.rules.specs.Admission.{rising, link-within, level-within, figures-within};
+ghost use Rattle.rules.specs.Admission.{rising, link-within, level-within, average-within, figures-within};
 ghost use Rattle.rules.specs.SoundTest.{connection-sound};
 ghost use Rattle.limits.specs.Zeros.{zeros};
 use rules::Connection;
 use rules::Link;
 
-// ---- the limits of document 01, "Link, connections, places", and of document 02, R-1 and R-4
+// ---- the limits of document 01, "Link, connections, places", and of document 02, R-1, R-4 and R-6
 
 // Levels of a link.
 pub const MAX_LEVELS: u32 = 8;
@@ -26,6 +26,13 @@ const MAX_BOUND: u32 = 32768;
 
 // Ticks of a gap.
 const MAX_GAP: u32 = 65535;
+
+// Ticks of an averaging window, packets in one, and the eligibilities that a connection remembers.
+const MAX_WINDOW: u32 = 65535;
+
+const MAX_BURST: u32 = 16;
+
+pub const MAX_REMEMBERED: usize = 16;
 
 // Connections.
 pub const MAX_CONNECTIONS: usize = 64;
@@ -47,8 +54,10 @@ pub const CLOCK_END: u32 = 4000000000;
 
 // ---- the tables
 
-// The numbers of a row of the table of connections, and of all its rows.
-pub const MEMBER_WIDTH: usize = 5;
+// The numbers of a row of the table of connections, six before the remembered eligibilities, and of all its rows.
+pub const MEMBER_HEAD: usize = 6;
+
+pub const MEMBER_WIDTH: usize = MEMBER_HEAD + MAX_REMEMBERED;
 
 pub const MEMBERS: usize = MEMBER_WIDTH * MAX_CONNECTIONS;
 
@@ -130,7 +139,28 @@ pub fn level_ok(l: Link, x: Connection) -> bool
     x.level <= l.levels
 }
 
-// Gap and size within their limits.
+// No average, or a window up to its limit that an average gap of at least the gap divides into 1 to 16 parts.
+fn average_ok(x: Connection) -> bool
+    requires { ⌜ 1 ≤ x .gap ⌝ }
+    ensures { λ r. ⌜ r ≡ average-within x ⌝ }
+{
+    if x.window == 0 {
+        return x.average == 0;
+    }
+    if MAX_WINDOW < x.window {
+        return false;
+    }
+    if x.average < x.gap {
+        return false;
+    }
+    if x.window % x.average != 0 {
+        return false;
+    }
+    let n = x.window / x.average;
+    (1 <= n) & (n <= MAX_BURST)
+}
+
+// Gap, size and average within their limits.
 pub fn figures_ok(l: Link, x: Connection) -> bool
     ensures { λ r. ⌜ r ≡ figures-within l x ⌝ }
 {
@@ -143,10 +173,13 @@ pub fn figures_ok(l: Link, x: Connection) -> bool
     if x.size < 1 {
         return false;
     }
-    x.size <= l.largest
+    if l.largest < x.size {
+        return false;
+    }
+    average_ok(x)
 }
 
-// Level, gap and size within their limits.
+// Level and figures within their limits.
 pub fn connection_ok(l: Link, x: Connection) -> bool
     ensures { λ r. ⌜ r ≡ connection-sound l x ⌝ }
 {

@@ -1,5 +1,5 @@
 -- THE ANSWER LOG of a trace, from bytes to bytes, by the rules alone: no hub value, no table, no window. Document 01, "Trace and answer records" and
--- "One tick"; document 02, R-1 and R-2.
+-- "One tick"; document 02, R-1, R-2, R-4 and R-6.
 use Prim.Native.Nat.{ℕ, zero, suc, _+_, _-_}
 use mathlib.Core.Bool.{cond, not}
 use mathlib.Core.List.{List, [], _∷_, _++_}
@@ -65,7 +65,7 @@ pub data Asked : Type 0 where
 
 abbrev pub asks : Record → Asked
 asks (LinkRecord n m silence d1 d2 d3 d4 d5 d6 d7 d8) = one-call (link (link-named (n ∷ m ∷ silence ∷ d1 ∷ d2 ∷ d3 ∷ d4 ∷ d5 ∷ d6 ∷ d7 ∷ d8 ∷ [])))
-asks (Admit level gap size) = one-call (admit (connection-named (level ∷ gap ∷ size ∷ [])))
+asks (Admit level gap size window average) = one-call (admit (connection-named (level ∷ gap ∷ size ∷ window ∷ average ∷ [])))
 asks (Offer c len tag) = one-call (offer c len tag)
 asks (Notice len tag) = one-call (notice len tag)
 asks (Ticks n) = some-ticks n

@@ -10,6 +10,6 @@ use Rattle.rules.specs.Limits.{max-levels}
 abbrev pub link-named : List ℕ → Link
 link-named xs = record { levels = getD xs 0 0; largest = getD xs 1 0; silence = getD xs 2 0; bounds = take max-levels (drop 3 xs ++ replicate max-levels 0) }
 
--- level, gap and size
+-- level, gap, size, the window and the average gap (document 02, R-6)
 abbrev pub connection-named : List ℕ → Connection
-connection-named xs = record { level = getD xs 0 0; gap = getD xs 1 0; size = getD xs 2 0 }
+connection-named xs = record { level = getD xs 0 0; gap = getD xs 1 0; size = getD xs 2 0; window = getD xs 3 0; average = getD xs 4 0 }

@@ -41,13 +41,15 @@ pub fn link_named(
 }
 
 // The connection of a `CN`.
-pub fn connection_named(level: u8, gap: u16, size: u16) -> Connection
-    ensures { λ r. ⌜ r ≡ connection-named (level ∷ gap ∷ size ∷ []) ⌝ }
+pub fn connection_named(level: u8, gap: u16, size: u16, window: u16, average: u16) -> Connection
+    ensures { λ r. ⌜ r ≡ connection-named (level ∷ gap ∷ size ∷ window ∷ average ∷ []) ⌝ }
 {
     Connection {
         level: level as u32,
         gap: gap as u32,
         size: size as u32,
+        window: window as u32,
+        average: average as u32,
     }
 }
 

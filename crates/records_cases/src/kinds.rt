@@ -59,14 +59,20 @@ fn trace_numbers(taken: u64, r: Record) -> [u64; 13] {
             d7 as u64,
             d8 as u64,
         ],
-        Record::Admit { level, gap, size } => [
+        Record::Admit {
+            level,
+            gap,
+            size,
+            window,
+            average,
+        } => [
             taken,
             CN,
             level as u64,
             gap as u64,
             size as u64,
-            0,
-            0,
+            window as u64,
+            average as u64,
             0,
             0,
             0,

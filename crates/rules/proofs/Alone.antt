@@ -1,4 +1,4 @@
--- Document 02, R-3: what a connection that keeps its gap is told is decided by its own figures and its own offer.
+-- Document 02, R-3: what a connection that keeps its word is told is decided by its own figures and its own offer.
 use Prim.Native.Nat.{ℕ}
 use native.Mathlib.Omega.{arith}
 use mathlib.Core.Path.{_≡_, refl, sym, ap, _∙_, subst}
@@ -24,7 +24,7 @@ use Rattle.rules.proofs.Every.{keeps}
 use Rattle.rules.proofs.Room.{decided}
 use Rattle.rules.proofs.Keeper.{stays, All-taken, any-call, word-now, on-arrival, has-room}
 
--- ---- an offer of a connection that keeps its gap
+-- ---- an offer of a connection that keeps its word
 
 -- an offer, and the answer to it where the verdict is v
 abbrev told : State → ℕ → ℕ → ℕ → ℕ → Exchange

@@ -1,5 +1,5 @@
 -- Of every sound state: the packets held are no more than the places, and every eligibility fits 32 bits.
-use Prim.Native.Nat.{ℕ, _+_, _*_, _≤_, _<_}
+use Prim.Native.Nat.{ℕ, _+_, _*_, _≤_, _<_, max}
 use native.Mathlib.Omega.{arith}
 use native.Mathlib.Nat.{mul-le-mul-right}
 use mathlib.Core.Path.{_≡_, refl, sym, ap, subst}
@@ -9,8 +9,8 @@ use mathlib.Core.List.{List, [], _∷_}
 use lib.Dec.{eqb}
 use lib.ListN.{length, List·getD-eq-default}
 use borrow.Author.Tests.{eqb-true, eqb-false}
-use Rattle.rules.specs.Limits.{max-gap, max-reserved, clock-end, beyond-32-bits, max-notices}
-use Rattle.rules.specs.Model.{Connection, Past, Packet, State, no-connection, no-past, past, figures}
+use Rattle.rules.specs.Limits.{max-gap, max-window, max-reserved, clock-end, beyond-32-bits, max-notices}
+use Rattle.rules.specs.Model.{Connection, Packet, State, no-connection, no-past, past, figures}
 use Rattle.rules.specs.Admission.{reservation}
 use Rattle.rules.specs.Service.{of, eligibilities}
 use Rattle.rules.specs.SoundState.{Sound-with-link, Sound}
@@ -19,9 +19,8 @@ use Rattle.rules.proofs.Lists.{All, all-map, total}
 use Rattle.rules.proofs.Sums.{split, same, sum-le, only, only-at, only-off, total-by}
 use Rattle.rules.proofs.Rows.{all-by-connection, length-map}
 use Rattle.rules.proofs.Standing.{stands-below}
-use Rattle.rules.proofs.SoundTick.{facts}
-use Rattle.rules.proofs.Queue.{queue-chained, chained-far}
-use Rattle.rules.proofs.Spacing.{next-near}
+use Rattle.rules.proofs.SoundTick.{facts, regulated}
+use Rattle.rules.proofs.Queue.{queue-chained, chained-far, next-near}
 
 -- ---- rows, sorted by connection
 
@@ -63,47 +62,56 @@ module _ (s : State) (S : Sound-with-link s) where
       go true k = omega arith
       go false k = omega arith
 
-  -- so no eligibility lies further beyond the clock than a gap for each place
-  far : ℕ
-  far = clock-end + max-reserved * max-gap
+  -- so no eligibility lies further beyond the clock than the longest gap or window for each place
+  longest : ℕ
+  longest = max max-gap max-window
 
-  reach : (c : ℕ) → c < length (s .connections) → s .clock + length (eligibilities c (s .held)) * figures s c .gap ≤ far
+  far : ℕ
+  far = clock-end + max-reserved * longest
+
+  reach : (c : ℕ) → s .clock + length (eligibilities c (s .held)) * longest ≤ far
   unfolding far
-  reach c l =
+  reach c =
       omega (
         arith,
         S .clock-le,
-        mul-le-mul-right {m = length (eligibilities c (s .held))} {n = max-reserved} (figures s c .gap)
+        mul-le-mul-right {m = length (eligibilities c (s .held))} {n = max-reserved} longest
             (omega (arith, length-map (λ (p : Packet). p .eligibility) (of c (s .held)), of-le c (s .held), held-le)),
-        facts s S c l .gap-le,
       )
 
-  queue-far : (c : ℕ) → c < length (s .connections) → All (λ e. e ≤ far) (eligibilities c (s .held)) × (past s c .last ≤ far)
-  queue-far c l =
-      let k = chained-far (figures s c .gap) (s .clock) (past s c) (eligibilities c (s .held)) (queue-chained (figures s c) (s .clock) (past s c) (eligibilities c (s .held)) (S .queue c l)) in
-      (all-map (λ e h. omega (arith, reach c l)) (eligibilities c (s .held)) (k .0), omega (arith, k .1, reach c l))
-
-  -- a number that does not stand has nothing remembered, and no gap
-  last-far : (c : ℕ) → past s c .last ≤ far
-  last-far c =
+  -- a number that does not stand has no gap and no window
+  figures-le-longest : (c : ℕ) → (figures s c .gap ≤ longest) × (figures s c .window ≤ longest)
+  unfolding longest
+  figures-le-longest c =
       ⊎-elim
-      (λ l. omega (arith, ap (λ (h : Past). h .last) (List·getD-eq-default (s .pasts) no-past {n = c} (omega (arith, S .one-past-each)))))
+      (λ l. subst (λ (x : Connection). (x .gap ≤ max max-gap max-window) × (x .window ≤ max max-gap max-window)) (sym (List·getD-eq-default (s .connections) no-connection {n = c} l)) (omega arith, omega arith))
+      (λ l. (omega (arith, facts s S c l .gap-le), omega (arith, facts s S c l .window-le)))
+      (split (length (s .connections)) c)
+
+  queue-far : (c : ℕ) → c < length (s .connections) → All (λ e. e ≤ far) (eligibilities c (s .held)) × All (λ e. e ≤ far) (past s c)
+  queue-far c l =
+      let k = chained-far (figures s c) longest (s .clock) (figures-le-longest c .0) (figures-le-longest c .1) (past s c) (eligibilities c (s .held)) (queue-chained (figures s c) (regulated s S c l) (s .clock) (past s c) (eligibilities c (s .held)) (S .queue c l)) in
+      (all-map (λ e h. omega (arith, reach c)) (eligibilities c (s .held)) (k .0), all-map (λ e h. omega (arith, reach c)) (past s c) (k .1))
+
+  -- a number that does not stand has nothing remembered
+  past-far : (c : ℕ) → All (λ e. e ≤ far) (past s c)
+  past-far c =
+      ⊎-elim
+      (λ l. subst (All (λ e. e ≤ far)) (sym (List·getD-eq-default (s .pasts) no-past {n = c} (omega (arith, S .one-past-each)))) tt)
       (λ l. queue-far c l .1)
       (split (length (s .connections)) c)
 
-  gap-le-max : (c : ℕ) → figures s c .gap ≤ max-gap
-  gap-le-max c =
-      ⊎-elim
-      (λ l. omega (arith, ap (λ (x : Connection). x .gap) (List·getD-eq-default (s .connections) no-connection {n = c} l)))
-      (λ l. facts s S c l .gap-le)
-      (split (length (s .connections)) c)
-
-  linked-fit : All (λ p. p .eligibility < beyond-32-bits) (s .held) × ((c : ℕ) → (past s c .last < beyond-32-bits) × (eligibility-now s c < beyond-32-bits))
+  next-far : (c : ℕ) → eligibility-now s c ≤ far + longest
   unfolding far
+  next-far c =
+      next-near (figures s c) longest (s .clock) (figures-le-longest c .0) (figures-le-longest c .1) far (past s c) (omega (arith, S .clock-le)) (past-far c)
+
+  linked-fit : All (λ p. p .eligibility < beyond-32-bits) (s .held) × ((c : ℕ) → All (λ e. e < beyond-32-bits) (past s c) × (eligibility-now s c < beyond-32-bits))
+  unfolding far longest
   linked-fit = (
     all-by-connection (length (s .connections)) (λ e. e < beyond-32-bits) (s .held) below
         (λ c l. all-map (λ e k. omega arith) (eligibilities c (s .held)) (queue-far c l .0)),
-    λ c. (omega (arith, last-far c), omega (arith, next-near (figures s c) (past s c) (s .clock), last-far c, gap-le-max c, S .clock-le)),
+    λ c. (all-map (λ e k. omega arith) (past s c) (past-far c), omega (arith, next-far c)),
   )
 
 -- ---- with or without a link
@@ -123,13 +131,13 @@ notices-fit-places s S =
     (same (s .link .levels) 0)
 
 pub eligibilities-fit-32 : (s : State) → Sound s
-    → All (λ p. p .eligibility < beyond-32-bits) (s .held) × ((c : ℕ) → (past s c .last < beyond-32-bits) × (eligibility-now s c < beyond-32-bits))
+    → All (λ p. p .eligibility < beyond-32-bits) (s .held) × ((c : ℕ) → All (λ e. e < beyond-32-bits) (past s c) × (eligibility-now s c < beyond-32-bits))
 eligibilities-fit-32 s S =
     ⊎-elim
     (λ z.
     subst
-    (λ (r : State). All (λ p. p .eligibility < beyond-32-bits) (r .held) × ((c : ℕ) → (past r c .last < beyond-32-bits) × (eligibility-now r c < beyond-32-bits)))
+    (λ (r : State). All (λ p. p .eligibility < beyond-32-bits) (r .held) × ((c : ℕ) → All (λ e. e < beyond-32-bits) (past r c) × (eligibility-now r c < beyond-32-bits)))
     (sym (S .with-no-link z))
-    (tt, λ c. (omega arith, omega (arith, next-near no-connection no-past 0))))
+    (tt, λ c. (tt, omega (arith, next-near no-connection 0 0 (omega arith) (omega arith) 0 no-past (omega arith) tt))))
     (λ n. linked-fit s (S .with-one n))
     (same (s .link .levels) 0)

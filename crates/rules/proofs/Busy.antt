@@ -14,7 +14,7 @@ use Rattle.rules.specs.SoundState.{Fits, In-service, Notice-in-service}
 use Rattle.rules.proofs.Lists.{All, all-zip, all-sub, Sub, total, total-each}
 use Rattle.rules.proofs.Sums.{split, upto-yes, upto-no, upto-le}
 use Rattle.rules.proofs.Rows.{first-of, total-without}
-use Rattle.rules.proofs.Spacing.{memory}
+use Rattle.rules.proofs.Memory.{memory}
 use Rattle.rules.proofs.Figures.{Connection-facts, cost-pos}
 use Rattle.rules.proofs.Line.{left-some}
 use Rattle.rules.proofs.Window.{arrived, arrived-le}

@@ -1,17 +1,20 @@
--- What the limits of a link and of a connection say as plain facts; nothing else opens them, nor `reservation`, `cost`, `level-sum`.
-use Prim.Native.Nat.{ℕ, zero, suc, _+_, _≤_, _<_}
+-- What the limits of a link and of a connection say as plain facts; nothing else opens them, nor `burst` (but Count), `reservation`, `cost`, `level-sum`.
+use Prim.Native.Nat.{ℕ, zero, suc, _+_, _*_, _/_, _%_, _≤_, _<_}
 use native.Mathlib.Omega.{arith}
-use mathlib.Core.Path.{_≡_, refl}
+use native.Mathlib.Nat.{zero-div, div-mul-le-self, mul-le-mul-left, mul-le-mul-right}
+use mathlib.Core.Path.{_≡_, refl, ap, _∙_}
 use mathlib.Core.Bool.{true, _&&_}
 use mathlib.Core.List.{List, [], _∷_}
-use lib.Dec.{leb}
+use lib.Dec.{leb, eqb}
 use lib.ListN.{getD}
-use borrow.Author.Tests.{leb-true}
+use borrow.Author.Tests.{leb-true, eqb-true, eq-eqb, ne-eqb}
 use Rattle.rules.specs.Words.{within}
-use Rattle.rules.specs.Limits.{max-levels, max-largest, max-silence, max-bound, max-gap}
+use Rattle.rules.specs.Limits.{max-levels, max-largest, max-silence, max-bound, max-gap, max-window, max-burst}
 use Rattle.rules.specs.Model.{Link, Connection}
-use Rattle.rules.specs.Admission.{rising, link-within, level-within, figures-within, bound, count, reservation, cost, load, level-sum}
-use Rattle.rules.proofs.Tests.{never, and-true, within-true}
+use Rattle.rules.specs.Admission.{rising, link-within, level-within, burst, average-within, figures-within, bound, count, reservation, cost, load, level-sum}
+use Rattle.rules.specs.SoundState.{reach}
+use Rattle.rules.proofs.Sums.{cond-is}
+use Rattle.rules.proofs.Tests.{never, and-true, or-cases, within-true}
 
 -- ---- the link
 
@@ -68,27 +71,101 @@ link-facts l e =
 
 -- ---- a connection
 
+-- n is 0 without a window, and a window that holds one packet is at least an average gap long
+pub burst-none : (c : Connection) → c .window ≡ 0 → burst c ≡ 0
+unfolding burst
+burst-none c e = ap (λ (w : ℕ). w / c .average) e ∙ zero-div (c .average)
+
+average-le : (c : Connection) → 1 ≤ burst c → c .average ≤ c .window
+unfolding burst
+average-le c h = omega (arith, div-mul-le-self (c .window) (c .average), mul-le-mul-right (c .average) h)
+
 pub record Connection-facts (l : Link) (c : Connection) : Type 0 where
   pub low-level : 1 ≤ c .level
   pub high-level : c .level ≤ l .levels
   pub some-gap : 1 ≤ c .gap
   pub gap-le : c .gap ≤ max-gap
   pub size-le : c .size ≤ l .largest
+  pub burst-le : burst c ≤ max-burst
+  pub window-le : c .window ≤ max-window
+  pub gap-le-reach : c .gap ≤ reach c
+
+-- no average, or one within its limits
+record Average-facts (c : Connection) : Type 0 where
+  burst-le : burst c ≤ max-burst
+  window-le : c .window ≤ max-window
+  gap-le-reach : c .gap ≤ reach c
+
+no-average : (c : Connection) → c .window ≡ 0 → c .average ≡ 0 → Average-facts c
+no-average c i j = record { burst-le = omega (arith, none); window-le = omega arith; gap-le-reach = omega (arith, cond-is (c .gap) (c .window) (eq-eqb (burst c) 0 none)) }
+  where
+    none : burst c ≡ 0
+    none = burst-none c i
+
+-- a window is at least as long as the average gap that divides it, once it is not 0
+some-average : (c : Connection) → c .window ≤ max-window → c .gap ≤ c .average → 1 ≤ burst c → burst c ≤ max-burst → Average-facts c
+some-average c w g low high = record {
+  burst-le = high;
+  window-le = w;
+  gap-le-reach = omega (arith, cond-is (c .gap) (c .window) (ne-eqb (burst c) 0 (λ z. omega arith)), average-le c low);
+}
+
+average-facts : (c : Connection) → average-within c ≡ true → Average-facts c
+average-facts c e =
+    or-cases (eqb (c .window) 0 && eqb (c .average) 0) _ e
+    (λ z. let k = and-true (eqb (c .window) 0) (eqb (c .average) 0) z in no-average c (eqb-true _ 0 (k .0)) (eqb-true _ 0 (k .1)))
+    (λ _ z.
+    let a = and-true (leb (c .window) max-window) _ z in
+    let b = and-true (leb (c .gap) (c .average)) _ (a .1) in
+    let d = and-true (eqb (c .window % c .average) 0) (within 1 max-burst (burst c)) (b .1) in
+    let n = within-true 1 max-burst (burst c) (d .1) in
+    some-average c (leb-true _ _ (a .0)) (leb-true _ _ (b .0)) (n .0) (n .1))
+
+-- n packets a gap apart fit a window
+pub packets-fit : (c : Connection) → average-within c ≡ true → 1 ≤ burst c → burst c * c .gap ≤ c .window
+unfolding burst
+packets-fit c e some =
+    or-cases (eqb (c .window) 0 && eqb (c .average) 0) _ e
+    (λ z. let k = and-true (eqb (c .window) 0) (eqb (c .average) 0) z in absurd (omega (arith, burst-none c (eqb-true _ 0 (k .0)))))
+    (λ _ z.
+    let a = and-true (leb (c .window) max-window) _ z in
+    let b = and-true (leb (c .gap) (c .average)) _ (a .1) in
+    omega (arith, div-mul-le-self (c .window) (c .average), mul-le-mul-left (c .window / c .average) (leb-true (c .gap) (c .average) (b .0))))
+
+-- gap, size and average alone, whatever the level
+pub record Figures-facts (l : Link) (c : Connection) : Type 0 where
+  pub some-gap : 1 ≤ c .gap
+  pub gap-le : c .gap ≤ max-gap
+  pub size-le : c .size ≤ l .largest
+  pub average : average-within c ≡ true
+
+pub figures-facts : (l : Link) (c : Connection) → figures-within l c ≡ true → Figures-facts l c
+unfolding figures-within
+figures-facts l c f =
+    let a = and-true (within 1 max-gap (c .gap)) (within 1 (l .largest) (c .size) && average-within c) f in
+    let b = and-true (within 1 (l .largest) (c .size)) (average-within c) (a .1) in
+    let g = within-true 1 max-gap (c .gap) (a .0) in
+    record { some-gap = g .0; gap-le = g .1; size-le = within-true 1 (l .largest) (c .size) (b .0) .1; average = b .1 }
+
+pub few-at-once : (l : Link) (c : Connection) → figures-within l c ≡ true → burst c ≤ max-burst
+few-at-once l c f = average-facts c (figures-facts l c f .average) .burst-le
 
 pub connection-facts : (l : Link) (c : Connection) → level-within l c ≡ true → figures-within l c ≡ true → Connection-facts l c
-unfolding level-within figures-within
+unfolding level-within
 connection-facts l c e f =
-    let a = and-true (within 1 max-gap (c .gap)) (within 1 (l .largest) (c .size)) f in
     let v = within-true 1 (l .levels) (c .level) e in
-    let g = within-true 1 max-gap (c .gap) (a .0) in
-    record { low-level = v .0; high-level = v .1; some-gap = g .0; gap-le = g .1; size-le = within-true 1 (l .largest) (c .size) (a .1) .1 }
-
--- gap and size alone, whatever the level
-pub figures-gap : (l : Link) (c : Connection) → figures-within l c ≡ true → (1 ≤ c .gap) × (c .size ≤ l .largest)
-unfolding figures-within
-figures-gap l c f =
-    let a = and-true (within 1 max-gap (c .gap)) (within 1 (l .largest) (c .size)) f in
-    (within-true 1 max-gap (c .gap) (a .0) .0, within-true 1 (l .largest) (c .size) (a .1) .1)
+    let F = figures-facts l c f in
+    let A = average-facts c (F .average) in
+    record {
+      low-level = v .0;
+      high-level = v .1;
+      some-gap = F .some-gap;
+      gap-le = F .gap-le;
+      size-le = F .size-le;
+      burst-le = A .burst-le;
+      window-le = A .window-le;
+      gap-le-reach = A .gap-le-reach;
+    }
 
 -- ---- the reservation, the cost and the sum
 

@@ -1,4 +1,4 @@
--- Demand 3, second sentence: all offers of a connection that keeps its gap are accepted with eligibility = arrival, up to the clock's end.
+-- Demand 3, second sentence: all offers of a connection that keeps its word are accepted with eligibility = arrival, up to the clock's end.
 use Prim.Native.Nat.{ℕ, suc, _≤_, _<_}
 use native.Mathlib.Omega.{arith}
 use mathlib.Core.Path.{_≡_, refl, sym, ap, _∙_, subst}
@@ -21,7 +21,8 @@ use Rattle.rules.proofs.Sums.{split, same, cond-is}
 use Rattle.rules.proofs.Tests.{never, and-true, and-intro, within-intro}
 use Rattle.rules.proofs.Rows.{none-some, eligibilities-snoc-same, eligibilities-snoc-other}
 use Rattle.rules.proofs.Notices.{of-levels}
-use Rattle.rules.proofs.Spacing.{memory, next-is-now, spaced-front, spaced-before}
+use Rattle.rules.proofs.Memory.{memory}
+use Rattle.rules.proofs.Spacing.{next-is-now, spaced-front, spaced-before}
 use Rattle.rules.proofs.Standing.{stands-below, nth-old, length-snoc}
 use Rattle.rules.proofs.Line.{tick-leaves}
 use Rattle.rules.proofs.Verdicts.{settled, link-done, offer-done, tick-done}
@@ -131,7 +132,7 @@ module _ (c : ℕ) (level : c ≡ notice-number → ⊥) where
           ap (λ (p : Past). next-eligibility (figures s c) p (s .clock))
           (I .regular .remembered c (stands-below (s .connections) c standing)
           ∙ ap (λ (ps : List Packet). memory (map (λ p. p .eligibility) ps)) (of-levels c acc level))
-          ∙ next-is-now (figures s c) (eligibilities c acc) (s .clock) word-accepted
+          ∙ next-is-now (figures s c) (facts-of s (I .sound) .each c (stands-below (s .connections) c standing) .burst-le) (eligibilities c acc) (s .clock) word-accepted
 
       pub has-room : length (of c (s .held)) < reservation (s .link) (figures s c)
       has-room = room h I c standing word-accepted

@@ -15,7 +15,8 @@ use Rattle.rules.specs.Calls.{linked, joined}
 use Rattle.rules.specs.Runs.{History}
 use Rattle.rules.proofs.Lists.{all-map, all-zip, total, total-eq}
 use Rattle.rules.proofs.Rows.{first-all, none-of}
-use Rattle.rules.proofs.Spacing.{memory, spaced-nil}
+use Rattle.rules.proofs.Memory.{memory}
+use Rattle.rules.proofs.Spacing.{spaced-nil}
 use Rattle.rules.proofs.Notices.{level-packets}
 use Rattle.rules.proofs.Standing.{stands-below, nth-old, length-snoc, nth-snoc, fits-old}
 use Rattle.rules.proofs.Line.{left-same}

@@ -9,9 +9,9 @@ use lib.ListN.{length, getD, set}
 use lib.Seq.{getD-set-same, getD-set-other}
 use borrow.Author.Tests.{ne-eqb}
 use Rattle.rules.specs.Words.{upto}
-use Rattle.rules.specs.Limits.{max-connections, notice-number}
+use Rattle.rules.specs.Limits.{max-connections, notice-number, max-remembered}
 use Rattle.rules.specs.Model.{Past, no-past, Packet, State, past, figures, notice-packet, with-connections, with-held}
-use Rattle.rules.specs.Admission.{cost}
+use Rattle.rules.specs.Admission.{burst, cost}
 use Rattle.rules.specs.Service.{next-eligibility, remember, Spaced, of, eligibilities, first, level-of}
 use Rattle.rules.specs.SoundState.{Fits, In-service, Sound}
 use Rattle.rules.specs.Calls.{eligibility-now, packet, placed}
@@ -20,13 +20,14 @@ use Rattle.rules.proofs.Lists.{all-map, all-snoc, sub-snoc, total-snoc}
 use Rattle.rules.proofs.Sums.{same, cond-is, upto-yes}
 use Rattle.rules.proofs.Rows.{first-append, of-append, eligibilities-snoc-same, eligibilities-snoc-other}
 use Rattle.rules.proofs.Notices.{level-packets, levels-and-packet, first-behind, either-order}
-use Rattle.rules.proofs.Spacing.{memory, memory-snoc, not-before, next-spaced}
+use Rattle.rules.proofs.Memory.{memory, memory-snoc}
+use Rattle.rules.proofs.Spacing.{not-before, next-spaced}
 use Rattle.rules.proofs.Standing.{stands-below}
 use Rattle.rules.proofs.Line.{left-same}
 use Rattle.rules.proofs.Verdicts.{Offer-done}
 use Rattle.rules.proofs.Window.{weight}
 use Rattle.rules.proofs.Busy.{due, served, Line, Regular, Busy, served-idle, served-is, served-notice}
-use Rattle.rules.proofs.Invariant.{whats, Invariant}
+use Rattle.rules.proofs.Invariant.{whats, Invariant, facts-of}
 
 -- ---- the line and the levels: a packet that is not eligible before now is added behind
 
@@ -83,7 +84,8 @@ module _ (s : State) (acc : List Packet) (p : Packet) (hs : List Past) (level : 
 
 -- ---- the packets accepted
 
-module _ (s : State) (acc : List Packet) (c len tag : ℕ) (one-past-each : length (s .pasts) ≡ length (s .connections)) (R : Regular s acc) (D : Offer-done s c len) where
+module _ (s : State) (acc : List Packet) (c len tag : ℕ) (one-past-each : length (s .pasts) ≡ length (s .connections)) (R : Regular s acc) (D : Offer-done s c len)
+    (few : burst (figures s c) ≤ max-remembered) where
   p : Packet
   p = packet s c len tag
 
@@ -99,7 +101,7 @@ module _ (s : State) (acc : List Packet) (c len tag : ℕ) (one-past-each : leng
       subst (λ (j : ℕ). Spaced (figures s j) (eligibilities j (acc ++ p ∷ []))) e
       (rw (eligibilities-snoc-same c acc p refl)
       (subst (λ (h : Past). Spaced (figures s c) (eligibilities c acc ++ next-eligibility (figures s c) h (s .clock) ∷ [])) (sym (R .remembered c below))
-      (next-spaced (figures s c) (eligibilities c acc) (s .clock) (R .spaced c below))))
+      (next-spaced (figures s c) few (eligibilities c acc) (s .clock) (R .spaced c below))))
   spaced-placed d l (inr e) = rw (eligibilities-snoc-other d acc p e) (R .spaced d l)
 
   remembered-placed : (d : ℕ) → d < length (s .connections) → (c ≡ d) ⊎ (c ≡ d → ⊥) → getD (set (s .pasts) c new) d no-past ≡ memory (eligibilities d (acc ++ p ∷ []))
@@ -131,7 +133,7 @@ module _ (h : History) (I : Invariant h) where
       → Invariant (record { accepted = all ++ packet s c len tag ∷ []; departed = gone; now = placed s c len tag })
   placed-keeps c len tag e few D T = record {
     sound = T;
-    regular = subst (Regular (placed s c len tag)) (sym own) (placed-regular s (level-packets all) c len tag e (I .regular) D);
+    regular = subst (Regular (placed s c len tag)) (sym own) (placed-regular s (level-packets all) c len tag e (I .regular) D few-burst);
     line = behind-line s (level-packets all) p hs level (I .line);
     busy = λ m low high.
         subst (λ (acc : List Packet). Busy (placed s c len tag) acc m (s .clock)) (sym own)
@@ -152,6 +154,9 @@ module _ (h : History) (I : Invariant h) where
 
       level : c ≡ notice-number → ⊥
       level i = omega (arith, stands-below (s .connections) c (D .standing))
+
+      few-burst : burst (figures s c) ≤ max-remembered
+      few-burst = facts-of s (I .sound) .each c (stands-below (s .connections) c (D .standing)) .burst-le
 
       own : level-packets (all ++ packet s c len tag ∷ []) ≡ level-packets all ++ packet s c len tag ∷ []
       own = levels-and-packet all (packet s c len tag) level

@@ -3,7 +3,9 @@ pub mod Sums
 pub mod Tests
 pub mod Rows
 pub mod Notices
+pub mod Memory
 pub mod Spacing
+pub mod Count
 pub mod Queue
 pub mod Standing
 pub mod LevelTest
@@ -34,5 +36,7 @@ pub mod Alone
 pub mod NoticesLast
 pub mod Fields
 pub mod WithoutSilence
+pub mod WithoutAverage
+pub mod Reached
 pub mod Results
 pub mod Examples

@@ -1,8 +1,9 @@
 -- Lists: a property of every element, a relation of every earlier to every later element, sublists, and sums of weights.
-use Prim.Native.Nat.{ℕ, _+_, _*_, _≤_}
+use Prim.Native.Nat.{ℕ, zero, suc, _+_, _*_, _≤_, _<_}
 use native.Mathlib.Omega.{arith}
 use mathlib.Core.Path.{_≡_, refl}
 use mathlib.Core.List.{List, [], _∷_, _++_}
+use lib.ListN.{length, getD, set}
 pub use Rattle.rules.specs.Words.{All, Pairs}
 
 module _ {A : Type 0} where
@@ -113,3 +114,17 @@ module _ {A : Type 0} where
   pub all-every : {P : A → Type 0} → ((x : A) → P x) → (xs : List A) → All P xs
   all-every f [] = tt
   all-every f (x ∷ xs) = (f x, all-every f xs)
+
+  pub all-at : (P : A → Type 0) (xs : List A) (i : ℕ) (d : A) → i < length xs → All P xs → P (getD xs i d)
+  all-at P [] i d l h = absurd (omega arith)
+  all-at P (x ∷ xs) zero d l h = h .0
+  all-at P (x ∷ xs) (suc i) d l h = all-at P xs i d (omega arith) (h .1)
+
+  pub all-from : (P : A → Type 0) (xs : List A) (d : A) → ((i : ℕ) → i < length xs → P (getD xs i d)) → All P xs
+  all-from P [] d f = tt
+  all-from P (x ∷ xs) d f = (f 0 (omega arith), all-from P xs d (λ i l. f (suc i) (omega arith)))
+
+  pub all-set : (P : A → Type 0) (xs : List A) (i : ℕ) (y : A) → All P xs → P y → All P (set xs i y)
+  all-set P [] i y h k = tt
+  all-set P (x ∷ xs) zero y h k = (k, h .1)
+  all-set P (x ∷ xs) (suc i) y h k = (h .0, all-set P xs i y (h .1) k)

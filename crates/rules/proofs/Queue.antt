@@ -1,239 +1,326 @@
--- The rows of one connection in a sound state: the clauses of document 01 said as one step from each row to the next (`Chain`), and the two forms
--- are the same. Base only: a request that changes the spacing changes this file.
-use Prim.Native.Nat.{ℕ, _+_, _*_, _≤_, _<_, max}
+-- The rows of one connection in a sound state: the clauses of docs/RULES-AFTER-BASE.md, R-6, said as one step from each row to the next (`Chain`), by what is
+-- remembered alone; the two forms are the same; and the second is kept by the calls.
+use Prim.Native.Nat.{ℕ, zero, suc, _+_, _*_, _-_, _≤_, _<_, max}
 use native.Mathlib.Omega.{arith}
 use mathlib.Core.Path.{_≡_, refl, sym, ap, _∙_, subst}
-use mathlib.Core.Bool.{true, false, true≢false}
 use mathlib.Core.Logic.{_⊎_, inl, inr}
 use mathlib.Core.List.{List, [], _∷_, _++_}
 use mathlib.Core.Option.{Option, none, some}
-use lib.ListN.{length}
-use Rattle.rules.specs.Model.{Connection, Past, no-past}
-use Rattle.rules.specs.Service.{next-eligibility, remember, Spaced}
-use Rattle.rules.specs.SoundState.{Ends-at, First-near, In-steps, Later-exact, Queue}
-use Rattle.rules.specs.SoundTest.{latest}
-use Rattle.rules.proofs.Lists.{All, all-map}
-use Rattle.rules.proofs.Sums.{split}
-use Rattle.rules.proofs.Tests.{not-false-true}
-use Rattle.rules.proofs.Rows.{some-inj}
-use Rattle.rules.proofs.Spacing.{remember-is, later-by-gap, next-near, spaced-nil, spaced-cons, spaced-parts}
+use lib.ListN.{length, take, drop, getElem?, length-drop}
+use borrow.Author.Tests.{ne-eqb, eq-eqb}
+use Rattle.rules.specs.Limits.{max-remembered}
+use Rattle.rules.specs.Model.{Link, Connection, Past, no-past}
+use Rattle.rules.specs.Admission.{burst}
+use Rattle.rules.specs.Service.{nth-before, ticks-after, earliest, next-eligibility, remember, remember-all, Spaced-behind, Spaced}
+use Rattle.rules.specs.SoundState.{in-order, departed-of, reach, Near-by, Beyond, Queue}
+use Rattle.rules.specs.SoundTest.{far-as, latest}
+use Rattle.rules.proofs.Lists.{All, Pairs, all-map, all-every}
+use Rattle.rules.proofs.Sums.{split, cond-is}
+use Rattle.rules.proofs.Figures.{Connection-facts}
+use Rattle.rules.proofs.Memory.{remember-few, remember-all-few, remember-all-snoc, all-take, all-remember, all-remember-all, Agrees, agrees-remember, Forgets, Had, forgets-at, forgets-remember, take-forgets, remember-forgets, rest-of, rest-enough}
+use Rattle.rules.proofs.Spacing.{earliest-is, earliest-fewer, earliest-same, same-before, next-is, Back, spaced-in-order, spaced-of-behind, spaced-rises}
 
--- ---- one step: an eligibility e behind the one before it, if there is one. X the gap, t the clock
+-- ---- how late an eligibility may be behind those in h
 
-abbrev pub Pace : ℕ → ℕ → Option ℕ → ℕ → Type 0
-Pace X t none e = e ≤ t + X
-Pace X t (some a) e = (a + X ≤ e) × (e ≤ max t a + X)
+module _ (c : Connection) where
+  latest-is : (t : ℕ) (h : Past) → latest c t h ≡ max (ticks-after (c .gap) (nth-before 1 h)) (far-as (t + reach c) (c .window) (nth-before (burst c) h))
+  unfolding latest
+  latest-is t h = refl
 
-abbrev pub Chain : ℕ → ℕ → Option ℕ → List ℕ → Type 0
-Chain X t o [] = Unit {0}
-Chain X t o (e ∷ es) = Pace X t o e × Chain X t (some e) es
+  -- with an average, a packet is held back by a window at most
+  reach-window : (i : ℕ) → burst c ≡ suc i → reach c ≡ c .window
+  reach-window i e = cond-is (c .gap) (c .window) (ne-eqb (burst c) 0 (λ z. omega arith))
 
--- what is remembered, against the last row if there is one
-abbrev pub Kept-past : ℕ → Past → Option ℕ → Type 0
-Kept-past t h none = (h .last ≤ t) × (h .sent ≡ false → h .last ≡ 0)
-Kept-past t h (some e) = (h .sent ≡ true) × (e ≡ h .last)
-
-pub record Chained (X t : ℕ) (h : Past) (es : List ℕ) : Type 0 where
-  pub chain : Chain X t none es
-  pub kept : Kept-past t h (latest es)
-
--- ---- from the clauses to the chain
-
-module _ (X t : ℕ) where
-  -- behind a row beyond the clock
-  steps-chain : (a : ℕ) (es : List ℕ) → t < a → In-steps X a es → Chain X t (some a) es
-  steps-chain a [] l s = tt
-  steps-chain a (e ∷ es) l s = ((omega arith, omega arith), steps-chain e es (omega arith) (s .1))
-
-  -- behind a row that is not
-  near-chain : (a : ℕ) (es : List ℕ) → a ≤ t → All (λ e. a + X ≤ e) es → (c : Connection) → c .gap ≡ X → Spaced c es → First-near X t es → Later-exact X t es → Chain X t (some a) es
-  near-chain a [] l g c i s n x = tt
-  near-chain a (e ∷ es) l g c i s n x =
-      let p = spaced-parts c e es s in
-      go (split e t) (λ k. near-chain e es k (all-map (λ f r. omega arith) es (p .0)) c i (p .1) (n .1 k) (x .1 k))
+  reach-le : (far : ℕ) → c .gap ≤ far → c .window ≤ far → reach c ≤ far
+  reach-le far g w = go (burst c) refl
     where
-      go : (e ≤ t) ⊎ (t < e) → (e ≤ t → Chain X t (some e) es) → Pace X t (some a) e × Chain X t (some e) es
-      go (inl k) f = ((g .0, omega arith), f k)
-      go (inr k) f = ((g .0, omega (arith, n .0 k)), steps-chain e es k (x .0 k))
+      go : (n : ℕ) → burst c ≡ n → reach c ≤ far
+      go zero e = omega (arith, cond-is (c .gap) (c .window) (eq-eqb (burst c) 0 e))
+      go (suc i) e = omega (arith, reach-window i e)
 
-  first-chain : (c : Connection) → c .gap ≡ X → (es : List ℕ) → Spaced c es → First-near X t es → Later-exact X t es → Chain X t none es
-  first-chain c i [] s n x = tt
-  first-chain c i (e ∷ es) s n x = go (split e t)
+  -- as early as the rules allow is not too late
+  earliest-latest : (t : ℕ) (h : Past) → earliest c h ≤ latest c t h
+  earliest-latest t h = omega (arith, earliest-is c h, latest-is t h, go (nth-before (burst c) h))
     where
-      go : (e ≤ t) ⊎ (t < e) → (e ≤ t + X) × Chain X t (some e) es
-      go (inl k) =
-          let p = spaced-parts c e es s in
-          (omega arith, near-chain e es k (all-map (λ f r. omega arith) es (p .0)) c i (p .1) (n .1 k) (x .1 k))
-      go (inr k) = (n .0 k, steps-chain e es k (x .0 k))
+      go : (o : Option ℕ) → ticks-after (c .window) o ≤ far-as (t + reach c) (c .window) o
+      go none = omega arith
+      go (some a) = omega arith
 
-  -- ---- and back
+  -- where the n-th before is known they are the same; else the clock counts
+  latest-known : (t : ℕ) (h : Past) (a : ℕ) → nth-before (burst c) h ≡ some a → latest c t h ≡ earliest c h
+  latest-known t h a e = omega (arith, earliest-is c h, latest-is t h, ap (far-as (t + reach c) (c .window)) e, ap (ticks-after (c .window)) e)
 
-  chain-steps : (a : ℕ) (es : List ℕ) → t < a → Chain X t (some a) es → In-steps X a es
-  chain-steps a [] l k = tt
-  chain-steps a (e ∷ es) l k = (omega (arith, k .0 .0, k .0 .1), chain-steps e es (omega (arith, k .0 .0)) (k .1))
+  pub latest-unknown : (t : ℕ) (h : Past) → nth-before (burst c) h ≡ none → latest c t h ≡ max (t + reach c) (ticks-after (c .gap) (nth-before 1 h))
+  latest-unknown t h e = omega (arith, latest-is t h, ap (far-as (t + reach c) (c .window)) e)
 
-  chain-near : (a : ℕ) (es : List ℕ) → a ≤ t → Chain X t (some a) es → First-near X t es × Later-exact X t es
-  chain-near a [] l k = (tt, tt)
-  chain-near a (e ∷ es) l k = ((λ m. omega (arith, k .0 .1), λ m. chain-near e es m (k .1) .0), (λ m. chain-steps e es m (k .1), λ m. chain-near e es m (k .1) .1))
-
-  chain-first : (es : List ℕ) → Chain X t none es → First-near X t es × Later-exact X t es
-  chain-first [] k = (tt, tt)
-  chain-first (e ∷ es) k = ((λ m. k .0, λ m. chain-near e es m (k .1) .0), (λ m. chain-steps e es m (k .1), λ m. chain-near e es m (k .1) .1))
-
-  -- each later one is a gap later
-  chain-after : (a : ℕ) (es : List ℕ) → Chain X t (some a) es → All (λ e. a + X ≤ e) es
-  chain-after a [] k = tt
-  chain-after a (e ∷ es) k = (k .0 .0, all-map (λ f r. omega (arith, k .0 .0)) es (chain-after e es (k .1)))
-
-  pub chain-spaced : (c : Connection) → c .gap ≡ X → (o : Option ℕ) (es : List ℕ) → Chain X t o es → Spaced c es
-  chain-spaced c i o [] k = spaced-nil c
-  chain-spaced c i o (e ∷ es) k = spaced-cons c e es (all-map (λ f r. omega arith) es (chain-after e es (k .1))) (chain-spaced c i (some e) es (k .1))
-
--- ---- the last row
-
-pub latest-snoc : (es : List ℕ) (e : ℕ) → latest (es ++ e ∷ []) ≡ some e
-latest-snoc [] e = refl
-latest-snoc (d ∷ []) e = refl
-latest-snoc (d ∷ f ∷ es) e = latest-snoc (f ∷ es) e
-
--- behind e the last row is there
-pub latest-some : (e : ℕ) (es : List ℕ) → (l : ℕ) × (latest (e ∷ es) ≡ some l)
-latest-some e [] = (e, refl)
-latest-some e (f ∷ es) = latest-some f es
-
-pub latest-all : (P : ℕ → Type 0) (e : ℕ) (es : List ℕ) (l : ℕ) → latest (e ∷ es) ≡ some l → All P (e ∷ es) → P l
-latest-all P e [] l i h = subst P (some-inj i) (h .0)
-latest-all P e (f ∷ es) l i h = latest-all P f es l i (h .1)
-
-ends-latest : (last e : ℕ) (es : List ℕ) (l : ℕ) → latest (e ∷ es) ≡ some l → Ends-at last (e ∷ es) → l ≡ last
-ends-latest last e [] l i k = sym (cc i) ∙ k
-ends-latest last e (f ∷ es) l i k = ends-latest last f es l i k
-
-latest-ends : (last e : ℕ) (es : List ℕ) → latest (e ∷ es) ≡ some last → Ends-at last (e ∷ es)
-latest-ends last e [] i = cc i
-latest-ends last e (f ∷ es) i = latest-ends last f es i
-
--- ---- the two forms are the same
-
-module _ (c : Connection) (t : ℕ) (h : Past) where
-  pub queue-chained : (es : List ℕ) → Queue c t h es → Chained (c .gap) t h es
-  queue-chained es q = record { chain = first-chain (c .gap) t c refl es (q .rise) (q .first-beyond) (q .later-beyond); kept = kept es (q .last-row) (q .none-beyond) (q .none-accepted) }
+  latest-later : (t : ℕ) (h : Past) → latest c t h ≤ latest c (t + 1) h
+  latest-later t h = omega (arith, latest-is t h, latest-is (t + 1) h, go (nth-before (burst c) h))
     where
-      kept : (es : List ℕ) → Ends-at (h .last) es → (All (λ e. e ≤ t) es → h .last ≤ t) → (h .sent ≡ false → (es ≡ []) × (h .last ≡ 0)) → Kept-past t h (latest es)
-      kept [] x y z = (y tt, λ i. z i .1)
-      kept (e ∷ es) x y z = at (latest-some e es .0) (latest-some e es .1)
-        where
-          at : (l : ℕ) → latest (e ∷ es) ≡ some l → Kept-past t h (latest (e ∷ es))
-          at l i = rw i (not-false-true (h .sent) (λ j. absurd (not-empty (z j .0))), ends-latest (h .last) e es l i x)
-            where
-              not-empty : e ∷ es ≡ [] → ⊥
-              not-empty j = let k : _≡_ {A = ℕ} 0 1 = cc j in omega arith
+      go : (o : Option ℕ) → far-as (t + reach c) (c .window) o ≤ far-as (t + 1 + reach c) (c .window) o
+      go none = omega arith
+      go (some a) = omega arith
 
-  pub chained-queue : (es : List ℕ) → Chained (c .gap) t h es → Queue c t h es
-  chained-queue es q = record {
-    rise = chain-spaced (c .gap) t c refl none es (q .chain);
-    last-row = last-row es (q .kept);
-    first-beyond = chain-first (c .gap) t es (q .chain) .0;
-    later-beyond = chain-first (c .gap) t es (q .chain) .1;
-    none-beyond = none-beyond es (q .kept);
-    none-accepted = none-accepted es (q .kept);
-  }
+  module _ (t : ℕ) (m k : Past) (F : Forgets (λ a. a ≤ t) m k) where
+    -- what is forgotten is not beyond the clock
+    far-fewer : far-as (t + reach c) (c .window) (nth-before (burst c) m) ≤ far-as (t + reach c) (c .window) (nth-before (burst c) k)
+    far-fewer = go (burst c) refl
+      where
+        gone : (i : ℕ) (o : Option ℕ) → burst c ≡ suc i → Had (λ a. a ≤ t) o → far-as (t + reach c) (c .window) o ≤ t + reach c
+        gone i none e h = omega arith
+        gone i (some a) e h = omega (arith, reach-window i e)
+
+        at : (i : ℕ) → burst c ≡ suc i → (getElem? k i ≡ getElem? m i) ⊎ ((getElem? k i ≡ none) × Had (λ a. a ≤ t) (getElem? m i))
+            → far-as (t + reach c) (c .window) (getElem? m i) ≤ far-as (t + reach c) (c .window) (getElem? k i)
+        at i e (inl q) = omega (arith, ap (far-as (t + reach c) (c .window)) q)
+        at i e (inr q) = omega (arith, ap (far-as (t + reach c) (c .window)) (q .0), gone i (getElem? m i) e (q .1))
+
+        go : (n : ℕ) → burst c ≡ n → far-as (t + reach c) (c .window) (nth-before n m) ≤ far-as (t + reach c) (c .window) (nth-before n k)
+        go zero e = omega arith
+        go (suc i) e = at i e (forgets-at (λ a. a ≤ t) m k F i)
+
+  latest-fewer : c .gap ≤ reach c → (t : ℕ) (m k : Past) → Forgets (λ a. a ≤ t) m k → latest c t m ≤ latest c t k
+  latest-fewer g t m [] F =
+      omega (arith, latest-is t m, latest-is t [], far-fewer t m [] F, first m F, nothing (burst c))
     where
-      last-row : (es : List ℕ) → Kept-past t h (latest es) → Ends-at (h .last) es
-      last-row [] k = tt
-      last-row (e ∷ es) k = at (latest-some e es .0) (latest-some e es .1) k
-        where
-          at : (l : ℕ) → latest (e ∷ es) ≡ some l → Kept-past t h (latest (e ∷ es)) → Ends-at (h .last) (e ∷ es)
-          at l i k = let j : Kept-past t h (some l) = rw i at k in latest-ends (h .last) e es (i ∙ ap some (j .1))
+      first : (m : Past) → All (λ a. a ≤ t) m → ticks-after (c .gap) (nth-before 1 m) ≤ t + reach c
+      first [] h = omega arith
+      first (b ∷ m) h = omega (arith, h .0)
 
-      none-beyond : (es : List ℕ) → Kept-past t h (latest es) → All (λ e. e ≤ t) es → h .last ≤ t
-      none-beyond [] k a = k .0
-      none-beyond (e ∷ es) k a = at (latest-some e es .0) (latest-some e es .1) k
-        where
-          at : (l : ℕ) → latest (e ∷ es) ≡ some l → Kept-past t h (latest (e ∷ es)) → h .last ≤ t
-          at l i k = let j : Kept-past t h (some l) = rw i at k in omega (arith, latest-all (λ x. x ≤ t) e es l i a, j .1)
+      nothing : (n : ℕ) → far-as (t + reach c) (c .window) (nth-before n []) ≡ t + reach c
+      nothing zero = refl
+      nothing (suc n) = refl
+  latest-fewer g t [] (a ∷ k) F = absurd F
+  latest-fewer g t (b ∷ m) (a ∷ k) F = omega (arith, latest-is t (b ∷ m), latest-is t (a ∷ k), far-fewer t (b ∷ m) (a ∷ k) F, F .0)
 
-      none-accepted : (es : List ℕ) → Kept-past t h (latest es) → h .sent ≡ false → (es ≡ []) × (h .last ≡ 0)
-      none-accepted [] k i = (refl, k .1 i)
-      none-accepted (e ∷ es) k i = at (latest-some e es .0) (latest-some e es .1) k
-        where
-          at : (l : ℕ) → latest (e ∷ es) ≡ some l → Kept-past t h (latest (e ∷ es)) → (e ∷ es ≡ []) × (h .last ≡ 0)
-          at l x k = let j : Kept-past t h (some l) = rw x at k in absurd (true≢false (sym (j .0) ∙ i))
+  -- no later than a gap or a window after the last of all
+  ticks-le : (x u n : ℕ) (h : Past) → All (λ e. e ≤ u) h → ticks-after x (nth-before n h) ≤ u + x
+  ticks-le x u zero h a = omega arith
+  ticks-le x u (suc i) [] a = omega arith
+  ticks-le x u (suc zero) (e ∷ h) a = omega (arith, a .0)
+  ticks-le x u (suc (suc i)) (e ∷ h) a = ticks-le x u (suc i) h (a .1)
+
+  latest-le : (far t u : ℕ) (h : Past) → c .gap ≤ far → c .window ≤ far → t ≤ u → All (λ e. e ≤ u) h → latest c t h ≤ u + far
+  latest-le far t u h g w l a = omega (arith, latest-is t h, ticks-le (c .gap) u 1 h a, go (nth-before (burst c) h) (ticks-le (c .window) u (burst c) h a))
+    where
+      go : (o : Option ℕ) → ticks-after (c .window) o ≤ u + c .window → far-as (t + reach c) (c .window) o ≤ u + far
+      go none q = omega (arith, reach-le far g w)
+      go (some b) q = omega arith
+
+-- ---- one step: an eligibility e behind what is remembered
+
+abbrev pub Pace : Connection → ℕ → Past → ℕ → Type 0
+Pace c t h e = (earliest c h ≤ e) × (e ≤ max t (latest c t h))
+
+abbrev pub Chain : Connection → ℕ → Past → List ℕ → Type 0
+Chain c t h [] = Unit {0}
+Chain c t h (e ∷ es) = Pace c t h e × Chain c t (remember h e) es
+
+-- what is remembered, by what of it has left
+pub record Kept-past (c : Connection) (t : ℕ) (h : Past) (es : List ℕ) : Type 0 where
+  pub few : length h ≤ max-remembered
+  pub last-rows : remember-all (departed-of h es) es ≡ h
+  pub back : Back c (departed-of h es)
+  pub gone : All (λ e. e ≤ t) (departed-of h es)
+
+-- ---- the clauses and the chain are the same
+
+module _ (c : Connection) (few : burst c ≤ max-remembered) (t : ℕ) where
+  module _ (m : List ℕ) (k : Past) (A : Agrees m k) where
+    latest-same : latest c t k ≡ latest c t m
+    unfolding latest
+    latest-same =
+        ap (λ (o : Option ℕ). max (ticks-after (c .gap) o) (far-as (t + reach c) (c .window) (nth-before (burst c) k))) (same-before c few m k A 1 (omega arith))
+        ∙ ap (λ (o : Option ℕ). max (ticks-after (c .gap) (nth-before 1 m)) (far-as (t + reach c) (c .window) o)) (same-before c few m k A (burst c) few)
+
+    near-pace : (e : ℕ) → earliest c m ≤ e → (t < e → Near-by c t m e (nth-before (burst c) m)) → Pace c t k e
+    near-pace e l f = (omega (arith, earliest-same c few m k A), omega (arith, latest-same, not-late (split e t)))
+      where
+        at : (o : Option ℕ) → nth-before (burst c) m ≡ o → Near-by c t m e o → e ≤ latest c t m
+        at none i n = omega (arith, latest-unknown c t m i)
+        at (some a) i n = omega (arith, latest-known c t m a i)
+
+        not-late : (e ≤ t) ⊎ (t < e) → e ≤ max t (latest c t m)
+        not-late (inl h) = omega arith
+        not-late (inr h) = omega (arith, at (nth-before (burst c) m) refl (f h))
+
+    pace-near : (e : ℕ) → Pace c t k e → (earliest c m ≤ e) × (t < e → Near-by c t m e (nth-before (burst c) m))
+    pace-near e p = (low, λ h. at (nth-before (burst c) m) refl h)
+      where
+        low : earliest c m ≤ e
+        low = omega (arith, earliest-same c few m k A, p .0)
+
+        at : (o : Option ℕ) → nth-before (burst c) m ≡ o → t < e → Near-by c t m e o
+        at none i h = omega (arith, latest-unknown c t m i, latest-same, p .1)
+        at (some a) i h = omega (arith, latest-known c t m a i, latest-same, p .1, low)
+
+  clauses-chain : (m : List ℕ) (k : Past) → Agrees m k → (es : List ℕ) → Spaced-behind c m es → Beyond c t m es → Chain c t k es
+  clauses-chain m k A [] s b = tt
+  clauses-chain m k A (e ∷ es) s b = (near-pace m k A e (s .0) (b .0), clauses-chain (e ∷ m) (remember k e) (agrees-remember m k e A) es (s .1) (b .1))
+
+  chain-clauses : (m : List ℕ) (k : Past) → Agrees m k → (es : List ℕ) → Chain c t k es → Spaced-behind c m es × Beyond c t m es
+  chain-clauses m k A [] h = (tt, tt)
+  chain-clauses m k A (e ∷ es) h =
+      let p = pace-near m k A e (h .0) in
+      let q = chain-clauses (e ∷ m) (remember k e) (agrees-remember m k e A) es (h .1) in
+      ((p .0, q .0), (p .1, q .1))
+
+  module _ (h : Past) (es : List ℕ) where
+    pub queue-chain : Queue c t h es → Chain c t (departed-of h es) es
+    queue-chain q =
+        clauses-chain (departed-of h es) (departed-of h es) (λ i l. refl) es (spaced-in-order c (departed-of h es) es .0 (q .rise) .1) (q .beyond)
+
+    pub queue-kept : Queue c t h es → Kept-past c t h es
+    queue-kept q = record { few = q .few; last-rows = q .last-rows; back = spaced-in-order c (departed-of h es) es .0 (q .rise) .0; gone = q .left-eligible }
+
+    pub queue-of : Kept-past c t h es → Chain c t (departed-of h es) es → Queue c t h es
+    queue-of k r =
+        let q = chain-clauses (departed-of h es) (departed-of h es) (λ i l. refl) es r in
+        record {
+          few = k .few;
+          last-rows = k .last-rows;
+          rise = spaced-in-order c (departed-of h es) es .1 (k .back, q .0);
+          left-eligible = k .gone;
+          beyond = q .1;
+        }
+
+-- the rows rise
+pub queue-rises : (c : Connection) (t : ℕ) (h : Past) (es : List ℕ) → 1 ≤ c .gap → Queue c t h es → Pairs (λ a b. a < b) es
+queue-rises c t h es g q = spaced-rises c g es (spaced-of-behind c (departed-of h es) es (spaced-in-order c (departed-of h es) es .0 (q .rise) .1))
+
+-- ---- behind any memory that the rows make what is remembered now: the form that the calls keep
+
+pub record Chained (c : Connection) (t : ℕ) (h : Past) (es : List ℕ) : Type 0 where
+  pub old : Past
+  pub few : length old ≤ max-remembered
+  pub kept : remember-all old es ≡ h
+  pub back : Back c old
+  pub gone : All (λ e. e ≤ t) old
+  pub chain : Chain c t old es
+
+pub record Regulated (c : Connection) : Type 0 where
+  pub burst-few : burst c ≤ max-remembered
+  pub gap-le-reach : c .gap ≤ reach c
+
+pub regulated-of : (l : Link) (c : Connection) → Connection-facts l c → Regulated c
+regulated-of l c f = record { burst-few = f .burst-le; gap-le-reach = f .gap-le-reach }
+
+module _ (c : Connection) where
+  back-fewer : (P : ℕ → Type 0) (m k : List ℕ) → Forgets P m k → Back c m → Back c k
+  back-fewer P m [] F b = tt
+  back-fewer P [] (a ∷ k) F b = absurd F
+  back-fewer P (d ∷ m) (a ∷ k) F b = (omega (arith, earliest-fewer P c m k (F .1), b .0, F .0), back-fewer P m k (F .1) (b .1))
+
+  chain-fewer : c .gap ≤ reach c → (t : ℕ) (es : List ℕ) (m k : Past) → Forgets (λ a. a ≤ t) m k → Chain c t m es → Chain c t k es
+  chain-fewer g t [] m k F h = tt
+  chain-fewer g t (e ∷ es) m k F h = (
+    (omega (arith, earliest-fewer (λ a. a ≤ t) c m k F, h .0 .0), omega (arith, latest-fewer c g t m k F, h .0 .1)),
+    chain-fewer g t es (remember m e) (remember k e) (forgets-remember (λ a. a ≤ t) m k e F) (h .1),
+  )
+
+module _ (c : Connection) (R : Regulated c) (t : ℕ) (h : Past) (es : List ℕ) where
+  pub queue-chained : Queue c t h es → Chained c t h es
+  queue-chained q =
+      let k = queue-kept c (R .burst-few) t h es q in
+      record {
+        old = departed-of h es;
+        few = omega (arith, length-drop (length es) h, q .few);
+        kept = q .last-rows;
+        back = k .back;
+        gone = k .gone;
+        chain = queue-chain c (R .burst-few) t h es q;
+      }
+
+  pub chained-queue : Chained c t h es → Queue c t h es
+  chained-queue q = queue-of c (R .burst-few) t h es kept (subst (λ (m : Past). Chain c t m es) (sym here) chain)
+    where
+      rest : Past
+      rest = take (max-remembered - length es) (q .old)
+
+      here : departed-of h es ≡ take (max-remembered - length es) (q .old)
+      here = ap (drop (length es)) (sym (q .kept)) ∙ rest-of es (q .old) (q .few)
+
+      forgets : Forgets (λ a. a ≤ t) (q .old) (take (max-remembered - length es) (q .old))
+      forgets = take-forgets (λ a. a ≤ t) (max-remembered - length es) (q .old) (q .gone)
+
+      chain : Chain c t (take (max-remembered - length es) (q .old)) es
+      chain = chain-fewer c (R .gap-le-reach) t es (q .old) (take (max-remembered - length es) (q .old)) forgets (q .chain)
+
+      kept : Kept-past c t h es
+      kept = record {
+        few = omega (arith, ap length (q .kept), remember-all-few es (q .old) (q .few));
+        last-rows = ap (λ (m : Past). remember-all m es) here ∙ rest-enough es (q .old) (q .few) ∙ q .kept;
+        back = subst (Back c) (sym here) (back-fewer c (λ a. a ≤ t) (q .old) (take (max-remembered - length es) (q .old)) forgets (q .back));
+        gone = subst (All (λ a. a ≤ t)) (sym here) (all-take (λ a. a ≤ t) (max-remembered - length es) (q .old) (q .gone));
+      }
 
 -- ---- kept by the calls
 
-module _ (X t : ℕ) where
+module _ (c : Connection) (t : ℕ) where
   -- the clock moves on
-  chain-later : (o : Option ℕ) (es : List ℕ) → Chain X t o es → Chain X (t + 1) o es
-  chain-later o [] k = tt
-  chain-later none (e ∷ es) k = (omega (arith, k .0), chain-later (some e) es (k .1))
-  chain-later (some a) (e ∷ es) k = ((k .0 .0, omega (arith, k .0 .1)), chain-later (some e) es (k .1))
+  chain-later : (m : Past) (es : List ℕ) → Chain c t m es → Chain c (t + 1) m es
+  chain-later m [] k = tt
+  chain-later m (e ∷ es) k = ((k .0 .0, omega (arith, k .0 .1, latest-later c t m)), chain-later (remember m e) es (k .1))
 
-  pub chained-later : (h : Past) (es : List ℕ) → Chained X t h es → Chained X (t + 1) h es
-  chained-later h es q = record { chain = chain-later none es (q .chain); kept = kept (latest es) (q .kept) }
-    where
-      kept : (o : Option ℕ) → Kept-past t h o → Kept-past (t + 1) h o
-      kept none k = (omega (arith, k .0), k .1)
-      kept (some e) k = k
+  pub chained-later : (h : Past) (es : List ℕ) → Chained c t h es → Chained c (t + 1) h es
+  chained-later h es q = record {
+    old = q .old;
+    few = q .few;
+    kept = q .kept;
+    back = q .back;
+    gone = all-map (λ e k. omega arith) (q .old) (q .gone);
+    chain = chain-later (q .old) es (q .chain);
+  }
 
   -- the first row leaves
-  pub chained-tail : (h : Past) (e : ℕ) (es : List ℕ) → e ≤ t → Chained X t h (e ∷ es) → Chained X t h es
-  chained-tail h e [] l q = record { chain = tt; kept = (omega (arith, q .kept .1), λ i. absurd (true≢false (sym (q .kept .0) ∙ i))) }
-  chained-tail h e (f ∷ es) l q = record { chain = (omega (arith, q .chain .1 .0 .1), q .chain .1 .1); kept = q .kept }
+  pub chained-tail : (h : Past) (e : ℕ) (es : List ℕ) → e ≤ t → Chained c t h (e ∷ es) → Chained c t h es
+  chained-tail h e es l q = record {
+    old = remember (q .old) e;
+    few = remember-few (q .old) e;
+    kept = q .kept;
+    back = back-fewer c (λ _. Unit {0}) (e ∷ q .old) (remember (q .old) e) (remember-forgets (λ _. Unit {0}) (q .old) e (tt, all-every (λ _. tt) (q .old))) (q .chain .0 .0, q .back);
+    gone = all-remember (λ a. a ≤ t) (q .old) e (q .gone) l;
+    chain = q .chain .1;
+  }
 
   -- one row more
-  behind : Option ℕ → List ℕ → Option ℕ
-  behind o [] = o
-  behind o (e ∷ es) = behind (some e) es
+  chain-snoc : (m : Past) (es : List ℕ) (f : ℕ) → Chain c t m es → Pace c t (remember-all m es) f → Chain c t m (es ++ f ∷ [])
+  chain-snoc m [] f k p = (p, tt)
+  chain-snoc m (e ∷ es) f k p = (k .0, chain-snoc (remember m e) es f (k .1) p)
 
-  chain-snoc : (o : Option ℕ) (es : List ℕ) (f : ℕ) → Chain X t o es → Pace X t (behind o es) f → Chain X t o (es ++ f ∷ [])
-  unfolding behind
-  chain-snoc o [] f k p = (p, tt)
-  chain-snoc o (e ∷ es) f k p = (k .0, chain-snoc (some e) es f (k .1) p)
-
-  behind-latest : (e : ℕ) (es : List ℕ) → behind (some e) es ≡ latest (e ∷ es)
-  unfolding behind
-  behind-latest e [] = refl
-  behind-latest e (f ∷ es) = behind-latest f es
-
-  behind-none : (es : List ℕ) → behind none es ≡ latest es
-  unfolding behind
-  behind-none [] = refl
-  behind-none (e ∷ es) = behind-latest e es
-
-module _ (c : Connection) (t : ℕ) (h : Past) where
   -- the next eligibility keeps the pace
-  next-paced : (o : Option ℕ) → Kept-past t h o → Pace (c .gap) t o (next-eligibility c h t)
-  next-paced none k = omega (arith, next-near c h t, k .0)
-  next-paced (some e) k = let n = later-by-gap c h t (k .0) in (omega (arith, n, k .1), omega (arith, n, k .1))
+  next-paced : (h : Past) → Pace c t h (next-eligibility c h t)
+  next-paced h = (omega (arith, next-is c h t), omega (arith, next-is c h t, earliest-latest c t h))
 
-  pub chained-snoc : (es : List ℕ) → Chained (c .gap) t h es → Chained (c .gap) t (remember h (next-eligibility c h t)) (es ++ next-eligibility c h t ∷ [])
-  chained-snoc es q = record {
-    chain = chain-snoc (c .gap) t none es (next-eligibility c h t) (q .chain) (rw (behind-none (c .gap) t es) (next-paced (latest es) (q .kept)));
-    kept = rw (latest-snoc es (next-eligibility c h t), remember-is h (next-eligibility c h t)) (refl, refl);
+  pub chained-snoc : (h : Past) (es : List ℕ) → Chained c t h es → Chained c t (remember h (next-eligibility c h t)) (es ++ next-eligibility c h t ∷ [])
+  chained-snoc h es q = record {
+    old = q .old;
+    few = q .few;
+    kept = remember-all-snoc (q .old) es (next-eligibility c h t) ∙ ap (λ (m : Past). remember m (next-eligibility c h t)) (q .kept);
+    back = q .back;
+    gone = q .gone;
+    chain = chain-snoc (q .old) es (next-eligibility c h t) (q .chain) (subst (λ (m : Past). Pace c t m (next-eligibility c h t)) (sym (q .kept)) (next-paced h));
   }
 
   -- a connection with no packet yet accepted
-  pub chained-new : (X : ℕ) → Chained X t no-past []
-  chained-new X = record { chain = tt; kept = (omega arith, λ _. refl) }
+  pub chained-new : Chained c t no-past []
+  chained-new = record { old = []; few = omega arith; kept = refl; back = tt; gone = tt; chain = tt }
 
--- ---- how far an eligibility can lie beyond the clock: a gap for each row
+-- ---- how far an eligibility can lie beyond the clock: for each row no further than a gap and a window
 
-module _ (X t : ℕ) where
-  far-from : (a : ℕ) (es : List ℕ) → Chain X t (some a) es → All (λ e. e ≤ max t a + length es * X) es
-  far-from a [] k = tt
-  far-from a (e ∷ es) k =
-      (omega (arith, k .0 .1), all-map (λ f l. omega (arith, k .0 .1)) es (far-from e es (k .1)))
+module _ (c : Connection) (far t : ℕ) (gap-le : c .gap ≤ far) (window-le : c .window ≤ far) where
+  far-from : (u : ℕ) (m : Past) (es : List ℕ) → t ≤ u → All (λ e. e ≤ u) m → Chain c t m es → All (λ e. e ≤ u + length es * far) es
+  far-from u m [] l a k = tt
+  far-from u m (e ∷ es) l a k =
+      let i : e ≤ u + far = omega (arith, k .0 .1, latest-le c far t u m gap-le window-le l a) in (
+        omega arith,
+        all-map (λ f r. omega arith) es
+            (far-from (u + far) (remember m e) es (omega arith) (all-remember (λ f. f ≤ u + far) m e (all-map (λ f r. omega arith) m a) i) (k .1)),
+      )
 
-  far : (es : List ℕ) → Chain X t none es → All (λ e. e ≤ t + length es * X) es
-  far [] k = tt
-  far (e ∷ es) k = (omega (arith, k .0), all-map (λ f l. omega (arith, k .0)) es (far-from e es (k .1)))
+  pub chained-far : (h : Past) (es : List ℕ) → Chained c t h es → All (λ e. e ≤ t + length es * far) es × All (λ e. e ≤ t + length es * far) h
+  chained-far h es q =
+      let k = far-from t (q .old) es (omega arith) (q .gone) (q .chain) in
+      (k, subst (All (λ e. e ≤ t + length es * far)) (q .kept) (all-remember-all (λ e. e ≤ t + length es * far) es (q .old) (all-map (λ e r. omega arith) (q .old) (q .gone)) k))
 
-  pub chained-far : (h : Past) (es : List ℕ) → Chained X t h es → All (λ e. e ≤ t + length es * X) es × (h .last ≤ t + length es * X)
-  chained-far h [] q = (tt, omega (arith, q .kept .0))
-  chained-far h (e ∷ es) q = (far (e ∷ es) (q .chain), at (latest-some e es .0) (latest-some e es .1) (q .kept))
-    where
-      at : (l : ℕ) → latest (e ∷ es) ≡ some l → Kept-past t h (latest (e ∷ es)) → h .last ≤ t + length (e ∷ es) * X
-      at l i k =
-          let j : Kept-past t h (some l) = rw i at k in
-          omega (arith, j .1, latest-all (λ x. x ≤ t + length (e ∷ es) * X) e es l i (far (e ∷ es) (q .chain)))
+  pub next-near : (u : ℕ) (h : Past) → t ≤ u → All (λ e. e ≤ u) h → next-eligibility c h t ≤ u + far
+  next-near u h l a = omega (arith, next-is c h t, earliest-latest c t h, latest-le c far t u h gap-le window-le l a)

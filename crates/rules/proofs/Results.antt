@@ -17,8 +17,8 @@ use Rattle.rules.specs.Service.{Spaced, of, started}
 use Rattle.rules.specs.SoundState.{Sound}
 use Rattle.rules.specs.SoundTest.{sound}
 use Rattle.rules.specs.Calls.{causes, verdicts, verdict, eligibility-now, done, refused-number, settle, answer}
-use Rattle.rules.specs.Runs.{Departure, History, taken, logged, after, run-from, nothing-yet, run, departures, in-hub, bound-of, allowed, offer-tick, offer-ticks-from, offer-ticks, Keeps-its-gap, Exchange, exchanges, own-answer}
-use Rattle.rules.specs.Promises.{Demand-1-refusals, Test-is-exact, Verdict-1-exactly, No-link-means-zero, Sound-is-kept, Runs-are-sound, Rows-fit, Notices-fit, Notices-come-last, Fifteen-after-thirteen, Names-the-lowest, Level-test-tells, Short-is-told, Units-are-missing, Units-fit, Eligibilities-fit, Answers-fit, Conservation, Left-by, Demand-3-first, Demand-3-second, Told-by-its-own, Bed-nine-and-bed-ten, Counted, Without-silence}
+use Rattle.rules.specs.Runs.{Departure, History, taken, logged, after, run-from, nothing-yet, run, departures, in-hub, bound-of, allowed, offer-tick, offer-ticks-from, offer-ticks, Keeps-its-word, Exchange, exchanges, own-answer}
+use Rattle.rules.specs.Promises.{Demand-1-refusals, Test-is-exact, Verdict-1-exactly, No-link-means-zero, Sound-is-kept, Runs-are-sound, Rows-fit, Notices-fit, Notices-come-last, Fifteen-after-thirteen, Names-the-lowest, Level-test-tells, Short-is-told, Units-are-missing, Units-fit, Eligibilities-fit, Answers-fit, Conservation, Left-by, Demand-3-first, Demand-3-second, Told-by-its-own, Bed-nine-and-bed-ten, Counted, Spacing-says, No-window-holds-more, The-count-is-reached, The-count-never-falls, Without-average, Without-silence}
 use Rattle.rules.proofs.Sums.{same, cond-is}
 use Rattle.rules.proofs.Tests.{and-true, and-intro, not-true-false, never-number}
 use Rattle.rules.proofs.Lists.{All, all-map}
@@ -31,6 +31,9 @@ use Rattle.rules.proofs.SoundKept.{kept}
 use Rattle.rules.proofs.Invariant.{connections-few}
 use Rattle.rules.proofs.Every.{fresh-invariant, invariant}
 use Rattle.rules.proofs.WithoutSilence.{as-in-the-base, no-silence-runs}
+use Rattle.rules.proofs.WithoutAverage.{says, hits-are, as-before}
+use Rattle.rules.proofs.Count.{no-window-more, count-mono}
+use Rattle.rules.proofs.Reached.{count-reached}
 use Rattle.rules.proofs.InTime.{conserved-lists, left-in-time}
 use Rattle.rules.proofs.Bounds.{rows-fit-places, notices-fit-places, eligibilities-fit-32}
 use Rattle.rules.proofs.NoticesLast.{none-eligible}
@@ -198,7 +201,7 @@ find-here : {A : Type 0} (xs : List A) (y : A) (ys : List A) → getElem? (xs ++
 find-here [] y ys = refl
 find-here (x ∷ xs) y ys = find-here xs y ys
 
-module _ (earlier : List Call) (c len tag : ℕ) (word : Keeps-its-gap c (earlier ++ offer c len tag ∷ [])) (ok : allowed (run earlier .now) c len ≡ true) where
+module _ (earlier : List Call) (c len tag : ℕ) (word : Keeps-its-word c (earlier ++ offer c len tag ∷ [])) (ok : allowed (run earlier .now) c len ≡ true) where
   open History (run earlier) using (now as s, accepted as acc)
 
   abbrev it : Call
@@ -304,8 +307,8 @@ bed-nine-and-bed-ten ks ms c d alike asked word =
     x : Connection
     x = figures (run ks .now) c
 
-    -- it keeps its gap there because it asks the same
-    word-there : Keeps-its-gap d ms
+    -- it keeps its word there because it asks the same
+    word-there : Keeps-its-word d ms
     word-there =
         subst (Spaced (figures (run ms .now) d)) (sym (ticks-are-own d ms nothing-yet [] fresh-invariant))
         (subst (λ (y : Connection). Spaced y (own-ticks y (map (λ (e : Exchange). e .asked) (exchanges d ms)))) alike
@@ -322,3 +325,20 @@ counted ks c =
 
 pub without-silence : Without-silence
 without-silence = (as-in-the-base, no-silence-runs)
+
+-- ---- average rates
+
+pub spacing-says : Spacing-says
+spacing-says c es = says c es
+
+pub no-window-holds-more : No-window-holds-more
+no-window-holds-more c g es s b w = omega (arith, hits-are b w es, no-window-more c es b w g s)
+
+pub the-count-is-reached : The-count-is-reached
+the-count-is-reached l c f w = let r = count-reached l c f w in (r .0, r .1, hits-are 0 w (r .0) ∙ r .2)
+
+pub the-count-never-falls : The-count-never-falls
+the-count-never-falls c g w v l = count-mono c g w v l
+
+pub without-average : Without-average
+without-average c P = as-before c P

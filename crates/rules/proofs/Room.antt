@@ -1,4 +1,4 @@
--- Room for a connection that keeps its gap: its packets held and the new one lie within one bound, so they are no more than its reservation.
+-- Room for a connection that keeps its word: its packets held and the new one lie within one bound, so they are no more than its reservation.
 use Prim.Native.Nat.{ℕ, _+_, _-_, _≤_, _<_}
 use native.Mathlib.Omega.{arith}
 use mathlib.Core.Path.{_≡_, refl, sym, ap, _∙_, subst}
@@ -19,7 +19,8 @@ use Rattle.rules.proofs.Lists.{All, all-map, all-zip, total-snoc}
 use Rattle.rules.proofs.Sums.{upto-yes, cond-is}
 use Rattle.rules.proofs.Tests.{never, and-true}
 use Rattle.rules.proofs.Rows.{to-of, map-append, length-map, all-map-of}
-use Rattle.rules.proofs.Spacing.{among, inside, spaced-back, spaced-before, window-law}
+use Rattle.rules.proofs.Spacing.{spaced-back, spaced-before}
+use Rattle.rules.proofs.Count.{among, inside, window-law}
 use Rattle.rules.proofs.Standing.{stands-below}
 use Rattle.rules.proofs.Figures.{Connection-facts, reservation-is}
 use Rattle.rules.proofs.Invariant.{whats, Invariant, facts-of, connections-few, some-bound}
@@ -108,7 +109,7 @@ module _ (h : History) (I : Invariant h) (c len tag : ℕ) (standing : stands (h
       go false false false true true f i j k l = never (sym (l refl))
       go false false false true false f i j k l = refl
 
--- ---- so a connection that keeps its gap is never refused for room, and accepted while the clock runs
+-- ---- so a connection that keeps its word is never refused for room, and accepted while the clock runs
 
 module _ (h : History) (I : Invariant h) (c len tag : ℕ) (ok : allowed (h .now) c len ≡ true) (room : length (of c (h .now .held)) < reservation (h .now .link) (figures (h .now) c)) where
   open History h using (now as s)

@@ -18,8 +18,8 @@ use Rattle.rules.specs.Promises.{Names-the-lowest, No-level-fails, own-t
 use Rattle.rules.proofs.Sums.{same, cond-ind, sum-eq, upto-le}
 use Rattle.rules.proofs.Standing.{nth-old, length-snoc}
 use Rattle.rules.proofs.LevelTest.{test-holds, holds-test, names-lowest}
-use Rattle.rules.proofs.Figures.{link-facts, figures-gap, sum-is}
-use Rattle.rules.proofs.Spacing.{count-le}
+use Rattle.rules.proofs.Count.{count-le}
+use Rattle.rules.proofs.Figures.{link-facts, figures-facts, sum-is}
 
 -- ---- what the test tells
 
@@ -89,6 +89,6 @@ pub term-le : (l : Link) (x : Connection) (m : ℕ) → link-within l ≡ true �
 unfolding cost
 term-le l x m e f p q =
     let F = link-facts l e in
-    let g = figures-gap l x f in
-    let k : x .size + l .silence ≤ max-largest + max-silence = omega (arith, g .1, F .largest-max, F .silence-max) in
-    le-trans (mul-le-mul-right (x .size + l .silence) (le-trans (count-le x (bound l m) (g .0)) (F .bound-le m p q))) (mul-le-mul-left max-bound k)
+    let G = figures-facts l x f in
+    let k : x .size + l .silence ≤ max-largest + max-silence = omega (arith, G .size-le, F .largest-max, F .silence-max) in
+    le-trans (mul-le-mul-right (x .size + l .silence) (le-trans (count-le x (bound l m) (G .some-gap)) (F .bound-le m p q))) (mul-le-mul-left max-bound k)

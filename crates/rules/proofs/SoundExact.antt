@@ -2,7 +2,7 @@
 use Prim.Native.Nat.{ℕ, zero, suc, _≤_, _<_}
 use native.Mathlib.Omega.{arith}
 use mathlib.Core.Path.{_≡_, refl, sym, ap, _∙_}
-use mathlib.Core.Bool.{Bool, true, false, cond, _&&_, _||_}
+use mathlib.Core.Bool.{Bool, true, false, cond, _&&_}
 use mathlib.Core.Logic.{_⊎_, inl, inr, _↔_}
 use mathlib.Core.List.{List, [], _∷_}
 use mathlib.Core.Option.{Option, none, some}
@@ -10,18 +10,20 @@ use lib.Dec.{leb, eqb}
 use lib.ListN.{length, replicate}
 use borrow.Author.Tests.{leb-true, le-leb, eqb-true, eqb-false, eq-eqb, ne-eqb}
 use Rattle.rules.specs.Words.{within, every, each}
-use Rattle.rules.specs.Limits.{max-levels, max-connections, clock-end, max-notices, notice-number}
+use Rattle.rules.specs.Limits.{max-levels, max-connections, clock-end, max-notices, notice-number, max-remembered}
 use Rattle.rules.specs.Model.{Link, Connection, Past, Packet, Notice, State, no-link, fresh, nth, past, figures, first-notice}
 use Rattle.rules.specs.Admission.{link-within, level-within, figures-within, stands, reservation, passes}
-use Rattle.rules.specs.Service.{of, eligibilities, first}
-use Rattle.rules.specs.SoundState.{Fits, Dated, Notice-fits, Idle, In-service, Notice-in-service, Serves, Sound-with-link, Sound}
-use Rattle.rules.specs.SoundTest.{all-zero, nothing-used, connection-sound, admissions-sound, row-sound, latest, paced, remembered, queue-sound, rows-sound, notice-sound, notices-sound, serves, serves-notice, busy-sound, line-sound, sound}
+use Rattle.rules.specs.Service.{earliest, remember-all, of, eligibilities, first}
+use Rattle.rules.specs.SoundState.{departed-of, Fits, Dated, Notice-fits, Idle, In-service, Notice-in-service, Serves, Sound-with-link, Sound}
+use Rattle.rules.specs.SoundTest.{all-zero, nothing-used, connection-sound, admissions-sound, row-sound, departed-by, paced, left-in-time, left-sound, same-numbers, kept-sound, before-pass, behind-pass, queues-sound, rows-sound, notice-sound, notices-sound, serves, serves-notice, busy-sound, line-sound, sound}
 use Rattle.rules.proofs.Lists.{All, all-map}
 use Rattle.rules.proofs.Sums.{cond-is}
-use Rattle.rules.proofs.Tests.{never, and-true, and-intro, or-true, or-intro, within-true, within-intro, every-true, every-intro, each-true, each-intro}
+use Rattle.rules.proofs.Tests.{never, and-true, and-intro, within-true, within-intro, every-true, every-intro, each-true, each-intro}
 use Rattle.rules.proofs.LevelTest.{test-holds, holds-test}
-use Rattle.rules.proofs.Queue.{Kept-past, Chained, queue-chained, chained-queue}
-use Rattle.rules.proofs.SoundTick.{no-notice}
+use Rattle.rules.proofs.Queue.{Chain, Kept-past, queue-chain, queue-kept, queue-of}
+use Rattle.rules.proofs.Spacing.{Back}
+use Rattle.rules.proofs.Figures.{connection-facts}
+use Rattle.rules.proofs.SoundTick.{no-notice, facts}
 use Rattle.rules.proofs.Scan.{paced-chain, chain-paced}
 use Rattle.rules.proofs.Standing.{stands-below}
 
@@ -98,17 +100,45 @@ row-intro cs t p f d =
     (and-intro (within 1 (nth cs (p .connection) .size) (p .len)) _ (within-intro 1 (nth cs (p .connection) .size) (p .len) (f .some-len) (f .len-le))
     (and-intro (leb (p .arrival) t) (leb (p .arrival) (p .eligibility)) (le-leb _ _ (d .arrived)) (le-leb _ _ (d .not-before))))
 
-kept-true : (t : ℕ) (h : Past) (o : Option ℕ) → remembered t h o ≡ true → Kept-past t h o
-kept-true t h none e =
-    let k = and-true (leb (h .last) t) (h .sent || eqb (h .last) 0) e in
-    (leb-true _ _ (k .0), λ i. eqb-true _ 0 (or-true (h .sent) (eqb (h .last) 0) (k .1) i))
-kept-true t h (some x) e = let k = and-true (h .sent) (eqb x (h .last)) e in (k .0, eqb-true x (h .last) (k .1))
+-- ---- what is remembered
 
-kept-intro : (t : ℕ) (h : Past) (o : Option ℕ) → Kept-past t h o → remembered t h o ≡ true
-kept-intro t h none k = and-intro (leb (h .last) t) (h .sent || eqb (h .last) 0) (le-leb _ _ (k .0)) (or-intro (h .sent) (eqb (h .last) 0) (λ i. eq-eqb _ 0 (k .1 i)))
-kept-intro t h (some x) k = and-intro (h .sent) (eqb x (h .last)) (k .0) (eq-eqb x (h .last) (k .1))
+pub same-true : (xs ys : List ℕ) → same-numbers xs ys ≡ true → xs ≡ ys
+same-true [] [] e = refl
+same-true [] (b ∷ ys) e = never e
+same-true (a ∷ xs) [] e = never e
+same-true (a ∷ xs) (b ∷ ys) e =
+    let k = and-true (eqb a b) (same-numbers xs ys) e in
+    let i : a ≡ b = eqb-true a b (k .0) in
+    let j : xs ≡ ys = same-true xs ys (k .1) in
+    cc
 
--- ---- the notices
+pub same-intro : (xs : List ℕ) → same-numbers xs xs ≡ true
+same-intro [] = refl
+same-intro (a ∷ xs) = and-intro (eqb a a) (same-numbers xs xs) (eq-eqb a a refl) (same-intro xs)
+
+module _ (c : Connection) (t : ℕ) where
+  left-true : (h : List ℕ) → left-in-time c t h ≡ true → Back c h × All (λ e. e ≤ t) h
+  left-true [] e = (tt, tt)
+  left-true (a ∷ h) e =
+      let k = and-true (leb (earliest c h) a) _ e in
+      let i = and-true (leb a t) (left-in-time c t h) (k .1) in
+      let r = left-true h (i .1) in
+      ((leb-true _ _ (k .0), r .0), (leb-true _ _ (i .0), r .1))
+
+  left-intro : (h : List ℕ) → Back c h → All (λ e. e ≤ t) h → left-in-time c t h ≡ true
+  left-intro [] k g = refl
+  left-intro (a ∷ h) k g = and-intro (leb (earliest c h) a) _ (le-leb _ _ (k .0)) (and-intro (leb a t) (left-in-time c t h) (le-leb _ _ (g .0)) (left-intro h (k .1) (g .1)))
+
+module _ (c : Connection) (t : ℕ) (h : Past) (es : List ℕ) where
+  kept-true : left-in-time c t (departed-of h es) ≡ true → kept-sound h (remember-all (departed-of h es) es) ≡ true → Kept-past c t h es
+  kept-true l e =
+      let a = and-true (leb (length h) max-remembered) (same-numbers h (remember-all (departed-of h es) es)) e in
+      let r = left-true c t (departed-of h es) l in
+      record { few = leb-true _ _ (a .0); last-rows = sym (same-true _ _ (a .1)); back = r .0; gone = r .1 }
+
+  kept-intro : Kept-past c t h es → kept-sound h (remember-all (departed-of h es) es) ≡ true
+  kept-intro k =
+      and-intro (leb (length h) max-remembered) (same-numbers h (remember-all (departed-of h es) es)) (le-leb _ _ (k .few)) (ap (same-numbers h) (k .last-rows) ∙ same-intro h)
 
 notice-true : (l : Link) (t : ℕ) (n : Notice) → notice-sound l t n ≡ true → Notice-fits l t n
 notice-true l t n h =
@@ -197,12 +227,13 @@ module _ (s : State) where
       let e = and-true (passes (s .link) (s .connections)) _ (d .1) in
       let f = and-true (leb (s .clock) clock-end) _ (y .0) in
       let g = and-true (each (row-sound (s .connections) (s .clock)) (s .held)) _ (f .1) in
-      let i = and-true (paced (s .connections) (s .clock) [] (s .held)) _ (g .1) in
+      let w = and-true (every (length (s .connections)) (before-pass s)) _ (g .1) in
+      let i = and-true (paced (s .connections) (s .clock) (departed-by s) [] (s .held)) _ (w .1) in
       let rows = all-map (λ p k. row-true (s .connections) (s .clock) p k) (s .held) (each-true (row-sound (s .connections) (s .clock)) (s .held) (g .0)) in
       let own : (j : ℕ) → j < length (s .connections) → (level-within (s .link) (figures s j) ≡ true) × (figures-within (s .link) (figures s j) ≡ true)
       = λ j l. and-true (level-within (s .link) (figures s j)) (figures-within (s .link) (figures s j)) (every-true (length (s .connections)) (λ k. connection-sound (s .link) (figures s k)) (d .0) j l) in
-      let line : (j : ℕ) → j < length (s .connections) → (leb (length (of j (s .held))) (reservation (s .link) (figures s j)) ≡ true) × (remembered (s .clock) (past s j) (latest (eligibilities j (s .held))) ≡ true)
-      = λ j l. and-true _ _ (every-true (length (s .connections)) (queue-sound s) (i .1) j l) in
+      let first : (j : ℕ) → j < length (s .connections) → (leb (length (of j (s .held))) (reservation (s .link) (figures s j)) ≡ true) × (left-in-time (figures s j) (s .clock) (departed-by s j) ≡ true)
+      = λ j l. and-true _ _ (every-true (length (s .connections)) (before-pass s) (w .0) j l) in
       record {
         link-in = a .0;
         levels-in = λ j l. own j l .0;
@@ -214,10 +245,11 @@ module _ (s : State) where
         clock-le = leb-true _ _ (f .0);
         fit = all-map (λ p k. k .0) (s .held) rows;
         dated = all-map (λ p k. k .1) (s .held) rows;
-        room = λ j l. leb-true _ _ (line j l .0);
+        room = λ j l. leb-true _ _ (first j l .0);
         queue = λ j l.
-            chained-queue (figures s j) (s .clock) (past s j) (eligibilities j (s .held))
-            (record { chain = paced-chain (s .connections) (s .clock) [] (s .held) (i .0) j; kept = kept-true (s .clock) (past s j) (latest (eligibilities j (s .held))) (line j l .1) });
+            queue-of (figures s j) (connection-facts (s .link) (figures s j) (own j l .0) (own j l .1) .burst-le) (s .clock) (past s j) (eligibilities j (s .held))
+            (kept-true (figures s j) (s .clock) (past s j) (eligibilities j (s .held)) (first j l .1) (every-true (length (s .connections)) (behind-pass s) (i .1) j l))
+            (paced-chain (s .connections) (s .clock) (departed-by s) [] (s .held) (i .0) j);
         few-notices = leb-true _ _ (r .0);
         notices-fit = all-map (λ n k. notice-true (s .link) (s .clock) n k) (s .notices) (each-true (notice-sound (s .link) (s .clock)) (s .notices) (r .1));
         line = line-true s (q .1) .0;
@@ -240,16 +272,22 @@ module _ (s : State) where
       (and-intro (leb (s .clock) clock-end) _ (le-leb _ _ (S .clock-le))
       (and-intro (each (row-sound (s .connections) (s .clock)) (s .held)) _
       (each-intro (row-sound (s .connections) (s .clock)) (s .held) (all-rows (s .held) (S .fit) (S .dated)))
-      (and-intro (paced (s .connections) (s .clock) [] (s .held)) _
-      (chain-paced (s .connections) (s .clock) [] (s .held) (all-map (λ p f. stands-below (s .connections) (p .connection) (f .standing)) (s .held) (S .fit)) (λ j l. chained j l .chain))
-      (every-intro (length (s .connections)) (queue-sound s) (λ j l. and-intro _ _ (le-leb _ _ (S .room j l)) (kept-intro (s .clock) (past s j) (latest (eligibilities j (s .held))) (chained j l .kept)))))))
+      (and-intro (every (length (s .connections)) (before-pass s)) _
+      (every-intro (length (s .connections)) (before-pass s)
+      (λ j l. and-intro _ _ (le-leb _ _ (S .room j l)) (left-intro (figures s j) (s .clock) (departed-by s j) (kept j l .back) (kept j l .gone))))
+      (and-intro (paced (s .connections) (s .clock) (departed-by s) [] (s .held)) _
+      (chain-paced (s .connections) (s .clock) (departed-by s) [] (s .held) (all-map (λ p f. stands-below (s .connections) (p .connection) (f .standing)) (s .held) (S .fit)) chained)
+      (every-intro (length (s .connections)) (behind-pass s) (λ j l. kept-intro (figures s j) (s .clock) (past s j) (eligibilities j (s .held)) (kept j l)))))))
       (and-intro (notices-sound s) (line-sound s)
       (and-intro (leb (length (s .notices)) max-notices) _ (le-leb _ _ (S .few-notices))
       (each-intro (notice-sound (s .link) (s .clock)) (s .notices) (all-map (λ n f. notice-intro (s .link) (s .clock) n f) (s .notices) (S .notices-fit))))
       (line-intro s (no-notice s S (s .serving) (s .to-go) (s .silent)) (S .line, S .silent-le, S .silent-alone))))
     where
-      chained : (j : ℕ) → j < length (s .connections) → Chained (figures s j .gap) (s .clock) (past s j) (eligibilities j (s .held))
-      chained j l = queue-chained (figures s j) (s .clock) (past s j) (eligibilities j (s .held)) (S .queue j l)
+      kept : (j : ℕ) → j < length (s .connections) → Kept-past (figures s j) (s .clock) (past s j) (eligibilities j (s .held))
+      kept j l = queue-kept (figures s j) (facts s S j l .burst-le) (s .clock) (past s j) (eligibilities j (s .held)) (S .queue j l)
+
+      chained : (j : ℕ) → j < length (s .connections) → Chain (figures s j) (s .clock) (departed-by s j) (eligibilities j (s .held))
+      chained j l = queue-chain (figures s j) (facts s S j l .burst-le) (s .clock) (past s j) (eligibilities j (s .held)) (S .queue j l)
 
       all-rows : (ps : List Packet) → All (Fits (s .connections)) ps → All (Dated (s .clock)) ps → All (λ p. row-sound (s .connections) (s .clock) p ≡ true) ps
       all-rows [] f d = tt

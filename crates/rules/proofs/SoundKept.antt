@@ -17,8 +17,8 @@ use Rattle.rules.proofs.Rows.{none-of}
 use Rattle.rules.proofs.Notices.{first-notice-is}
 use Rattle.rules.proofs.Standing.{stands-below, length-snoc, nth-snoc, fits-old}
 use Rattle.rules.proofs.LevelTest.{test-holds}
-use Rattle.rules.proofs.Figures.{link-facts, cost-largest, sum-is}
-use Rattle.rules.proofs.Queue.{chained-queue, chained-new}
+use Rattle.rules.proofs.Figures.{link-facts, connection-facts, cost-largest, sum-is}
+use Rattle.rules.proofs.Queue.{regulated-of, chained-queue, chained-new}
 use Rattle.rules.proofs.Verdicts.{settled, link-done, Admit-done, admit-done, offer-done, Notice-done, notice-done, tick-done}
 use Rattle.rules.proofs.Line.{tick-leaves}
 use Rattle.rules.proofs.SoundTick.{sound-ticked}
@@ -55,7 +55,7 @@ module _ (s : State) (S : Sound-with-link s) (x : Connection) (D : Admit-done s 
     queue =
         nth-snoc (s .connections) x (λ c f. Queue f (s .clock) (getD (s .pasts ++ no-past ∷ []) c no-past) (eligibilities c (s .held)))
         (λ c l. rw (old-past c l) (S .queue c l))
-        (rw (no-rows, new-past) (chained-queue x (s .clock) no-past [] (chained-new x (s .clock) no-past (x .gap))));
+        (rw (no-rows, new-past) (chained-queue x (regulated-of (s .link) x (connection-facts (s .link) x (D .level-in) (D .figures-in))) (s .clock) no-past [] (chained-new x (s .clock))));
     few-notices = S .few-notices;
     notices-fit = S .notices-fit;
     line = S .line;

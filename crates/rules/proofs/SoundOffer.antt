@@ -16,6 +16,7 @@ use Rattle.rules.proofs.Sums.{same}
 use Rattle.rules.proofs.Rows.{first-append, of-snoc-same, of-snoc-other, eligibilities-snoc-same, eligibilities-snoc-other}
 use Rattle.rules.proofs.Spacing.{not-before}
 use Rattle.rules.proofs.Standing.{stands-below}
+use Rattle.rules.proofs.SoundTick.{regulated}
 use Rattle.rules.proofs.Queue.{queue-chained, chained-queue, chained-snoc}
 use Rattle.rules.proofs.Verdicts.{Offer-done}
 
@@ -35,8 +36,8 @@ module _ (s : State) (S : Sound-with-link s) (c len tag : ℕ) (D : Offer-done s
   queue-placed d l (inl e) =
       subst (λ (j : ℕ). Queue (figures s j) (s .clock) (getD (set (s .pasts) c new) j no-past) (eligibilities j (s .held ++ p ∷ []))) e
       (rw (eligibilities-snoc-same c (s .held) p refl, getD-set-same (s .pasts) c new no-past (omega (arith, S .one-past-each, below)))
-      (chained-queue (figures s c) (s .clock) new (eligibilities c (s .held) ++ eligibility-now s c ∷ [])
-      (chained-snoc (figures s c) (s .clock) (past s c) (eligibilities c (s .held)) (queue-chained (figures s c) (s .clock) (past s c) (eligibilities c (s .held)) (S .queue c below)))))
+      (chained-queue (figures s c) (regulated s S c below) (s .clock) new (eligibilities c (s .held) ++ eligibility-now s c ∷ [])
+      (chained-snoc (figures s c) (s .clock) (past s c) (eligibilities c (s .held)) (queue-chained (figures s c) (regulated s S c below) (s .clock) (past s c) (eligibilities c (s .held)) (S .queue c below)))))
   queue-placed d l (inr e) =
       rw (eligibilities-snoc-other d (s .held) p e, getD-set-other (s .pasts) c d new no-past (λ i. e (sym i))) (S .queue d l)
 

@@ -14,11 +14,10 @@ use Rattle.rules.proofs.Lists.{All, all-map, all-sub, Pairs, Sub, sub-r
 use Rattle.rules.proofs.Sums.{same}
 use Rattle.rules.proofs.Rows.{first-all, first-of, sub-without, of-first, of-other, pairs-by-connection}
 use Rattle.rules.proofs.Notices.{first-notice-is}
-use Rattle.rules.proofs.Spacing.{spaced-rises}
 use Rattle.rules.proofs.Standing.{stands-below}
 use Rattle.rules.proofs.Figures.{Connection-facts, connection-facts}
 use Rattle.rules.proofs.Line.{start-idle, start-silent, start-busy, last-of-packet, last-of-notice}
-use Rattle.rules.proofs.Queue.{queue-chained, chained-queue, chained-later, chained-tail}
+use Rattle.rules.proofs.Queue.{Regulated, regulated-of, queue-rises, queue-chained, chained-queue, chained-later, chained-tail}
 use Rattle.rules.proofs.Choice.{Rising, Chosen, chosen-law}
 
 -- the packet that is chosen comes into service whole
@@ -47,11 +46,14 @@ module _ (s : State) (S : Sound-with-link s) where
   pub facts : (c : ℕ) → c < length (s .connections) → Connection-facts (s .link) (figures s c)
   facts c l = connection-facts (s .link) (figures s c) (S .levels-in c l) (S .figures-in c l)
 
+  pub regulated : (c : ℕ) → c < length (s .connections) → Regulated (figures s c)
+  regulated c l = regulated-of (s .link) (figures s c) (facts c l)
+
   -- each connection's rows rise, so no row overtakes one of its own connection
   pub rows-rise : Pairs Rising (s .held)
   rows-rise =
       pairs-by-connection (length (s .connections)) (λ a b. a < b) (s .held) (all-map (λ p f. stands-below (s .connections) (p .connection) (f .standing)) (s .held) (S .fit))
-      (λ c l. spaced-rises (figures s c) (facts c l .some-gap) (eligibilities c (s .held)) (S .queue c l .rise))
+      (λ c l. queue-rises (figures s c) (s .clock) (past s c) (eligibilities c (s .held)) (facts c l .some-gap) (S .queue c l))
 
   pub choice-holds : Chosen (level-of s) (s .clock) (s .held) (chosen s)
   choice-holds = chosen-law (level-of s) (s .clock) (s .held) rows-rise
@@ -81,8 +83,8 @@ module _ (s : State) (S : Sound-with-link s) where
       dated = all-sub (Dated (s .clock + 1)) sub (all-map (λ p d. record { arrived = omega (arith, d .arrived); not-before = d .not-before }) (s .held) (S .dated));
       room = λ c l. omega (arith, fewer c, S .room c l);
       queue = λ c l.
-          chained-queue (figures s c) (s .clock + 1) (past s c) (eligibilities c held)
-          (chained-later (figures s c .gap) (s .clock) (past s c) (eligibilities c held) (queue-chained (figures s c) (s .clock) (past s c) (eligibilities c held) (queue c l)));
+          chained-queue (figures s c) (regulated c l) (s .clock + 1) (past s c) (eligibilities c held)
+          (chained-later (figures s c) (s .clock) (past s c) (eligibilities c held) (queue-chained (figures s c) (regulated c l) (s .clock) (past s c) (eligibilities c held) (queue c l)));
       few-notices = few;
       notices-fit = all-map (λ n f. record { some-len = f .some-len; len-le = f .len-le; arrived = omega (arith, f .arrived) }) ns fit;
       line = line;
@@ -99,9 +101,9 @@ module _ (s : State) (S : Sound-with-link s) where
         shorter : (c : ℕ) → c < length (s .connections) → (w ≡ c) ⊎ (w ≡ c → ⊥) → Queue (figures s c) (s .clock) (past s c) (eligibilities c (without w (s .held)))
         shorter c l (inl e) =
             subst (λ (d : ℕ). Queue (figures s c) (s .clock) (past s c) (eligibilities c (without d (s .held)))) (sym e)
-            (chained-queue (figures s c) (s .clock) (past s c) (eligibilities c (without c (s .held)))
-            (chained-tail (figures s c .gap) (s .clock) (past s c) (r .it .eligibility) (eligibilities c (without c (s .held))) (r .eligible)
-            (queue-chained (figures s c) (s .clock) (past s c) (r .it .eligibility ∷ eligibilities c (without c (s .held)))
+            (chained-queue (figures s c) (regulated c l) (s .clock) (past s c) (eligibilities c (without c (s .held)))
+            (chained-tail (figures s c) (s .clock) (past s c) (r .it .eligibility) (eligibilities c (without c (s .held))) (r .eligible)
+            (queue-chained (figures s c) (regulated c l) (s .clock) (past s c) (r .it .eligibility ∷ eligibilities c (without c (s .held)))
             (subst (λ (ps : List Packet). Queue (figures s c) (s .clock) (past s c) (map (λ p. p .eligibility) ps))
             (of-first c (s .held) (r .it) (ap (λ (d : ℕ). first d (s .held)) (sym e) ∙ r .is-first)) (S .queue c l)))))
         shorter c l (inr e) = rw (of-other w c (s .held) e) (S .queue c l)

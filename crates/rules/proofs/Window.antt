@@ -16,7 +16,7 @@ use Rattle.rules.specs.Service.{Spaced, of, eligibilities}
 use Rattle.rules.specs.SoundState.{Fits}
 use Rattle.rules.proofs.Lists.{All, all-map, total, total-le, total-mul}
 use Rattle.rules.proofs.Sums.{split, same, upto-yes, upto-no, upto-mono, upto-mul, only, only-at, only-off, sum-le, total-by}
-use Rattle.rules.proofs.Spacing.{inside, among, window-law}
+use Rattle.rules.proofs.Count.{inside, among, window-law}
 use Rattle.rules.proofs.Standing.{stands-below}
 use Rattle.rules.proofs.Figures.{cost-mono}
 

@@ -1,12 +1,12 @@
 -- Who may come in: the limits, the window count, the reservation and the level test.
--- Document 01, "Link, connections, places" and "The level test"; document 02, R-2 and R-4.
-use Prim.Native.Nat.{ℕ, zero, suc, _+_, _*_, _-_, _/_}
-use mathlib.Core.Bool.{Bool, true, false, cond, _&&_}
+-- Document 01, "Link, connections, places" and "The level test"; document 02, R-2, R-4 and R-6.
+use Prim.Native.Nat.{ℕ, zero, suc, _+_, _*_, _-_, _/_, _%_, min}
+use mathlib.Core.Bool.{Bool, true, false, cond, _&&_, _||_}
 use mathlib.Core.List.{List, [], _∷_}
 use lib.Dec.{leb, ltb, eqb}
 use lib.ListN.{length, getD}
 use Rattle.rules.specs.Words.{within, upto, sum}
-use Rattle.rules.specs.Limits.{max-levels, max-largest, max-silence, max-bound, max-gap}
+use Rattle.rules.specs.Limits.{max-levels, max-largest, max-silence, max-bound, max-gap, max-window, max-burst}
 use Rattle.rules.specs.Model.{Link, Connection, Short, no-short, nth}
 
 -- ---- "Link, connections, places"
@@ -32,9 +32,19 @@ link-within l =
 unfoldable pub level-within : Link → Connection → Bool
 level-within l c = within 1 (l .levels) (c .level)
 
--- .. gap X from 1 to its limit, size from 1 to S
+-- n, the packets that an averaging window I may hold: I divided by the average gap (document 02, R-6); 0 where a connection has no average
+unfoldable pub burst : Connection → ℕ
+burst c = c .window / c .average
+
+-- no average: I and the average gap are 0. Else I up to its limit, the average gap at least X and a divisor of I, n from 1 to 16
+abbrev pub average-within : Connection → Bool
+average-within c =
+    (eqb (c .window) 0 && eqb (c .average) 0)
+    || (leb (c .window) max-window && (leb (c .gap) (c .average) && (eqb (c .window % c .average) 0 && within 1 max-burst (burst c))))
+
+-- .. gap X from 1 to its limit, size from 1 to S, and the average
 unfoldable pub figures-within : Link → Connection → Bool
-figures-within l c = within 1 max-gap (c .gap) && within 1 (l .largest) (c .size)
+figures-within l c = within 1 max-gap (c .gap) && (within 1 (l .largest) (c .size) && average-within c)
 
 -- numbered from 0 in order of acceptance: the number that comes next, and whether number c stands
 abbrev pub next-number : List Connection → ℕ
@@ -48,9 +58,17 @@ abbrev pub bound : Link → ℕ → ℕ
 bound l zero = 0
 bound l (suc m) = getD (l .bounds) m 0
 
--- how many packets of a connection may be eligible within w ticks: w divided by X, rounded up
+-- w divided by x, rounded up
+abbrev pub rounded-up : ℕ → ℕ → ℕ
+rounded-up w x = (w + (x - 1)) / x
+
+-- what the average allows within w ticks: n for each whole window I, and for the rest the smaller of n and the rest divided by X, rounded up
+unfoldable pub average-count : Connection → ℕ → ℕ
+average-count c w = w / c .window * burst c + min (burst c) (rounded-up (w % c .window) (c .gap))
+
+-- how many packets of a connection may be eligible within w ticks: w divided by X, rounded up, or what the average allows where that is less
 unfoldable pub count : Connection → ℕ → ℕ
-count c w = (w + (c .gap - 1)) / c .gap
+count c w = cond (eqb (burst c) 0) (rounded-up w (c .gap)) (min (rounded-up w (c .gap)) (average-count c w))
 
 -- Reservation: the count within d of the connection's level, in packets
 unfoldable pub reservation : Link → Connection → ℕ

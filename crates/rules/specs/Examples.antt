@@ -1,11 +1,15 @@
 -- Document 01, "Table of proved examples", P1 to P10, as one table under one statement.
-use Prim.Native.Nat.{ℕ, _+_}
+use Prim.Native.Nat.{ℕ, zero, suc, _+_, _≤_}
 use mathlib.Core.Path.{_≡_}
 use mathlib.Core.List.{List, [], _∷_, _++_, map}
-use lib.ListN.{replicate}
-use Rattle.rules.specs.Model.{State, Call, link, admit, offer, notice, tick, Short, no-short}
+use lib.ListN.{length, replicate}
+use Rattle.rules.specs.Words.{first-number}
+use Rattle.rules.specs.Limits.{max-remembered}
+use Rattle.rules.specs.Model.{Connection, Past, State, Call, link, admit, offer, notice, tick, Short, no-short, fresh, past, figures, with-link, with-connections, with-held}
 use Rattle.rules.specs.Admission.{reservation, level-sum}
-use Rattle.rules.specs.Calls.{answer}
+use Rattle.rules.specs.Service.{remember-all, Spaced, eligibilities}
+use Rattle.rules.specs.SoundState.{in-order, departed-of, Beyond}
+use Rattle.rules.specs.Calls.{causes, placed, answer}
 use Rattle.rules.specs.Runs.{Departure, run, Exchange, exchanges}
 
 -- what is seen of a call: its verdict, its number, which level was short and by how many units, and for an admission the level sums with the newcomer counted and its reservation;
@@ -57,7 +61,7 @@ link-a = link (record { levels = 2; largest = 4; silence = 0; bounds = 10 ∷ 20
 
 -- an admission with level, gap and size
 abbrev pub line : ℕ → ℕ → ℕ → Call
-line level gap size = admit (record { level = level; gap = gap; size = size })
+line level gap size = admit (record { level = level; gap = gap; size = size; window = 0; average = 0 })
 
 abbrev pub over : ℕ → ℕ → Short
 over level units = record { level = level; units = units }
@@ -159,6 +163,102 @@ silences =
 
 abbrev pub Worked-silences : Type 0
 Worked-silences = map seen silences ≡ map (λ (x : Case). x .expected) silences
+
+-- document 02, R-6: a line of level 1 with gap 1 and size 1, an averaging window and an average gap
+abbrev pub average-line : ℕ → ℕ → Call
+average-line window average = admit (record { level = 1; gap = 1; size = 1; window = window; average = average })
+
+-- .. with the gap 3
+abbrev pub gap-3 : ℕ → ℕ → Call
+gap-3 window average = admit (record { level = 1; gap = 3; size = 1; window = window; average = average })
+
+-- n offers of one unit at the same tick
+abbrev pub at-once : ℕ → List Call
+at-once n = replicate n (offer 0 1 71)
+
+abbrev pub two-in-100 : List Call
+two-in-100 = link-a ∷ average-line 100 50 ∷ []
+
+-- a bound of 10 reserves 3, one of 13 reserves 3 + 1
+abbrev pub three-in-12 : ℕ → List Call
+three-in-12 d = one-level d ∷ average-line 12 4 ∷ []
+
+-- offers at 0, 6 and 7, and the clock at 12
+abbrev pub burst-at-6 : List Call
+burst-at-6 = three-in-12 13 ++ offer 0 1 71 ∷ replicate 6 tick ++ offer 0 1 72 ∷ tick ∷ offer 0 1 73 ∷ replicate 5 tick
+
+abbrev pub averages : List Case
+averages =
+    -- a window without an average gap, or the other way; one that it does not divide; 17 packets in a window; an average gap below the gap
+    admission (link-a ∷ []) (average-line 100 0) 6 255 no-short (14 ∷ 24 ∷ []) 10
+    ∷ admission (link-a ∷ []) (average-line 0 50) 6 255 no-short (14 ∷ 24 ∷ []) 10
+    ∷ admission (link-a ∷ []) (average-line 100 51) 6 255 no-short (5 ∷ 5 ∷ []) 1
+    ∷ admission (link-a ∷ []) (average-line 17 1) 6 255 no-short (14 ∷ 24 ∷ []) 10
+    ∷ admission (link-a ∷ []) (gap-3 4 2) 6 255 no-short (8 ∷ 11 ∷ []) 4
+    -- the count within 10 and 20 ticks, and 4 for S. 2 in 100: 2 and 2. 2 in 8: 2 + 2 and 2 * 2 + 2. 1 in 8: 1 + 1 and 2 * 1 + 1
+    ∷ admission (link-a ∷ []) (average-line 100 50) 0 0 no-short (6 ∷ 6 ∷ []) 2
+    ∷ admission (link-a ∷ []) (average-line 8 4) 0 0 no-short (8 ∷ 10 ∷ []) 4
+    ∷ admission (link-a ∷ []) (average-line 8 8) 0 0 no-short (6 ∷ 7 ∷ []) 2
+    -- 2 in 8 with the gap 3: of the rest, 2 and 4 ticks, 1 and 2 packets, so 2 + 1 and 2 * 2 + 2
+    ∷ admission (link-a ∷ []) (gap-3 8 4) 0 0 no-short (7 ∷ 10 ∷ []) 3
+    -- 16 in 32, within 33 ticks: 16 + 1, and 1 for S
+    ∷ admission (one-level 33 ∷ []) (average-line 32 2) 0 0 no-short (18 ∷ 1 ∷ []) 17
+    -- offers at 0 and 1 are eligible on arrival; the third, at 2, 100 after the first; the fourth 100 after the second; the fifth finds no room
+    ∷ service (two-in-100 ++ offer 0 1 71 ∷ tick ∷ []) (offer 0 1 72) 1 0 1 (1 ∷ 2 ∷ [])
+    ∷ service (two-in-100 ++ offer 0 1 71 ∷ tick ∷ offer 0 1 72 ∷ tick ∷ []) (offer 0 1 73) 1 0 100 (1 ∷ 2 ∷ [])
+    ∷ service (two-in-100 ++ offer 0 1 71 ∷ tick ∷ offer 0 1 72 ∷ tick ∷ offer 0 1 73 ∷ []) (offer 0 1 74) 1 0 101 (1 ∷ 2 ∷ [])
+    ∷ service (two-in-100 ++ offer 0 1 71 ∷ tick ∷ offer 0 1 72 ∷ tick ∷ offer 0 1 73 ∷ offer 0 1 74 ∷ []) (offer 0 1 75) 1 12 0 (1 ∷ 2 ∷ [])
+    -- a burst of 3 in 12, all offered at 0: the gap alone between the three, and the fourth 12 after the first
+    ∷ service (three-in-12 13 ++ at-once 2) (offer 0 1 72) 3 0 2 (1 ∷ 2 ∷ 3 ∷ [])
+    ∷ service (three-in-12 13 ++ at-once 3) (offer 0 1 72) 0 0 12 []
+    -- with room for 3 the fourth is refused. It is not remembered: one that is offered at 1 is eligible 12 after the first, not after the second
+    ∷ service (three-in-12 10 ++ at-once 3) (offer 0 1 72) 0 12 0 []
+    ∷ service (three-in-12 10 ++ at-once 4 ++ tick ∷ []) (offer 0 1 72) 0 0 12 (1 ∷ [])
+    -- a window that begins inside a burst, at 6: it holds 6, 7 and the one offered at 12, which is eligible at once, 12 after the first; the next 12 after 6
+    ∷ service burst-at-6 (offer 0 1 74) 1 0 12 (1 ∷ 7 ∷ 8 ∷ 13 ∷ [])
+    ∷ service (burst-at-6 ++ offer 0 1 74 ∷ []) (offer 0 1 75) 0 0 18 (1 ∷ 7 ∷ 8 ∷ [])
+    -- 1 in 8: the second waits for the window, not for the gap
+    ∷ service (link-a ∷ average-line 8 8 ∷ at-once 1) (offer 0 1 72) 0 0 8 []
+    -- 16 in 32, all offered at 0: the seventeenth is held back by the first, until 32, where the gap alone would give 16
+    ∷ service (one-level 33 ∷ average-line 32 2 ∷ at-once 16) (offer 0 1 72) 0 0 32 []
+    ∷ []
+
+abbrev pub Worked-averages : Type 0
+Worked-averages = map seen averages ≡ map (λ (x : Case). x .expected) averages
+
+-- document 02's sound state does not say that what has left was eligible (`left-eligible`, SoundState). The other clauses of `Queue`, of connection 0
+abbrev pub Queue-but-left : Connection → ℕ → Past → List ℕ → Type 0
+Queue-but-left c t h es =
+    (length h ≤ max-remembered)
+    × (remember-all (departed-of h es) es ≡ h)
+    × Spaced c (in-order (departed-of h es) es)
+    × Beyond c t (departed-of h es) es
+
+abbrev pub But-left : State → Type 0
+But-left s = Queue-but-left (figures s 0) (s .clock) (past s 0) (eligibilities 0 (s .held))
+
+-- a line with 1 packet in 4 ticks and a reservation of 72 / 4 = 18, at clock 0; of what it remembers, 160, 156 .. 100, only the first is held
+abbrev pub left-too-early : State
+left-too-early =
+    with-held
+    (with-connections
+    (with-link fresh (record { levels = 1; largest = 1; silence = 0; bounds = 72 ∷ replicate 7 0 }))
+    (record { level = 1; gap = 2; size = 1; window = 4; average = 4 } ∷ [])
+    ((160 ∷ 156 ∷ 152 ∷ 148 ∷ 144 ∷ 140 ∷ 136 ∷ 132 ∷ 128 ∷ 124 ∷ 120 ∷ 116 ∷ 112 ∷ 108 ∷ 104 ∷ 100 ∷ []) ∷ []))
+    (record { connection = 0; len = 1; tag = 71; arrival = 0; eligibility = 160 } ∷ [])
+
+-- n offers, one after the other: the state behind them, and for each the lowest verdict that applies, 1 left out
+abbrev pub offered : ℕ → State → State
+offered zero s = s
+offered (suc n) s = offered n (placed s 0 1 72)
+
+abbrev pub told : ℕ → State → List ℕ
+told zero s = []
+told (suc n) s = first-number (causes (offer 0 1 72) s) ∷ told n (placed s 0 1 72)
+
+-- these clauses hold of it, fifteen offers get no such verdict, and then the clauses hold no longer: 156 is forgotten, and 160 lies too far past the clock
+abbrev pub Left-must-be-eligible : Type 0
+Left-must-be-eligible = But-left left-too-early × (told 15 left-too-early ≡ replicate 15 0) × (But-left (offered 15 left-too-early) → ⊥)
 
 -- document 02, R-3, speaks of lines that keep their gap; of others it is false. A line of gap 10 offers at 1 and at 2, one unit each: alone on the wire it is
 -- accepted twice; beside a connection that sent four units at 0 its first packet still waits at 2, and the second is refused for room

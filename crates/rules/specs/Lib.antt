@@ -1,4 +1,4 @@
--- Read in this order: Words, Limits, Model, Admission, Service, SoundState, SoundTest, Calls, Runs, Promises, Examples, WorkedLimits.
+-- Read in this order: Words, Limits, Model, Admission, Service, SoundState, SoundTest, Calls, Runs, WithoutAverage, Promises, Examples, WorkedLimits.
 pub mod Words
 pub mod Limits
 pub mod Model
@@ -8,6 +8,7 @@ pub mod SoundState
 pub mod SoundTest
 pub mod Calls
 pub mod Runs
+pub mod WithoutAverage
 pub mod Promises
 pub mod Examples
 pub mod WorkedLimits

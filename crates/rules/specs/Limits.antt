@@ -14,6 +14,16 @@ max-bound = 32_768
 abbrev pub max-gap : ℕ
 max-gap = 65_535
 
+-- document 02, R-6: ticks of an averaging window, packets in one, and the eligibilities that a connection remembers
+abbrev pub max-window : ℕ
+max-window = 65_535
+
+abbrev pub max-burst : ℕ
+max-burst = 16
+
+abbrev pub max-remembered : ℕ
+max-remembered = 16
+
 -- document 02, R-4: ticks of silence after each packet
 abbrev pub max-silence : ℕ
 max-silence = 64

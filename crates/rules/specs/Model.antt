@@ -1,17 +1,19 @@
 -- What the rules speak of: the state of a hub, the calls on it and their answers. Document 01, "Link, connections, places"; document 02, R-1,
--- R-2 and R-4.
+-- R-2, R-4 and R-6.
 use Prim.Native.Nat.{ℕ}
-use mathlib.Core.Bool.{false}
 use mathlib.Core.List.{List, [], _∷_}
 use mathlib.Core.Option.{Option, none, some}
 use lib.ListN.{getD, replicate}
 use Rattle.rules.specs.Limits.{max-levels, notice-number}
 pub use Rattle.rules.specs.declared.Link.{Link}
 pub use Rattle.rules.specs.declared.Connection.{Connection}
-pub use Rattle.rules.specs.declared.Past.{Past}
 pub use Rattle.rules.specs.declared.Packet.{Packet}
 pub use Rattle.rules.specs.declared.Notice.{Notice}
 pub use Rattle.rules.specs.declared.Short.{Short}
+
+-- what is remembered of a connection's accepted packets: the eligibilities of the last ones, newest first (document 02, R-6)
+abbrev pub Past : Type 0
+Past = List ℕ
 
 -- `link` has 0 levels while none is set. `connections` by number, `pasts` beside them. `held` in the order offered. The packet in service is the first
 -- held one of connection `serving`, with `to-go` units to go; `to-go` is 0 while the line is idle. `notices` are the housekeeping packets that wait, in the
@@ -52,10 +54,10 @@ abbrev pub no-link : Link
 no-link = record { levels = 0; largest = 0; silence = 0; bounds = replicate max-levels 0 }
 
 abbrev pub no-connection : Connection
-no-connection = record { level = 0; gap = 0; size = 0 }
+no-connection = record { level = 0; gap = 0; size = 0; window = 0; average = 0 }
 
 abbrev pub no-past : Past
-no-past = record { sent = false; last = 0 }
+no-past = []
 
 -- the fresh hub: everything is zero
 abbrev pub fresh : State

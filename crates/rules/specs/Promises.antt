@@ -9,13 +9,14 @@ use lib.Dec.{leb}
 use lib.ListN.{length, getElem?}
 use Rattle.rules.specs.Words.{within, upto, sum, All}
 use Rattle.rules.specs.Limits.{max-levels, max-largest, max-silence, max-bound, max-reserved, clock-end, beyond-32-bits, max-notices, notice-number}
-use Rattle.rules.specs.Model.{Link, Connection, Packet, State, Call, link, admit, offer, notice, tick, Short, no-short, Answer, fresh, nth, past, figures}
-use Rattle.rules.specs.Admission.{rising, cost, link-within, bound, count, level-sum, level-test}
-use Rattle.rules.specs.Service.{of, started, ticked}
-use Rattle.rules.specs.SoundState.{Sound}
+use Rattle.rules.specs.Model.{Link, Connection, Past, Packet, State, Call, link, admit, offer, notice, tick, Short, no-short, Answer, fresh, nth, past, figures}
+use Rattle.rules.specs.Admission.{rising, cost, link-within, burst, figures-within, bound, count, level-sum, level-test}
+use Rattle.rules.specs.Service.{next-eligibility, Spaced, of, started, ticked}
+use Rattle.rules.specs.SoundState.{Queue, Sound}
 use Rattle.rules.specs.SoundTest.{sound}
 use Rattle.rules.specs.Calls.{answer, refused-number, eligibility-now}
-use Rattle.rules.specs.Runs.{History, run, departures, in-hub, bound-of, allowed, Keeps-its-gap, Exchange, exchanges, own-answer}
+use Rattle.rules.specs.WithoutAverage.{Plain, Apart, in-ticks, base-figures-within, base-count, base-eligibility, Base-spaced, Base-queue, Memory-kept}
+use Rattle.rules.specs.Runs.{History, run, departures, in-hub, bound-of, allowed, Keeps-its-word, Exchange, exchanges, own-answer}
 
 -- ---- demand 1: any call on any state ends with an answer or a numbered refusal (`answer` is a function); a refused call changes nothing
 
@@ -68,7 +69,7 @@ abbrev pub Eligibilities-fit : Type 0
 Eligibilities-fit =
     (s : State) → Sound s
     → All (λ p. p .eligibility < beyond-32-bits) (s .held)
-    × ((c : ℕ) → (past s c .last < beyond-32-bits) × (eligibility-now s c < beyond-32-bits))
+    × ((c : ℕ) → All (λ e. e < beyond-32-bits) (past s c) × (eligibility-now s c < beyond-32-bits))
 
 -- ---- which level was short (document 02, R-2)
 
@@ -168,8 +169,8 @@ Demand-3-first =
     → p .eligibility + bound-of (run ks .now) c ≤ run ks .now .clock
     → Left-by (run ks) c i p (p .eligibility + bound-of (run ks .now) c)
 
--- ---- demand 3, second sentence: a connection that keeps its gap is never refused for room and leaves within the bound of its arrival.
--- Any calls `earlier`, an offer of c of allowed length, any calls `later`; c has kept its gap up to this offer
+-- ---- demand 3, second sentence: a connection that keeps its word is never refused for room and leaves within the bound of its arrival.
+-- Any calls `earlier`, an offer of c of allowed length, any calls `later`; c has kept its word up to this offer
 
 pub record Kept-promise (earlier later : List Call) (c len tag : ℕ) : Type 0 where
   pub never-for-room : answer (offer c len tag) (run earlier .now) .verdict ≡ 12 → ⊥
@@ -184,17 +185,17 @@ pub record Kept-promise (earlier later : List Call) (c len tag : ℕ) : Type 0 w
 abbrev pub Demand-3-second : Type 0
 Demand-3-second =
     (earlier later : List Call) (c len tag : ℕ)
-    → Keeps-its-gap c (earlier ++ offer c len tag ∷ [])
+    → Keeps-its-word c (earlier ++ offer c len tag ∷ [])
     → allowed (run earlier .now) c len ≡ true
     → Kept-promise earlier later c len tag
 
--- ---- bed nine and bed ten (document 02, R-3): nothing that another connection does changes what a connection that keeps its gap is told
+-- ---- bed nine and bed ten (document 02, R-3): nothing that another connection does changes what a connection that keeps its word is told
 
--- in any run, each answer to a connection that keeps its gap is the one that its own figures and its own offer decide
+-- in any run, each answer to a connection that keeps its word is the one that its own figures and its own offer decide
 abbrev pub Told-by-its-own : Type 0
 Told-by-its-own =
     (ks : List Call) (c : ℕ)
-    → Keeps-its-gap c ks
+    → Keeps-its-word c ks
     → All (λ (e : Exchange). e ≡ own-answer (figures (run ks .now) c) (e .asked)) (exchanges c ks)
 
 -- so in any two runs a connection with the same figures and the same offers at the same ticks is told the same, whatever its number in each. That the links are
@@ -204,7 +205,7 @@ Bed-nine-and-bed-ten =
     (ks ms : List Call) (c d : ℕ)
     → figures (run ks .now) c ≡ figures (run ms .now) d
     → map (λ e. e .asked) (exchanges c ks) ≡ map (λ e. e .asked) (exchanges d ms)
-    → Keeps-its-gap c ks
+    → Keeps-its-word c ks
     → exchanges c ks ≡ exchanges d ms
 
 -- for every connection, counted from the answers: accepted since the hub was fresh = departed plus held
@@ -245,3 +246,31 @@ pub record No-silence-runs (s : State) : Type 0 where
 
 abbrev pub Without-silence : Type 0
 Without-silence = ((l : Link) → l .silence ≡ 0 → As-in-the-base l) × ((s : State) → s .link .silence ≡ 0 → No-silence-runs s)
+
+-- ---- average rates (document 02, R-6)
+
+-- the spacing, said of any two: X apart, and I apart where they are n or more apart
+abbrev pub Spacing-says : Type 0
+Spacing-says = (c : Connection) (es : List ℕ) → Spaced c es ↔ (Base-spaced c es × Apart (burst c) (c .window) es)
+
+-- over all lengths of window: no w ticks hold more of a connection's eligibilities than the count
+abbrev pub No-window-holds-more : Type 0
+No-window-holds-more = (c : Connection) → 1 ≤ c .gap → (es : List ℕ) → Spaced c es → (b w : ℕ) → in-ticks b w es ≤ count c w
+
+-- .. and it is exact: for every length of window there are eligibilities of which it holds as many
+abbrev pub The-count-is-reached : Type 0
+The-count-is-reached = (l : Link) (c : Connection) → figures-within l c ≡ true → (w : ℕ) → (es : List ℕ) × Spaced c es × (in-ticks 0 w es ≡ count c w)
+
+-- a longer window counts no less
+abbrev pub The-count-never-falls : Type 0
+The-count-never-falls = (c : Connection) → 1 ≤ c .gap → (w v : ℕ) → w ≤ v → count c w ≤ count c v
+
+-- a connection without an average has document 01's limits, count, eligibility and spacing, and its rows in a sound state are as document 01 says, beside what is asked of the memory
+abbrev pub Without-average : Type 0
+Without-average =
+    (c : Connection) → Plain c
+    → ((l : Link) → figures-within l c ≡ base-figures-within l c)
+    × ((w : ℕ) → count c w ≡ base-count c w)
+    × ((h : Past) (now : ℕ) → next-eligibility c h now ≡ base-eligibility c h now)
+    × ((es : List ℕ) → Spaced c es ↔ Base-spaced c es)
+    × ((t : ℕ) (h : Past) (es : List ℕ) → Queue c t h es ↔ (Base-queue c t h es × Memory-kept c t h es))

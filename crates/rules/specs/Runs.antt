@@ -73,7 +73,7 @@ in-hub s = s .held ++ map notice-packet (s .notices)
 abbrev pub bound-of : State → ℕ → ℕ
 bound-of s c = bound (s .link) (figures s c .level)
 
--- ---- a connection that keeps its gap
+-- ---- a connection that keeps its word
 
 -- an offer to c of allowed length; one given 10 is no connection's offer ("Verdict numbers")
 abbrev pub allowed : State → ℕ → ℕ → Bool
@@ -95,9 +95,9 @@ offer-ticks-from c h ts (k ∷ ks) = offer-ticks-from c (after h k) (push ts (of
 abbrev pub offer-ticks : ℕ → List Call → List ℕ
 offer-ticks c ks = offer-ticks-from c nothing-yet [] ks
 
--- they are never closer than the spacing of c asks
-abbrev pub Keeps-its-gap : ℕ → List Call → Type 0
-Keeps-its-gap c ks = Spaced (figures (run ks .now) c) (offer-ticks c ks)
+-- they keep the spacing of c: its gap and, with an average, I behind the n-th before (document 02, R-6)
+abbrev pub Keeps-its-word : ℕ → List Call → Type 0
+Keeps-its-word c ks = Spaced (figures (run ks .now) c) (offer-ticks c ks)
 
 -- ---- what a connection asks and is told (document 02, R-3)
 
@@ -135,7 +135,7 @@ exchanges-from c h es (k ∷ ks) = exchanges-from c (after h k) (push es (exchan
 abbrev pub exchanges : ℕ → List Call → List Exchange
 exchanges c ks = exchanges-from c nothing-yet [] ks
 
--- what a connection that keeps its gap is told: its own figures and its own offer decide. A wrong length: 11; at the clock's end: 13; else accepted, eligible on arrival
+-- what a connection that keeps its word is told: its own figures and its own offer decide. A wrong length: 11; at the clock's end: 13; else accepted, eligible on arrival
 abbrev pub own-answer : Connection → Asked → Exchange
 own-answer x a = record {
   asked = a;

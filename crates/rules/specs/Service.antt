@@ -1,28 +1,52 @@
--- When a packet may go, which goes next, and one tick of the line. Document 01, "Eligibility" and "One tick"; document 02, R-1 and R-4.
+-- When a packet may go, which goes next, and one tick of the line. Document 01, "Eligibility" and "One tick"; document 02, R-1, R-4 and R-6.
 --
 use Prim.Native.Nat.{ℕ, zero, suc, _+_, _-_, _≤_, max}
 use mathlib.Core.Bool.{Bool, true, cond, _&&_, _||_}
 use mathlib.Core.List.{List, [], _∷_, map}
 use mathlib.Core.Option.{Option, none, some}
 use lib.Dec.{leb, ltb, eqb}
-use Rattle.rules.specs.Words.{Pairs}
-use Rattle.rules.specs.Limits.{notice-number}
+use lib.ListN.{getElem?, take}
+use Rattle.rules.specs.Limits.{notice-number, max-remembered}
 use Rattle.rules.specs.Model.{Connection, Past, Packet, Notice, State, Answer, no-short, figures, notice-packet, with-clock, with-held, with-notices, with-line}
-use Rattle.rules.specs.Admission.{cost}
+use Rattle.rules.specs.Admission.{cost, burst}
 
 -- ---- "Eligibility"
 
--- a connection's first accepted packet: on arrival. Each later one: the greater of its arrival and the eligibility before it plus X
+-- behind the eligibilities in h, newest first: that of the packet that came n before, n from 1
+abbrev pub nth-before : ℕ → Past → Option ℕ
+nth-before zero h = none
+nth-before (suc n) h = getElem? h n
+
+-- x ticks after that one; 0 where there is none
+abbrev pub ticks-after : ℕ → Option ℕ → ℕ
+ticks-after x none = 0
+ticks-after x (some e) = e + x
+
+-- the earliest tick that both rules allow behind those in h: X after the packet before and I after the n-th before (document 02, R-6)
+unfoldable pub earliest : Connection → Past → ℕ
+earliest c h = max (ticks-after (c .gap) (nth-before 1 h)) (ticks-after (c .window) (nth-before (burst c) h))
+
+-- a packet is eligible on arrival, or at the earliest tick that the rules allow where that is later
 unfoldable pub next-eligibility : Connection → Past → ℕ → ℕ
-next-eligibility c h now = cond (h .sent) (max now (h .last + c .gap)) now
+next-eligibility c h now = max now (earliest c h)
 
 -- what is remembered once a packet with the eligibility e is accepted
 unfoldable pub remember : Past → ℕ → Past
-remember h e = record { sent = true; last = e }
+remember h e = take max-remembered (e ∷ h)
 
--- the spacing that this gives a connection's eligibilities, in order: each at least X after every one before it
+-- .. and once these are, in order
+abbrev pub remember-all : Past → List ℕ → Past
+remember-all h [] = h
+remember-all h (e ∷ es) = remember-all (remember h e) es
+
+-- the spacing that this gives a connection's eligibilities, in order: none is earlier than the rules allow behind all those before it. h: those that
+-- came before the first, newest first
+abbrev pub Spaced-behind : Connection → List ℕ → List ℕ → Type 0
+Spaced-behind c h [] = Unit {0}
+Spaced-behind c h (e ∷ es) = (earliest c h ≤ e) × Spaced-behind c (e ∷ h) es
+
 unfoldable pub Spaced : Connection → List ℕ → Type 0
-Spaced c es = Pairs (λ a b. a + c .gap ≤ b) es
+Spaced c es = Spaced-behind c [] es
 
 -- ---- packets by connection
 

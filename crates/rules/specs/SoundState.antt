@@ -1,17 +1,18 @@
 -- A sound state, clause by clause. Document 01, "A sound state"; its first clause, the length of the places table, is the table's own and stands with
--- the code. The clauses on notices and on the silence: docs/RULES-AFTER-BASE.md, R-1 and R-4.
-use Prim.Native.Nat.{ℕ, _+_, _≤_, _<_}
+-- the code. The clauses on notices and on the silence: docs/RULES-AFTER-BASE.md, R-1, R-4 and R-6.
+use Prim.Native.Nat.{ℕ, _+_, _≤_, _<_, max}
 use mathlib.Core.Path.{_≡_}
-use mathlib.Core.Bool.{true, false}
+use mathlib.Core.Bool.{true, cond}
 use mathlib.Core.Logic.{_⊎_}
 use mathlib.Core.List.{List, [], _∷_}
-use mathlib.Core.Option.{some}
-use lib.ListN.{length}
+use mathlib.Core.Option.{Option, none, some}
+use lib.Dec.{eqb}
+use lib.ListN.{length, drop}
 use Rattle.rules.specs.Words.{All}
-use Rattle.rules.specs.Limits.{max-connections, max-reserved, clock-end, max-notices, notice-number}
+use Rattle.rules.specs.Limits.{max-connections, max-reserved, clock-end, max-notices, notice-number, max-remembered}
 use Rattle.rules.specs.Model.{Link, Connection, Past, Packet, Notice, State, fresh, nth, past, figures, first-notice}
-use Rattle.rules.specs.Admission.{link-within, level-within, figures-within, stands, bound, reservation, reserved, level-sum}
-use Rattle.rules.specs.Service.{Spaced, of, eligibilities, first}
+use Rattle.rules.specs.Admission.{link-within, level-within, figures-within, stands, bound, burst, reservation, reserved, level-sum}
+use Rattle.rules.specs.Service.{nth-before, ticks-after, earliest, remember-all, Spaced, of, eligibilities, first}
 
 -- ---- the held rows, each by itself
 
@@ -26,36 +27,42 @@ pub record Dated (t : ℕ) (p : Packet) : Type 0 where
   pub arrived : p .arrival ≤ t
   pub not-before : p .arrival ≤ p .eligibility
 
--- ---- the rows of one connection, by their eligibilities in row order. X its gap, t the clock
+-- ---- the rows of one connection, by their eligibilities in row order, and what is remembered of it (document 02, R-6). t the clock
 
--- the last row's is `last`
-abbrev pub Ends-at : ℕ → List ℕ → Type 0
-Ends-at last [] = Unit {0}
-Ends-at last (e ∷ []) = e ≡ last
-Ends-at last (e ∷ f ∷ es) = Ends-at last (f ∷ es)
+-- those in h, newest first, and then es: all in order
+abbrev pub in-order : List ℕ → List ℕ → List ℕ
+in-order [] es = es
+in-order (e ∷ h) es = in-order h (e ∷ es)
 
--- the first beyond the clock is at most X beyond it
-abbrev pub First-near : ℕ → ℕ → List ℕ → Type 0
-First-near X t [] = Unit {0}
-First-near X t (e ∷ es) = (t < e → e ≤ t + X) × (e ≤ t → First-near X t es)
+-- remembered and no longer held: behind as many as there are rows
+abbrev pub departed-of : Past → List ℕ → Past
+departed-of h es = drop (length es) h
 
--- after a: each exactly X after the one before
-abbrev pub In-steps : ℕ → ℕ → List ℕ → Type 0
-In-steps X a [] = Unit {0}
-In-steps X a (e ∷ es) = (e ≡ a + X) × In-steps X e es
+-- how far past the clock a rule can hold a packet back whose n-th before is not known: I, or X where there is no average
+abbrev pub reach : Connection → ℕ
+reach c = cond (eqb (burst c) 0) (c .gap) (c .window)
 
--- each later than the first beyond the clock exactly X after the one before
-abbrev pub Later-exact : ℕ → ℕ → List ℕ → Type 0
-Later-exact X t [] = Unit {0}
-Later-exact X t (e ∷ es) = (t < e → In-steps X e es) × (e ≤ t → Later-exact X t es)
+-- an eligibility e beyond the clock, behind those in h: the least that both rules allow if the n-th packet before is held or remembered, else at most the
+-- greater of I past the clock and X past the one before. Without an average: at most the greater of X past the clock and X past the one before
+abbrev pub Near-by : Connection → ℕ → List ℕ → ℕ → Option ℕ → Type 0
+Near-by c t h e none = e ≤ max (t + reach c) (ticks-after (c .gap) (nth-before 1 h))
+Near-by c t h e (some a) = e ≡ earliest c h
+
+-- each of es that lies beyond the clock, behind those in h
+abbrev pub Beyond : Connection → ℕ → List ℕ → List ℕ → Type 0
+Beyond c t h [] = Unit {0}
+Beyond c t h (e ∷ es) = (t < e → Near-by c t h e (nth-before (burst c) h)) × Beyond c t (e ∷ h) es
 
 pub record Queue (c : Connection) (t : ℕ) (h : Past) (es : List ℕ) : Type 0 where
-  pub rise : Spaced c es
-  pub last-row : Ends-at (h .last) es
-  pub first-beyond : First-near (c .gap) t es
-  pub later-beyond : Later-exact (c .gap) t es
-  pub none-beyond : All (λ e. e ≤ t) es → h .last ≤ t
-  pub none-accepted : h .sent ≡ false → (es ≡ []) × (h .last ≡ 0)
+  -- at most 16 are remembered, the newest of them those of the last rows
+  pub few : length h ≤ max-remembered
+  pub last-rows : remember-all (departed-of h es) es ≡ h
+  -- those remembered and no longer held, and then the rows, keep the spacing
+  pub rise : Spaced c (in-order (departed-of h es) es)
+  -- what has left was eligible
+  pub left-eligible : All (λ e. e ≤ t) (departed-of h es)
+  -- no row lies further beyond the clock than the rules put it
+  pub beyond : Beyond c t (departed-of h es) es
 
 -- ---- the notices, each by itself: a length from 1 to S, arrival at most the clock
 

@@ -1,16 +1,17 @@
 -- The sound state as a test that computes, in the passes that the code makes. It need not be believed: `Test-is-exact` (Promises) says that it is true
 -- exactly of a sound state. Document 01, "A sound state".
 use Prim.Native.Nat.{ℕ, _+_, max}
-use mathlib.Core.Bool.{Bool, true, false, cond, _&&_, _||_}
+use mathlib.Core.Bool.{Bool, true, false, cond, _&&_}
 use mathlib.Core.List.{List, [], _∷_, _++_}
 use mathlib.Core.Option.{Option, none, some}
 use lib.Dec.{leb, eqb}
 use lib.ListN.{length}
 use Rattle.rules.specs.Words.{within, every, each}
-use Rattle.rules.specs.Limits.{max-levels, max-connections, max-reserved, clock-end, max-notices, notice-number}
+use Rattle.rules.specs.Limits.{max-levels, max-connections, max-reserved, clock-end, max-notices, notice-number, max-remembered}
 use Rattle.rules.specs.Model.{Link, Connection, Past, Packet, Notice, State, nth, past, figures, first-notice}
-use Rattle.rules.specs.Admission.{link-within, level-within, figures-within, stands, reservation, reserved, passes}
-use Rattle.rules.specs.Service.{of, eligibilities, first}
+use Rattle.rules.specs.Admission.{link-within, level-within, figures-within, stands, burst, reservation, reserved, passes}
+use Rattle.rules.specs.Service.{nth-before, ticks-after, earliest, remember-all, of, eligibilities, first}
+use Rattle.rules.specs.SoundState.{departed-of, reach}
 
 -- ---- with no link set
 
@@ -45,37 +46,66 @@ row-sound cs t p =
     stands cs (p .connection)
     && (within 1 (nth cs (p .connection) .size) (p .len) && (leb (p .arrival) t && leb (p .arrival) (p .eligibility)))
 
--- the last of some eligibilities
-abbrev pub latest : List ℕ → Option ℕ
-latest [] = none
-latest (e ∷ []) = some e
-latest (e ∷ f ∷ es) = latest (f ∷ es)
+-- how late an eligibility may be behind those in h: as early as the rules allow if the n-th before is known, else the greater of X past the one before and of
+-- I (or X, where there is no average) past the clock t
+abbrev pub far-as : ℕ → ℕ → Option ℕ → ℕ
+far-as far x none = far
+far-as far x (some a) = a + x
 
--- an eligibility e against the one before it in its connection, if there is one. X the gap, t the clock
-abbrev pub in-pace : ℕ → ℕ → Option ℕ → ℕ → Bool
-in-pace X t none e = leb e (t + X)
-in-pace X t (some a) e = leb (a + X) e && leb e (max t a + X)
+unfoldable pub latest : Connection → ℕ → Past → ℕ
+latest c t h = max (ticks-after (c .gap) (nth-before 1 h)) (far-as (t + reach c) (c .window) (nth-before (burst c) h))
 
--- one pass over the rows, behind those in `before`
-abbrev pub paced : List Connection → ℕ → List Packet → List Packet → Bool
-paced cs t before [] = true
-paced cs t before (p ∷ ps) =
-    in-pace (nth cs (p .connection) .gap) t (latest (eligibilities (p .connection) before)) (p .eligibility) && paced cs t (before ++ p ∷ []) ps
+-- an eligibility e behind those in h: not too early, and not too late
+abbrev pub in-pace : Connection → ℕ → Past → ℕ → Bool
+in-pace c t h e = leb (earliest c h) e && leb e (max t (latest c t h))
 
--- what is remembered of a connection, against its last row if there is one
-abbrev pub remembered : ℕ → Past → Option ℕ → Bool
-remembered t h none = leb (h .last) t && (h .sent || eqb (h .last) 0)
-remembered t h (some e) = h .sent && eqb e (h .last)
+-- what is remembered of connection c and no longer held
+abbrev pub departed-by : State → ℕ → Past
+departed-by s c = departed-of (past s c) (eligibilities c (s .held))
 
-abbrev pub queue-sound : State → ℕ → Bool
-queue-sound s c =
-    leb (length (of c (s .held))) (reservation (s .link) (figures s c)) && remembered (s .clock) (past s c) (latest (eligibilities c (s .held)))
+-- one pass over the rows, behind those in `before`; of each connection only what is remembered is kept. old: what it was before the first row
+abbrev pub paced : List Connection → ℕ → (ℕ → Past) → List Packet → List Packet → Bool
+paced cs t old before [] = true
+paced cs t old before (p ∷ ps) =
+    in-pace (nth cs (p .connection)) t (remember-all (old (p .connection)) (eligibilities (p .connection) before)) (p .eligibility)
+    && paced cs t old (before ++ p ∷ []) ps
+
+-- what is remembered of a connection and no longer held, newest first: it keeps the spacing, and lies at or before t
+abbrev pub left-in-time : Connection → ℕ → Past → Bool
+left-in-time c t [] = true
+left-in-time c t (e ∷ h) = leb (earliest c h) e && (leb e t && left-in-time c t h)
+
+-- .. of a connection that holds n packets, no more than its reservation
+abbrev pub left-sound : Link → Connection → ℕ → ℕ → Past → Bool
+left-sound l c t n old = leb n (reservation l c) && left-in-time c t old
+
+abbrev pub same-numbers : List ℕ → List ℕ → Bool
+same-numbers [] [] = true
+same-numbers [] (b ∷ bs) = false
+same-numbers (a ∷ xs) [] = false
+same-numbers (a ∷ xs) (b ∷ bs) = eqb a b && same-numbers xs bs
+
+-- what is remembered, h, is what the pass leaves
+abbrev pub kept-sound : Past → Past → Bool
+kept-sound h new = leb (length h) max-remembered && same-numbers h new
+
+-- connection c before the pass, and behind it
+abbrev pub before-pass : State → ℕ → Bool
+before-pass s c = left-sound (s .link) (figures s c) (s .clock) (length (of c (s .held))) (departed-by s c)
+
+abbrev pub behind-pass : State → ℕ → Bool
+behind-pass s c = kept-sound (past s c) (remember-all (departed-by s c) (eligibilities c (s .held)))
+
+-- all rows and all connections among themselves
+abbrev pub queues-sound : State → Bool
+queues-sound s =
+    every (length (s .connections)) (before-pass s)
+    && (paced (s .connections) (s .clock) (departed-by s) [] (s .held) && every (length (s .connections)) (behind-pass s))
 
 unfoldable pub rows-sound : State → Bool
 rows-sound s =
     leb (s .clock) clock-end
-    && (each (row-sound (s .connections) (s .clock)) (s .held)
-    && (paced (s .connections) (s .clock) [] (s .held) && every (length (s .connections)) (queue-sound s)))
+    && (each (row-sound (s .connections) (s .clock)) (s .held) && queues-sound s)
 
 -- ---- the notices
 

@@ -9,7 +9,7 @@ use Rattle.rules.specs.Limits.{max-levels}
 use Rattle.rules.specs.Model.{Link, Connection, Past, Packet, Notice, State, Call, link, offer, notice, tick, no-link, no-past, fresh}
 use Rattle.rules.specs.Calls.{answer}
 use Rattle.rules.specs.Runs.{Departure, run-from}
-use Rattle.rules.specs.Examples.{line}
+use Rattle.rules.specs.Examples.{line, average-line, gap-3}
 
 -- what is seen of a call: its verdict, its number, and what has departed once so many ticks have followed it: connections and tags, in order
 pub record Outcome : Type 0 where
@@ -40,7 +40,7 @@ wire levels largest silence bounds = record { levels = levels; largest = largest
 
 -- level, gap, size
 abbrev pub connection : ℕ → ℕ → ℕ → Connection
-connection level gap size = record { level = level; gap = gap; size = size }
+connection level gap size = record { level = level; gap = gap; size = size; window = 0; average = 0 }
 
 -- an idle line at clock t
 abbrev pub idle : ℕ → Link → List Connection → List Past → List Packet → List Notice → State
@@ -50,8 +50,9 @@ idle t l cs hs ps ns = record { link = l; connections = cs; pasts = hs; clock = 
 abbrev pub unit : ℕ → ℕ → ℕ → ℕ → Packet
 unit c tag arrival eligibility = record { connection = c; len = 1; tag = tag; arrival = arrival; eligibility = eligibility }
 
+-- one packet was accepted so far, with the eligibility e
 abbrev pub last-at : ℕ → Past
-last-at e = record { sent = true; last = e }
+last-at e = e ∷ []
 
 -- a link and nothing else
 abbrev pub bare : Link → State
@@ -77,7 +78,7 @@ abbrev pub holds-one : ℕ → State
 holds-one t = idle t wire-a (connection 1 5 3 ∷ []) (last-at t ∷ []) (unit 0 71 t t ∷ []) []
 
 abbrev pub holds-two : ℕ → State
-holds-two t = idle t wire-a (connection 1 5 3 ∷ []) (last-at (t + 5) ∷ []) (unit 0 71 t t ∷ unit 0 72 t (t + 5) ∷ []) []
+holds-two t = idle t wire-a (connection 1 5 3 ∷ []) (((t + 5) ∷ t ∷ []) ∷ []) (unit 0 71 t t ∷ unit 0 72 t (t + 5) ∷ []) []
 
 -- link A and n notices of one unit, at clock t
 abbrev pub waits : ℕ → ℕ → State
@@ -144,6 +145,13 @@ admission-limits =
     ∷ gives (bare wire-a) (line 1 10 0) 6 255
     ∷ gives (bare wire-a) (line 1 10 1) 0 0
     ∷ gives (bare wire-a) (line 1 10 5) 6 255
+    -- document 02, R-6: an averaging window up to 65,535 ticks, 16 packets in one, an average gap of the gap, 3
+    ∷ gives (bare wire-a) (average-line 65_535 65_535) 0 0
+    ∷ gives (bare wire-a) (average-line 65_536 65_536) 6 255
+    ∷ gives (bare (wire 1 1 0 (33 ∷ []))) (average-line 32 2) 0 0
+    ∷ gives (bare (wire 1 1 0 (33 ∷ []))) (average-line 34 2) 6 255
+    ∷ gives (bare wire-a) (gap-3 6 3) 0 0
+    ∷ gives (bare wire-a) (gap-3 4 2) 6 255
     -- 64 connections
     ∷ gives (many 63) (line 1 100 1) 0 63
     ∷ gives (many 64) (line 1 100 1) 7 255

@@ -1,4 +1,4 @@
-// The six records that the rules and the code share, declared once so that a contract needs no conversion. The rules themselves stand in specs/.
+// The five records that the rules and the code share, declared once so that a contract needs no conversion. The rules themselves stand in specs/.
 
 // Document 01, "Link, connections, places": n levels, the largest packet S, a delay bound for each level, level 1 first. Document 02, R-4: the silence
 // that the line needs after each packet, in ticks.
@@ -9,17 +9,13 @@ pub struct Link {
     pub bounds: [u32; 8],
 }
 
-// The same section: a connection as it was admitted.
+// The same section: a connection as it was admitted. Document 02, R-6: its averaging window and its average gap, both 0 where it has none.
 pub struct Connection {
     pub level: u32,
     pub gap: u32,
     pub size: u32,
-}
-
-// What is remembered of a connection's accepted packets: whether there was one, and the eligibility of the last.
-pub struct Past {
-    pub sent: bool,
-    pub last: u32,
+    pub window: u32,
+    pub average: u32,
 }
 
 // The same section: a held packet.

@@ -1,70 +1,55 @@
--- What one pass over the rows keeps of each connection, and what it asks of a row and of a connection. Document 01, "A sound state".
+-- What the pass over the rows keeps of each connection: how many rows it has, and a table of connections that remembers them one by one. Document 01, "A sound
+-- state"; docs/RULES-AFTER-BASE.md, R-6.
 use Prim.Native.Nat.{ℕ, _+_, _<_, _≤_}
 use mathlib.Core.Path.{_≡_}
-use mathlib.Core.Bool.{Bool, cond, _&&_}
-use mathlib.Core.List.{List, []}
-use mathlib.Core.Option.{Option, none, some}
-use lib.Dec.{leb, eqb}
+use mathlib.Core.Bool.{Bool, true}
+use mathlib.Core.List.{List}
 use lib.ListN.{length, getD, set}
 use Rattle.rules.specs.declared.Packet.{Packet}
-use Rattle.rules.specs.Words.{every}
 use Rattle.rules.specs.Limits.{max-connections, max-reserved}
-use Rattle.rules.specs.Model.{State, nth, no-past}
-use Rattle.rules.specs.Admission.{reservation}
-use Rattle.rules.specs.Service.{of, eligibilities}
-use Rattle.rules.specs.SoundTest.{latest, in-pace, paced, remembered, queue-sound}
+use Rattle.rules.specs.Model.{Past, nth, no-past}
+use Rattle.rules.specs.Service.{of, remember-all, eligibilities}
+use Rattle.rules.specs.SoundTest.{left-sound}
 use Rattle.tables.specs.Places.{rows, row-at}
-use Rattle.connections.specs.Members.{members-in, connections-in, pasts-in}
+use Rattle.connections.specs.Members.{members-in, connections-in, pasts-in, members-formed}
 use Rattle.state.specs.declared.Hub.{Hub}
 
--- ---- what is kept
+-- ---- the rows of each connection, counted
 
--- the last of n eligibilities, which is a; none where n is 0
-abbrev pub seen-option : ℕ → ℕ → Option ℕ
-seen-option n a = cond (eqb n 0) none (some a)
-
--- two small tables hold for each connection how many rows were passed, and the last eligibility
-abbrev pub last-seen : List ℕ → List ℕ → ℕ → Option ℕ
-last-seen seen prev c = seen-option (getD seen c 0) (getD prev c 0)
-
-pub record Tally (seen prev : List ℕ) (passed : List Packet) : Type 0 where
-  pub seen-size : length seen ≡ max-connections
-  pub prev-size : length prev ≡ max-connections
+pub record Counts (seen : List ℕ) (passed : List Packet) : Type 0 where
+  pub size : length seen ≡ max-connections
   pub counts : (c : ℕ) → c < max-connections → getD seen c 0 ≡ length (of c passed)
-  pub lasts : (c : ℕ) → c < max-connections → last-seen seen prev c ≡ latest (eligibilities c passed)
 
--- .. with one more
-abbrev pub seen-with : List ℕ → Packet → List ℕ
-seen-with seen p = set seen (p .connection) (getD seen (p .connection) 0 + 1)
+-- .. with one more of connection c
+abbrev pub counted : List ℕ → ℕ → List ℕ
+counted seen c = set seen c (getD seen c 0 + 1)
 
-abbrev pub prev-with : List ℕ → Packet → List ℕ
-prev-with prev p = set prev (p .connection) (p .eligibility)
-
--- a table of connections and a places table of a size that the tally can hold, each row of a connection that stands
-pub record Known (members places : List ℕ) : Type 0 where
-  pub few-connections : length (members-in members) ≤ max-connections
+-- each row names a connection that can be counted, and there are not too many
+pub record Countable (places : List ℕ) : Type 0 where
   pub few-rows : length (rows places) ≤ max-reserved
-  pub standing : (k : ℕ) → k < length (rows places) → row-at places k .connection < length (members-in members)
+  pub known : (k : ℕ) → k < length (rows places) → row-at places k .connection < max-connections
 
--- ---- what is asked
+-- ---- a table of connections
 
--- of a row p, where `o` is the last eligibility of its connection, if there is one
-abbrev pub paced-after : Hub → List ℕ → Option ℕ → Packet → Bool
-paced-after h members o p = in-pace (nth (connections-in members) (p .connection) .gap) (h .clock) o (p .eligibility)
+-- what it remembers of connection c
+abbrev pub past-in : List ℕ → ℕ → Past
+past-in t c = getD (pasts-in t) c no-past
 
--- .. behind others: the step of the rules' `paced`
-abbrev pub row-paced : Hub → List ℕ → List Packet → Packet → Bool
-row-paced h members passed p = paced-after h members (latest (eligibilities (p .connection) passed)) p
+-- it has the connections of another table, and remembers what f says
+pub record Remembers (members t : List ℕ) (f : ℕ → Past) : Type 0 where
+  pub shape : members-formed t ≡ true
+  pub same : connections-in t ≡ connections-in members
+  pub pasts : (c : ℕ) → c < length (members-in members) → past-in t c ≡ f c
 
--- of connection c with n rows, the last of eligibility a: the rules' `queue-sound`
-abbrev pub queue-fits : Hub → List ℕ → ℕ → ℕ → ℕ → Bool
-queue-fits h members c n a =
-    leb n (reservation (h .link) (nth (connections-in members) c)) && remembered (h .clock) (getD (pasts-in members) c no-past) (seen-option n a)
+-- .. what a table remembers once these packets are accepted
+abbrev pub past-with : List ℕ → List Packet → ℕ → Past
+past-with t ps c = remember-all (past-in t c) (eligibilities c ps)
 
--- .. by the two tables
-abbrev pub tally-fits : Hub → List ℕ → List ℕ → List ℕ → ℕ → Bool
-tally-fits h members seen prev c = queue-fits h members c (getD seen c 0) (getD prev c 0)
+-- each row names one of its connections
+abbrev pub Names : List ℕ → List ℕ → Type 0
+Names t places = (k : ℕ) → k < length (rows places) → row-at places k .connection < length (members-in t)
 
--- of all rows and of all connections: what is left of the rules' `rows-sound`
-abbrev pub queues-sound : State → Bool
-queues-sound s = paced (s .connections) (s .clock) [] (s .held) && every (length (s .connections)) (queue-sound s)
+-- ---- what is asked of connection c before the pass, by the two tables
+
+abbrev pub left-at : Hub → List ℕ → List ℕ → ℕ → Bool
+left-at h t seen c = left-sound (h .link) (nth (connections-in t) c) (h .clock) (getD seen c 0) (past-in t c)

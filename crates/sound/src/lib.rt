@@ -2,9 +2,9 @@
 mod pace; // pace.rt: the rows of each connection, compared with each other
 
 ghost use mathlib.Core.Path.{_≡_};
+ghost use mathlib.Core.Bool.{true};
 ghost use mathlib.Core.List.{List};
 ghost use Prim.Native.Nat.{ℕ};
-ghost use lib.Dec.{leb};
 ghost use lib.ListN.{length};
 ghost use Rattle.rules.specs.Words.{each};
 ghost use Rattle.rules.specs.Admission.{passes};
@@ -12,11 +12,13 @@ ghost use Rattle.rules.specs.SoundTest.{all-zero, admissions-sound, row-sound, 
 ghost use Rattle.tables.specs.Table.{formed};
 ghost use Rattle.tables.specs.Places.{packet-width, places-length, rows};
 ghost use Rattle.tables.specs.Notices.{notice-of, marked, notices-formed};
-ghost use Rattle.connections.specs.Members.{members-in, connections-in, members-formed};
+ghost use Rattle.connections.specs.Members.{members-in, connections-in, member-formed, members-formed};
 ghost use Rattle.connections.specs.Within.{Within};
 ghost use Rattle.state.specs.View.{tables, before, view, tables-formed, sound-hub};
 ghost use Rattle.sound.specs.Parts.{Members, Held, Waiting, connections-sound, unused, linked-sound};
+use connections::Member;
 use limits::CLOCK_END;
+use limits::MAX_REMEMBERED;
 use limits::MAX_RESERVED;
 use limits::NOTICE_NUMBER;
 use limits::PACKET_WIDTH;
@@ -27,15 +29,25 @@ use state::Hub;
 
 // ---- the shape of the tables
 
-// The marks of the first n connections are 0 or 1.
-fn marks_ok(members: &[u32], n: usize) -> bool
+// No more is remembered of a connection than there is room for, and zeros are behind it.
+fn member_formed(m: Member) -> bool
+    ensures { λ r. ⌜ r ≡ member-formed m ⌝ }
+{
+    if (MAX_REMEMBERED as u32) < m.known {
+        return false;
+    }
+    let ticks = m.ticks;
+    zero_from(&ticks, m.known as usize)
+}
+
+// The same of the first n connections.
+fn each_formed(members: &[u32], n: usize) -> bool
     requires { ⌜ n ≡ length (members-in (now members)) ⌝ }
-    ensures { λ r. ⌜ r ≡ each (λ m. leb (m .sent) 1) (members-in (now (members .entry))) ⌝ }
+    ensures { λ r. ⌜ r ≡ each member-formed (members-in (now (members .entry))) ⌝ }
 {
     let mut i: usize = 0;
     while i < n {
-        let m = connections::member_at(members, i);
-        if 1 < m.sent {
+        if !member_formed(connections::member_at(members, i)) {
             return false;
         }
         i += 1;
@@ -43,7 +55,7 @@ fn marks_ok(members: &[u32], n: usize) -> bool
     true
 }
 
-// The table of connections has its length, and marks that are 0 or 1.
+// The table of connections has its length, and rows as they must be.
 fn members_formed(members: &[u32], n: usize) -> bool
     requires { ⌜ n ≡ length (members-in (now members)) ⌝ }
     ensures { λ r. ⌜ r ≡ members-formed (now (members .entry)) ⌝ }
@@ -51,7 +63,7 @@ fn members_formed(members: &[u32], n: usize) -> bool
     if members.len() != limits::MEMBERS {
         return false;
     }
-    marks_ok(members, n)
+    each_formed(members, n)
 }
 
 // The places table has its length, and zeros behind its rows.
@@ -219,7 +231,7 @@ fn rows_ok(h: Hub, members: &[u32], n: usize, places: &[u32], held: usize) -> bo
 
 // The clock, the rows by themselves, and the rows of each connection among themselves.
 fn held_ok(h: Hub, members: &[u32], n: usize, places: &[u32], held: usize) -> bool
-    requires { ⌜ Members (now members) n × Held (now places) held × Within (h .link) (connections-in (now members)) ⌝ }
+    requires { ⌜ Members (now members) n × Held (now places) held × (members-formed (now members) ≡ true) × Within (h .link) (connections-in (now members)) ⌝ }
     ensures { λ r. ⌜ ((q : List ℕ) → r ≡ rows-sound (view h (tables (now (members .entry)) (now (places .entry)) q))) ⌝ }
 {
     if CLOCK_END < h.clock {
@@ -304,7 +316,7 @@ fn linked_ok(
     notices: &[u32],
     waiting: usize,
 ) -> bool
-    requires { ⌜ Members (now members) n × Held (now places) held × Waiting (now notices) waiting ⌝ }
+    requires { ⌜ Members (now members) n × Held (now places) held × Waiting (now notices) waiting × (members-formed (now members) ≡ true) ⌝ }
     ensures { λ r. ⌜ r ≡ linked-sound (view h (before members places notices)) ⌝ }
 {
     if !admissions_ok(h, members, n) {

@@ -1,20 +1,26 @@
-// The part of the test that compares rows of a connection with each other, in one pass over the rows.
+// The part of the test that compares rows of a connection with each other and with what is remembered of it, in one pass over the rows.
 ghost use mathlib.Core.Path.{_≡_};
-ghost use mathlib.Core.Bool.{true, not};
+ghost use mathlib.Core.Bool.{true};
 ghost use mathlib.Core.List.{List, []};
-ghost use Prim.Native.Nat.{ℕ, _+_, _<_, _≤_, max};
-ghost use lib.Dec.{eqb};
-ghost use lib.ListN.{length, getD, take};
-ghost use Rattle.rules.specs.Limits.{max-reserved};
+ghost use Prim.Native.Nat.{ℕ, _<_, _≤_};
+ghost use lib.ListN.{length, getD, set, drop};
+ghost use Rattle.rules.specs.Limits.{max-connections, max-reserved, max-remembered};
 ghost use Rattle.rules.specs.Words.{every};
-ghost use Rattle.rules.specs.SoundTest.{in-pace, paced, remembered};
+ghost use Rattle.rules.specs.Model.{nth};
+ghost use Rattle.rules.specs.Admission.{burst};
+ghost use Rattle.rules.specs.Service.{remember};
+ghost use Rattle.rules.specs.SoundTest.{latest, in-pace, paced, left-in-time, left-sound, queues-sound};
 ghost use Rattle.tables.specs.Places.{rows, row-at};
-ghost use Rattle.connections.specs.Members.{members-in, connections-in};
+ghost use Rattle.connections.specs.Members.{members-in, connection-of, past-of, connections-in, pasts-in, written-members, member-formed, members-formed};
 ghost use Rattle.connections.specs.Within.{Within};
 ghost use Rattle.state.specs.View.{tables, view};
-ghost use Rattle.sound.specs.Pace.{seen-option, last-seen, Tally, seen-with, prev-with, Known};
-ghost use Rattle.sound.specs.Pace.{paced-after, row-paced, queue-fits, tally-fits, queues-sound};
+ghost use Rattle.sound.specs.Pace.{Counts, counted, Countable, past-in, Remembers, past-with, Names, left-at};
+use connections::Member;
+use connections::regulator::after_nth;
+use connections::regulator::earliest_behind;
+use connections::regulator::greatest;
 use limits::MAX_CONNECTIONS;
+use limits::MEMBERS;
 use rules::Packet;
 use state::Hub;
 
@@ -25,124 +31,82 @@ fn wide(x: u32) -> u64
     x as u64
 }
 
-// The later of two ticks, where one more gap can be added to it.
-fn later(a: u32, b: u32) -> u64
-    ensures { λ r. ⌜ r ≡ max a b ⌝ }
-{
-    if a < b {
-        return wide(b);
-    }
-    wide(a)
-}
+// ---- the rows of each connection, counted
 
-// Whether the eligibility e keeps the pace behind n others, the last of them a. x is the gap.
-fn in_pace(x: u32, clock: u32, n: u32, a: u32, e: u32) -> bool
-    ensures { λ r. ⌜ r ≡ in-pace x clock (seen-option n a) e ⌝ }
+fn count_row(seen: &mut [u32], c: usize)
+    requires { ⌜ (c < length (now seen)) × (getD (now seen) c 0 < max-reserved) ⌝ }
+    ensures { λ r. ⌜ now (seen .exit) ≡ counted (now (seen .entry)) c ⌝ }
 {
-    let at = wide(e);
-    let gap = wide(x);
-    if n == 0 {
-        return at <= wide(clock) + gap;
-    }
-    (wide(a) + gap <= at) & (at <= later(clock, a) + gap)
-}
-
-// Whether the row p keeps the pace of its connection, by what was seen of that before.
-fn row_in_pace(h: Hub, members: &[u32], p: Packet, seen: &[u32], prev: &[u32]) -> bool
-    requires { ⌜ (p .connection < length (members-in (now members))) × (p .connection < length (now seen)) × (p .connection < length (now prev)) ⌝ }
-    ensures { λ r. ⌜ r ≡ paced-after h (now (members .entry)) (last-seen (now (seen .entry)) (now (prev .entry)) (p .connection)) p ⌝ }
-{
-    let c = p.connection as usize;
-    let x = connections::connection_at(members, c);
-    in_pace(x.gap, h.clock, seen[c], prev[c], p.eligibility)
-}
-
-// One more row of its connection was seen.
-fn note(seen: &mut [u32], prev: &mut [u32], p: Packet)
-    requires { ⌜ (p .connection < length (now seen)) × (p .connection < length (now prev)) × (getD (now seen) (p .connection) 0 < max-reserved) ⌝ }
-    ensures { λ r. ⌜ (now (seen .exit) ≡ seen-with (now (seen .entry)) p) × (now (prev .exit) ≡ prev-with (now (prev .entry)) p) ⌝ }
-{
-    let c = p.connection as usize;
     seen[c] += 1;
-    prev[c] = p.eligibility;
 }
 
-// Whether what is remembered of a connection fits its n rows, the last of eligibility a.
-fn remembered_ok(clock: u32, sent: u32, last: u32, n: u32, a: u32) -> bool
-    ensures { λ r. ⌜ r ≡ remembered clock (record { sent = not (eqb sent 0); last = last }) (seen-option n a) ⌝ }
-{
-    if n == 0 {
-        return (last <= clock) & ((sent != 0) | (last == 0));
-    }
-    (sent != 0) & (a == last)
-}
-
-// Whether row i keeps its pace behind the rows before it; if so, it is noted.
-fn pass_row(
-    h: Hub,
-    members: &[u32],
-    places: &[u32],
-    i: usize,
-    seen: &mut [u32],
-    prev: &mut [u32],
-) -> bool
-    requires { ⌜ (i < length (rows (now places))) × Known (now members) (now places) × Tally (now seen) (now prev) (take i (rows (now places))) ⌝ }
-    ensures { λ r. ⌜ r ≡ row-paced h (now (members .entry)) (take i (rows (now (places .entry)))) (row-at (now (places .entry)) i) ⌝ }
-    ensures { λ r. ⌜ (r ≡ true → Tally (now (seen .exit)) (now (prev .exit)) (take (i + 1) (rows (now (places .entry))))) ⌝ }
-{
-    let p = tables::row(places, i);
-    if !row_in_pace(h, members, p, seen, prev) {
-        return false;
-    }
-    note(seen, prev, p);
-    true
-}
-
-// Whether each row keeps its pace; if so, the two tables tell of all rows.
-fn scan(
-    h: Hub,
-    members: &[u32],
-    places: &[u32],
-    held: usize,
-    seen: &mut [u32],
-    prev: &mut [u32],
-) -> bool
-    requires { ⌜ (held ≡ length (rows (now places))) × Known (now members) (now places) × Tally (now seen) (now prev) [] ⌝ }
-    ensures { λ r. ⌜ r ≡ paced (connections-in (now (members .entry))) (h .clock) [] (rows (now (places .entry))) ⌝ }
-    ensures { λ r. ⌜ (r ≡ true → Tally (now (seen .exit)) (now (prev .exit)) (rows (now (places .entry)))) ⌝ }
+fn count_rows(places: &[u32], held: usize, seen: &mut [u32])
+    requires { ⌜ (held ≡ length (rows (now places))) × Countable (now places) × Counts (now seen) [] ⌝ }
+    ensures { λ r. ⌜ Counts (now (seen .exit)) (rows (now (places .entry))) ⌝ }
 {
     let mut i: usize = 0;
     while i < held {
-        if !pass_row(h, members, places, i, seen, prev) {
+        let p = tables::row(places, i);
+        count_row(seen, p.connection as usize);
+        i += 1;
+    }
+}
+
+// ---- before the pass: what has left
+
+// Each connection forgets as many as it has rows, so that what has left remains.
+fn forget_rows(table: &mut [u32], n: usize, seen: &[u32])
+    requires { ⌜ (n ≡ length (members-in (now table))) × (n ≤ max-connections) × (n ≤ length (now seen)) × (members-formed (now table) ≡ true) ⌝ }
+    requires { ⌜ ((c : ℕ) → c < n → 0 < nth (connections-in (now table)) c .size) ⌝ }
+    ensures { λ r. ⌜ Remembers (now (table .entry)) (now (table .exit)) (λ c. drop (getD (now (seen .entry)) c 0) (past-in (now (table .entry)) c)) ⌝ }
+{
+    let mut c: usize = 0;
+    while c < n {
+        connections::forget(table, c, seen[c]);
+        c += 1;
+    }
+}
+
+// What is remembered keeps the spacing, and lies at or before the clock.
+fn left_in_time(m: Member, clock: u32) -> bool
+    requires { ⌜ (member-formed m ≡ true) × (burst (connection-of m) ≤ max-remembered) ⌝ }
+    ensures { λ r. ⌜ r ≡ left-in-time (connection-of m) clock (past-of m) ⌝ }
+{
+    let mut k: u32 = 0;
+    while k < m.known {
+        let e = connections::regulator::tick_at(m, k);
+        if wide(e) < earliest_behind(m, k + 1) {
             return false;
         }
-        i += 1;
+        if clock < e {
+            return false;
+        }
+        k += 1;
     }
     true
 }
 
-// Whether connection c with n rows, the last of eligibility a, holds no more than its reservation, and what is remembered fits.
-fn queue_ok(h: Hub, members: &[u32], c: usize, n: u32, a: u32) -> bool
-    requires { ⌜ (c < length (members-in (now members))) × Within (h .link) (connections-in (now members)) ⌝ }
-    ensures { λ r. ⌜ r ≡ queue-fits h (now (members .entry)) c n a ⌝ }
+// Connection c, which holds n packets.
+fn left_ok(h: Hub, table: &[u32], c: usize, n: u32) -> bool
+    requires { ⌜ (members-formed (now table) ≡ true) × (c < length (members-in (now table))) × Within (h .link) (connections-in (now table)) ⌝ }
+    ensures { λ r. ⌜ r ≡ left-sound (h .link) (nth (connections-in (now (table .entry))) c) (h .clock) n (past-in (now (table .entry)) c) ⌝ }
 {
-    let x = connections::connection_at(members, c);
+    let x = connections::connection_at(table, c);
     if connections::reserve(h.link, x) < wide(n) {
         return false;
     }
-    let m = connections::member_at(members, c);
-    remembered_ok(h.clock, m.sent, m.last, n, a)
+    let m = connections::member_at(table, c);
+    left_in_time(m, h.clock)
 }
 
-// The same of the first n connections, by what was seen of them.
-fn each_queue_ok(h: Hub, members: &[u32], n: usize, seen: &[u32], prev: &[u32]) -> bool
-    requires { ⌜ (n ≡ length (members-in (now members))) × (n ≤ length (now seen)) × (n ≤ length (now prev)) ⌝ }
-    requires { ⌜ Within (h .link) (connections-in (now members)) ⌝ }
-    ensures { λ r. ⌜ r ≡ every n (tally-fits h (now (members .entry)) (now (seen .entry)) (now (prev .entry))) ⌝ }
+// The first n connections, with the rows that were counted.
+fn each_left_ok(h: Hub, table: &[u32], n: usize, seen: &[u32]) -> bool
+    requires { ⌜ (n ≡ length (members-in (now table))) × (n ≤ length (now seen)) × (members-formed (now table) ≡ true) × Within (h .link) (connections-in (now table)) ⌝ }
+    ensures { λ r. ⌜ r ≡ every n (left-at h (now (table .entry)) (now (seen .entry))) ⌝ }
 {
     let mut c: usize = 0;
     while c < n {
-        if !queue_ok(h, members, c, seen[c], prev[c]) {
+        if !left_ok(h, table, c, seen[c]) {
             return false;
         }
         c += 1;
@@ -150,16 +114,82 @@ fn each_queue_ok(h: Hub, members: &[u32], n: usize, seen: &[u32], prev: &[u32]) 
     true
 }
 
-// Whether each connection's rows keep their pace, none holds more than its reservation, and what is remembered fits its last row.
+// ---- the pass
+
+// How late the next eligibility may be.
+fn latest_of(m: Member, clock: u32) -> u64
+    requires { ⌜ (m .known ≤ max-remembered) × (burst (connection-of m) ≤ max-remembered) ⌝ }
+    ensures { λ r. ⌜ r ≡ latest (connection-of m) clock (past-of m) ⌝ }
+{
+    let by_gap = after_nth(m, 0, 1, m.gap);
+    let n = connections::packets_in(m.window, m.average);
+    if n == 0 {
+        return greatest(by_gap, wide(clock) + wide(m.gap));
+    }
+    if m.known < n {
+        return greatest(by_gap, wide(clock) + wide(m.window));
+    }
+    greatest(by_gap, after_nth(m, 0, n, m.window))
+}
+
+// Whether the eligibility e keeps the pace behind those that are remembered.
+fn in_pace(m: Member, clock: u32, e: u32) -> bool
+    requires { ⌜ (m .known ≤ max-remembered) × (burst (connection-of m) ≤ max-remembered) ⌝ }
+    ensures { λ r. ⌜ r ≡ in-pace (connection-of m) clock (past-of m) e ⌝ }
+{
+    let at = wide(e);
+    (earliest_behind(m, 0) <= at) & (at <= greatest(wide(clock), latest_of(m, clock)))
+}
+
+// Whether the row p keeps the pace of its connection; if so, it is remembered.
+fn pass_row(h: Hub, table: &mut [u32], p: Packet) -> bool
+    requires { ⌜ (members-formed (now table) ≡ true) × (p .connection < length (members-in (now table))) × Within (h .link) (connections-in (now table)) ⌝ }
+    ensures { λ r. ⌜ r ≡ in-pace (nth (connections-in (now (table .entry))) (p .connection)) (h .clock) (past-in (now (table .entry)) (p .connection)) (p .eligibility) ⌝ }
+    ensures { λ r. ⌜ (r ≡ true → now (table .exit) ≡ written-members (connections-in (now (table .entry))) (set (pasts-in (now (table .entry))) (p .connection) (remember (past-in (now (table .entry)) (p .connection)) (p .eligibility)))) ⌝ }
+{
+    let c = p.connection as usize;
+    let m = connections::member_at(table, c);
+    if !in_pace(m, h.clock, p.eligibility) {
+        return false;
+    }
+    connections::put_past(table, c, p.eligibility);
+    true
+}
+
+// Whether each row keeps its pace; if so, all rows are remembered.
+fn scan(h: Hub, table: &mut [u32], places: &[u32], held: usize) -> bool
+    requires { ⌜ (held ≡ length (rows (now places))) × (members-formed (now table) ≡ true) × Names (now table) (now places) × Within (h .link) (connections-in (now table)) × (length (members-in (now table)) ≤ max-connections) ⌝ }
+    ensures { λ r. ⌜ r ≡ paced (connections-in (now (table .entry))) (h .clock) (past-in (now (table .entry))) [] (rows (now (places .entry))) ⌝ }
+    ensures { λ r. ⌜ (r ≡ true → Remembers (now (table .entry)) (now (table .exit)) (past-with (now (table .entry)) (rows (now (places .entry))))) ⌝ }
+{
+    let mut i: usize = 0;
+    while i < held {
+        if !pass_row(h, table, tables::row(places, i)) {
+            return false;
+        }
+        i += 1;
+    }
+    true
+}
+
+// ---- the whole
+
+// Whether what has left of each connection and its rows keep their pace, none holds more than its reservation, and what is remembered are these.
 pub(crate) fn queues_ok(h: Hub, members: &[u32], n: usize, places: &[u32], held: usize) -> bool
-    requires { ⌜ (n ≡ length (members-in (now members))) × (held ≡ length (rows (now places))) ⌝ }
-    requires { ⌜ Known (now members) (now places) × Within (h .link) (connections-in (now members)) ⌝ }
+    requires { ⌜ (n ≡ length (members-in (now members))) × (n ≤ max-connections) × (held ≡ length (rows (now places))) × (held ≤ max-reserved) ⌝ }
+    requires { ⌜ (members-formed (now members) ≡ true) × Names (now members) (now places) × Within (h .link) (connections-in (now members)) ⌝ }
     ensures { λ r. ⌜ ((q : List ℕ) → r ≡ queues-sound (view h (tables (now (members .entry)) (now (places .entry)) q))) ⌝ }
 {
     let mut seen = [0u32; MAX_CONNECTIONS];
-    let mut prev = [0u32; MAX_CONNECTIONS];
-    if !scan(h, members, places, held, &mut seen, &mut prev) {
+    count_rows(places, held, &mut seen);
+    let mut table = [0u32; MEMBERS];
+    tables::copy(&mut table, 0, members);
+    forget_rows(&mut table, n, &seen);
+    if !each_left_ok(h, &table, n, &seen) {
         return false;
     }
-    each_queue_ok(h, members, n, &seen, &prev)
+    if !scan(h, &mut table, places, held) {
+        return false;
+    }
+    tables::same(members, &table)
 }

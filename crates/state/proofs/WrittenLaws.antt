@@ -5,15 +5,14 @@ use mathlib.Core.Path.{_≡_, refl, sym, ap, _∙_, subst}
 use mathlib.Core.Bool.{true}
 use mathlib.Core.Logic.{⊎-elim}
 use lib.ListN.{length}
-use Rattle.rules.specs.Words.{All, within}
-use Rattle.rules.specs.Limits.{max-connections, max-reserved, max-gap, max-notices}
-use Rattle.rules.specs.Model.{State, fresh, figures}
-use Rattle.rules.specs.Admission.{figures-within}
+use Rattle.rules.specs.Words.{All}
+use Rattle.rules.specs.Limits.{max-connections, max-reserved, max-notices}
+use Rattle.rules.specs.Model.{State, no-past, fresh, figures}
 use Rattle.rules.specs.SoundState.{Sound-with-link, Sound}
 use Rattle.rules.specs.SoundTest.{sound}
-use Rattle.rules.proofs.Lists.{all-map}
+use Rattle.rules.proofs.Lists.{all-map, all-from}
 use Rattle.rules.proofs.Sums.{same}
-use Rattle.rules.proofs.Tests.{and-true, and-intro, within-true}
+use Rattle.rules.proofs.Tests.{and-intro}
 use Rattle.rules.proofs.Bounds.{rows-fit-places}
 use Rattle.rules.proofs.SoundExact.{exact}
 use Rattle.tables.specs.Table.{formed}
@@ -22,24 +21,26 @@ use Rattle.tables.specs.Notices.{notices-formed}
 use Rattle.tables.proofs.TableLaws.{ends-in-front, read-back, formed-back}
 use Rattle.tables.proofs.NoticeLaws.{notices-again, written-formed}
 use Rattle.connections.specs.Members.{members-formed}
-use Rattle.connections.proofs.WrittenLaws.{connections-back, pasts-back, members-formed-back}
+use Rattle.connections.proofs.FigureLaws.{figure-limits}
+use Rattle.connections.proofs.WrittenLaws.{Few, connections-back, pasts-back, members-formed-back}
 use Rattle.state.specs.View.{view, hub-of, written, tables-formed, sound-hub}
 
 pub record Writable (s : State) : Type 0 where
   pub each-past : length (s .pasts) ≡ length (s .connections)
   pub used : (c : ℕ) → c < length (s .connections) → 0 < figures s c .size
   pub few : length (s .connections) ≤ max-connections
+  pub short : All Few (s .pasts)
   pub sent : All (λ p. 0 < p .len) (s .held)
   pub fit : length (s .held) ≤ max-reserved
   pub said : All (λ n. 0 < n .len) (s .notices)
   pub few-said : length (s .notices) ≤ max-notices
 
 linked-writable : (s : State) → Sound s → Sound-with-link s → Writable s
-unfolding figures-within
 linked-writable s T S = record {
   each-past = S .one-past-each;
-  used = λ c l. within-true 1 (s .link .largest) (figures s c .size) (and-true (within 1 max-gap (figures s c .gap)) (within 1 (s .link .largest) (figures s c .size)) (S .figures-in c l) .1) .0;
+  used = λ c l. figure-limits (s .link) (figures s c) (S .figures-in c l) .some-size;
   few = S .few;
+  short = all-from Few (s .pasts) no-past (λ c l. S .queue c (omega (arith, S .one-past-each)) .few);
   sent = all-map (λ p f. f .some-len) (s .held) (S .fit);
   fit = rows-fit-places s T;
   said = all-map (λ n f. f .some-len) (s .notices) (S .notices-fit);
@@ -47,7 +48,7 @@ linked-writable s T S = record {
 }
 
 fresh-writable : Writable fresh
-fresh-writable = record { each-past = refl; used = λ c l. absurd (omega arith); few = omega arith; sent = tt; fit = omega arith; said = tt; few-said = omega arith }
+fresh-writable = record { each-past = refl; used = λ c l. absurd (omega arith); few = omega arith; short = tt; sent = tt; fit = omega arith; said = tt; few-said = omega arith }
 
 pub writable : (s : State) → Sound s → Writable s
 writable s S =
@@ -69,13 +70,13 @@ module _ (s : State) (W : Writable s) where
   pub read-written : view (hub-of s) (written s) ≡ s
   read-written =
       rw
-      (connections-back (s .connections) (s .pasts) (W .each-past) (W .used) (W .few), pasts-back (s .connections) (s .pasts) (W .each-past) (W .used) (W .few), rows-back, notices-again (s .notices) (W .said) (W .few-said))
+      (connections-back (s .connections) (s .pasts) (W .each-past) (W .used) (W .few) (W .short), pasts-back (s .connections) (s .pasts) (W .each-past) (W .used) (W .few) (W .short), rows-back, notices-again (s .notices) (W .said) (W .few-said))
 
   written-tables-formed : tables-formed (written s) ≡ true
   unfolding tables-formed
   written-tables-formed =
       and-intro (formed packet-width places-length (written s .places)) _ places-formed-back
-      (and-intro (members-formed (written s .members)) (notices-formed (written s .notices)) (members-formed-back (s .connections) (s .pasts) (W .each-past) (W .used) (W .few)) (written-formed (s .notices) (W .said) (W .few-said)))
+      (and-intro (members-formed (written s .members)) (notices-formed (written s .notices)) (members-formed-back (s .connections) (s .pasts) (W .each-past) (W .used) (W .few) (W .short)) (written-formed (s .notices) (W .said) (W .few-said)))
 
 -- and what is written is sound
 pub written-sound : (s : State) → Sound s → sound-hub (hub-of s) (written s) ≡ true

@@ -214,8 +214,14 @@ fn record_step(
             let l = named::link_named(levels, largest, silence, d1, d2, d3, d4, d5, d6, d7, d8);
             link_step(h, members, places, notices, l, to, used, out)
         }
-        Record::Admit { level, gap, size } => {
-            let x = named::connection_named(level, gap, size);
+        Record::Admit {
+            level,
+            gap,
+            size,
+            window,
+            average,
+        } => {
+            let x = named::connection_named(level, gap, size, window, average);
             admit_step(h, members, places, notices, x, to, used, out)
         }
         Record::Offer {

@@ -9,13 +9,16 @@ use native.Mathlib.Omega.{arith}
 use lib.Dec.{eqb}
 use borrow.Author.Tests.{eqb-true, eq-eqb, ne-eqb}
 use lib.ListN.{length, getD, set, take, drop, replicate, length-append, length-drop, length-set, length-map, length-replicate, take-append-drop, drop-of-length-le, List·getD-map}
-use lib.Seq.{sets, sets-eq, set-split, take-at, drop-at, drop-drop, drop-cons, length-take-le, getD-take, getD-drop}
+use lib.Seq.{paste, sets, sets-eq, set-split, take-length, take-at, drop-at, drop-drop, drop-cons, length-take-le, getD-take, getD-drop}
 use Rattle.rules.specs.Words.{All, each}
+use Rattle.rules.specs.SoundTest.{same-numbers}
+use Rattle.rules.proofs.Lists.{all-every}
 use Rattle.rules.proofs.Tests.{never, and-true, and-intro, not-true-false}
 use Rattle.rules.proofs.Sums.{split, cond-is}
 use Rattle.limits.specs.Zeros.{zeros}
+use Rattle.limits.proofs.ChainLaws.{and-false}
 use Rattle.limits.proofs.ZeroLaws.{zeros-are, zeros-rep, zero-at, zeros-left, drop-zeros, zeros-parts, zeros-join}
-use Rattle.tables.specs.Table.{row-in, rows-in, whole, until, in-front, by-number, used, read, formed, write, padded}
+use Rattle.tables.specs.Table.{row-in, rows-in, numbers, whole, until, in-front, by-number, used, read, formed, write, padded}
 
 -- ---- a row, number by number
 
@@ -29,6 +32,67 @@ listed-all (x ∷ r) = ap (λ (l : List ℕ). x ∷ l) (listed-all r)
 
 pub listed-row : (w : ℕ) (r : List ℕ) → length r ≡ w → listed w (λ k. getD r k 0) ≡ r
 listed-row w r e = ap (λ (n : ℕ). listed n (λ k. getD r k 0)) (sym e) ∙ listed-all r
+
+-- ---- the first n numbers of a row
+
+pub numbers-all : (n : ℕ) (l : List ℕ) → length l ≡ n → numbers n l ≡ l
+numbers-all zero [] e = refl
+numbers-all zero (x ∷ l) e = absurd (omega arith)
+numbers-all (suc n) [] e = absurd (omega arith)
+numbers-all (suc n) (x ∷ l) e = ap (λ (k : List ℕ). x ∷ k) (numbers-all n l (omega arith))
+
+pub length-numbers : (n : ℕ) (l : List ℕ) → length (numbers n l) ≡ n
+length-numbers zero l = refl
+length-numbers (suc n) l = ap suc (length-numbers n (drop 1 l))
+
+-- of a row that is not longer: it, and zeros behind it
+pub numbers-front : (n : ℕ) (l : List ℕ) → length l ≤ n → take (length l) (numbers n l) ≡ l
+numbers-front n [] h = refl
+numbers-front zero (x ∷ l) h = absurd (omega arith)
+numbers-front (suc n) (x ∷ l) h = ap (λ (k : List ℕ). x ∷ k) (numbers-front n l (omega arith))
+
+numbers-none : (n : ℕ) → numbers n [] ≡ replicate n 0
+numbers-none zero = refl
+numbers-none (suc n) = ap (λ (k : List ℕ). 0 ∷ k) (numbers-none n)
+
+pub numbers-zero : (n : ℕ) (l : List ℕ) → length l ≤ n → zeros (drop (length l) (numbers n l)) ≡ true
+numbers-zero n [] h = ap zeros (numbers-none n) ∙ zeros-rep n
+numbers-zero zero (x ∷ l) h = absurd (omega arith)
+numbers-zero (suc n) (x ∷ l) h = numbers-zero n l (omega arith)
+
+-- of the first k of n numbers, where zeros are behind them: all n
+pub numbers-again : (k n : ℕ) (l : List ℕ) → length l ≡ n → zeros (drop k l) ≡ true → numbers n (take k l) ≡ l
+numbers-again zero n l e z = numbers-none n ∙ sym (zeros-are l z ∙ zeros-left (length l) n e)
+numbers-again (suc k) zero [] e z = refl
+numbers-again (suc k) zero (x ∷ l) e z = absurd (omega arith)
+numbers-again (suc k) (suc n) [] e z = absurd (omega arith)
+numbers-again (suc k) (suc n) (x ∷ l) e z = ap (λ (r : List ℕ). x ∷ r) (numbers-again k n l (omega arith) z)
+
+-- ---- a copy
+
+pub copied : (t s : List ℕ) (at : ℕ) → at + length s ≤ length t → paste t at s (length s) ≡ sets t at s
+copied t s at h = ap (λ (l : List ℕ). take at t ++ l ++ drop (at + length s) t) (take-length s) ∙ sym (sets-eq s t at h)
+
+-- ---- two tables, compared from the start
+
+pub longer-differs : (xs ys : List ℕ) → (length xs ≡ length ys → ⊥) → false ≡ same-numbers xs ys
+longer-differs [] [] n = absurd (n refl)
+longer-differs [] (y ∷ ys) n = refl
+longer-differs (x ∷ xs) [] n = refl
+longer-differs (x ∷ xs) (y ∷ ys) n = sym (and-false (eqb x y) (same-numbers xs ys) (sym (longer-differs xs ys (λ e. n (ap suc e)))))
+
+module _ (xs ys : List ℕ) (i : ℕ) (h : i < length xs) (k : i < length ys) where
+  same-here : same-numbers (drop i xs) (drop i ys) ≡ (eqb (getD xs i 0) (getD ys i 0) && same-numbers (drop (suc i) xs) (drop (suc i) ys))
+  same-here = rw (drop-cons xs i 0 h, drop-cons ys i 0 k)
+
+  pub differs-here : (getD xs i 0 ≡ getD ys i 0 → ⊥) → false ≡ same-numbers (drop i xs) (drop i ys)
+  differs-here n = sym (same-here ∙ ap (λ (b : Bool). b && same-numbers (drop (suc i) xs) (drop (suc i) ys)) (ne-eqb (getD xs i 0) (getD ys i 0) n))
+
+  pub same-next : getD xs i 0 ≡ getD ys i 0 → same-numbers (drop (suc i) xs) (drop (suc i) ys) ≡ same-numbers (drop i xs) (drop i ys)
+  same-next e = sym (same-here ∙ ap (λ (b : Bool). b && same-numbers (drop (suc i) xs) (drop (suc i) ys)) (eq-eqb (getD xs i 0) (getD ys i 0) e))
+
+pub same-end : (xs ys : List ℕ) (i : ℕ) → length xs ≤ i → length xs ≡ length ys → true ≡ same-numbers (drop i xs) (drop i ys)
+same-end xs ys i h e = rw (drop-of-length-le xs {i = i} h, drop-of-length-le ys {i = i} (omega arith)) refl
 
 -- ---- rows of a table
 
@@ -351,18 +415,23 @@ module _ {A : Type 0} (w : ℕ) (parts : A → List ℕ) (wide : (x : A) → len
         ∙ ap (λ (k : ℕ). rows-in w k (write parts xs ++ r)) (mul-add-div some-width (length xs) (length r))
         ∙ first-written xs (length r / w) r
 
-    module _ (make : List ℕ → A) (again : (x : A) → make (parts x) ≡ x) where
-      made-again : (xs : List A) → map make (map parts xs) ≡ xs
-      made-again [] = refl
-      made-again (x ∷ xs) = rw (again x, made-again xs)
+    module _ (make : List ℕ → A) where
+      made-again : (xs : List A) → All (λ x. make (parts x) ≡ x) xs → map make (map parts xs) ≡ xs
+      made-again [] h = refl
+      made-again (x ∷ xs) h = rw (h .0, made-again xs (h .1))
 
-      -- reading what was written gives it back
-      pub read-back : {ends : List (List ℕ) → Bool} → Ends ends → (xs : List A) (n : ℕ) → All (λ x. 0 < getD (parts x) 1 0) xs → read ends w make (write parts xs ++ replicate n 0) ≡ xs
-      read-back {ends} E xs n h =
+      -- reading what was written gives it back, where each row does
+      pub read-each : {ends : List (List ℕ) → Bool} → Ends ends → (xs : List A) (n : ℕ) → All (λ x. 0 < getD (parts x) 1 0) xs → All (λ x. make (parts x) ≡ x) xs
+          → read ends w make (write parts xs ++ replicate n 0) ≡ xs
+      read-each {ends} E xs n h again =
           ap (map make)
           (ap (until ends) (whole-written xs (replicate n 0))
           ∙ until-all E (map parts xs) (whole w (replicate n 0)) (all-parts parts xs h) (zero-rows w (length (replicate {A = ℕ} n 0) / w) (replicate n 0) (zeros-rep n)))
-          ∙ made-again xs
+          ∙ made-again xs again
+
+    module _ (make : List ℕ → A) (again : (x : A) → make (parts x) ≡ x) where
+      pub read-back : {ends : List (List ℕ) → Bool} → Ends ends → (xs : List A) (n : ℕ) → All (λ x. 0 < getD (parts x) 1 0) xs → read ends w make (write parts xs ++ replicate n 0) ≡ xs
+      read-back E xs n h = read-each make E xs n h (all-every again xs)
 
       pub formed-back : (xs : List A) (n : ℕ) → All (λ x. 0 < getD (parts x) 1 0) xs → w * length xs ≤ n → formed w n (padded w parts n xs) ≡ true
       formed-back xs n h l =

@@ -23,6 +23,11 @@ rows-in w (suc n) t = take w t ∷ rows-in w n (drop w t)
 abbrev pub whole : ℕ → List ℕ → List (List ℕ)
 whole w t = rows-in w (length t / w) t
 
+-- the first n numbers of a row, zeros where it ends
+abbrev pub numbers : ℕ → List ℕ → List ℕ
+numbers zero l = []
+numbers (suc n) l = getD l 0 0 ∷ numbers n (drop 1 l)
+
 -- ---- reading
 
 -- the rows before the first of which, with all behind it, `ends` holds

@@ -3,6 +3,8 @@ ghost use mathlib.Core.Path.{_≡_};
 ghost use mathlib.Core.List.{[], _∷_, _++_};
 ghost use Prim.Native.Nat.{ℕ, _+_, _*_, _-_, _<_, _≤_};
 ghost use lib.ListN.{length};
+ghost use lib.Seq.{sets};
+ghost use Rattle.rules.specs.SoundTest.{same-numbers};
 ghost use Rattle.tables.specs.Places.{row-at, put, shifted, rows, written-places, table-of, cut, place, no-packet, places-length};
 use limits::PACKET_WIDTH;
 use limits::PLACES;
@@ -59,6 +61,35 @@ fn shift(table: &mut [u32], from: usize, n: usize)
         table[from + j] = table[from + PACKET_WIDTH + j];
         j += 1;
     }
+}
+
+// The numbers of `from`, over those of the table from `at` on.
+pub fn copy(table: &mut [u32], at: usize, from: &[u32])
+    requires { ⌜ at + length (now from) ≤ length (now table) ⌝ }
+    ensures { λ r. ⌜ now (table .exit) ≡ sets (now (table .entry)) at (now (from .entry)) ⌝ }
+{
+    let mut j: usize = 0;
+    while j < from.len() {
+        table[at + j] = from[j];
+        j += 1;
+    }
+}
+
+// Two tables have the same numbers.
+pub fn same(a: &[u32], b: &[u32]) -> bool
+    ensures { λ r. ⌜ r ≡ same-numbers (now (a .entry)) (now (b .entry)) ⌝ }
+{
+    if a.len() != b.len() {
+        return false;
+    }
+    let mut i: usize = 0;
+    while i < a.len() {
+        if a[i] != b[i] {
+            return false;
+        }
+        i += 1;
+    }
+    true
 }
 
 // The number of rows.

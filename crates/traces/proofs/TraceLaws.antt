@@ -58,7 +58,7 @@ link-told n s silence d1 d2 d3 d4 d5 d6 d7 d8 rest w =
 pub trace-back : Reads-back-what-is-written trace
 unfolding read-kinds starts laid bytes
 trace-back (Link n s silence d1 d2 d3 d4 d5 d6 d7 d8) rest w = link-told n s silence d1 d2 d3 d4 d5 d6 d7 d8 rest w
-trace-back (Admit level gap size) rest w = kind-back CN (level ∷ gap ∷ size ∷ []) rest _ refl w refl refl
+trace-back (Admit level gap size window average) rest w = kind-back CN (level ∷ gap ∷ size ∷ window ∷ average ∷ []) rest _ refl w refl refl
 trace-back (Offer connection len tag) rest w = kind-back PK (connection ∷ len ∷ tag ∷ []) rest _ refl w refl refl
 trace-back (Notice len tag) rest w = kind-back NQ (len ∷ tag ∷ []) rest _ refl w refl refl
 trace-back (Ticks ticks) rest w = kind-back TK (ticks ∷ []) rest _ refl w refl refl
@@ -104,7 +104,7 @@ unfolding laid sum
 trace-length (Link n s silence d1 d2 d3 d4 d5 d6 d7 d8) h =
     let ds = d1 ∷ d2 ∷ d3 ∷ d4 ∷ d5 ∷ d6 ∷ d7 ∷ d8 ∷ [] in
     ap (λ l. length (laid l)) (written-as n s silence ds (has-bytes n s silence ds h)) ∙ length-bytes LK (n ∷ s ∷ silence ∷ take n ds) ∙ sum-link n
-trace-length (Admit level gap size) h = length-bytes CN (level ∷ gap ∷ size ∷ [])
+trace-length (Admit level gap size window average) h = length-bytes CN (level ∷ gap ∷ size ∷ window ∷ average ∷ [])
 trace-length (Offer connection len tag) h = length-bytes PK (connection ∷ len ∷ tag ∷ [])
 trace-length (Notice len tag) h = length-bytes NQ (len ∷ tag ∷ [])
 trace-length (Ticks ticks) h = length-bytes TK (ticks ∷ [])

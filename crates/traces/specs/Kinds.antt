@@ -1,4 +1,4 @@
--- Document 01, "Trace and answer records": the trace kinds of its table, in its order; and the one of document 02, R-1, behind `PK`. `LK` as R-4 has it.
+-- Document 01, "Trace and answer records": the trace kinds of its table, in its order; and the one of document 02, R-1, behind `PK`. `LK` as R-4 has it, `CN` as R-6.
 -- Each with the record that its numbers make.
 use mathlib.Core.Bool.{_&&_}
 use mathlib.Core.List.{[], _∷_}
@@ -19,9 +19,9 @@ LK =
       make = λ x. Link (x 0) (x 1) (x 2) (x 3) (x 4) (x 5) (x 6) (x 7) (x 8) (x 9) (x 10);
     }
 
--- "level (1), gap (2), size (2)"
+-- document 02, R-6, as docs/RULES-AFTER-BASE.md lays it out: "level (1), gap (2), size (2), window (2), average gap (2)"
 abbrev pub CN : Kind Record
-CN = plain (0x43 ∷ 0x4E ∷ []) (1 ∷ 2 ∷ 2 ∷ []) (λ x. Admit (x 0) (x 1) (x 2))
+CN = plain (0x43 ∷ 0x4E ∷ []) (1 ∷ 2 ∷ 2 ∷ 2 ∷ 2 ∷ []) (λ x. Admit (x 0) (x 1) (x 2) (x 3) (x 4))
 
 -- "connection (1), length (2), tag (4)"
 abbrev pub PK : Kind Record

@@ -1,4 +1,5 @@
--- Document 01, "Trace and answer records": the four trace kinds; and document 02, R-1: a fifth, the notice; R-4: the silence of a link.
+-- Document 01, "Trace and answer records": the four trace kinds; and document 02, R-1: a fifth, the notice; R-4: the silence of a link; R-6: the
+-- window and the average gap of a connection.
 use mathlib.Core.Bool.{Bool, cond, _&&_}
 use mathlib.Core.List.{List, [], _∷_}
 use mathlib.Core.Option.{Option, some, none}
@@ -25,7 +26,7 @@ link-layout n s silence ds = cond (link-written n ds) (some (LK, n ∷ s ∷ sil
 -- As which kind, with which numbers, a record is written.
 abbrev pub trace-layout : Record → Option (Kind Record × List ℕ)
 trace-layout (Link n s silence d1 d2 d3 d4 d5 d6 d7 d8) = link-layout n s silence (d1 ∷ d2 ∷ d3 ∷ d4 ∷ d5 ∷ d6 ∷ d7 ∷ d8 ∷ [])
-trace-layout (Admit level gap size) = some (CN, level ∷ gap ∷ size ∷ [])
+trace-layout (Admit level gap size window average) = some (CN, level ∷ gap ∷ size ∷ window ∷ average ∷ [])
 trace-layout (Offer connection len tag) = some (PK, connection ∷ len ∷ tag ∷ [])
 trace-layout (Notice len tag) = some (NQ, len ∷ tag ∷ [])
 trace-layout (Ticks ticks) = some (TK, ticks ∷ [])
@@ -51,7 +52,7 @@ trace-bytes r = laid (trace .layout r)
 -- The tables' column "Bytes".
 abbrev pub trace-table : Record → ℕ
 trace-table (Link n s silence d1 d2 d3 d4 d5 d6 d7 d8) = 6 + 2 * n
-trace-table (Admit level gap size) = 7
+trace-table (Admit level gap size window average) = 11
 trace-table (Offer connection len tag) = 9
 trace-table (Notice len tag) = 8
 trace-table (Ticks ticks) = 4

@@ -1,4 +1,4 @@
-// The trace records of document 01, "Trace and answer records", and of document 02, R-1 and R-4: their kinds as values, read and written.
+// The trace records of document 01, "Trace and answer records", and of document 02, R-1, R-4 and R-6: their kinds as values, read and written.
 mod link; // link.rt: links, of which one number says how many follow
 
 ghost use mathlib.Core.Path.{_≡_};
@@ -46,6 +46,8 @@ pub enum Record {
         level: u8,
         gap: u16,
         size: u16,
+        window: u16,
+        average: u16,
     },
     Offer {
         connection: u8,
@@ -115,8 +117,10 @@ pub fn read(s: &[u8]) -> Found
                 level: first,
                 gap: two(s, 3),
                 size: two(s, 5),
+                window: two(s, 7),
+                average: two(s, 9),
             };
-            whole_of(s, 7, admit)
+            whole_of(s, 11, admit)
         }
         0x4B50 => {
             let offer = Record::Offer {
@@ -167,7 +171,17 @@ fn draft(r: Record) -> Draft
             d7,
             d8,
         } => link::draft(levels, largest, silence, [d1, d2, d3, d4, d5, d6, d7, d8]),
-        Record::Admit { level, gap, size } => Draft::headed(CN, level).two(gap).two(size),
+        Record::Admit {
+            level,
+            gap,
+            size,
+            window,
+            average,
+        } => Draft::headed(CN, level)
+            .two(gap)
+            .two(size)
+            .two(window)
+            .two(average),
         Record::Offer {
             connection,
             len,

@@ -17,7 +17,7 @@ const ANSWERS: [(&[u8; 2], usize); 6] = [
 /// A good record of each kind.
 const GOOD: [&[u8]; 4] = [
     b"LK\x08\x01\x00\x02\x09\x00\x0A\x00\x0B\x00\x0C\x00\x0D\x00\x0E\x00\x0F\x00\x10\x00",
-    b"CN\x01\x14\x00\x01\x00",
+    b"CN\x01\x14\x00\x01\x00\x78\x00\x28\x00",
     b"PK\x00\x01\x00\x07\x00\x00\x00",
     b"TK\x05\x00",
 ];
@@ -299,7 +299,7 @@ fn only_noise(trace: &mut Trace, random: &mut Random) {
         let (mark, fields) = if trace.with_notices && random.once_in(3) {
             (b"NQ", 6)
         } else {
-            random.pick([(b"CN", 5), (b"PK", 7), (b"TK", 2), (b"LK", 6)])
+            random.pick([(b"CN", 9), (b"PK", 7), (b"TK", 2), (b"LK", 6)])
         };
         bytes.extend_from_slice(mark);
         for _ in 0..fields {

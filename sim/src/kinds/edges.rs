@@ -5,7 +5,8 @@ use super::traffic::{admit_one, admit_some, flood, modest_link};
 use crate::hub::CLOCK_END;
 use crate::level_test::level_sum;
 use crate::link::{
-    Connection, Link, HIGHEST_BOUND, MOST_CONNECTIONS, MOST_RESERVED, MOST_SILENCE, MOST_UNITS,
+    Connection, Figures, Link, HIGHEST_BOUND, MOST_CONNECTIONS, MOST_PER_WINDOW, MOST_RESERVED,
+    MOST_SILENCE, MOST_UNITS,
 };
 use crate::record::Record;
 use crate::replay::SIZE_LIMIT;
@@ -83,7 +84,7 @@ fn first_bound_too_low(script: &mut Script) -> u8 {
 }
 
 /// Small reservations, so that all 64 connections can stand.
-fn crowd_up_to(script: &mut Script, wanted: usize) {
+pub fn crowd_up_to(script: &mut Script, wanted: usize) {
     let link = match script.link_set() {
         Some(link) => link,
         _ => return,
@@ -126,7 +127,7 @@ pub fn bad_admission(script: &mut Script) {
         _ => return,
     };
     let (levels, largest) = (link.levels(), link.largest());
-    match script.random.between(0, 9) {
+    match script.random.between(0, 10) {
         0 => script.admit(0, 100, 1),
         1 => script.admit(levels + 1, 100, 1),
         2 => script.admit(255, 0, 0),
@@ -136,8 +137,31 @@ pub fn bad_admission(script: &mut Script) {
         6 => script.admit(levels, 0, u16::MAX),
         7 => script.admit(1, 1, largest),
         8 => script.admit(levels, 2, 2),
+        9 => {
+            let figures = broken_average(script, Figures::plain(levels, 100, 1));
+            script.admit_with(figures)
+        }
         _ => admit_past_the_reservations(script, &link),
     };
+}
+
+/// The same figures with an average that breaks a limit, but for a few at the ends of the
+/// numbers: a window or an average gap alone, an average gap below the gap, one that does not
+/// divide, a packet more than the most, the two exchanged.
+pub fn broken_average(script: &mut Script, figures: Figures) -> Figures {
+    let gap = figures.gap;
+    let (window, average) = script.some_average(gap);
+    let most = MOST_PER_WINDOW + 1;
+    let (window, average) = match script.random.between(0, 6) {
+        0 => (window, 0),
+        1 => (0, average),
+        2 => ((gap - 1).max(1), gap - 1),
+        3 => (window - 1, average),
+        4 => (window.saturating_add(1), average),
+        5 => (most.saturating_mul(gap), gap),
+        _ => (average, window),
+    };
+    figures.with_average(window, average)
 }
 
 /// One packet more than the reservations that are left.
@@ -229,25 +253,34 @@ pub fn tight_admission(script: &mut Script) {
         _ => u16::MAX,
     };
     let gap = gap.max(1);
-    let most = largest_passing(&link, &script.connections(), level, gap);
-    script.admit(level, gap, most + 1);
+    let (window, average) = match script.random.between(0, 2) {
+        0 => script.some_average(gap),
+        _ => (0, 0),
+    };
+    let sized = |size| Figures::plain(level, gap, size).with_average(window, average);
+    let most = largest_passing(&link, &script.connections(), sized(1));
+    script.admit_with(sized(most + 1));
     if script.random.once_in(3) {
-        script.admit(level, gap, most);
-        script.admit(level, gap, 1);
+        script.admit_with(sized(most));
+        script.admit_with(sized(1));
     } else {
         let size = script.random.between16(1, most.max(1));
-        script.admit(level, gap, size);
+        script.admit_with(sized(size));
     }
 }
 
-/// The largest size that a newcomer of this level and gap may have; 0 if none.
-pub fn largest_passing(link: &Link, connections: &[Connection], level: u8, gap: u16) -> u16 {
-    (level..=link.levels())
+/// The largest size that a newcomer of these figures may have, whatever theirs is; 0 if none.
+pub fn largest_passing(link: &Link, connections: &[Connection], figures: Figures) -> u16 {
+    let newcomer = match Connection::new(link, figures) {
+        Ok(newcomer) => newcomer,
+        Err(_) => return 0,
+    };
+    (newcomer.level()..=link.levels())
         .map(|one| {
             let bound = link.bound(one);
             let sum = level_sum(link, connections, one);
             let room = u64::from(bound).saturating_sub(sum);
-            let packets = u64::from((bound - 1) / gap + 1);
+            let packets = newcomer.packets_within(bound);
             (room / packets).saturating_sub(u64::from(link.silence()))
         })
         .min()
@@ -290,13 +323,13 @@ fn admit_with_longest_gap(script: &mut Script) {
 }
 
 /// Exactly the ticks left, or more of them.
-fn cross_the_end(script: &mut Script) {
+pub fn cross_the_end(script: &mut Script) {
     let left = CLOCK_END.saturating_sub(script.clock()) as u16;
     let asked = script.random.pick([left, left + 1, left + 9, u16::MAX]);
     script.tick(asked);
 }
 
-fn after_the_end(script: &mut Script) {
+pub fn after_the_end(script: &mut Script) {
     match script.random.between(0, 8) {
         0 => {
             let ticks = script.random.pick([0, 0, 1, 2, u16::MAX]);
@@ -321,7 +354,8 @@ pub fn limit(script: &mut Script, size: usize) {
     admit_some(script, 4);
     flood(script, size);
     let crossing = some_record(script);
-    let inside = script.random.between(1, crossing.len() as u64 - 1) as usize;
+    let all_but_one = crossing.len() - 1;
+    let inside = script.random.between(1, all_but_one as u64) as usize;
     let beyond = script.random.pick([b'T', b'L', 0, 255]);
     match script.seed() % 8 {
         0 => fill_up_to(script, limit),
@@ -331,7 +365,7 @@ pub fn limit(script: &mut Script, size: usize) {
         }
         2 => end_with(script, limit, &[beyond]),
         3 => end_with(script, limit, &crossing),
-        4 => end_with(script, limit - inside, &crossing),
+        4 => end_with(script, limit - all_but_one, &crossing),
         5 => end_with(script, limit - inside, &crossing[..inside]),
         6 => end_with(script, limit - inside, &crossing[..inside + 1]),
         _ => end_with(script, limit - 1, &[beyond]),
@@ -347,11 +381,7 @@ fn some_record(script: &mut Script) -> Vec<u8> {
             silence: 3,
             bounds: [10, 20, 0, 0, 0, 0, 0, 0],
         },
-        1 => Record::Connection {
-            level: 1,
-            gap: 9,
-            size: 1,
-        },
+        1 => Record::Connection(Figures::plain(1, 9, 1).with_average(36, 12)),
         2 => Record::Packet {
             connection: 0,
             length: 1,

@@ -1,5 +1,6 @@
 //! Kinds of traces made from a seed. The same kind, seed and size give the same bytes.
 
+mod averages;
 mod damage;
 mod edges;
 mod notices;
@@ -26,7 +27,7 @@ pub struct Kind {
 }
 
 #[rustfmt::skip] // One line for each kind.
-pub const KINDS: [Kind; 26] = [
+pub const KINDS: [Kind; 31] = [
     Kind { name: "quiet", size: 60, maker: Maker::Scripted(traffic::quiet) },
     Kind { name: "flooded", size: 60, maker: Maker::Scripted(traffic::flooded) },
     Kind { name: "wild", size: 60, maker: Maker::Scripted(traffic::wild) },
@@ -53,6 +54,11 @@ pub const KINDS: [Kind; 26] = [
     Kind { name: "silencesplit", size: 60, maker: Maker::Scripted(silence::split) },
     Kind { name: "silencelinks", size: 40, maker: Maker::Scripted(silence::links) },
     Kind { name: "silenceend", size: 40, maker: Maker::Scripted(silence::end) },
+    Kind { name: "bursts", size: 80, maker: Maker::Scripted(averages::bursts) },
+    Kind { name: "averageflood", size: 60, maker: Maker::Scripted(averages::flooded) },
+    Kind { name: "averagefigures", size: 90, maker: Maker::Scripted(averages::figures) },
+    Kind { name: "averagememory", size: 20, maker: Maker::Scripted(averages::memory) },
+    Kind { name: "averageend", size: 40, maker: Maker::Scripted(averages::end) },
 ];
 
 impl Kind {

@@ -3,7 +3,8 @@
 use super::edges::{broken_link, end_with, fill_up_to, refusals, tight};
 use super::script::Script;
 use super::traffic::{
-    admit_some, big_packets, flood, flooded, midrun, modest_link, quiet, reserve, ties, wild, Due,
+    admit_some, big_packets, flood, flooded, midrun, modest_link, quiet, reserve, ties, wild,
+    Keepers,
 };
 use crate::hub::CLOCK_END;
 use crate::link::MOST_UNITS;
@@ -28,21 +29,21 @@ pub fn mixed(script: &mut Script, size: usize) {
     }
 }
 
-/// A flood of notices beside packets: in turn all connections keep their gap, or none does.
+/// A flood of notices beside packets: in turn all connections keep their word, or none does.
 pub fn notice_flood(script: &mut Script, size: usize) {
     modest_link(script);
     let wanted = script.random.between(1, 8) as usize;
     admit_some(script, wanted);
     let keeps = script.seed() % 2 == 0;
-    let mut due = Due::all_but(script, None);
+    let mut keepers = Keepers::all_but(script, None);
     for _ in 0..size {
         for _ in 0..script.random.between(1, 12) {
             script.notice_good();
         }
         if keeps {
             let portion = script.clock() + script.random.between(1, 40);
-            script.ticks_until(due.earliest().unwrap_or(portion).min(portion));
-            due.offer_due(script);
+            script.ticks_until(keepers.earliest().unwrap_or(portion).min(portion));
+            keepers.offer_due(script);
         } else {
             flood(script, 1);
         }

@@ -5,7 +5,7 @@ use std::convert::Infallible;
 
 use crate::departure::Tick;
 use crate::hub::Hub;
-use crate::link::{Connection, Link, MOST_LEVELS, MOST_SILENCE};
+use crate::link::{Connection, Figures, Link, MOST_LEVELS, MOST_PER_WINDOW, MOST_SILENCE};
 use crate::random::Random;
 use crate::record::Record;
 use crate::replay::{Job, Pace};
@@ -106,8 +106,28 @@ impl Script {
         })
     }
 
+    /// An admission without an average.
     pub fn admit(&mut self, level: u8, gap: u16, size: u16) -> u8 {
-        self.put(Record::Connection { level, gap, size })
+        self.admit_with(Figures::plain(level, gap, size))
+    }
+
+    pub fn admit_with(&mut self, figures: Figures) -> u8 {
+        self.put(Record::Connection(figures))
+    }
+
+    /// A window and an average gap for a connection of this gap: few packets to a window or
+    /// up to the most, windows up to the longest.
+    pub fn some_average(&mut self, gap: u16) -> (u16, u16) {
+        let most = (u16::MAX / gap).min(MOST_PER_WINDOW);
+        let any = self.random.between16(1, most);
+        let packets = self.random.pick([1, most.min(2), any, any, most]);
+        let longest = u16::MAX / packets;
+        let near = self
+            .random
+            .between16(gap, longest.min(gap.saturating_mul(4)));
+        let far = self.random.between16(gap, longest);
+        let average = self.random.pick([gap, near, near, near, far, longest]);
+        (packets * average, average)
     }
 
     /// An offer with a tag made up from the seed.
@@ -241,7 +261,9 @@ impl Script {
                 Some((_, waiting)) => waiting,
                 _ => return,
             };
-            let some = self.random.between(1, 1 + 2 * u64::from(waiting.gap()));
+            let window = waiting.average().map_or(0, |average| average.window());
+            let apart = u64::from(waiting.gap().max(window));
+            let some = self.random.between(1, 1 + 2 * apart);
             self.ticks(some);
         }
     }

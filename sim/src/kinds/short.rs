@@ -5,7 +5,7 @@ use super::edges::{bad_admission, largest_passing};
 use super::script::Script;
 use super::traffic::{admit_one, modest_link};
 use crate::level_test::lowest_shortage;
-use crate::link::{Connection, Link, HIGHEST_BOUND, MOST_LEVELS, MOST_UNITS};
+use crate::link::{Connection, Figures, Link, HIGHEST_BOUND, MOST_LEVELS, MOST_UNITS};
 
 /// Newcomers aimed at each level in turn, between others that fill the levels up.
 pub fn short(script: &mut Script, size: usize) {
@@ -52,7 +52,8 @@ fn short_link(script: &mut Script) -> Option<Link> {
 /// The largest newcomer of one packet that still passes: what a level has left becomes little.
 fn fill_exactly(script: &mut Script, link: &Link, level: u8) {
     let gap = HIGHEST_BOUND;
-    let most = largest_passing(link, &script.connections(), level, gap);
+    let one = Figures::plain(level, gap, 1);
+    let most = largest_passing(link, &script.connections(), one);
     script.admit(level, gap, most.max(1));
 }
 
@@ -62,23 +63,35 @@ fn too_much_at(script: &mut Script, link: &Link, aim: u8) {
     let connections = script.connections();
     let mut found = None;
     for _ in 0..40 {
-        let level = script.random.between16(1, u16::from(aim)) as u8;
-        let gap = some_gap(script, link.bound(aim));
-        let size = script.random.between16(1, link.largest());
-        if fails_first(link, &connections, (level, gap, size)) == Some(aim) {
-            found = Some((level, gap, size));
+        let newcomer = some_newcomer(script, link, aim);
+        if fails_first(link, &connections, newcomer) == Some(aim) {
+            found = Some(newcomer);
             break;
         }
     }
-    let (level, gap, size) = match found {
+    let newcomer = match found {
         Some(found) => found,
         _ => return,
     };
-    if script.random.once_in(2) {
-        let least = largest_passing(link, &connections, level, gap) + 1;
-        script.admit(level, gap, least);
+    let size = if script.random.once_in(2) {
+        largest_passing(link, &connections, newcomer) + 1
     } else {
-        script.admit(level, gap, size);
+        newcomer.size
+    };
+    script.admit_with(Figures { size, ..newcomer });
+}
+
+/// A newcomer of some level down to the wanted one, sometimes with an average.
+fn some_newcomer(script: &mut Script, link: &Link, aim: u8) -> Figures {
+    let level = script.random.between16(1, u16::from(aim)) as u8;
+    let gap = some_gap(script, link.bound(aim));
+    let size = script.random.between16(1, link.largest());
+    let plain = Figures::plain(level, gap, size);
+    if script.random.once_in(4) {
+        let (window, average) = script.some_average(gap);
+        plain.with_average(window, average)
+    } else {
+        plain
     }
 }
 
@@ -94,10 +107,9 @@ fn some_gap(script: &mut Script, bound: u16) -> u16 {
     gap.max(1)
 }
 
-/// The lowest level that fails with this newcomer (level, gap, size) counted.
-fn fails_first(link: &Link, standing: &[Connection], newcomer: (u8, u16, u16)) -> Option<u8> {
-    let (level, gap, size) = newcomer;
+/// The lowest level that fails with this newcomer counted.
+fn fails_first(link: &Link, standing: &[Connection], newcomer: Figures) -> Option<u8> {
     let mut counted = standing.to_vec();
-    counted.push(Connection::new(link, level, gap, size).ok()?);
+    counted.push(Connection::new(link, newcomer).ok()?);
     lowest_shortage(link, &counted).map(|short| short.level)
 }

@@ -2,7 +2,11 @@
 
 use super::script::Script;
 use crate::departure::Tick;
-use crate::link::{Connection, HIGHEST_BOUND, MOST_CONNECTIONS, MOST_LEVELS, MOST_UNITS};
+use crate::link::{
+    Connection, Figures, Link, HIGHEST_BOUND, MOST_CONNECTIONS, MOST_LEVELS, MOST_PER_WINDOW,
+    MOST_UNITS,
+};
+use crate::recent::Recent;
 
 /// A link of some levels with bounds that leave room for connections and their silences.
 pub fn modest_link(script: &mut Script) {
@@ -29,12 +33,27 @@ pub fn admit_some(script: &mut Script, wanted: usize) {
     }
 }
 
-/// Tries to admit one connection.
+/// Tries to admit one connection: most often a plain line, else a camera or a line that has an
+/// average besides.
 pub fn admit_one(script: &mut Script) -> u8 {
     let link = match script.link_set() {
         Some(link) => link,
         _ => return script.admit(1, 1, 1),
     };
+    let line = match script.random.between(0, 5) {
+        0 => camera(script, &link),
+        1 => {
+            let line = some_line(script, &link);
+            let (window, average) = script.some_average(line.gap);
+            line.with_average(window, average)
+        }
+        _ => some_line(script, &link),
+    };
+    script.admit_with(line)
+}
+
+/// A plain line.
+fn some_line(script: &mut Script, link: &Link) -> Figures {
     let level = script.random.between16(1, u16::from(link.levels())) as u8;
     let bound = link.bound(level);
     let gap = match script.random.between(0, 3) {
@@ -45,65 +64,116 @@ pub fn admit_one(script: &mut Script) -> u8 {
             .between16(bound / 2 + 1, bound.saturating_mul(3)),
         _ => script.random.between16(bound, bound.saturating_mul(2)),
     };
-    let size = match script.random.between(0, 2) {
+    let size = some_size(script, link);
+    Figures::plain(level, gap, size)
+}
+
+fn some_size(script: &mut Script, link: &Link) -> u16 {
+    match script.random.between(0, 2) {
         0 => 1,
         1 => script.random.between16(1, link.largest()),
         _ => script.random.between16(1, link.largest() / 3 + 1),
-    };
-    script.admit(level, gap, size)
+    }
 }
 
-/// When each connection that keeps its gap offers next.
-pub struct Due {
-    moments: Vec<(Tick, u8, Connection)>,
+/// A camera: a gap far below its bound, few packets to a window of about that length, so that
+/// its average lets in what the gap alone would not.
+pub fn camera(script: &mut Script, link: &Link) -> Figures {
+    let level = script.random.between16(1, u16::from(link.levels())) as u8;
+    let bound = link.bound(level);
+    let any = script.random.between16(1, MOST_PER_WINDOW);
+    let packets = script
+        .random
+        .pick([1, 2, 2, 3, 4, any, any, MOST_PER_WINDOW]);
+    let longest = u16::MAX / packets;
+    let gap = script.random.between16(1, longest.min(bound / 4 + 1));
+    let least = gap.max(bound / packets);
+    let average = script
+        .random
+        .between16(least, longest.min(least.saturating_mul(2)));
+    let size = some_size(script, link);
+    Figures::plain(level, gap, size).with_average(packets * average, average)
 }
 
-impl Due {
+/// A connection that keeps its word: its gap and, with an average, n packets to a window.
+struct Keeper {
+    number: u8,
+    connection: Connection,
+    due: Tick,
+    offered: Recent,
+}
+
+impl Keeper {
+    /// Offers now, and is due again at the earliest that its word allows or later.
+    fn offer(&mut self, script: &mut Script) {
+        script.offer_good(self.number, &self.connection);
+        let now = script.clock();
+        self.offered.remember(now);
+        let gap = Tick::from(self.connection.gap());
+        self.due = now + gap;
+        let mut apart = gap;
+        if let Some(average) = self.connection.average() {
+            let window = Tick::from(average.window());
+            let nth = self.offered.back(usize::from(average.packets()));
+            self.due = nth.map_or(self.due, |nth| self.due.max(nth + window));
+            apart = script.random.pick([gap, gap, window]);
+        }
+        if script.random.once_in(2) {
+            self.due += script.random.between(0, apart);
+        }
+    }
+}
+
+/// The connections that keep their word.
+pub struct Keepers {
+    all: Vec<Keeper>,
+}
+
+impl Keepers {
     /// All connections but one start within their first gap.
-    pub fn all_but(script: &mut Script, left_out: Option<u8>) -> Due {
-        let mut moments = Vec::new();
+    pub fn all_but(script: &mut Script, left_out: Option<u8>) -> Keepers {
+        let mut all = Vec::new();
         for (number, connection) in script.connections().into_iter().enumerate() {
-            if left_out != Some(number as u8) {
+            let number = number as u8;
+            if left_out != Some(number) {
                 let wait = script.random.between(0, u64::from(connection.gap()));
-                moments.push((script.clock() + wait, number as u8, connection));
+                all.push(Keeper {
+                    number,
+                    connection,
+                    due: script.clock() + wait,
+                    offered: Recent::default(),
+                });
             }
         }
-        Due { moments }
+        Keepers { all }
     }
 
+    /// When the next of them offers.
     pub fn earliest(&self) -> Option<Tick> {
-        self.moments.iter().map(|one| one.0).min()
+        self.all.iter().map(|keeper| keeper.due).min()
     }
 
-    /// Offers whatever is due now; the next offer comes at least a gap later.
+    /// Offers whatever is due now.
     pub fn offer_due(&mut self, script: &mut Script) {
-        for (moment, number, connection) in &mut self.moments {
-            if *moment > script.clock() {
-                continue;
+        for keeper in &mut self.all {
+            if keeper.due <= script.clock() {
+                keeper.offer(script);
             }
-            script.offer_good(*number, connection);
-            let gap = u64::from(connection.gap());
-            let longer = if script.random.once_in(2) {
-                0
-            } else {
-                script.random.between(0, gap)
-            };
-            *moment = script.clock() + gap + longer;
         }
     }
 }
 
-/// A few connections that keep their gap; the line is idle most of the time.
+/// A few connections that keep their word; the line is idle most of the time.
 pub fn quiet(script: &mut Script, size: usize) {
     modest_link(script);
     let wanted = script.random.between(1, 6) as usize;
     admit_some(script, wanted);
-    let mut due = Due::all_but(script, None);
+    let mut keepers = Keepers::all_but(script, None);
     for _ in 0..size {
-        if let Some(moment) = due.earliest() {
+        if let Some(moment) = keepers.earliest() {
             script.ticks_until(moment);
         }
-        due.offer_due(script);
+        keepers.offer_due(script);
     }
     script.drain();
 }
@@ -128,25 +198,28 @@ pub fn flood(script: &mut Script, bursts: usize) {
     }
 }
 
-/// One wild connection offers all the time beside others that keep their gap.
+/// One wild connection offers all the time beside others that keep their word.
 pub fn wild(script: &mut Script, size: usize) {
     modest_link(script);
     let wanted = script.random.between(2, 10) as usize;
     admit_some(script, wanted);
-    let (wild, terms) = match script.any_connection() {
-        Some((wild, terms)) => (wild, terms),
-        _ => return,
-    };
-    let mut due = Due::all_but(script, Some(wild));
-    for _ in 0..size {
+    if let Some((wild, terms)) = script.any_connection() {
+        wild_among_keepers(script, wild, &terms, size);
+        script.drain();
+    }
+}
+
+/// Offers of a wild connection, few ticks between them, and of the others when they are due.
+pub fn wild_among_keepers(script: &mut Script, wild: u8, terms: &Connection, bursts: usize) {
+    let mut keepers = Keepers::all_but(script, Some(wild));
+    for _ in 0..bursts {
         for _ in 0..script.random.between(1, 3) {
-            script.offer_good(wild, &terms);
+            script.offer_good(wild, terms);
         }
         let portion = script.clock() + script.random.between(1, 30);
-        script.ticks_until(due.earliest().unwrap_or(portion).min(portion));
-        due.offer_due(script);
+        script.ticks_until(keepers.earliest().unwrap_or(portion).min(portion));
+        keepers.offer_due(script);
     }
-    script.drain();
 }
 
 /// Connections are admitted or refused while packets are held and in service.

@@ -16,7 +16,11 @@ member-at-requires c κs =
     omega (arith, A.offer-below (a .h) (tables (a .members .now) (a .places .now) (a .notices .now)) (c .before .before .before .before .pre .0) (a .c) (a .len) (a .tag) (c .before .before .before .before .pre .1), M.members-end (a .members .now))
 
 next-eligibility-requires : tie.Need-next-eligibility-requires
-next-eligibility-requires c κs = search needs
+next-eligibility-requires c κs =
+    let s = c .before .before .before .before .before in
+    let a = s .args in
+    let m = A.offer-reads (a .h) (tables (a .members .now) (a .places .now) (a .notices .now)) (s .pre .0) (a .c) (a .len) (a .tag) (s .pre .1) _ (c .member-at .ensures) in
+    (m .few, m .regular)
 
 cast-e : tie.Need-cast-e
 cast-e c =
@@ -41,8 +45,10 @@ append-requires c κs =
 
 put-past-requires : tie.Need-put-past-requires
 put-past-requires c κs =
-    let a = c .before .before .before .before .before .before .before .before .before .before .before .before .before .args in
-    (S.members-kept (a .h) (tables (a .members .now) (a .places .now) (a .notices .now)) (c .before .before .before .before .before .before .before .before .before .before .before .before .before .pre .0), A.offer-below (a .h) (tables (a .members .now) (a .places .now) (a .notices .now)) (c .before .before .before .before .before .before .before .before .before .before .before .before .before .pre .0) (a .c) (a .len) (a .tag) (c .before .before .before .before .before .before .before .before .before .before .before .before .before .pre .1), S.members-size (a .h) (tables (a .members .now) (a .places .now) (a .notices .now)) (c .before .before .before .before .before .before .before .before .before .before .before .before .before .pre .0))
+    let s = c .before .before .before .before .before .before .before .before .before .before .before .before .before in
+    let a = s .args in
+    let t = tables (a .members .now) (a .places .now) (a .notices .now) in
+    (S.shapes t (S.formed-tables (a .h) t (s .pre .0)) .members-shape, A.offer-below (a .h) t (s .pre .0) (a .c) (a .len) (a .tag) (s .pre .1))
 
 say-requires : tie.Need-say-requires
 say-requires c κs = search needs

@@ -1,5 +1,5 @@
+use Rattle.connections.proofs.MemberLaws as M
 use mathlib.Core.Path.{_∙_}
-use Rattle.connections.proofs.MemberLaws as L
 use borrow.Author.Needs.{needs}
 use Rattle.connections.proofs.add_member.Statement.{statement}
 use Rattle.connections.proofs.add_member.Tie as tie
@@ -13,7 +13,7 @@ same-length c = search needs
 returns : tie.Need-returns
 returns c =
     let a = c .before .before .before .before .before .args in
-    c .before .before .put-member .ensures ∙ L.add-last (a .members .now) (search needs) (search needs) (a .n) (a .x) (search needs) (search needs)
+    c .before .before .put-member .ensures ∙ M.add-last (a .members .now) (search needs) (search needs) (a .n) (a .x) (search needs) (search needs)
 
 pub add-member-spec : {M : Type 1} → statement M
 add-member-spec = tie.close (tie.spec put-member-requires same-length returns)

@@ -1,15 +1,15 @@
-use borrow.Author.Needs.{needs}
 use Rattle.connections.proofs.MemberLaws as M
 use native.Mathlib.Omega.{arith}
-use mathlib.Core.Path.{sym}
+use mathlib.Core.Path.{sym, _∙_}
+use borrow.Author.Needs.{needs}
 use Rattle.connections.proofs.connection_at.Statement.{statement}
 use Rattle.connections.proofs.connection_at.Tie as tie
 
-member-at-requires : tie.Need-member-at-requires
-member-at-requires c κs = omega (arith, M.members-end (c .before .args .members .now))
+figures-at-requires : tie.Need-figures-at-requires
+figures-at-requires c κs = omega (arith, M.members-end (c .before .args .members .now))
 
 returns : tie.Need-returns
-returns c = let a = c .before .before .args in rw (c .member-at .ensures) (sym (M.connection-is (a .members .now) (a .i) (search needs)))
+returns c = let a = c .before .before .args in c .figures-at .ensures ∙ sym (M.connection-is (a .members .now) (a .i) (search needs))
 
 pub connection-at-spec : {M : Type 1} → statement M
-connection-at-spec = tie.close (tie.spec member-at-requires returns)
+connection-at-spec = tie.close (tie.spec figures-at-requires returns)

@@ -2,31 +2,17 @@ use borrow.Author.Needs.{needs}
 use Rattle.connections.proofs.member_at.Statement.{statement}
 use Rattle.connections.proofs.member_at.Tie as tie
 
+figures-at-requires : tie.Need-figures-at-requires
+figures-at-requires c κs = search needs
+
 number-requires : tie.Need-number-requires
 number-requires c κs = search needs
 
-number-requires-2 : tie.Need-number-requires-2
-number-requires-2 c κs = search needs
-
-number-requires-3 : tie.Need-number-requires-3
-number-requires-3 c κs = search needs
-
-number-requires-4 : tie.Need-number-requires-4
-number-requires-4 c κs = search needs
-
-number-requires-5 : tie.Need-number-requires-5
-number-requires-5 c κs = search needs
+ticks-at-requires : tie.Need-ticks-at-requires
+ticks-at-requires c κs = search needs
 
 returns : tie.Need-returns
-returns c = rw (c .before .before .before .before .number .ensures, c .before .before .before .number2 .ensures, c .before .before .number3 .ensures, c .before .number4 .ensures, c .number5 .ensures)
+returns c = rw (c .before .before .figures-at .ensures, c .before .number .ensures, c .ticks-at .ensures)
 
 pub member-at-spec : {M : Type 1} → statement M
-member-at-spec =
-    tie.close
-    (tie.spec
-    number-requires
-    number-requires-2
-    number-requires-3
-    number-requires-4
-    number-requires-5
-    returns)
+member-at-spec = tie.close (tie.spec figures-at-requires number-requires ticks-at-requires returns)

@@ -1,6 +1,9 @@
-use lib.ListN.{length-set}
+use Rattle.connections.proofs.MemberLaws as M
+use mathlib.Core.Path.{ap, _∙_}
+use lib.ListN.{length, length-set}
+use mathlib.Core.Path.{_≡_}
+use Rattle.rules.specs.Limits.{max-remembered}
 use native.Mathlib.Omega.{arith}
-use native.Mathlib.Numerals.{unary-clauses}
 use borrow.Author.Needs.{needs}
 use Rattle.connections.proofs.put_member.Statement.{statement}
 use Rattle.connections.proofs.put_member.Tie as tie
@@ -50,11 +53,29 @@ mul-members-5 c = search needs
 slice-write-members-5 : tie.Need-slice-write-members-5
 slice-write-members-5 c = simp length-set (omega arith)
 
+add-members-5 : tie.Need-add-members-5
+add-members-5 c = search needs
+
+mul-members-6 : tie.Need-mul-members-6
+mul-members-6 c = search needs
+
+slice-write-members-6 : tie.Need-slice-write-members-6
+slice-write-members-6 c = simp length-set (omega arith)
+
+add-copy : tie.Need-add-copy
+add-copy c = search needs
+
+slice-aggregate-copy : tie.Need-slice-aggregate-copy
+slice-aggregate-copy c = search needs
+
+copy-requires : tie.Need-copy-requires
+copy-requires c κs = let n : length (c .before .before .before .before .args .m .ticks) ≡ max-remembered = search needs in simp length-set (omega (arith, n))
+
 same-length : tie.Need-same-length
-same-length c = search needs
+same-length c = omega (arith, simp length-set at (c .before .before .copy .kept .0))
 
 returns : tie.Need-returns
-returns c = simp unary-clauses
+returns c = let a = c .before .before .before .before .before .before .before .args in c .before .before .copy .ensures ∙ M.put-parts (a .members .now) _ (a .m) (search needs)
 
 pub put-member-spec : {M : Type 1} → statement M
 put-member-spec =
@@ -75,5 +96,11 @@ put-member-spec =
     add-members-4
     mul-members-5
     slice-write-members-5
+    add-members-5
+    mul-members-6
+    slice-write-members-6
+    add-copy
+    slice-aggregate-copy
+    copy-requires
     same-length
     returns)

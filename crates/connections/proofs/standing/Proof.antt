@@ -1,29 +1,29 @@
-use Rattle.connections.proofs.MemberLaws as L
-use Rattle.connections.specs.Members.{members-in}
-use lib.ListN.{length}
-use Prim.Native.Nat.{_-_, _≤_}
+use Rattle.connections.proofs.MemberLaws as M
 use native.Mathlib.Omega.{arith}
+use Prim.Native.Nat.{_≤_, _-_}
+use lib.ListN.{length}
+use Rattle.connections.specs.Members.{members-in}
 use borrow.Author.Needs.{needs}
 use Rattle.connections.proofs.standing.Statement.{statement}
 use Rattle.connections.proofs.standing.Tie as tie
 
 abbrev Inv-loop : tie.InvT-loop
-Inv-loop cs n i₀ i = (i ≤ length (members-in cs)) × (i ≤ n)
+Inv-loop members n i₀ i = (i ≤ length (members-in members)) × (i ≤ n)
 
 abbrev μ-loop : tie.MeasureT-loop
-μ-loop cs n i₀ i = n - i
+μ-loop members n i₀ i = n - i
 
 loop-holds : tie.Need-loop-holds Inv-loop μ-loop
 loop-holds c = search needs
 
-member-at-requires : tie.Need-member-at-requires Inv-loop μ-loop
-member-at-requires c κs = search needs
+number-requires : tie.Need-number-requires Inv-loop μ-loop
+number-requires c κs = search needs
 
 returns : tie.Need-returns Inv-loop μ-loop
 returns c =
-    let s = c .before .before .before .before .before .before in
-    let l = c .before .before .before .before .loop in
-    L.size-stops (s .args .members .now) (l .i) (l .inv .0) (s .pre) (rw (c .before .before .member-at .ensures) at (c .if1 .taken))
+    let s = c .before .before .before .before .before in
+    let l = c .before .before .before .loop in
+    M.size-stops (s .args .members .now) (l .i) (l .inv .0) (s .pre) (rw (c .before .number .ensures) at (c .if1 .taken))
 
 add-i : tie.Need-add-i Inv-loop μ-loop
 add-i c = search needs
@@ -33,13 +33,13 @@ loop-less c = search needs
 
 loop-again : tie.Need-loop-again Inv-loop μ-loop
 loop-again c =
-    let t = c .before .before .before .before .before .before .args .members .now in
-    let l = c .before .before .before .before .loop in
-    let k = L.size-goes t (l .i) (l .inv .0) (search needs) (rw (c .before .before .member-at .ensures) at (c .if1 .left)) in
+    let t = c .before .before .before .before .before .args .members .now in
+    let l = c .before .before .before .loop in
+    let k = M.size-goes t (l .i) (l .inv .0) (search needs) (rw (c .before .number .ensures) at (c .if1 .left)) in
     (omega arith, search needs)
 
 returns-2 : tie.Need-returns-2 Inv-loop μ-loop
-returns-2 c = omega (arith, L.members-end (c .before .before .before .args .members .now))
+returns-2 c = omega (arith, M.members-end (c .before .before .before .args .members .now))
 
 pub standing-spec : {M : Type 1} → statement M
 standing-spec =
@@ -48,7 +48,7 @@ standing-spec =
     Inv-loop
     μ-loop
     loop-holds
-    member-at-requires
+    number-requires
     returns
     add-i
     loop-less

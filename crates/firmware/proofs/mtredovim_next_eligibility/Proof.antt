@@ -4,11 +4,11 @@ use borrow.Author.Needs.{needs}
 use Rattle.firmware.proofs.mtredovim_next_eligibility.Statement.{statement}
 use Rattle.firmware.proofs.mtredovim_next_eligibility.Tie as tie
 
-next-eligibility-requires : tie.Need-next-eligibility-requires
-next-eligibility-requires c κs = search needs
+gap-eligibility-requires : tie.Need-gap-eligibility-requires
+gap-eligibility-requires c κs = search needs
 
 returns : tie.Need-returns
-returns c = let a = c .before .args in c .next-eligibility .ensures ∙ A.next-is (a .flag) (a .last) (a .gap) (a .now)
+returns c = let a = c .before .args in c .gap-eligibility .ensures ∙ A.next-is (a .flag) (a .last) (a .gap) (a .now)
 
 pub mtredovim-next-eligibility-spec : {M : Type 1} → statement M
-mtredovim-next-eligibility-spec = tie.close (tie.spec next-eligibility-requires returns)
+mtredovim-next-eligibility-spec = tie.close (tie.spec gap-eligibility-requires returns)

@@ -28,14 +28,26 @@ two-requires c κs = search needs
 two-requires-2 : tie.Need-two-requires-2
 two-requires-2 c κs = search needs
 
+two-requires-3 : tie.Need-two-requires-3
+two-requires-3 c κs = search needs
+
+two-requires-4 : tie.Need-two-requires-4
+two-requires-4 c κs = search needs
+
 connection-named-requires : tie.Need-connection-named-requires
 connection-named-requires c κs = search needs
 
 returns : tie.Need-returns
 returns c =
-    let a = c .before .before .before .before .before .before .args in
-    c .connection-named .ensures
-    ∙ rw (c .before .before .before .one .ensures, c .before .before .two .ensures, c .before .two2 .ensures)
+    let a = c .before .before .before .before .before .before .before .before .args in
+    rw (
+      c .connection-named .ensures,
+      c .before .before .before .before .before .one .ensures,
+      c .before .before .before .before .two .ensures,
+      c .before .before .before .two2 .ensures,
+      c .before .before .two3 .ensures,
+      c .before .two4 .ensures,
+    )
     (A.row-is (a .rows .now) (a .i) _ (part-all (row-bytes * a .i) (a .rows .now)))
 
 pub row-asked-spec : {M : Type 1} → statement M
@@ -49,5 +61,7 @@ row-asked-spec =
     one-requires
     two-requires
     two-requires-2
+    two-requires-3
+    two-requires-4
     connection-named-requires
     returns)

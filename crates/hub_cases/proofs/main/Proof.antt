@@ -2,8 +2,8 @@ use borrow.Author.Needs.{needs}
 use Rattle.hub_cases.proofs.main.Statement.{statement}
 use Rattle.hub_cases.proofs.main.Tie as tie
 
-large-buffer-requires : tie.Need-large-buffer-requires
-large-buffer-requires c κs = search needs
+room-requires : tie.Need-room-requires
+room-requires c κs = search needs
 
 slice-aggregate-read-full : tie.Need-slice-aggregate-read-full
 slice-aggregate-read-full c = search needs
@@ -27,7 +27,7 @@ pub main-spec : {M : Type 1} → statement M
 main-spec =
     tie.close
     (tie.spec
-    large-buffer-requires
+    room-requires
     slice-aggregate-read-full
     read-full-requires
     array-share-prefix-buf

@@ -26,10 +26,8 @@ queues-ok-requires c κs =
     let s = c .before .before .before .before .before .before in
     let n = s .pre .0 in
     let k = s .pre .1 in
-    let facts = S.rows-known (s .args .members .now) (s .args .places .now) (s .args .h .clock) (S.holds (c .before .rows-ok .ensures) (c .if2 .left)) in (
-      (n .count, k .count),
-      (record { few-connections = omega (arith, n .count, n .few); few-rows = omega (arith, k .count, k .few); standing = facts }, s .pre .2),
-    )
+    let facts = S.rows-known (s .args .members .now) (s .args .places .now) (s .args .h .clock) (S.holds (c .before .rows-ok .ensures) (c .if2 .left)) in
+    ((n .count, n .few, k .count, k .few), (s .pre .2, facts, s .pre .3))
 
 returns-3 : tie.Need-returns-3
 unfolding rows-sound

@@ -1,3 +1,4 @@
+use Rattle.state.proofs.SoundLaws.{shapes}
 use mathlib.Core.Path.{_∙_}
 use Rattle.state.specs.View.{tables, view, sound-hub}
 use Rattle.sound.proofs.PartLaws as S
@@ -41,8 +42,9 @@ linked-ok-requires c κs =
     let n = f .before .before .before in
     let a = n .before .before .before .before .args in
     let shape = S.holds (f .tables-formed .ensures) (c .before .before .if1 .left) in
-    S.counted (tables (a .members .now) (a .places .now) (a .notices .now)) shape
-    (n .members-in .ensures) (f .before .before .held .ensures) (f .before .held2 .ensures)
+    let t = tables (a .members .now) (a .places .now) (a .notices .now) in
+    let k = S.counted t shape (n .members-in .ensures) (f .before .before .held .ensures) (f .before .held2 .ensures) in
+    (k .0, k .1, k .2, shapes t shape .members-shape)
 
 returns-3 : tie.Need-returns-3
 unfolding sound-hub

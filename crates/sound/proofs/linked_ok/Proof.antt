@@ -17,7 +17,7 @@ held-ok-requires c κs =
     let s = c .before .before .before .before .before in
     let a = s .args in
     let admitted = S.holds (c .before .admissions-ok .ensures (a .places .now) (a .notices .now)) (c .if1 .left) in
-    (s .pre .0, s .pre .1, S.admissions-safe (a .h) (tables (a .members .now) (a .places .now) (a .notices .now)) (s .pre .0) admitted)
+    (s .pre .0, s .pre .1, s .pre .3, S.admissions-safe (a .h) (tables (a .members .now) (a .places .now) (a .notices .now)) (s .pre .0) admitted)
 
 returns-2 : tie.Need-returns-2
 returns-2 c =

@@ -10,12 +10,12 @@ returns : tie.Need-returns
 unfolding members-formed
 returns c = C.fails _ _ (ne-eqb (length (c .before .before .args .members .now)) members-length (c .if1 .taken))
 
-marks-ok-requires : tie.Need-marks-ok-requires
-marks-ok-requires c κs = search needs
+each-formed-requires : tie.Need-each-formed-requires
+each-formed-requires c κs = search needs
 
 returns-2 : tie.Need-returns-2
 unfolding members-formed
-returns-2 c = C.goes-on _ _ _ (eq-eqb (length (c .before .before .before .args .members .now)) members-length (search needs)) (c .marks-ok .ensures)
+returns-2 c = C.goes-on _ _ _ (eq-eqb (length (c .before .before .before .args .members .now)) members-length (search needs)) (c .each-formed .ensures)
 
 pub members-formed-spec : {M : Type 1} → statement M
-members-formed-spec = tie.close (tie.spec returns marks-ok-requires returns-2)
+members-formed-spec = tie.close (tie.spec returns each-formed-requires returns-2)

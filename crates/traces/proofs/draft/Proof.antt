@@ -27,14 +27,20 @@ two-requires c κs = search needs
 two-requires-2 : tie.Need-two-requires-2
 two-requires-2 c κs = search needs
 
+two-requires-3 : tie.Need-two-requires-3
+two-requires-3 c κs = search needs
+
+two-requires-4 : tie.Need-two-requires-4
+two-requires-4 c κs = search needs
+
 enum-known-r-3 : tie.Need-enum-known-r-3
 enum-known-r-3 c = search needs
 
 headed-requires-2 : tie.Need-headed-requires-2
 headed-requires-2 c κs = search needs
 
-two-requires-3 : tie.Need-two-requires-3
-two-requires-3 c κs = search needs
+two-requires-5 : tie.Need-two-requires-5
+two-requires-5 c κs = search needs
 
 four-requires : tie.Need-four-requires
 four-requires c κs = search needs
@@ -45,8 +51,8 @@ enum-known-r-4 c = search needs
 marked-requires : tie.Need-marked-requires
 marked-requires c κs = search needs
 
-two-requires-4 : tie.Need-two-requires-4
-two-requires-4 c κs = search needs
+two-requires-6 : tie.Need-two-requires-6
+two-requires-6 c κs = search needs
 
 four-requires-2 : tie.Need-four-requires-2
 four-requires-2 c κs = search needs
@@ -57,8 +63,8 @@ enum-known-r-5 c = search needs
 marked-requires-2 : tie.Need-marked-requires-2
 marked-requires-2 c κs = search needs
 
-two-requires-5 : tie.Need-two-requires-5
-two-requires-5 c κs = search needs
+two-requires-7 : tie.Need-two-requires-7
+two-requires-7 c κs = search needs
 
 enum-told : tie.Need-enum-told
 enum-told c = search needs
@@ -71,19 +77,22 @@ returns c = rw (c .before .before .r .given .1) (c .draft .ensures)
 
 returns-2 : tie.Need-returns-2
 unfolding laid sum
-returns-2 c = rw (c .before .before .before .before .r2 .given .1) (drafted-behind CN _ _ (search needs) refl (c .before .before .headed .ensures) (before (c .before .two .ensures) (before (c .two2 .ensures) done)) (omega arith))
+returns-2 c =
+    rw (c .before .before .before .before .before .before .r2 .given .1)
+    (drafted-behind CN _ _ (search needs) refl (c .before .before .before .before .headed .ensures)
+    (before (c .before .before .before .two .ensures) (before (c .before .before .two2 .ensures) (before (c .before .two3 .ensures) (before (c .two4 .ensures) done)))) (omega arith))
 
 returns-3 : tie.Need-returns-3
 unfolding laid sum
-returns-3 c = rw (c .before .before .before .before .r3 .given .1) (drafted-behind PK _ _ (search needs) refl (c .before .before .headed2 .ensures) (before (c .before .two3 .ensures) (before (c .four .ensures) done)) (omega arith))
+returns-3 c = rw (c .before .before .before .before .r3 .given .1) (drafted-behind PK _ _ (search needs) refl (c .before .before .headed2 .ensures) (before (c .before .two5 .ensures) (before (c .four .ensures) done)) (omega arith))
 
 returns-4 : tie.Need-returns-4
 unfolding laid sum
-returns-4 c = rw (c .before .before .before .before .r4 .given .1) (drafted NQ _ (c .before .before .marked .ensures) (before (c .before .two4 .ensures) (before (c .four2 .ensures) done)) (omega arith))
+returns-4 c = rw (c .before .before .before .before .r4 .given .1) (drafted NQ _ (c .before .before .marked .ensures) (before (c .before .two6 .ensures) (before (c .four2 .ensures) done)) (omega arith))
 
 returns-5 : tie.Need-returns-5
 unfolding laid sum
-returns-5 c = rw (c .before .before .before .r5 .given .1) (drafted TK _ (c .before .marked2 .ensures) (before (c .two5 .ensures) done) (omega arith))
+returns-5 c = rw (c .before .before .before .r5 .given .1) (drafted TK _ (c .before .marked2 .ensures) (before (c .two7 .ensures) done) (omega arith))
 
 returns-6 : tie.Need-returns-6
 unfolding laid
@@ -99,17 +108,19 @@ draft-spec =
     headed-requires
     two-requires
     two-requires-2
+    two-requires-3
+    two-requires-4
     enum-known-r-3
     headed-requires-2
-    two-requires-3
+    two-requires-5
     four-requires
     enum-known-r-4
     marked-requires
-    two-requires-4
+    two-requires-6
     four-requires-2
     enum-known-r-5
     marked-requires-2
-    two-requires-5
+    two-requires-7
     enum-told
     empty-requires
     returns

@@ -25,11 +25,17 @@ two-requires c κs = search needs
 two-requires-2 : tie.Need-two-requires-2
 two-requires-2 c κs = search needs
 
+two-requires-3 : tie.Need-two-requires-3
+two-requires-3 c κs = search needs
+
+two-requires-4 : tie.Need-two-requires-4
+two-requires-4 c κs = search needs
+
 whole-of-requires : tie.Need-whole-of-requires
 whole-of-requires c κs = search needs
 
-two-requires-3 : tie.Need-two-requires-3
-two-requires-3 c κs = search needs
+two-requires-5 : tie.Need-two-requires-5
+two-requires-5 c κs = search needs
 
 four-requires : tie.Need-four-requires
 four-requires c κs = search needs
@@ -37,8 +43,8 @@ four-requires c κs = search needs
 whole-of-requires-2 : tie.Need-whole-of-requires-2
 whole-of-requires-2 c κs = search needs
 
-two-requires-4 : tie.Need-two-requires-4
-two-requires-4 c κs = search needs
+two-requires-6 : tie.Need-two-requires-6
+two-requires-6 c κs = search needs
 
 four-requires-2 : tie.Need-four-requires-2
 four-requires-2 c κs = search needs
@@ -46,8 +52,8 @@ four-requires-2 c κs = search needs
 whole-of-requires-3 : tie.Need-whole-of-requires-3
 whole-of-requires-3 c κs = search needs
 
-two-requires-5 : tie.Need-two-requires-5
-two-requires-5 c κs = search needs
+two-requires-7 : tie.Need-two-requires-7
+two-requires-7 c κs = search needs
 
 whole-of-requires-4 : tie.Need-whole-of-requires-4
 whole-of-requires-4 c κs = search needs
@@ -65,30 +71,37 @@ returns c =
 returns-2 : tie.Need-returns-2
 unfolding read-numbered number read-kind get-fields sum
 returns-2 c =
-    let m = c .before .before .before .before .before .mark-of in
-    rw (numbered (trace .kinds) (c .before .before .before .before .before .before .before .args .s .now) (m .result) 0x4E43 trace-marks (m .ensures) (search needs))
-    (rw (c .whole-of .ensures, c .before .before .before .before .one .ensures, c .before .before .two .ensures, c .before .two2 .ensures))
+    let m = c .before .before .before .before .before .before .before .mark-of in
+    rw (numbered (trace .kinds) (c .before .before .before .before .before .before .before .before .before .args .s .now) (m .result) 0x4E43 trace-marks (m .ensures) (search needs))
+    (rw (
+      c .whole-of .ensures,
+      c .before .before .before .before .before .before .one .ensures,
+      c .before .before .before .before .two .ensures,
+      c .before .before .before .two2 .ensures,
+      c .before .before .two3 .ensures,
+      c .before .two4 .ensures,
+    ))
 
 returns-3 : tie.Need-returns-3
 unfolding read-numbered number read-kind get-fields sum
 returns-3 c =
     let m = c .before .before .before .before .before .mark-of in
     rw (numbered (trace .kinds) (c .before .before .before .before .before .before .before .args .s .now) (m .result) 0x4B50 trace-marks (m .ensures) (search needs))
-    (rw (c .whole-of2 .ensures, c .before .before .before .before .one .ensures, c .before .before .two3 .ensures, c .before .four .ensures))
+    (rw (c .whole-of2 .ensures, c .before .before .before .before .one .ensures, c .before .before .two5 .ensures, c .before .four .ensures))
 
 returns-4 : tie.Need-returns-4
 unfolding read-numbered number read-kind get-fields sum
 returns-4 c =
     let m = c .before .before .before .before .before .mark-of in
     rw (numbered (trace .kinds) (c .before .before .before .before .before .before .before .args .s .now) (m .result) 0x514E trace-marks (m .ensures) (search needs))
-    (rw (c .whole-of3 .ensures, c .before .before .two4 .ensures, c .before .four2 .ensures))
+    (rw (c .whole-of3 .ensures, c .before .before .two6 .ensures, c .before .four2 .ensures))
 
 returns-5 : tie.Need-returns-5
 unfolding read-numbered number read-kind get-fields sum
 returns-5 c =
     let m = c .before .before .before .before .mark-of in
     rw (numbered (trace .kinds) (c .before .before .before .before .before .before .args .s .now) (m .result) 0x4B54 trace-marks (m .ensures) (search needs))
-    (rw (c .whole-of4 .ensures, c .before .two5 .ensures))
+    (rw (c .whole-of4 .ensures, c .before .two7 .ensures))
 
 returns-6 : tie.Need-returns-6
 unfolding read-numbered number
@@ -113,14 +126,16 @@ read-spec =
     read-requires
     two-requires
     two-requires-2
-    whole-of-requires
     two-requires-3
+    two-requires-4
+    whole-of-requires
+    two-requires-5
     four-requires
     whole-of-requires-2
-    two-requires-4
+    two-requires-6
     four-requires-2
     whole-of-requires-3
-    two-requires-5
+    two-requires-7
     whole-of-requires-4
     nothing-requires
     returns

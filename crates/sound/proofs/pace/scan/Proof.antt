@@ -1,53 +1,55 @@
-use Prim.Native.Nat.{_≤_, _<_, _-_}
-use mathlib.Core.Path.{_≡_, refl, sym, _∙_}
+use Rattle.sound.proofs.PaceLaws as L
+use Rattle.connections.proofs.FigureLaws as F
+use native.Mathlib.Omega.{arith}
+use mathlib.Core.Path.{_≡_, refl, sym, ap, subst, _∙_}
+use Prim.Native.Nat.{ℕ, _≤_, _<_, _-_}
 use mathlib.Core.Bool.{true}
 use mathlib.Core.List.{[]}
-use native.Mathlib.Omega.{arith}
-use lib.ListN.{length, take}
-use borrow.Author.Tests.{not-false}
+use borrow.Author.Tests.{not-true, not-false}
+use lib.ListN.{length, take, drop}
+use Rattle.rules.specs.Model.{nth}
 use Rattle.rules.specs.SoundTest.{paced}
 use Rattle.rules.proofs.Tests.{never}
 use Rattle.tables.specs.Places.{rows}
-use Rattle.connections.specs.Members.{connections-in}
-use Rattle.sound.specs.Pace.{Tally}
-use Rattle.sound.proofs.PaceLaws as L
+use Rattle.tables.proofs.PlacesLaws as P
+use Rattle.connections.specs.Members.{members-in, connections-in}
+use Rattle.connections.specs.Within.{Within}
+use Rattle.connections.proofs.MemberLaws as M
+use Rattle.sound.specs.Pace.{past-in, Remembers, past-with}
 use borrow.Author.Needs.{needs}
-use Rattle.sound.proofs.PartLaws as S
 use Rattle.sound.proofs.pace.scan.Statement.{statement}
 use Rattle.sound.proofs.pace.scan.Tie as tie
 
 abbrev Inv-loop : tie.InvT-loop
-Inv-loop h members places held seen₀ prev₀ i₀ seen prev i =
-    (i ≤ held) × Tally seen prev (take i (rows places)) × (L.paced-from h members places i ≡ paced (connections-in members) (h .clock) [] (rows places))
+Inv-loop h table₀ places held i₀ table i = (i ≤ held) × Remembers table₀ table (past-with table₀ (take i (rows places))) × (paced (connections-in table₀) (h .clock) (past-in table₀) (take i (rows places)) (drop i (rows places)) ≡ paced (connections-in table₀) (h .clock) (past-in table₀) [] (rows places)) × (length table ≡ length table₀)
 
 abbrev μ-loop : tie.MeasureT-loop
-μ-loop h members places held seen₀ prev₀ i₀ seen prev i = held - i
+μ-loop h table₀ places held i₀ table i = held - i
 
 loop-holds : tie.Need-loop-holds Inv-loop μ-loop
-loop-holds c = (search needs, c .before .before .before .before .pre .2, refl)
+loop-holds c = let s = c .before .before in (search needs, L.remembers-itself (s .args .table .now) (s .pre .1), refl, refl)
+
+row-requires : tie.Need-row-requires Inv-loop μ-loop
+row-requires c κs = omega (arith, P.rows-end (c .before .before .before .before .before .args .places .now))
 
 pass-row-requires : tie.Need-pass-row-requires Inv-loop μ-loop
-pass-row-requires c κs = let k = c .before .before .before in (search needs, k .before .before .before .before .before .pre .1, k .loop .inv .1)
+pass-row-requires c κs =
+    let s = c .before .before .before .before .before .before in
+    let a = s .args in
+    let l = c .before .before .before .loop in
+    let named : c .row .result .connection < length (members-in (a .table .now)) = L.named (a .table .now) (a .places .now) (s .pre .2) (l .i) (omega arith) _ (c .row .ensures) in
+    (l .inv .1 .shape, omega (arith, L.remembers-count _ _ _ (l .inv .1)), L.within-same (a .h .link) _ _ _ (l .inv .1) (s .pre .3))
 
 same-length : tie.Need-same-length Inv-loop μ-loop
-same-length c =
-    let k = c .before .before .before .before .before .before .before .before .before in
-    let s = k .before .before .before .before .before in
-    omega (arith, c .before .before .before .before .before .pass-row .kept, k .loop .inv .1 .seen-size, s .pre .2 .seen-size)
-
-same-length-2 : tie.Need-same-length-2 Inv-loop μ-loop
-same-length-2 c =
-    let k = c .before .before .before .before .before .before .before .before .before in
-    let s = k .before .before .before .before .before in
-    omega (arith, c .before .before .before .before .before .pass-row .kept, k .loop .inv .1 .prev-size, s .pre .2 .prev-size)
+same-length c = search needs
 
 returns : tie.Need-returns Inv-loop μ-loop
 returns c =
-    let k = c .before .before .before .before .before .before .before .before .before in
-    let a = k .before .before .before .before .before .args in
-    let l : k .loop .i < length (rows (a .places .now)) = omega arith in
-    let bad = S.falls (c .before .before .before .before .before .pass-row .ensures .0) (c .if1 .taken) in
-    (L.paced-bad (a .h) (a .members .now) (a .places .now) (k .loop .i) l bad ∙ k .loop .inv .2, λ e. never e)
+    let s = c .before .before .before .before .before .before .before .before .before .before in
+    let a = s .args in
+    let l = c .before .before .before .before .before .before .before .loop in
+    let named : c .before .before .before .before .row .result .connection < length (members-in (a .table .now)) = L.named (a .table .now) (a .places .now) (s .pre .2) (l .i) (omega arith) _ (c .before .before .before .before .row .ensures) in
+    (L.pass-stops (a .table .now) (a .places .now) (a .h .clock) (l .i) (omega arith) (l .table) (l .inv .1) _ (c .before .before .before .before .row .ensures) named _ (c .before .before .before .pass-row .ensures .0) (not-true _ (c .if1 .taken)) ∙ l .inv .2, λ e. never e)
 
 add-i : tie.Need-add-i Inv-loop μ-loop
 add-i c = search needs
@@ -57,26 +59,43 @@ loop-less c = search needs
 
 loop-again : tie.Need-loop-again Inv-loop μ-loop
 loop-again c =
-    let k = c .before .before .before .before .before .before .before .before .before in
-    let a = k .before .before .before .before .before .args in
-    let p = c .before .before .before .before .before .pass-row in
-    let l : k .loop .i < length (rows (a .places .now)) = omega arith in
-    let passed : p .result ≡ true = not-false _ (c .if1 .left) in
-    let next = L.paced-next (a .h) (a .members .now) (a .places .now) (k .loop .i) l (sym (p .ensures .0) ∙ passed) in
-    (search needs, p .ensures .1 passed, next ∙ k .loop .inv .2)
+    let s = c .before .before .before .before .before .before .before .before .before .before in
+    let a = s .args in
+    let l = c .before .before .before .before .before .before .before .loop in
+    let p = c .before .before .before .before .row in
+    let r = c .before .before .before .pass-row in
+    let named : p .result .connection < length (members-in (a .table .now)) = L.named (a .table .now) (a .places .now) (s .pre .2) (l .i) (omega arith) _ (p .ensures) in
+    let passed : r .result ≡ true = not-false _ (c .if1 .left) in (
+      search needs,
+      L.pass-next (a .table .now) (a .places .now) (a .h .clock) (l .i) (omega arith) (l .table) _ (l .inv .1) (s .pre .4) (L.sizes (a .h .link) (a .table .now) (s .pre .3)) _ (p .ensures) named (r .ensures .1 passed),
+      L.pass-goes (a .table .now) (a .places .now) (a .h .clock) (l .i) (omega arith) (l .table) (l .inv .1) _ (p .ensures) named _ (r .ensures .0) passed ∙ l .inv .2,
+      search needs,
+    )
 
-same-length-3 : tie.Need-same-length-3 Inv-loop μ-loop
-same-length-3 c = omega (arith, c .before .loop .inv .1 .seen-size, c .before .before .before .before .before .before .pre .2 .seen-size)
-
-same-length-4 : tie.Need-same-length-4 Inv-loop μ-loop
-same-length-4 c = omega (arith, c .before .loop .inv .1 .prev-size, c .before .before .before .before .before .before .pre .2 .prev-size)
+same-length-2 : tie.Need-same-length-2 Inv-loop μ-loop
+same-length-2 c = c .before .loop .inv .3
 
 returns-2 : tie.Need-returns-2 Inv-loop μ-loop
 returns-2 c =
-    let a = c .before .before .before .before .before .before .args in
-    let k = c .before .loop in
-    let e : k .i ≡ length (rows (a .places .now)) = omega arith in
-    (L.paced-end (a .h) (a .members .now) (a .places .now) (k .i) e ∙ k .inv .2, λ _. L.tally-end (a .places .now) e (k .inv .1))
+    let s = c .before .before .before .before in
+    let a = s .args in
+    let l = c .before .loop in
+    let e : l .i ≡ length (rows (a .places .now)) = omega arith in
+    (L.pass-end (a .table .now) (a .places .now) (a .h .clock) (l .i) e ∙ l .inv .2, λ _. L.remembers-all (a .table .now) (l .table) (a .places .now) (l .i) e (l .inv .1))
 
 pub scan-spec : {M : Type 1} → statement M
-scan-spec = tie.close (tie.spec Inv-loop μ-loop loop-holds pass-row-requires same-length same-length-2 returns add-i loop-less loop-again same-length-3 same-length-4 returns-2)
+scan-spec =
+    tie.close
+    (tie.spec
+    Inv-loop
+    μ-loop
+    loop-holds
+    row-requires
+    pass-row-requires
+    same-length
+    returns
+    add-i
+    loop-less
+    loop-again
+    same-length-2
+    returns-2)

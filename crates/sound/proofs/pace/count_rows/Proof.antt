@@ -1,0 +1,63 @@
+use Rattle.sound.proofs.PaceLaws as L
+use native.Mathlib.Omega.{arith}
+use mathlib.Core.Path.{_≡_, refl, sym, ap, subst, _∙_}
+use Prim.Native.Nat.{_≤_, _-_}
+use lib.ListN.{length, take}
+use Rattle.tables.specs.Places.{rows}
+use Rattle.tables.proofs.PlacesLaws as P
+use Rattle.sound.specs.Pace.{Counts}
+use borrow.Author.Needs.{needs}
+use Rattle.sound.proofs.pace.count_rows.Statement.{statement}
+use Rattle.sound.proofs.pace.count_rows.Tie as tie
+
+abbrev Inv-loop : tie.InvT-loop
+Inv-loop places held seen₀ i₀ seen i = (i ≤ held) × Counts seen (take i (rows places)) × (length seen ≡ length seen₀)
+
+abbrev μ-loop : tie.MeasureT-loop
+μ-loop places held seen₀ i₀ seen i = held - i
+
+loop-holds : tie.Need-loop-holds Inv-loop μ-loop
+loop-holds c = (search needs, c .before .before .pre .2, refl)
+
+row-requires : tie.Need-row-requires Inv-loop μ-loop
+row-requires c κs = omega (arith, P.rows-end (c .before .before .before .before .args .places .now))
+
+cast-count-row : tie.Need-cast-count-row Inv-loop μ-loop
+cast-count-row c = search needs
+
+count-row-requires : tie.Need-count-row-requires Inv-loop μ-loop
+count-row-requires c κs = let s = c .before .before .before .before .before .before .before in let l = c .before .before .before .before .loop in L.countable (s .args .places .now) (l .i) (omega arith) (l .seen) (s .pre .1) (l .inv .1) _ (c .before .before .row .ensures)
+
+add-i : tie.Need-add-i Inv-loop μ-loop
+add-i c = search needs
+
+loop-less : tie.Need-loop-less Inv-loop μ-loop
+loop-less c = search needs
+
+loop-again : tie.Need-loop-again Inv-loop μ-loop
+loop-again c =
+    let s = c .before .before .before .before .before .before .before .before .before .before in
+    let l = c .before .before .before .before .before .before .before .loop in
+    (search needs, L.counts-next (s .args .places .now) (l .i) (omega arith) (l .seen) _ (s .pre .1) (l .inv .1) _ (c .before .before .before .before .before .row .ensures) (c .before .before .count-row .ensures), search needs)
+
+same-length : tie.Need-same-length Inv-loop μ-loop
+same-length c = c .before .loop .inv .2
+
+returns : tie.Need-returns Inv-loop μ-loop
+returns c = let s = c .before .before .before .before in let l = c .before .loop in L.counts-all (l .seen) (s .args .places .now) (l .i) (omega arith) (l .inv .1)
+
+pub count-rows-spec : {M : Type 1} → statement M
+count-rows-spec =
+    tie.close
+    (tie.spec
+    Inv-loop
+    μ-loop
+    loop-holds
+    row-requires
+    cast-count-row
+    count-row-requires
+    add-i
+    loop-less
+    loop-again
+    same-length
+    returns)

@@ -1,0 +1,235 @@
+//! What must hold of every connection in every generated trace (docs/RULES-AFTER-BASE.md, section
+//! R-6), told by the records and their answers alone.
+
+use sim::kinds::{Kind, KINDS};
+use sim::link::{Connection, Figures};
+use sim::notices::NOTICE_NUMBER;
+use sim::record::{Answer, Record};
+use sim::replay::{Job, Pace};
+
+const REMEMBERED: usize = 16;
+
+/// What held an accepted packet up last.
+#[derive(Clone, Copy, Debug, PartialEq, Eq)]
+enum By {
+    Nothing,
+    Gap,
+    Window,
+}
+
+/// A connection: its figures, and the eligibilities of its packets in the order accepted.
+struct Line {
+    figures: Figures,
+    eligibilities: Vec<u64>,
+    departed: usize,
+}
+
+impl Line {
+    fn gap(&self) -> u64 {
+        u64::from(self.figures.gap)
+    }
+
+    /// I and n.
+    fn average(&self) -> Option<(u64, usize)> {
+        let Figures {
+            window, average, ..
+        } = self.figures;
+        (average > 0).then(|| (u64::from(window), usize::from(window / average)))
+    }
+
+    /// The eligibility by the rule's words, from all that was accepted, and what decided it.
+    fn next(&self, arrival: u64) -> (u64, By) {
+        let back = |packets: usize| self.eligibilities.iter().rev().nth(packets - 1);
+        let mut next = (arrival, By::Nothing);
+        if let Some(last) = back(1).filter(|&last| last + self.gap() > next.0) {
+            next = (last + self.gap(), By::Gap);
+        }
+        if let Some((window, packets)) = self.average() {
+            if let Some(nth) = back(packets).filter(|&nth| nth + window > next.0) {
+                next = (nth + window, By::Window);
+            }
+        }
+        next
+    }
+
+    /// What a sound state asks of a connection's rows and its memory at a clock.
+    fn is_sound(&self, clock: u64) -> bool {
+        let all = &self.eligibilities;
+        let rows = all.len() - self.departed;
+        let known = &all[all.len() - rows.max(REMEMBERED.min(all.len()))..];
+        let gone = known.len() - rows;
+        known[..gone].iter().all(|&tick| tick <= clock)
+            && (0..known.len()).all(|at| self.is_spaced(known, at))
+            && (gone..known.len()).all(|at| known[at] <= clock || self.may_wait(known, at, clock))
+    }
+
+    fn is_spaced(&self, known: &[u64], at: usize) -> bool {
+        let behind = |back: usize, apart: u64| at < back || known[at] >= known[at - back] + apart;
+        behind(1, self.gap())
+            && self
+                .average()
+                .map_or(true, |(window, packets)| behind(packets, window))
+    }
+
+    /// A row beyond the clock: the earliest that both rules allow where its n-th before is held or
+    /// remembered, else at most the greater of I past the clock and X past the one before.
+    fn may_wait(&self, known: &[u64], at: usize, clock: u64) -> bool {
+        let spaced = at.checked_sub(1).map_or(0, |last| known[last] + self.gap());
+        match self.average() {
+            None => known[at] <= spaced.max(clock + self.gap()),
+            Some((window, packets)) if at >= packets => {
+                known[at] == spaced.max(known[at - packets] + window)
+            }
+            Some((window, _)) => known[at] <= spaced.max(clock + window),
+        }
+    }
+
+    /// The most of its packets that are eligible within so many ticks in a row.
+    fn most_within(&self, ticks: u64) -> usize {
+        let all = &self.eligibilities;
+        let from = |first: usize| {
+            all[first..]
+                .iter()
+                .take_while(|&&tick| tick < all[first] + ticks)
+                .count()
+        };
+        (0..all.len()).map(from).max().unwrap_or(0)
+    }
+}
+
+/// What was met in all traces.
+#[derive(Default)]
+struct Met {
+    by_gap: usize,
+    by_window: [usize; REMEMBERED + 1],
+    more_than_remembered: usize,
+    full_windows: usize,
+}
+
+/// A trace, followed record by record.
+struct Followed {
+    job: Job,
+    lines: Vec<Line>,
+}
+
+impl Followed {
+    fn accept(&mut self, record: Record, answer: Answer, met: &mut Met) {
+        match (record, answer) {
+            (Record::Connection(figures), Answer::Connection { verdict: 0, .. }) => {
+                self.lines.push(Line {
+                    figures,
+                    eligibilities: Vec::new(),
+                    departed: 0,
+                });
+            }
+            (
+                Record::Packet { connection, .. },
+                Answer::Packet {
+                    verdict: 0,
+                    eligibility,
+                },
+            ) => {
+                let line = &mut self.lines[usize::from(connection)];
+                let (expected, by) = line.next(self.job.hub().clock());
+                assert_eq!(eligibility, expected);
+                line.eligibilities.push(eligibility);
+                match (by, line.average()) {
+                    (By::Gap, _) => met.by_gap += 1,
+                    (By::Window, Some((_, packets))) => met.by_window[packets] += 1,
+                    _ => {}
+                }
+            }
+            _ => {}
+        }
+    }
+
+    fn carry_out(&mut self, record: Record, met: &mut Met) {
+        let (mut last, mut departed) = (None, Vec::new());
+        let result: Result<(), ()> = self.job.carry_out(record, &mut |answer| {
+            match answer {
+                Answer::Departed(departure) => departed.push(departure),
+                _ => last = Some(answer),
+            }
+            Ok(())
+        });
+        assert_eq!(result, Ok(()));
+        for departure in departed {
+            if departure.connection != NOTICE_NUMBER {
+                let line = &mut self.lines[usize::from(departure.connection)];
+                assert_eq!(departure.eligibility, line.eligibilities[line.departed]);
+                line.departed += 1;
+            }
+        }
+        self.accept(record, last.expect("an answer"), met);
+        let clock = self.job.hub().clock();
+        for line in &self.lines {
+            assert!(line.is_sound(clock), "{:?} at {clock}", line.figures);
+            let held = line.eligibilities.len() - line.departed;
+            met.more_than_remembered += usize::from(held > REMEMBERED);
+        }
+    }
+
+    /// No stretch of the length of a bound, of a window or of about a window holds more packets
+    /// than are counted for it.
+    fn check_stretches(&self, met: &mut Met) {
+        let link = match self.job.hub().link() {
+            Ok(link) => link,
+            Err(_) => return,
+        };
+        for line in &self.lines {
+            let terms = Connection::new(link, line.figures).expect("it stands");
+            let mut stretches = link.bounds().to_vec();
+            if let Some((window, packets)) = line.average() {
+                let window = window as u16;
+                stretches.extend([window, window.saturating_add(1), window - 1, window / 2]);
+                met.full_windows += usize::from(line.most_within(u64::from(window)) == packets);
+            }
+            for ticks in stretches {
+                let most = line.most_within(u64::from(ticks)) as u64;
+                assert!(most <= terms.packets_within(ticks), "{terms:?} {ticks}");
+            }
+        }
+    }
+}
+
+fn follow(trace: &[u8], met: &mut Met) {
+    let mut followed = Followed {
+        job: Job::new(Pace::Passing),
+        lines: Vec::new(),
+    };
+    let mut rest = trace;
+    while let Some((record, length)) = Record::read(rest) {
+        rest = &rest[length..];
+        followed.carry_out(record, met);
+    }
+    followed.check_stretches(met);
+}
+
+#[test]
+fn every_connection_of_every_trace() {
+    let mut met = Met::default();
+    for kind in KINDS.iter().filter(|kind| !kind.name.ends_with("limit")) {
+        let seeds = if kind.name.ends_with("end") { 4 } else { 12 };
+        for seed in 0..seeds {
+            follow(&kind.trace(seed, None), &mut met);
+        }
+    }
+    assert!(met.by_gap > 5_000, "only {}", met.by_gap);
+    assert!(met.full_windows > 300, "only {}", met.full_windows);
+}
+
+#[test]
+fn windows_of_every_number_of_packets_are_waited_for() {
+    let mut met = Met::default();
+    for name in ["averageflood", "averagememory", "bursts", "flooded"] {
+        let kind = Kind::named(name).expect("a kind");
+        for seed in 0..40 {
+            follow(&kind.trace(seed, None), &mut met);
+        }
+    }
+    for packets in 1..=REMEMBERED {
+        let waited = met.by_window[packets];
+        assert!(waited > 15, "n {packets}: only {waited}");
+    }
+    assert!(met.more_than_remembered > 500);
+}
