@@ -1,9 +1,9 @@
-/* The questions that the hub's firmware asks (document 01, "Two questions from C firmware"; document 02, R-2, R-4 and R-6), answered by the same rules as
-   the hub's own calls: the archive's functions are proved equal to the rules' definitions.
+/* The questions that the hub's firmware asks (document 01, "Two questions from C firmware"; document 02, R-2, R-4, R-6 and R-7), answered by the
+   same rules as the hub's own calls: the archive's functions are proved equal to the rules' definitions.
 
    Link with the archive that `rt staticlib firmware` writes, target/staticlib/libfirmware.a, for x86-64. It needs `memset` of the C library
    and nothing else. The functions may be called at any time and from any thread: they keep nothing, write nothing that the caller can see,
-   take no memory but some 6,000 bytes of stack, and always return. */
+   take no memory but some 18,000 bytes of stack, and always return. */
 #ifndef MTREDOVIM_H
 #define MTREDOVIM_H
 
@@ -29,9 +29,9 @@ uint64_t mtredovim_next_eligibility(uint32_t flag, uint32_t last, uint32_t gap, 
      lk    one whole `LK` record: 4C 4B, n (1 byte), S (2, units), silence (1, ticks), n delay bounds (2 each, ticks); numbers low byte first;
            lk_len is 6 + 2n
      rows  a connection to each 9 bytes, in any order, as a `CN` record has them behind its mark: level (1), gap (2, ticks), size (2, units), window (2,
-           ticks), average gap (2, ticks), the last two both 0 where it has no average; rows_len is 9 times their number, at most 64
+           ticks), average gap (2, ticks), the last two both 0 where it has no average; rows_len is 9 times their number, at most 200
    Answer: 0 if the level test holds at every level, else the lowest level 1 to 8 at which it fails. 255 if the question is not well asked: a
-   length doesn't fit, the bytes are no `LK`, a limit of the link or of a connection is broken, or there are more than 64 rows. The limits of an
+   length doesn't fit, the bytes are no `LK`, a limit of the link or of a connection is broken, or there are more than 200 rows. The limits of an
    average: the average gap is at least the gap and divides the window, 1 to 16 times; one of the two alone breaks them. A bad row gives 255
    wherever it stands, also where a level fails. No rows and a good `LK`: 0. Whether all reservations find room is not asked.
 
@@ -42,7 +42,8 @@ uint8_t mtredovim_short_level(const uint8_t *lk, size_t lk_len, const uint8_t *r
 /* By how many units that level is over, asked with the same bytes and under the same conditions: the level's sum with S, less its delay bound,
    where the silence is added to every size and to S.
    Answer, in units: 0 exactly where mtredovim_short_level answers 0 or 255. Where an admission is refused with 8, the two answers for the hub's
-   connections and the newcomer are level and units of its `CA`. A sum can pass 32 bits, and the units too, so the answer has 64. */
+   connections and the newcomer are level and units of its `CA`. A sum can reach 13,841,205,312 and the units 32,768 less: more than 32 bits
+   hold, so the answer has 64. */
 uint64_t mtredovim_short_units(const uint8_t *lk, size_t lk_len, const uint8_t *rows, size_t rows_len);
 
 #ifdef __cplusplus

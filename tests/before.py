@@ -1,4 +1,4 @@
-"""Traces from before a request that made a trace record longer, and what their answers become."""
+"""Traces from before a request that made a trace record longer or moved a limit, and what their answers become."""
 
 import struct
 import sys
@@ -7,15 +7,19 @@ from records import ANSWERS, TRACE, fields_at, layout, records, written
 
 # What each request has inserted, the first one first: into the record of which mark, behind how many of its bytes, how many.
 INSERTED = {
-    "R-4": (b"LK", 5, 1),  # the silence, behind S
-    "R-6": (b"CN", 7, 4),  # window and average gap, behind the size
+    "R-4": [(b"LK", 5, 1)],  # the silence, behind S
+    "R-6": [(b"CN", 7, 4)],  # window and average gap, behind the size
+    "R-7": [],  # nothing: it has moved two limits
 }
+
+# The verdicts of an admission that met a limit of before R-7: 64 connections, 512 places.
+OLD_LIMITS = (7, 9)
 
 
 def since(request):
     """What this request and those after it have inserted."""
     names = list(INSERTED)
-    return [INSERTED[name] for name in names[names.index(request):]]
+    return [place for name in names[names.index(request):] for place in INSERTED[name]]
 
 
 def old_length(trace, at, inserted):
@@ -53,6 +57,14 @@ def moved(answers, zeros):
         if mark == b"ER":
             verdict, offset = numbers
             return answers[:at] + written(mark, verdict, offset + zeros)
+    return answers
+
+
+def until_a_limit(answers):
+    """The answers up to the first admission that met a limit of before R-7; nothing is said of those behind it. All of them where none did."""
+    for at, mark, _, numbers in records(answers, ANSWERS):
+        if mark == b"CA" and numbers[0] in OLD_LIMITS:
+            return answers[:at]
     return answers
 
 

@@ -2,7 +2,8 @@
 
 One line keeps its word, which is its gap and, with an average, n packets to a window (R-6), and
 makes the same offers at the same ticks in both; the other lines, the notices and the calls around
-it are drawn anew for each. The line's number may differ.
+it are drawn anew for each. The line's number may differ; in every fourth pair up to 199 lines stand
+before it (R-7).
 """
 
 import random
@@ -12,6 +13,7 @@ from records import ANSWERS, CannotRead, admit, link, notice, offer, records, ti
 
 CLOCK_END = 4_000_000_000
 LAST_TICK = 240
+MOST_CONNECTIONS = 200
 
 
 # What the shared line is told in one trace, and what it must be told.
@@ -86,6 +88,11 @@ class Ward:
         self.own = None
         self.expected = {}
 
+    def many_stand(self):
+        """Lines of one packet each, as many as leave a number for the shared one or fewer."""
+        for _ in range(self.numbers.randrange(MOST_CONNECTIONS)):
+            self.records.append(admit(self.numbers.randint(1, len(self.bounds)), 65_535, 1))
+
     def others(self):
         """A call of somebody else, never an offer under the shared line's number."""
         numbers = self.numbers
@@ -97,7 +104,8 @@ class Ward:
             return notice(numbers.randint(0, self.largest + 1), numbers.getrandbits(32))
         if choice < 0.33:
             return self.link
-        connection = numbers.choice([c for c in (*range(8), 64, 254, 255) if c != self.own])
+        some = (*range(8), numbers.randrange(MOST_CONNECTIONS), MOST_CONNECTIONS, 254, 255)
+        connection = numbers.choice([c for c in some if c != self.own])
         return offer(connection, numbers.randint(0, self.largest + 1), numbers.getrandbits(32))
 
     def crowd(self):
@@ -152,10 +160,15 @@ def twin(seed, which, run):
     silence = shared.choice((0, 0, 1, 2, shared.randint(1, 64)))
     first = largest + silence + shared.randint(4, 60 + 6 * silence)
     bounds = sorted([first, *(first + shared.randint(0, 200) for _ in range(shared.randint(0, 3)))])
+    crowded = seed % 4 == 3
+    if crowded:  # room for a packet of each line and for more
+        bounds = [bound + (MOST_CONNECTIONS + 50) * (1 + silence) for bound in bounds]
     line = Line(shared, bounds, largest, silence)
     for busy in (4, 3, 2, 1, 0):
         numbers = random.Random(f"{seed} {which} {busy}")
         ward = Ward(numbers, (bounds, largest, silence), line, busy)
+        if crowded:
+            ward.many_stand()
         admitted = answers_of(ward, ward.until_admitted(), run)[-1]
         if admitted[2] == 0:
             given = answers_of(ward, ward.after_admitted(admitted[3]), run)

@@ -1,5 +1,5 @@
 //! The questions of the firmware (section "Two questions from C firmware"; units by R-2,
-//! the silence in `LK` by R-4, averages in the rows by R-6).
+//! the silence in `LK` by R-4, averages in the rows by R-6, 200 rows by R-7).
 
 use crate::hub;
 use crate::level_test::lowest_shortage;
@@ -57,7 +57,7 @@ fn whole_link(bytes: &[u8]) -> Option<Link> {
     }
 }
 
-/// At most 64 whole rows, each within the connection limits. Reservations are not asked about.
+/// At most 200 whole rows, each within the connection limits. Reservations are not asked about.
 fn all_connections(link: &Link, rows: &[u8]) -> Option<Vec<Connection>> {
     let rows = rows.chunks(ROW);
     if rows.len() > MOST_CONNECTIONS {

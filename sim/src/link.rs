@@ -1,5 +1,5 @@
 //! Link and connection with their limits (section "Link, connections, places"; the silence by
-//! R-4, averages by R-6).
+//! R-4, averages by R-6, how many connections and places by R-7).
 
 use crate::verdict::Refusal;
 
@@ -7,8 +7,10 @@ pub const MOST_LEVELS: usize = 8;
 pub const MOST_UNITS: u16 = 2_048;
 pub const MOST_SILENCE: u8 = 64;
 pub const HIGHEST_BOUND: u16 = 32_768;
-pub const MOST_CONNECTIONS: usize = 64;
-pub const MOST_RESERVED: u64 = 512;
+
+/// Connections, numbered from 0, and the places of all reservations together.
+pub const MOST_CONNECTIONS: usize = 200;
+pub const MOST_RESERVED: u64 = 2_048;
 
 /// The most packets that a connection with an average may have to a window: n is 1 to 16. So many
 /// of its eligibilities a connection remembers.

@@ -273,13 +273,13 @@ fn the_order_of_verdicts() {
     assert_eq!(hub().admit(wrong_level), Err(Refusal::NoSuchLevel));
     // Without the window it would be 100 + 2 of 100.
     assert_eq!(hub().admit(broken), BROKEN);
-    // 64 stand: 6 before 7.
-    let mut hub = hub();
-    for number in 0..64 {
-        assert_eq!(hub.admit(line(100, 0, 0)), Ok(number));
+    // 200 stand, with S 202 of 300: 6 before 7.
+    let mut hub = hub_of(2, &[300]);
+    for number in 0..200 {
+        assert_eq!(hub.admit(line(300, 0, 0)), Ok(number));
     }
     assert_eq!(hub.admit(broken), BROKEN);
-    let good = line(100, 100, 100);
+    let good = line(300, 300, 300);
     assert_eq!(hub.admit(good), Err(Refusal::AllConnectionsStand));
 }
 
@@ -335,25 +335,25 @@ fn the_silence_counts_with_each_packet() {
 
 #[test]
 fn reservations_use_the_same_count() {
-    // Bound 10,000. n 16, I 1,008: 9 * 16 + 16 = 160 of 512. Three: 480. n 16, I 5,008: 32.
+    // Bound 10,000. n 16, I 1,008: 9 * 16 + 16 = 160 of 2,048. Twelve: 1,920.
     let mut hub = hub_of(1, &[10_000]);
-    for number in 0..3 {
+    for number in 0..12 {
         assert_eq!(hub.admit(line(1, 1_008, 63)), Ok(number));
     }
     assert_eq!(hub.admit(line(1, 1_008, 63)), Err(Refusal::Reservations));
-    // 33 = 2 * 16 + 1: 10,000 = 2 * 4,992 + 16, gap 16.
-    assert_eq!(hub.admit(line(16, 4_992, 312)), Err(Refusal::Reservations));
-    assert_eq!(hub.admit(line(16, 5_008, 313)), Ok(3));
+    // 129 = 8 * 16 + 1: 10,000 = 8 * 1,248 + 16, gap 16. 128 = 7 * 16 + 16: I 1,264.
+    assert_eq!(hub.admit(line(16, 1_248, 78)), Err(Refusal::Reservations));
+    assert_eq!(hub.admit(line(16, 1_264, 79)), Ok(12));
     assert_eq!(
         hub.admit(line(1, 65_535, 65_535)),
         Err(Refusal::Reservations)
     );
-    // All 32 places of it, and no more.
-    for number in 0..32_u64 {
-        let expected = 5_008 * (number / 16) + 16 * (number % 16);
-        assert_eq!(hub.offer(3, 1, 7), Ok(expected));
+    // All 128 places of it, and no more.
+    for number in 0..128_u64 {
+        let expected = 1_264 * (number / 16) + 16 * (number % 16);
+        assert_eq!(hub.offer(12, 1, 7), Ok(expected));
     }
-    assert_eq!(hub.offer(3, 1, 7), FULL);
+    assert_eq!(hub.offer(12, 1, 7), FULL);
 }
 
 #[test]

@@ -1,7 +1,9 @@
 //! The generated traces are of use: verdicts and departures really occur, both paces agree.
 
 use sim::kinds::{Kind, KINDS};
-use sim::replay::{answers, Pace};
+use sim::notices::NOTICE_NUMBER;
+use sim::record::{Answer, Record};
+use sim::replay::{answers, Job, Pace};
 use sim::stats::Stats;
 
 const SEEDS: u64 = 12;
@@ -50,7 +52,7 @@ fn every_refusal_occurs() {
     for verdict in 2..=12 {
         assert!(refusals.verdict(verdict) > 5, "verdict {verdict}");
     }
-    assert!(refusals.departures > 50);
+    assert!(refusals.departures > 100);
     let end = total("clockend");
     for verdict in [0, 3, 5, 6, 8, 10, 11, 12, 13] {
         assert!(end.verdict(verdict) > 5, "verdict {verdict}");
@@ -123,6 +125,41 @@ fn averages_are_accepted_refused_and_flooded() {
     assert!(figures.departures > 300);
     assert!(total("averagememory").departures > 1_000);
     assert!(total("averageend").verdict(13) > 50);
+}
+
+#[test]
+fn connections_and_places_are_used_up() {
+    let beds = total("beds");
+    assert!(beds.verdict(7) > 20 && beds.verdict(9) > 10);
+    assert!(beds.verdict(10) > 200 && beds.verdict(12) > 2_000);
+    assert!(beds.departures > 15_000);
+    let most = |name| (0..SEEDS).map(move |seed| most_used(name, seed));
+    assert!(most("beds").all(|(standing, held)| standing == 200 || held == 2_048));
+    assert_eq!(most("beds").filter(|&used| used == (200, 2_048)).count(), 6);
+    assert!(most("reserve").all(|(_, held)| held == 2_048));
+    assert!(most("refusals").all(|(standing, _)| standing == 200));
+}
+
+/// The most connections that stand and the most packets that are held anywhere in a trace.
+fn most_used(name: &str, seed: u64) -> (usize, usize) {
+    let trace = Kind::named(name).expect("a kind").trace(seed, None);
+    let (mut job, mut rest, mut most) = (Job::new(Pace::Passing), &trace[..], (0, 0));
+    let mut held: usize = 0;
+    while let Some((record, length)) = Record::read(rest) {
+        rest = &rest[length..];
+        let result: Result<(), ()> = job.carry_out(record, &mut |answer| {
+            match answer {
+                Answer::Packet { verdict: 0, .. } => held += 1,
+                Answer::Departed(one) if one.connection != NOTICE_NUMBER => held -= 1,
+                _ => {}
+            }
+            Ok(())
+        });
+        assert_eq!(result, Ok(()));
+        most.0 = most.0.max(job.hub().connections().len());
+        most.1 = most.1.max(held);
+    }
+    most
 }
 
 #[test]

@@ -80,26 +80,27 @@ fn any_other_verdict_gives_0_and_0_also_behind_an_8() {
 }
 
 #[test]
-fn reservations_past_512_and_a_65th_connection_give_0_and_0() {
-    // Bound 1,000, S 1. A gap of 1 is one unit over. A gap of 2 reserves 500, one of 50 another 20.
-    let link = b"LK\x01\x01\x00\x00\xE8\x03";
+fn reservations_past_2048_and_a_201st_connection_give_0_and_0() {
+    // Bound 4,000, S 1. A gap of 1 is one unit over. A gap of 2 reserves 2,000, one of 50 another
+    // 80; then a gap of 1 is 2,001 over.
+    let link = b"LK\x01\x01\x00\x00\xA0\x0F";
     let [one_over, half, some] = [1, 2, 50].map(|gap| admission(1, gap, 1));
     let given = answered(&[link, &one_over, &half, &some, &one_over]);
     let expected = [
         &b"LA\x00CA\x08\xFF\x01\x01\x00\x00\x00"[..],
         b"CA\x00\x00\x00\x00\x00\x00\x00",
         b"CA\x09\xFF\x00\x00\x00\x00\x00",
-        b"CA\x08\xFF\x01\xF5\x01\x00\x00",
+        b"CA\x08\xFF\x01\xD1\x07\x00\x00",
     ]
     .concat();
     assert_eq!(given, expected);
-    // 63 of one packet and S are 64, so a gap of 1 is 64 over; with 64 of them standing it gets 7.
-    let crowd = admission(1, 1_000, 1).repeat(63);
-    let last = admission(1, 1_000, 1);
+    // 199 of one packet and S are 200, so a gap of 1 is 200 over; with 200 of them standing it gets 7.
+    let crowd = admission(1, 4_000, 1).repeat(199);
+    let last = admission(1, 4_000, 1);
     let given = tail(&[link, &crowd, &one_over, &last, &one_over], 27);
     let expected = [
-        &b"CA\x08\xFF\x01\x40\x00\x00\x00"[..],
-        b"CA\x00\x3F\x00\x00\x00\x00\x00",
+        &b"CA\x08\xFF\x01\xC8\x00\x00\x00"[..],
+        b"CA\x00\xC7\x00\x00\x00\x00\x00",
         b"CA\x07\xFF\x00\x00\x00\x00\x00",
     ]
     .concat();

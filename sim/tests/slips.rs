@@ -78,9 +78,23 @@ fn summing_in_32_bits() {
     let link = b"LK\x01\x00\x08\x00\x00\x80";
     let row = [1, 1, 0, 0x00, 0x08, 0, 0, 0, 0];
     assert_eq!(level_answer(link, &row.repeat(64)), 1);
-    assert_eq!(level_answer(link, &row.repeat(65)), 255);
     assert_eq!(units_answer(link, &row.repeat(64)), 4_294_936_576);
-    assert_eq!(units_answer(link, &row.repeat(65)), 0);
+}
+
+#[test]
+fn summing_in_33_bits() {
+    // 128 of the same rows: 8,589,934,592, which is 0 in 33 bits. The most rows there are, and the
+    // longest silence: 200 times 32,768 packets of 2,112 ticks, and 2,112, less the bound.
+    let link = b"LK\x01\x00\x08\x00\x00\x80";
+    let row = [1, 1, 0, 0x00, 0x08, 0, 0, 0, 0];
+    assert_eq!(level_answer(link, &row.repeat(128)), 1);
+    assert_eq!(units_answer(link, &row.repeat(128)), 8_589_903_872);
+    let silent = b"LK\x01\x00\x08\x40\x00\x80";
+    assert_eq!(level_answer(silent, &row.repeat(200)), 1);
+    assert_eq!(
+        units_answer(silent, &row.repeat(200)),
+        13_841_205_312 - 32_768
+    );
 }
 
 #[test]

@@ -5,7 +5,7 @@ use std::io::{self, Read};
 use sim::departure::Departure;
 use sim::hub::CLOCK_END;
 use sim::kinds::KINDS;
-use sim::link::Connection;
+use sim::link::{Connection, MOST_CONNECTIONS};
 use sim::notices::NOTICE_NUMBER;
 use sim::record::{Answer, Record};
 use sim::replay::{answers, replay, Job, Pace, SIZE_LIMIT};
@@ -316,8 +316,8 @@ fn in_its_word(terms: &Connection, offered: &[u64], now: u64) -> bool {
 /// how many there were, of plain lines and of those with an average.
 fn check_words(trace: &[u8], kind: &str, seed: u64) -> (usize, usize) {
     let mut job = Job::new(Pace::Passing);
-    let mut offered = vec![Vec::new(); 64];
-    let mut keeps = [true; 64];
+    let mut offered = vec![Vec::new(); MOST_CONNECTIONS];
+    let mut keeps = [true; MOST_CONNECTIONS];
     let (mut rest, mut checked) = (trace, (0, 0));
     while let Some((record, length)) = Record::read(rest) {
         rest = &rest[length..];

@@ -1,4 +1,4 @@
-/* Every limit at its last good and first bad value, every length, every mark, rows in every order, sums about their bounds and about 2^32. */
+/* Every limit at its last good and first bad value, every length, every mark, rows in every order, sums about their bounds, about 2^32 and 2^33. */
 #include <stdbool.h>
 #include <string.h>
 
@@ -39,7 +39,7 @@ static void next_numbers(void)
                     ask_next(edges[f], edges[l], edges[g], edges[l] + edges[g] + away - 1);
             }
     if (ask_next(1, 0xFFFFFFFF, 0xFFFFFFFF, 0) != 8589934590u)
-        differs("the largest sum");
+        differs("the latest eligibility");
 }
 
 /* All marks before a good rest. */
@@ -69,7 +69,7 @@ static void link_lengths(void)
         }
 }
 
-/* Every number of bytes of rows: none, whole rows up to 64, and all others. */
+/* Every number of bytes of rows: none, whole rows up to 200, and all others. */
 static void row_lengths(void)
 {
     struct question q;
@@ -88,9 +88,9 @@ static void row_lengths(void)
     q.rows_len = ROW * 12;
     expect(&q, 0, "12 rows of 1 unit and S 4 with bound 16");
     q.rows_len = ROW * MOST_ROWS;
-    expect_over(&q, 1, 52, "64 rows of 1 unit and S 4");
+    expect_over(&q, 1, 188, "200 rows of 1 unit and S 4");
     q.rows_len = ROW * (MOST_ROWS + 1);
-    expect(&q, REFUSED, "65 rows");
+    expect(&q, REFUSED, "201 rows");
 }
 
 /* S, the first bound against it, each bound against the one before, the last bound. */
@@ -258,7 +258,7 @@ static void sums_with_silence(void)
 /* Rounding up: a gap one below, at and one above each divisor of the bound. */
 static void gaps_about_divisors(void)
 {
-    static const unsigned bound[] = {LAST_BOUND};
+    static const unsigned bound[] = {LAST_BOUND}, rows[] = {1, 22, 64, MOST_ROWS};
     struct question q;
 
     for (unsigned packets = 1; packets <= 300; packets++)
@@ -266,33 +266,48 @@ static void gaps_about_divisors(void)
             for (unsigned size = 1; size <= 3; size++) {
                 unsigned gap = LAST_BOUND / packets + away - 1;
 
-                for (unsigned rows = 1; rows <= MOST_ROWS; rows += 21) {
+                for (unsigned r = 0; r < sizeof rows / sizeof rows[0]; r++) {
                     put_link(&q, 1, LAST_BOUND / 64, packets % 4, bound);
-                    for (unsigned i = 0; i < rows; i++)
+                    for (unsigned i = 0; i < rows[r]; i++)
                         put_row(&q, 1, gap, size * 32);
                     ask(&q);
                 }
             }
 }
 
-/* 64 rows that each add 2^26, S and the silence being 2,048 together: their sum is 2^32, and S comes on top. A row one smaller takes 2^15 off;
-   nothing between the two can be reached. In 32 bits 2^32 + 2,048 would pass for 2,048. The units, the bound taken off, stay 30,720 below 2^32;
-   with the largest S and the longest silence they pass it. */
-static void sums_about_32_bits(unsigned largest, unsigned silence)
+/* Rows that each add 2^26, S and the silence being 2,048 together: the sum of 64 is 2^32, of 128 2^33, of 192 three times 2^32, and S comes on top.
+   A row one smaller takes 2^15 off; nothing between the two can be reached. In 32 bits 2^32 + 2,048 would pass for 2,048. The units of 64 rows, the
+   bound taken off, stay 30,720 below 2^32; with the largest S and the longest silence they pass it. */
+static void sums_past_32_bits(unsigned largest, unsigned silence)
 {
+    static const unsigned rows[] = {63, 64, 65, 127, 128, 192, MOST_ROWS - 1, MOST_ROWS};
     const uint64_t taken_off = LAST_BOUND, cost = largest + silence, added = LAST_BOUND * cost;
     struct question q;
     unsigned bounds[MOST_LEVELS];
 
     for (unsigned n = 1; n <= MOST_LEVELS; n++)
-        for (unsigned rows = MOST_ROWS - 1; rows <= MOST_ROWS; rows++)
-            for (unsigned smaller = 0; smaller <= rows; smaller++) {
+        for (unsigned r = 0; r < sizeof rows / sizeof rows[0]; r++)
+            for (unsigned smaller = 0; smaller <= rows[r]; smaller++) {
                 bounds_up_to(LAST_BOUND, n, bounds);
                 put_link(&q, n, largest, silence, bounds);
-                for (unsigned i = 0; i < rows; i++)
+                for (unsigned i = 0; i < rows[r]; i++)
                     put_row(&q, n, 1, i < smaller ? largest - 1 : largest);
-                expect_over(&q, n, rows * added - smaller * taken_off + cost - LAST_BOUND, "a sum about 2^32");
+                expect_over(&q, n, rows[r] * added - smaller * taken_off + cost - LAST_BOUND, "a sum past 32 bits");
             }
+}
+
+/* The most there is: 200 rows, each of 32,768 packets of 2,112 ticks, and 2,112 for S; and a row more. */
+static void largest_sum(void)
+{
+    static const unsigned bound[] = {LAST_BOUND};
+    struct question q;
+
+    put_link(&q, 1, MOST_LARGEST, MOST_SILENCE, bound);
+    for (unsigned i = 0; i < MOST_ROWS; i++)
+        put_row(&q, 1, 1, MOST_LARGEST);
+    expect_over(&q, 1, 13841205312u - LAST_BOUND, "the largest sum");
+    put_row(&q, 1, 1, MOST_LARGEST);
+    expect(&q, REFUSED, "a row more than the most");
 }
 
 /* Swaps two rows. */
@@ -354,8 +369,9 @@ void boundary_questions(void)
     sums_about_the_bound();
     sums_with_silence();
     gaps_about_divisors();
-    sums_about_32_bits(MOST_LARGEST, 0);
-    sums_about_32_bits(MOST_LARGEST - MOST_SILENCE, MOST_SILENCE);
-    sums_about_32_bits(MOST_LARGEST, MOST_SILENCE);
+    sums_past_32_bits(MOST_LARGEST, 0);
+    sums_past_32_bits(MOST_LARGEST - MOST_SILENCE, MOST_SILENCE);
+    sums_past_32_bits(MOST_LARGEST, MOST_SILENCE);
+    largest_sum();
     orders();
 }

@@ -7,7 +7,7 @@
 
 #include "asking.h"
 
-enum { ROW = 9, MOST_ROWS = 64, MOST_LEVELS = 8, BOUNDS = 10 };
+enum { ROW = 9, MOST_ROWS = 200, MOST_LEVELS = 8, BOUNDS = 10 };
 
 /* A level question while it is put together, with room for two levels too many. */
 struct question {

@@ -1,5 +1,5 @@
 /* Document 01, "Eligibility", "Link, connections, places", "The level test" and "Two questions from C firmware"; docs/RULES-AFTER-BASE.md, R-2,
-   R-4 and R-6. */
+   R-4 and R-6; document 02, R-7. */
 #include <stdbool.h>
 
 #include "reference.h"
@@ -9,7 +9,7 @@ enum {
     MOST_LARGEST = 2048,
     MOST_SILENCE = 64,
     LAST_BOUND = 32768,
-    MOST_ROWS = 64,
+    MOST_ROWS = 200,
     MOST_PER_WINDOW = 16,
     ROW = 9,
     REFUSED = 255

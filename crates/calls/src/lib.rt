@@ -134,7 +134,7 @@ pub fn notice_tested(
     requires { ⌜ sound-hub h (given members places notices) ≡ true ⌝ }
     ensures { λ r. ⌜ Does (notice len tag) h (before members places notices) r (after members places notices) ⌝ }
 {
-    let waiting = tables::held(notices);
+    let waiting = tables::count(notices);
     let v = verdicts::notice_verdict(h, members, places, notices, waiting, len);
     if v != 0 {
         return say(h, v, 0);

@@ -124,13 +124,13 @@ module _ (t : List ℕ) (i : ℕ) (h : length (members-in t) ≤ suc i) where
       go (inl k) = never (sym z ∙ row-free t i l k)
       go (inr k) = omega arith
 
--- from the start, where none is free between others: a row with no size is the first that is free
-module _ (t : List ℕ) (i : ℕ) (h : i ≤ length (members-in t)) where
-  pub size-stops : None-free t → member-in t i .size ≡ 0 → i ≡ length (members-in t)
+-- where none is free between others: a row with no size is behind them, one with a size is among them
+module _ (t : List ℕ) (i : ℕ) where
+  pub size-stops : None-free t → member-in t i .size ≡ 0 → length (members-in t) ≤ i
   size-stops f z = go (split (length (members-in t)) i)
     where
-      go : (length (members-in t) ≤ i) ⊎ (i < length (members-in t)) → i ≡ length (members-in t)
-      go (inl k) = omega arith
+      go : (length (members-in t) ≤ i) ⊎ (i < length (members-in t)) → length (members-in t) ≤ i
+      go (inl k) = k
       go (inr k) = absurd (omega (arith, f i (omega (arith, connections-length t)), ap (λ (x : Connection). x .size) (connection-is t i k)))
 
   pub size-goes : i < length t / member-width → (member-in t i .size ≡ 0 → ⊥) → i < length (members-in t)

@@ -124,20 +124,22 @@ pub fn members_in(members: &[u32]) -> usize
     0
 }
 
-// The number of rows where none of them is free: up to the first that has no size.
+// The number of rows where none of them is free, by halving: those behind have no size.
 pub fn standing(members: &[u32]) -> usize
     requires { ⌜ None-free (now members) ⌝ }
     ensures { λ r. ⌜ r ≡ length (members-in (now (members .entry))) ⌝ }
 {
-    let n = members.len() / MEMBER_WIDTH;
-    let mut i: usize = 0;
-    while i < n {
-        if number(members, i, 1) == 0 {
-            return i;
+    let mut low: usize = 0;
+    let mut high: usize = members.len() / MEMBER_WIDTH;
+    while low < high {
+        let mid = low + (high - low) / 2;
+        if number(members, mid, 1) == 0 {
+            high = mid;
+        } else {
+            low = mid + 1;
         }
-        i += 1;
     }
-    i
+    low
 }
 
 // A connection that was just admitted, behind the n that stand.

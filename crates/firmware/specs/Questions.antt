@@ -53,7 +53,7 @@ first-rows (suc n) rows = first-rows n rows ++ row-asked rows n ∷ []
 abbrev pub all-rows : List ℕ → List Connection
 all-rows rows = first-rows (rows-asked rows) rows
 
--- no "length doesn't fit, .. a link or connection limit is broken or there are more than 64 rows"
+-- no "length doesn't fit, .. a link or connection limit is broken or there are more than 64 rows" (200 since R-7)
 unfoldable pub testable : Link → List ℕ → Bool
 testable l rows =
     link-within l

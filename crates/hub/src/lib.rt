@@ -1,5 +1,5 @@
 // The hub of one output line: link, admit, offer, notice, tick. Any hub value and any tables: an answer or a numbered refusal; a refused call changes nothing.
-// The caller keeps a `Hub`, a table of connections of 1,408 numbers, a places table of 2,560 and a table of notices of 320, all zero at first, and hands them
+// The caller keeps a `Hub`, a table of connections of 4,400 numbers, a places table of 10,240 and a table of notices of 320, all zero at first, and hands them
 // to every call.
 ghost use mathlib.Core.Path.{_≡_};
 ghost use Rattle.rules.specs.Model.{fresh, link, admit, offer, notice, tick};

@@ -60,8 +60,9 @@ pub fn fresh() -> World {
         packet: none,
         hub: hub::fresh_hub(),
     };
-    let tables = put(put(world::told(zeros, told), LENT, 1408), LENT + 1, 2560);
-    put(tables, LENT_NOTICES, 320)
+    let x = put(world::told(zeros, told), LENT, hub::CONNECTIONS as u32);
+    let y = put(x, LENT + 1, hub::PLACES as u32);
+    put(y, LENT_NOTICES, hub::NOTICES as u32)
 }
 
 // Where the number stands that a form changes by hand, in the row n where there are rows; m the second number of the form.
@@ -85,9 +86,9 @@ pub fn acted(w: World, k: u32) -> World {
     match k {
         22 => copy(w, LENT, READ, 2),
         // a number that goes to the next place, and on from there, fills them all
-        23 => copy(put(w, 0, v), 1, 0, 1407),
-        25 => copy(put(w, NOTICES, v), NOTICES + 1, NOTICES, 319),
-        _ => copy(put(w, PLACES, v), PLACES + 1, PLACES, 2559),
+        23 => copy(put(w, 0, v), 1, 0, hub::CONNECTIONS - 1),
+        25 => copy(put(w, NOTICES, v), NOTICES + 1, NOTICES, hub::NOTICES - 1),
+        _ => copy(put(w, PLACES, v), PLACES + 1, PLACES, hub::PLACES - 1),
     }
 }
 

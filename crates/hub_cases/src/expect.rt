@@ -5,10 +5,12 @@ use crate::world::CALL;
 use crate::world::CLOCK;
 use crate::world::GONE;
 use crate::world::NONE;
+use crate::world::NOTICE_ROWS;
 use crate::world::NOTICES;
 use crate::world::NOWHERE;
 use crate::world::NUMBER;
 use crate::world::PACKET;
+use crate::world::PLACE_ROWS;
 use crate::world::PLACES;
 use crate::world::SERVING;
 use crate::world::SHORT;
@@ -25,6 +27,8 @@ use crate::world::notice;
 use crate::world::place;
 use crate::world::put;
 use crate::world::put_all;
+use limits::MAX_REMEMBERED;
+use limits::PACKET_WIDTH;
 use std::num::wrapping_add_u32;
 use std::num::wrapping_add_usize;
 
@@ -36,18 +40,18 @@ fn used(w: World, lengths: usize, most: u32) -> u32 {
         if get(w, at) == 0 {
             return i;
         }
-        at = wrapping_add_usize(at, 5);
+        at = wrapping_add_usize(at, PACKET_WIDTH);
         i += 1;
     }
     i
 }
 
 pub fn rows(w: World) -> u32 {
-    used(w, PLACES + 1, 600)
+    used(w, PLACES + 1, PLACE_ROWS)
 }
 
 pub fn notices(w: World) -> u32 {
-    used(w, NOTICES + 1, 80)
+    used(w, NOTICES + 1, NOTICE_ROWS)
 }
 
 // A row of the connections: level, size, gap, window, average gap.
@@ -59,15 +63,15 @@ fn admitted(w: World) -> World {
     copy(z, at + 3, AVERAGE, 2)
 }
 
-// One more is remembered of a connection, whose numbers were the old ones: the newest first, and of 17 the oldest is forgotten.
+// One more is remembered of a connection, whose numbers were the old ones: the newest first, and of one too many the oldest is forgotten.
 fn remembered(w: World, old: [u32; NOWHERE], c: u32, e: u32) -> World {
     let at = known(c);
-    if NOWHERE <= at + 16 {
+    if NOWHERE <= at + MAX_REMEMBERED {
         return w;
     }
-    let x = put_all(w, at + 2, &old[at + 1..at + 16]);
+    let x = put_all(w, at + 2, &old[at + 1..at + MAX_REMEMBERED]);
     let y = put(x, at + 1, e);
-    if get(w, at) == 16 {
+    if get(w, at) == MAX_REMEMBERED as u32 {
         return y;
     }
     put(y, at, wrapping_add_u32(get(w, at), 1))
@@ -107,7 +111,7 @@ fn departed(w: World) -> World {
 fn gone(w: World) -> World {
     let y = copy(departed(w), PACKET, ASKED + 1, 5);
     let at = place(get(w, ASKED));
-    copy(y, at, at + 5, 3000)
+    copy(y, at, at + PACKET_WIDTH, hub::PLACES)
 }
 
 // The first notice has gone, eligible on arrival: the others move up.
@@ -115,7 +119,7 @@ fn notice_gone(w: World) -> World {
     let x = put(departed(w), PACKET, 254);
     let y = copy(x, PACKET + 1, ASKED, 3);
     let z = copy(y, PACKET + 4, ASKED + 2, 1);
-    copy(z, NOTICES, NOTICES + 5, 395)
+    copy(z, NOTICES, NOTICES + PACKET_WIDTH, hub::NOTICES)
 }
 
 // The answer, a verdict and a number with no packet, and where the verdict is 0 what the call does; the rest stays as it is.

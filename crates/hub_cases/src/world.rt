@@ -1,5 +1,9 @@
 // The hub with its three tables and its last answer as numbers at places, and the calls on it.
 ghost use Prim.Native.Nat.{_≤_};
+use limits::MAX_REMEMBERED;
+use limits::MEMBER_HEAD;
+use limits::MEMBER_WIDTH;
+use limits::PACKET_WIDTH;
 use rules::Connection;
 use rules::Link;
 use state::Hub;
@@ -10,16 +14,14 @@ pub struct World {
     pub n: [u32; NOWHERE],
 }
 
-// Rows of connections stand from 0 on: 80, of which 64 are lent as a rule. A row has 22 numbers, six before those that are remembered; the sixth is their count.
-const ROW: usize = 22;
+// Each table has room for 16 rows more than its length: it is lent too long as well.
+const MORE: usize = 16;
 
-const HEAD: usize = 6;
-
-// As many rows of notices, of five numbers.
-pub const NOTICES: usize = 80 * ROW;
+// Rows of connections stand from 0 on, then those of notices.
+pub const NOTICES: usize = hub::CONNECTIONS + MORE * MEMBER_WIDTH;
 
 // The last answer: verdict, number, 1 if a packet has gone, the packet.
-pub const VERDICT: usize = NOTICES + 400;
+pub const VERDICT: usize = NOTICES + hub::NOTICES + MORE * PACKET_WIDTH;
 
 pub const NUMBER: usize = VERDICT + 1;
 
@@ -65,7 +67,14 @@ pub const SHORT: usize = CALL + 1;
 pub const PLACES: usize = SHORT + 3;
 
 // No place: what is put there makes the world differ from every other.
-pub const NOWHERE: usize = PLACES + 3000;
+pub const NOWHERE: usize = PLACES + hub::PLACES + MORE * PACKET_WIDTH;
+
+// How many rows have room.
+const MEMBER_ROWS: u32 = (NOTICES / MEMBER_WIDTH) as u32;
+
+pub const NOTICE_ROWS: u32 = ((VERDICT - NOTICES) / PACKET_WIDTH) as u32;
+
+pub const PLACE_ROWS: u32 = ((NOWHERE - PLACES) / PACKET_WIDTH) as u32;
 
 pub fn get(w: World, at: usize) -> u32 {
     if NOWHERE <= at {
@@ -127,19 +136,19 @@ pub fn same(a: World, b: World) -> bool {
 
 // Where a row of the connections begins.
 pub fn connection(k: u32) -> usize
-    ensures { λ r. ⌜ r ≤ 5222 ⌝ }
+    ensures { λ r. ⌜ r ≤ 1_000_000 ⌝ }
 {
-    if 80 <= k {
+    if MEMBER_ROWS <= k {
         return NOWHERE;
     }
-    ROW * (k as usize)
+    MEMBER_WIDTH * (k as usize)
 }
 
-// Where the count of what is remembered of a connection stands.
+// Where the count of what is remembered of a connection stands; what is remembered stands behind it.
 pub fn known(c: u32) -> usize
-    ensures { λ r. ⌜ r ≤ 5227 ⌝ }
+    ensures { λ r. ⌜ r ≤ 1_000_005 ⌝ }
 {
-    connection(c) + HEAD - 1
+    connection(c) + MEMBER_HEAD - 1
 }
 
 // Where the k-th newest of it stands, k from 1 to 16.
@@ -147,7 +156,7 @@ pub fn past(c: u32, k: u32) -> usize {
     if k < 1 {
         return NOWHERE;
     }
-    if 16 < k {
+    if (MAX_REMEMBERED as u32) < k {
         return NOWHERE;
     }
     known(c) + k as usize
@@ -155,22 +164,22 @@ pub fn past(c: u32, k: u32) -> usize {
 
 // Where a row of the notices begins.
 pub fn notice(k: u32) -> usize
-    ensures { λ r. ⌜ r ≤ 5222 ⌝ }
+    ensures { λ r. ⌜ r ≤ 1_000_000 ⌝ }
 {
-    if 80 <= k {
+    if NOTICE_ROWS <= k {
         return NOWHERE;
     }
-    NOTICES + 5 * (k as usize)
+    NOTICES + PACKET_WIDTH * (k as usize)
 }
 
 // Where a row of the places begins.
 pub fn place(k: u32) -> usize
-    ensures { λ r. ⌜ r ≤ 5222 ⌝ }
+    ensures { λ r. ⌜ r ≤ 1_000_000 ⌝ }
 {
-    if 600 <= k {
+    if PLACE_ROWS <= k {
         return NOWHERE;
     }
-    PLACES + 5 * (k as usize)
+    PLACES + PACKET_WIDTH * (k as usize)
 }
 
 // Where a bound stands.
@@ -302,8 +311,8 @@ pub fn call(
     let mut y = notices;
     let mut z = places;
     let a = lent(w, LENT, NOTICES);
-    let b = PLACES + lent(w, LENT + 1, 3000);
-    let c = NOTICES + lent(w, LENT_NOTICES, 400);
+    let b = PLACES + lent(w, LENT + 1, NOWHERE - PLACES);
+    let c = NOTICES + lent(w, LENT_NOTICES, VERDICT - NOTICES);
     let r = ask(w, &mut x[0..a], &mut z[PLACES..b], &mut y[NOTICES..c]);
     told(joined(joined(World { n: x }, y, NOTICES), z, PLACES), r)
 }

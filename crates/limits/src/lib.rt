@@ -10,7 +10,7 @@ ghost use Rattle.limits.specs.Zeros.{zeros};
 use rules::Connection;
 use rules::Link;
 
-// ---- the limits of document 01, "Link, connections, places", and of document 02, R-1, R-4 and R-6
+// ---- the limits of document 01, "Link, connections, places", and of document 02, R-1, R-4, R-6 and R-7
 
 // Levels of a link.
 pub const MAX_LEVELS: u32 = 8;
@@ -35,10 +35,10 @@ const MAX_BURST: u32 = 16;
 pub const MAX_REMEMBERED: usize = 16;
 
 // Connections.
-pub const MAX_CONNECTIONS: usize = 64;
+pub const MAX_CONNECTIONS: usize = 200;
 
 // Packets that all reservations together may reach.
-pub const MAX_RESERVED: u64 = 512;
+pub const MAX_RESERVED: u64 = 2048;
 
 // Notices that wait.
 pub const MAX_NOTICES: usize = 64;

@@ -18,7 +18,7 @@ use Rattle.rules.specs.SoundState.{Sound}
 use Rattle.rules.specs.SoundTest.{sound}
 use Rattle.rules.specs.Calls.{causes, verdicts, verdict, eligibility-now, done, refused-number, settle, answer}
 use Rattle.rules.specs.Runs.{Departure, History, taken, logged, after, run-from, nothing-yet, run, departures, in-hub, bound-of, allowed, offer-tick, offer-ticks-from, offer-ticks, Keeps-its-word, Exchange, exchanges, own-answer}
-use Rattle.rules.specs.Promises.{Demand-1-refusals, Test-is-exact, Verdict-1-exactly, No-link-means-zero, Sound-is-kept, Runs-are-sound, Rows-fit, Notices-fit, Notices-come-last, Fifteen-after-thirteen, Names-the-lowest, Level-test-tells, Short-is-told, Units-are-missing, Units-fit, Eligibilities-fit, Answers-fit, Conservation, Left-by, Demand-3-first, Demand-3-second, Told-by-its-own, Bed-nine-and-bed-ten, Counted, Spacing-says, No-window-holds-more, The-count-is-reached, The-count-never-falls, Without-average, Without-silence}
+use Rattle.rules.specs.Promises.{Demand-1-refusals, Test-is-exact, Verdict-1-exactly, No-link-means-zero, Sound-is-kept, Runs-are-sound, Rows-fit, Notices-fit, Notices-come-last, Fifteen-after-thirteen, Names-the-lowest, Level-test-tells, Short-is-told, Units-are-missing, Units-fit, Sums-fit, Eligibilities-fit, Answers-fit, Conservation, Left-by, Demand-3-first, Demand-3-second, Told-by-its-own, Bed-nine-and-bed-ten, Counted, Spacing-says, No-window-holds-more, The-count-is-reached, The-count-never-falls, Without-average, Without-silence}
 use Rattle.rules.proofs.Sums.{same, cond-is}
 use Rattle.rules.proofs.Tests.{and-true, and-intro, not-true-false, never-number}
 use Rattle.rules.proofs.Lists.{All, all-map}
@@ -38,7 +38,7 @@ use Rattle.rules.proofs.InTime.{conserved-lists, left-in-time}
 use Rattle.rules.proofs.Bounds.{rows-fit-places, notices-fit-places, eligibilities-fit-32}
 use Rattle.rules.proofs.NoticesLast.{none-eligible}
 use Rattle.rules.proofs.Fields.{unit-done, unit-short, short-fits, answer-fits}
-use Rattle.rules.proofs.Shortage.{tells, names}
+use Rattle.rules.proofs.Shortage.{tells, names, sums-le, reserved-most}
 use Rattle.rules.proofs.Room.{not-for-room, welcome}
 use Rattle.rules.proofs.Keeper.{stays, All-taken, all-taken, on-arrival, has-room}
 use Rattle.rules.proofs.Alone.{Own, own-ticks, told-by-own, ticks-are-own, no-connection-asks, own-answers}
@@ -163,6 +163,9 @@ units-are-missing x s v e = let n = short-named x s e in (λ h. omega (arith, n 
 
 pub units-fit : Units-fit
 units-fit x s e = short-fits x s (short-refused s x (eight x s e)) (answer (admit x) s .short) (short-named x s e)
+
+pub sums-fit : Sums-fit
+sums-fit l cs e few f = (sums-le l cs e few f, reserved-most l cs e few f)
 
 pub answers-fit : Answers-fit
 answers-fit k s S = answer-fits k s S

@@ -1,5 +1,5 @@
 -- Which level was short, and by how many units: what the level test tells, and how much a newcomer can add.
-use Prim.Native.Nat.{ℕ, zero, suc, _+_, _*_, _-_, _≤_}
+use Prim.Native.Nat.{ℕ, zero, suc, _+_, _*_, _-_, _≤_, _<_}
 use native.Mathlib.Omega.{arith}
 use native.Mathlib.Nat.{le-trans, mul-le-mul-left, mul-le-mul-right}
 use mathlib.Core.Path.{_≡_, refl, ap, _∙_}
@@ -11,15 +11,15 @@ use lib.ListN.{length}
 use lib.Seq.{getD-append-seam}
 use borrow.Author.Tests.{eqb-true, eq-eqb}
 use Rattle.rules.specs.Words.{upto, sum}
-use Rattle.rules.specs.Limits.{max-largest, max-silence, max-bound}
+use Rattle.rules.specs.Limits.{max-largest, max-silence, max-bound, max-connections}
 use Rattle.rules.specs.Model.{Link, Connection, Short, no-connection, nth}
-use Rattle.rules.specs.Admission.{link-within, figures-within, bound, count, cost, load, level-sum, short-from, level-test}
+use Rattle.rules.specs.Admission.{link-within, level-within, figures-within, bound, count, cost, load, reservation, reserved, level-sum, short-from, level-test}
 use Rattle.rules.specs.Promises.{Names-the-lowest, No-level-fails, own-term}
 use Rattle.rules.proofs.Sums.{same, cond-ind, sum-eq, upto-le}
 use Rattle.rules.proofs.Standing.{nth-old, length-snoc}
 use Rattle.rules.proofs.LevelTest.{test-holds, holds-test, names-lowest}
 use Rattle.rules.proofs.Count.{count-le}
-use Rattle.rules.proofs.Figures.{link-facts, figures-facts, sum-is}
+use Rattle.rules.proofs.Figures.{link-facts, figures-facts, connection-facts, reservation-is, sum-is}
 
 -- ---- what the test tells
 
@@ -84,6 +84,11 @@ module _ (l : Link) (cs : List Connection) (x : Connection) where
         upto-le (x .level) m (count x (bound l m) * cost l (x .size)),
       )
 
+-- n terms, none above k
+sum-most : (n k : ℕ) (f : ℕ → ℕ) → ((i : ℕ) → i < n → f i ≤ k) → sum n f ≤ n * k
+sum-most zero k f h = omega arith
+sum-most (suc n) k f h = omega (arith, sum-most n k f (λ i l. h i (omega arith)), h n (omega arith))
+
 -- an own term is within 69,206,016: no more packets than ticks of the longest bound, none that costs more than the largest and the longest silence
 pub term-le : (l : Link) (x : Connection) (m : ℕ) → link-within l ≡ true → figures-within l x ≡ true → 1 ≤ m → m ≤ l .levels → own-term l x m ≤ max-bound * (max-largest + max-silence)
 unfolding cost
@@ -92,3 +97,25 @@ term-le l x m e f p q =
     let G = figures-facts l x f in
     let k : x .size + l .silence ≤ max-largest + max-silence = omega (arith, G .size-le, F .largest-max, F .silence-max) in
     le-trans (mul-le-mul-right (x .size + l .silence) (le-trans (count-le x (bound l m) (G .some-gap)) (F .bound-le m p q))) (mul-le-mul-left max-bound k)
+
+-- ---- any connections within the limits
+
+module _ (l : Link) (cs : List Connection) (e : link-within l ≡ true) (few : length cs ≤ max-connections)
+    (f : (c : ℕ) → c < length cs → (level-within l (nth cs c) ≡ true) × (figures-within l (nth cs c) ≡ true)) where
+  pub sums-le : (m : ℕ) → 1 ≤ m → m ≤ l .levels → level-sum l cs m ≤ max-connections * (max-bound * (max-largest + max-silence)) + (max-largest + max-silence)
+  unfolding cost
+  sums-le m p q =
+      let most : ℕ = max-bound * (max-largest + max-silence) in
+      let F = link-facts l e in
+      let k = sum-most (length cs) most (λ c. upto (nth cs c .level) m (count (nth cs c) (bound l m) * cost l (nth cs c .size)))
+      (λ c i. le-trans (upto-le (nth cs c .level) m (count (nth cs c) (bound l m) * cost l (nth cs c .size))) (term-le l (nth cs c) m e (f c i .1) p q)) in
+      omega (arith, sum-is l cs m, le-trans k (mul-le-mul-right most few), F .largest-max, F .silence-max)
+
+  pub reserved-most : reserved l cs ≤ max-connections * max-bound
+  reserved-most = le-trans (sum-most (length cs) max-bound (λ c. reservation l (nth cs c)) one) (mul-le-mul-right max-bound few)
+    where
+      one : (c : ℕ) → c < length cs → reservation l (nth cs c) ≤ max-bound
+      one c i =
+          let x : Connection = nth cs c in
+          let G = connection-facts l x (f c i .0) (f c i .1) in
+          omega (arith, reservation-is l x, count-le x (bound l (x .level)) (G .some-gap), link-facts l e .bound-le (x .level) (G .low-level) (G .high-level))

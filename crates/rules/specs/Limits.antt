@@ -28,12 +28,12 @@ max-remembered = 16
 abbrev pub max-silence : ℕ
 max-silence = 64
 
--- connections; packets that all reservations together may reach, which is also the rows of the places table
+-- connections; packets that all reservations together may reach, which is also the rows of the places table (document 02, R-7)
 abbrev pub max-connections : ℕ
-max-connections = 64
+max-connections = 200
 
 abbrev pub max-reserved : ℕ
-max-reserved = 512
+max-reserved = 2_048
 
 -- the clock's end
 abbrev pub clock-end : ℕ

@@ -8,9 +8,9 @@ use mathlib.Core.Option.{none, some}
 use lib.Dec.{leb}
 use lib.ListN.{length, getElem?}
 use Rattle.rules.specs.Words.{within, upto, sum, All}
-use Rattle.rules.specs.Limits.{max-levels, max-largest, max-silence, max-bound, max-reserved, clock-end, beyond-32-bits, max-notices, notice-number}
+use Rattle.rules.specs.Limits.{max-levels, max-largest, max-silence, max-bound, max-connections, max-reserved, clock-end, beyond-32-bits, max-notices, notice-number}
 use Rattle.rules.specs.Model.{Link, Connection, Past, Packet, State, Call, link, admit, offer, notice, tick, Short, no-short, Answer, fresh, nth, past, figures}
-use Rattle.rules.specs.Admission.{rising, cost, link-within, burst, figures-within, bound, count, level-sum, level-test}
+use Rattle.rules.specs.Admission.{rising, cost, link-within, level-within, burst, figures-within, bound, count, reserved, level-sum, level-test}
 use Rattle.rules.specs.Service.{next-eligibility, Spaced, of, started, ticked}
 use Rattle.rules.specs.SoundState.{Queue, Sound}
 use Rattle.rules.specs.SoundTest.{sound}
@@ -119,6 +119,17 @@ Units-fit =
     → answer (admit x) s .verdict ≡ 8
     → (answer (admit x) s .short .units ≤ own-term (s .link) x (answer (admit x) s .short .level))
     × (answer (admit x) s .short .units ≤ max-bound * (max-largest + max-silence))
+
+-- over any connections within the limits, as many as may stand, whether they pass the tests or not (document 02, R-7): a level's sum is at most 13,841,205,312, which
+-- is within 34 bits, and all reservations together are at most 6,553,600
+abbrev pub Sums-fit : Type 0
+Sums-fit =
+    (l : Link) (cs : List Connection)
+    → link-within l ≡ true
+    → length cs ≤ max-connections
+    → ((c : ℕ) → c < length cs → (level-within l (nth cs c) ≡ true) × (figures-within l (nth cs c) ≡ true))
+    → ((m : ℕ) → 1 ≤ m → m ≤ l .levels → level-sum l cs m ≤ max-connections * (max-bound * (max-largest + max-silence)) + (max-largest + max-silence))
+    × (reserved l cs ≤ max-connections * max-bound)
 
 -- an answer's numbers fit the fields of its record (document 01, "Trace and answer records"), whatever the call: one byte of verdict and of level, one of a connection's
 -- number, four of units, of an eligibility, of an arrival and of a finish, which is the clock then. A departed packet's tag is as it was offered (`Conservation`)

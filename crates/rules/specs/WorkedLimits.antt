@@ -64,11 +64,11 @@ wire-a = wire 2 4 0 (10 ∷ 20 ∷ [])
 
 -- n lines that count one unit each within the bound
 abbrev pub many : ℕ → State
-many n = idle 0 (wire 1 1 0 (100 ∷ [])) (replicate n (connection 1 100 1)) (replicate n no-past) [] []
+many n = idle 0 (wire 1 1 0 (300 ∷ [])) (replicate n (connection 1 300 1)) (replicate n no-past) [] []
 
--- a bound of 600 and lines of gap 3, 3 and 6: reservations of 200, 200 and 100
-abbrev pub reserved-500 : State
-reserved-500 = idle 0 (wire 1 1 0 (600 ∷ [])) (connection 1 3 1 ∷ connection 1 3 1 ∷ connection 1 6 1 ∷ []) (replicate 3 no-past) [] []
+-- a bound of 6,000 and lines of gap 3 and 150: reservations of 2,000 and 40
+abbrev pub reserved-2040 : State
+reserved-2040 = idle 0 (wire 1 1 0 (6_000 ∷ [])) (connection 1 3 1 ∷ connection 1 150 1 ∷ []) (replicate 2 no-past) [] []
 
 -- link A and a line of level 1, gap 5, size 3, at clock t: 2 * 3 + 4 = 10 at level 1, 4 * 3 + 4 = 16 at level 2, reservation 2. It holds none, one, two
 abbrev pub holds-none : ℕ → State
@@ -152,17 +152,17 @@ admission-limits =
     ∷ gives (bare (wire 1 1 0 (33 ∷ []))) (average-line 34 2) 6 255
     ∷ gives (bare wire-a) (gap-3 6 3) 0 0
     ∷ gives (bare wire-a) (gap-3 4 2) 6 255
-    -- 64 connections
-    ∷ gives (many 63) (line 1 100 1) 0 63
-    ∷ gives (many 64) (line 1 100 1) 7 255
+    -- 200 connections
+    ∷ gives (many 199) (line 1 300 1) 0 199
+    ∷ gives (many 200) (line 1 300 1) 7 255
     -- a sum at its bound, 4 + 4 of 8, and one above it, 4 + 4 of 7; with a silence of 2, 6 + 6 of 12 and of 11
     ∷ gives (bare (wire 1 4 0 (8 ∷ []))) (line 1 8 4) 0 0
     ∷ gives (bare (wire 1 4 0 (7 ∷ []))) (line 1 7 4) 8 255
     ∷ gives (bare (wire 1 4 2 (12 ∷ []))) (line 1 12 4) 0 0
     ∷ gives (bare (wire 1 4 2 (11 ∷ []))) (line 1 11 4) 8 255
-    -- reservations of 512 together: 500 and 600 / 50; 500 and 600 / 47, rounded up
-    ∷ gives reserved-500 (line 1 50 1) 0 3
-    ∷ gives reserved-500 (line 1 47 1) 9 255
+    -- reservations of 2,048 together: 2,040 and 6,000 / 750; 2,040 and 6,000 / 700, rounded up
+    ∷ gives reserved-2040 (line 1 750 1) 0 2
+    ∷ gives reserved-2040 (line 1 700 1) 9 255
     ∷ []
 
 -- offers, notices and ticks. A refused offer or notice gives 0 and not the clock
@@ -216,9 +216,9 @@ causes =
     ∷ gives (bare wire-a) (link no-link) 3 0
     -- 5 before 6, 6 before 7, 7 before 8, 8 before 9
     ∷ gives (bare wire-a) (line 0 0 4) 5 255
-    ∷ gives (many 64) (line 1 0 1) 6 255
-    ∷ gives (many 64) (line 1 1 1) 7 255
-    ∷ gives reserved-500 (line 1 1 1) 8 255
+    ∷ gives (many 200) (line 1 0 1) 6 255
+    ∷ gives (many 200) (line 1 1 1) 7 255
+    ∷ gives reserved-2040 (line 1 1 1) 8 255
     -- 10 before 11, 11 before 12, 12 before 13
     ∷ gives (holds-two 7) (offer 1 0 73) 10 0
     ∷ gives (holds-two 7) (offer 0 4 73) 11 0

@@ -15,7 +15,7 @@ use Rattle.state.specs.declared.Hub.{Hub}
 pub record In-place (h : Hub) (t q : List ℕ) : Type 0 where
   -- "held packets fill the first rows; the rows behind them are zero"
   pub table : t ≡ written-places (rows t)
-  -- "the places table has 2,560 numbers"
+  -- "the places table has 2,560 numbers" (10,240 since R-7)
   pub size : length t ≡ places-length
   -- the table of notices is formed
   pub notices : notices-formed q ≡ true

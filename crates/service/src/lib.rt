@@ -160,7 +160,7 @@ fn depart_notice(g: Hub, places: &[u32], notices: &mut [u32]) -> Told
     requires { ⌜ In-place g (now places) (now notices) × (g .«to_go» ≡ 1) × (g .serving ≡ notice-number) ⌝ }
     ensures { λ r. ⌜ ((m : List ℕ) → Gives (after-unit (view g (tables m (now (places .entry)) (now (notices .entry)))) 1) r (now (places .entry)) (now (notices .exit))) ⌝ }
 {
-    let waiting = tables::held(notices);
+    let waiting = tables::count(notices);
     let p = tables::row(notices, 0);
     tables::remove(notices, waiting, 0);
     let idle = with_line(g, 0, 0, g.link.silence);

@@ -68,7 +68,7 @@ fn quiet_for(h: Hub, places: &[u32], notices: &[u32]) -> u32
         return h.silent;
     }
     // a notice that waits starts at once
-    if tables::held(notices) != 0 {
+    if !tables::none(notices) {
         return 0;
     }
     // so does the first packet, where it is eligible

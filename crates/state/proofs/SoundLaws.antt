@@ -19,7 +19,7 @@ use Rattle.tables.specs.Places.{packet-width, places-length, rows, table-of}
 use Rattle.tables.specs.Notices.{notices-length, notices-formed}
 use Rattle.tables.proofs.TableLaws.{formed-length}
 use Rattle.tables.proofs.PlacesLaws.{table-back}
-use Rattle.tables.proofs.NoticeLaws.{notices-length-is, notices-table, notices-back}
+use Rattle.tables.proofs.NoticeLaws.{notices-length-is, as-a-table, notices-back}
 use Rattle.connections.specs.Members.{members-length, members-in, None-free, connections-in, members-formed}
 use Rattle.connections.specs.Within.{Within}
 use Rattle.connections.proofs.MemberLaws.{connections-length}
@@ -84,7 +84,7 @@ module _ (h : Hub) (t : Tables) (ok : sound-hub h t ≡ true) where
   notices-size = notices-length-is (t .notices) (shapes t formed-tables .notices-shape)
 
   pub notices-as-table : t .notices ≡ table-of (length (t .notices)) (rows (t .notices))
-  notices-as-table = notices-table (t .notices) (shapes t formed-tables .notices-shape) ∙ ap (λ (n : ℕ). table-of n (rows (t .notices))) (sym notices-size)
+  notices-as-table = as-a-table (t .notices) (shapes t formed-tables .notices-shape)
 
   -- ---- with a link set
 

@@ -67,6 +67,9 @@ module _ (q : List ℕ) (f : notices-formed q ≡ true) where
   unfolding rows table-of
   notices-table = formed-written packet-width packet-in numbers-of numbers-back notices-length q (parts .0)
 
+  pub as-a-table : q ≡ table-of (length q) (rows q)
+  as-a-table = notices-table ∙ ap (λ (n : ℕ). table-of n (rows q)) (sym notices-length-is)
+
   pub notices-back : q ≡ written-notices (notices-in q)
   notices-back = notices-table ∙ ap (table-of notices-length) (sym notice-rows)
 

@@ -1,6 +1,7 @@
 -- Laws of the places table: rows put in and taken out, the first row of a connection, the loops over rows, and its shape.
 use mathlib.Core.Path.{_≡_, refl, sym, ap, _∙_}
 use mathlib.Core.Bool.{Bool, true, false, cond}
+use mathlib.Core.Logic.{_⊎_, inl, inr}
 use mathlib.Core.List.{List, [], _∷_, _++_, append-assoc}
 use mathlib.Core.Option.{none, some}
 use Prim.Native.Nat.{ℕ, zero, suc, _+_, _*_, _-_, _≤_, _<_}
@@ -13,6 +14,7 @@ use lib.ListN.{length, getD, set, take, drop, replicate, length-drop, length-map
 use lib.Seq.{sets-eq, drop-cons, drop-length, getD-drop, paste-zero, paste-suc, take-paste, drop-paste, length-paste, drop-drop, take-at, drop-at}
 use Rattle.rules.specs.declared.Packet.{Packet}
 use Rattle.rules.specs.Service.{first, without}
+use Rattle.rules.proofs.Sums.{same}
 use Rattle.limits.specs.Zeros.{zeros}
 use Rattle.limits.proofs.ZeroLaws.{zeros-rep, zero-at, zeros-more}
 use Rattle.tables.specs.Table.{row-in, in-front, used, write, padded, formed}
@@ -209,14 +211,29 @@ used-below t i z = go (ltb i (length (rows t))) refl
     go true e = let l : i < length (rows t) = ltb-true _ _ e in absurd (omega (arith, rows-stop t i (omega arith) z))
     go false e = ltb-false _ _ e
 
-unused-behind : (t : List ℕ) → t ≡ written-places (rows t) → zeros (drop (5 * length (rows t)) t) ≡ true
-unfolding written-places
+-- whether there is a row at all: the first one tells
+pub no-rows : (t : List ℕ) → length t < 5 → true ≡ eqb (length (rows t)) 0
+no-rows t h = sym (eq-eqb (length (rows t)) 0 (omega (arith, rows-end t)))
+
+pub first-tells : (t : List ℕ) → 5 ≤ length t → eqb (getD t 1 0) 0 ≡ eqb (length (rows t)) 0
+first-tells t h = go (same (getD t 1 0) 0)
+  where
+    go : (getD t 1 0 ≡ 0) ⊎ (getD t 1 0 ≡ 0 → ⊥) → eqb (getD t 1 0) 0 ≡ eqb (length (rows t)) 0
+    go (inl e) = eq-eqb (getD t 1 0) 0 e ∙ sym (eq-eqb (length (rows t)) 0 (omega (arith, used-below t 0 e)))
+    go (inr n) = ne-eqb (getD t 1 0) 0 n ∙ sym (ne-eqb (length (rows t)) 0 (λ z. omega (arith, rows-more t 0 (omega arith) n (omega arith))))
+
+unused-behind : (t : List ℕ) → t ≡ table-of (length t) (rows t) → zeros (drop (5 * length (rows t)) t) ≡ true
+unfolding table-of
 unused-behind t e =
     ap (λ (l : List ℕ). zeros (drop (5 * length (rows t)) l)) e
-    ∙ ap zeros (drop-write packet-width numbers-of (λ p. refl) (rows t) (replicate (places-length - 5 * length (rows t)) 0))
-    ∙ zeros-rep (places-length - 5 * length (rows t))
+    ∙ ap zeros (drop-write packet-width numbers-of (λ p. refl) (rows t) (replicate (length t - 5 * length (rows t)) 0))
+    ∙ zeros-rep (length t - 5 * length (rows t))
 
-pub unused-above : (t : List ℕ) (i : ℕ) → t ≡ written-places (rows t) → (getD t (5 * i + 1) 0 ≡ 0 → ⊥) → i < length (rows t)
+-- the places table is one of these
+pub as-table : (t : List ℕ) → t ≡ written-places (rows t) → length t ≡ places-length → t ≡ table-of (length t) (rows t)
+as-table t e n = e ∙ sym (is-places t (rows t) n)
+
+pub unused-above : (t : List ℕ) (i : ℕ) → t ≡ table-of (length t) (rows t) → (getD t (5 * i + 1) 0 ≡ 0 → ⊥) → i < length (rows t)
 unused-above t i e n = go (ltb i (length (rows t))) refl
   where
     go : (b : Bool) → ltb i (length (rows t)) ≡ b → i < length (rows t)

@@ -2,12 +2,12 @@
 ghost use mathlib.Core.Path.{_≡_};
 ghost use mathlib.Core.List.{[], _∷_, _++_};
 ghost use Prim.Native.Nat.{ℕ, _+_, _*_, _-_, _<_, _≤_};
+ghost use lib.Dec.{eqb};
 ghost use lib.ListN.{length};
 ghost use lib.Seq.{sets};
 ghost use Rattle.rules.specs.SoundTest.{same-numbers};
-ghost use Rattle.tables.specs.Places.{row-at, put, shifted, rows, written-places, table-of, cut, place, no-packet, places-length};
+ghost use Rattle.tables.specs.Places.{row-at, put, shifted, rows, table-of, cut, place, no-packet};
 use limits::PACKET_WIDTH;
-use limits::PLACES;
 use rules::Packet;
 
 // An unused row.
@@ -107,13 +107,23 @@ pub fn held(table: &[u32]) -> usize
     i
 }
 
-// The number of rows of a places table with zeros behind them, by halving.
+// Whether there is no row.
+pub fn none(table: &[u32]) -> bool
+    ensures { λ r. ⌜ r ≡ eqb (length (rows (now (table .entry)))) 0 ⌝ }
+{
+    if table.len() < PACKET_WIDTH {
+        return true;
+    }
+    table[1] == 0
+}
+
+// The number of rows of a table with zeros behind them, by halving.
 pub fn count(table: &[u32]) -> usize
-    requires { ⌜ (now table ≡ written-places (rows (now table))) × (length (now table) ≡ places-length) ⌝ }
+    requires { ⌜ now table ≡ table-of (length (now table)) (rows (now table)) ⌝ }
     ensures { λ r. ⌜ r ≡ length (rows (now (table .entry))) ⌝ }
 {
     let mut low: usize = 0;
-    let mut high: usize = PLACES / PACKET_WIDTH;
+    let mut high: usize = table.len() / PACKET_WIDTH;
     while low < high {
         let mid = low + (high - low) / 2;
         if table[PACKET_WIDTH * mid + 1] == 0 {

@@ -72,17 +72,18 @@ fn offer_about_its_moment(script: &mut Script) {
     }
 }
 
-/// Figures at their limits and past them: before a link, with room, with all connections standing.
+/// Figures at their limits and past them: before a link, with room, with all connections standing,
+/// for which more than 20 ticks of silence would leave no room.
 pub fn figures(script: &mut Script, size: usize) {
     let newcomer = edge_figures(script, 1, 1);
     script.admit_with(newcomer);
     let levels = script.random.between16(1, 4);
-    let silence = script.some_silence();
-    let bounds: Vec<u16> = (1..=levels).map(|level| 6_000 * level).collect();
+    let silence = script.some_silence().min(20);
+    let bounds: Vec<u16> = (1..=levels).map(|level| 8_000 * level).collect();
     script.link(4, silence, &bounds);
-    for wanted in [0, 30, MOST_CONNECTIONS] {
+    for wanted in [0, 30, MOST_CONNECTIONS - 1, MOST_CONNECTIONS] {
         crowd_up_to(script, wanted);
-        for _ in 0..size / 3 {
+        for _ in 0..size / 4 {
             let level = script.random.between16(0, levels + 1) as u8;
             let size = script.random.pick([1, 1, 1, 1, 1, 1, 4, 0, 5]);
             let newcomer = edge_figures(script, level, size);
@@ -96,8 +97,8 @@ pub fn figures(script: &mut Script, size: usize) {
     script.drain();
 }
 
-/// Windows of one packet each, so many that they need one place more than is left, then as many as
-/// are left.
+/// Windows of one packet each, so many that they need a place more than is left; as the last
+/// connection of all so few that what is left is enough.
 fn about_the_reservations(script: &mut Script) {
     let link = match script.link_set() {
         Some(link) => link,
@@ -107,8 +108,11 @@ fn about_the_reservations(script: &mut Script) {
     let reserved: u64 = connections.iter().map(|one| one.reservation(&link)).sum();
     let left = MOST_RESERVED.saturating_sub(reserved) as u16;
     let bound = link.bound(link.levels());
-    for places in [left + 1, left.max(1)] {
-        let window = bound / places;
+    let mut windows = vec![bound / (left + 1)];
+    if connections.len() + 1 == MOST_CONNECTIONS {
+        windows.push(bound / left.max(1) + 1);
+    }
+    for window in windows {
         script.admit_with(Figures::plain(link.levels(), 1, 1).with_average(window, window));
     }
 }

@@ -11,20 +11,21 @@ use crate::link::{
 use crate::record::Record;
 use crate::replay::SIZE_LIMIT;
 
-/// Every verdict from 2 to 12, several of them with more than one cause.
+/// Every verdict from 2 to 12, several of them with more than one cause. The bounds leave room for
+/// all connections and, with up to 11 ticks of silence, for more packets than all places.
 pub fn refusals(script: &mut Script, size: usize) {
     before_the_link(script);
     let largest = script.random.between16(2, 16);
     let levels = script.random.between16(1, 8);
     let silence = script.some_silence();
-    let room = (1 + u16::from(silence)).min(3);
-    let bound_of = |level| room * (2_000 + 1_000 * level);
+    let room = (1 + u16::from(silence)).clamp(2, 12);
+    let bound_of = |level| room * (2_100 + 75 * level);
     let bounds: Vec<u16> = (1..=levels).map(bound_of).collect();
     script.link(largest, silence, &bounds);
     for _ in 0..size / 3 {
         one_refusal(script);
     }
-    let crowd = script.random.between(4, 60) as usize;
+    let crowd = script.random.place(MOST_CONNECTIONS - 8) + 4;
     crowd_up_to(script, crowd);
     for _ in 0..size / 3 {
         one_refusal(script);
@@ -33,6 +34,7 @@ pub fn refusals(script: &mut Script, size: usize) {
     for _ in 0..size / 3 {
         one_refusal(script);
     }
+    script.tick(300);
 }
 
 /// Calls with no link set, and links that break a limit.
@@ -83,7 +85,7 @@ fn first_bound_too_low(script: &mut Script) -> u8 {
     script.link(largest, silence as u8, &[bound, 2_000])
 }
 
-/// Small reservations, so that all 64 connections can stand.
+/// Small reservations, so that all connections can stand.
 pub fn crowd_up_to(script: &mut Script, wanted: usize) {
     let link = match script.link_set() {
         Some(link) => link,
@@ -127,7 +129,7 @@ pub fn bad_admission(script: &mut Script) {
         _ => return,
     };
     let (levels, largest) = (link.levels(), link.largest());
-    match script.random.between(0, 10) {
+    match script.random.between(0, 11) {
         0 => script.admit(0, 100, 1),
         1 => script.admit(levels + 1, 100, 1),
         2 => script.admit(255, 0, 0),
@@ -170,7 +172,8 @@ fn admit_past_the_reservations(script: &mut Script, link: &Link) -> u8 {
     let reserved: u64 = connections.iter().map(|one| one.reservation(link)).sum();
     let left = MOST_RESERVED.saturating_sub(reserved) as u16;
     let bound = link.bound(link.levels());
-    script.admit(link.levels(), (bound - 1) / (left + 1), 1)
+    let gap = (bound - 1) / (left + 1);
+    script.admit(link.levels(), gap.max(1), 1)
 }
 
 fn bad_offer(script: &mut Script) {

@@ -1,6 +1,7 @@
 //! Kinds of traces made from a seed. The same kind, seed and size give the same bytes.
 
 mod averages;
+mod beds;
 mod damage;
 mod edges;
 mod notices;
@@ -27,7 +28,7 @@ pub struct Kind {
 }
 
 #[rustfmt::skip] // One line for each kind.
-pub const KINDS: [Kind; 31] = [
+pub const KINDS: [Kind; 32] = [
     Kind { name: "quiet", size: 60, maker: Maker::Scripted(traffic::quiet) },
     Kind { name: "flooded", size: 60, maker: Maker::Scripted(traffic::flooded) },
     Kind { name: "wild", size: 60, maker: Maker::Scripted(traffic::wild) },
@@ -59,6 +60,7 @@ pub const KINDS: [Kind; 31] = [
     Kind { name: "averagefigures", size: 90, maker: Maker::Scripted(averages::figures) },
     Kind { name: "averagememory", size: 20, maker: Maker::Scripted(averages::memory) },
     Kind { name: "averageend", size: 40, maker: Maker::Scripted(averages::end) },
+    Kind { name: "beds", size: 12, maker: Maker::Scripted(beds::beds) },
 ];
 
 impl Kind {

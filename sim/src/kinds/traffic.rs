@@ -271,21 +271,24 @@ pub fn ties(script: &mut Script, size: usize) {
     script.drain();
 }
 
-/// Reservations of together 512, all of them used: the places are full. More than 13 ticks of
-/// silence for each of them would not fit into the highest bound.
+/// Where all places are used: more silence than this behind each packet would not fit into the
+/// highest bound.
+pub const MOST_SILENT: u8 = 13;
+
+/// Reservations of together 2,048, all of them used: the places are full.
 pub fn reserve(script: &mut Script, size: usize) {
     let levels = script.random.between16(1, 4);
-    let silence = script.some_silence().min(13);
+    let silence = script.some_silence().min(MOST_SILENT);
     let least = 1 + u16::from(silence);
-    let bound_of = |level| least * (2_000 + 50 * level);
+    let bound_of = |level| least * (2_100 + 50 * level);
     let bounds: Vec<u16> = (1..=levels).map(bound_of).collect();
     script.link(2, silence, &bounds);
-    for _ in 0..40 {
+    for _ in 0..script.random.pick([40, 120, 160]) {
         let level = script.random.between16(1, levels) as u8;
         let gap = least * script.random.between16(20, 400);
         script.admit(level, gap, 1);
     }
-    fill_reservations(script, levels as u8, bound_of(1));
+    fill_reservations(script);
     for _ in 0..size {
         fill_places(script);
         let ticks = script.random.pick([1, 7, 30, 300]);
@@ -294,19 +297,23 @@ pub fn reserve(script: &mut Script, size: usize) {
     script.drain();
 }
 
-/// Tries ever smaller reservations until none is left.
-fn fill_reservations(script: &mut Script, levels: u8, bound: u16) {
-    let mut packets = 256;
+/// Tries ever smaller reservations until no place is left.
+fn fill_reservations(script: &mut Script) {
+    let link = match script.link_set() {
+        Some(link) => link,
+        _ => return,
+    };
+    let mut packets = 1_024;
     while packets > 0 {
-        let level = script.random.between16(1, u16::from(levels)) as u8;
-        if script.admit(level, bound / packets + 1, 1) != 0 {
+        let level = script.random.between16(1, u16::from(link.levels())) as u8;
+        if script.admit(level, link.bound(level) / packets + 1, 1) != 0 {
             packets /= 2;
         }
     }
 }
 
 /// Offers on every connection until its reservation is full.
-fn fill_places(script: &mut Script) {
+pub fn fill_places(script: &mut Script) {
     let link = match script.link_set() {
         Some(link) => link,
         _ => return,

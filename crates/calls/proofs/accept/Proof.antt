@@ -5,7 +5,7 @@ use Rattle.connections.proofs.MemberLaws as M
 use native.Mathlib.Omega.{arith}
 use mathlib.Core.Path.{sym, _∙_}
 use Rattle.tables.specs.Places.{rows}
-use Rattle.tables.proofs.PlacesLaws.{is-places}
+use Rattle.tables.proofs.PlacesLaws.{is-places, as-table}
 use borrow.Author.Needs.{needs}
 use Rattle.calls.proofs.accept.Statement.{statement}
 use Rattle.calls.proofs.accept.Tie as tie
@@ -31,7 +31,8 @@ cast-e c =
 count-requires : tie.Need-count-requires
 count-requires c κs =
     let s = c .before .before .before .before .before .before .before in
-    (S.places-kept (s .args .h) (tables (s .args .members .now) (s .args .places .now) (s .args .notices .now)) (s .pre .0), S.places-size (s .args .h) (tables (s .args .members .now) (s .args .places .now) (s .args .notices .now)) (s .pre .0))
+    let t = tables (s .args .members .now) (s .args .places .now) (s .args .notices .now) in
+    as-table (s .args .places .now) (S.places-kept (s .args .h) t (s .pre .0)) (S.places-size (s .args .h) t (s .pre .0))
 
 append-requires : tie.Need-append-requires
 append-requires c κs =

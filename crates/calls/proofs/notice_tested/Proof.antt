@@ -13,11 +13,11 @@ use Rattle.calls.proofs.notice_tested.Lts as lts
 use Rattle.calls.proofs.verdicts.notice_verdict.Reads as notice-verdict-reads
 use Rattle.state.proofs.say.Reads as say-reads
 use Rattle.tables.proofs.append.Reads as append-reads
-use Rattle.tables.proofs.held.Reads as held-reads
+use Rattle.tables.proofs.count.Reads as count-reads
 
 -- src/lib.rt:116:9
-held-requires : tie.Need-held-requires
-held-requires c κs = search needs
+count-requires : tie.Need-count-requires
+count-requires c κs = let z = c .before .before .before .before in S.notices-as-table (z .args .h) (tables (z .args .members .now) (z .args .places .now) (z .args .notices .now)) (z .pre)
 
 -- src/lib.rt:117:9
 notice-verdict-requires : tie.Need-notice-verdict-requires
@@ -44,7 +44,7 @@ append-requires c κs =
     let z = c .before .before .before .before .before .before .before .before .before in
     let t = tables (z .args .members .now) (z .args .places .now) (z .args .notices .now) in
     let good = W.zero-then _ _ (c .before .before .notice-verdict .ensures (z .args .tag)) (omega (arith, c .before .if1 .left)) in
-    (S.notices-as-table (z .args .h) t (z .pre), c .before .before .before .before .held .ensures, omega (arith, c .before .before .before .before .held .ensures, A.notice-room (z .args .h) t (z .pre) (z .args .len) (z .args .tag) good))
+    (S.notices-as-table (z .args .h) t (z .pre), c .before .before .before .before .count .ensures, omega (arith, c .before .before .before .before .count .ensures, A.notice-room (z .args .h) t (z .pre) (z .args .len) (z .args .tag) good))
 
 -- src/lib.rt:132:5
 say-requires-2 : tie.Need-say-requires-2
@@ -66,7 +66,7 @@ pub notice-tested-spec : {M : Type 1} → statement M
 notice-tested-spec =
     tie.close
     (tie.spec
-    held-requires
+    count-requires
     notice-verdict-requires
     say-requires
     same-length

@@ -1,45 +1,47 @@
 use Rattle.connections.proofs.MemberLaws as M
 use native.Mathlib.Omega.{arith}
-use Prim.Native.Nat.{_≤_, _-_}
+use Prim.Native.Nat.{_+_, _*_, _-_, _/_, _≤_}
 use lib.ListN.{length}
-use Rattle.connections.specs.Members.{members-in}
+use Rattle.connections.specs.Members.{member-width, members-in}
 use borrow.Author.Needs.{needs}
 use Rattle.connections.proofs.standing.Statement.{statement}
 use Rattle.connections.proofs.standing.Tie as tie
 
 abbrev Inv-loop : tie.InvT-loop
-Inv-loop members n i₀ i = (i ≤ length (members-in members)) × (i ≤ n)
+Inv-loop members low₀ high₀ low high = (low ≤ length (members-in members)) × (length (members-in members) ≤ high) × (member-width * high ≤ length members)
 
 abbrev μ-loop : tie.MeasureT-loop
-μ-loop members n i₀ i = n - i
+μ-loop members low₀ high₀ low high = high - low
 
 loop-holds : tie.Need-loop-holds Inv-loop μ-loop
-loop-holds c = search needs
+loop-holds c = (omega arith, omega (arith, M.members-end (c .before .args .members .now)), omega arith)
+
+sub-mid : tie.Need-sub-mid Inv-loop μ-loop
+sub-mid c = search needs
+
+add-mid : tie.Need-add-mid Inv-loop μ-loop
+add-mid c = search needs
 
 number-requires : tie.Need-number-requires Inv-loop μ-loop
 number-requires c κs = search needs
-
-returns : tie.Need-returns Inv-loop μ-loop
-returns c =
-    let s = c .before .before .before .before .before in
-    let l = c .before .before .before .loop in
-    M.size-stops (s .args .members .now) (l .i) (l .inv .0) (s .pre) (rw (c .before .number .ensures) at (c .if1 .taken))
-
-add-i : tie.Need-add-i Inv-loop μ-loop
-add-i c = search needs
 
 loop-less : tie.Need-loop-less Inv-loop μ-loop
 loop-less c = search needs
 
 loop-again : tie.Need-loop-again Inv-loop μ-loop
-loop-again c =
-    let t = c .before .before .before .before .before .args .members .now in
-    let l = c .before .before .before .loop in
-    let k = M.size-goes t (l .i) (l .inv .0) (search needs) (rw (c .before .number .ensures) at (c .if1 .left)) in
-    (omega arith, search needs)
+loop-again c = let s = c .before .before .before .before .before in let l = c .before .before .before .loop in (l .inv .0, M.size-stops (s .args .members .now) (l .low + (l .high - l .low) / 2) (s .pre) (rw (c .before .number .ensures) at (c .if1 .taken)), omega (arith, l .inv .2))
 
-returns-2 : tie.Need-returns-2 Inv-loop μ-loop
-returns-2 c = omega (arith, M.members-end (c .before .before .before .args .members .now))
+add-low : tie.Need-add-low Inv-loop μ-loop
+add-low c = search needs
+
+loop-less-2 : tie.Need-loop-less-2 Inv-loop μ-loop
+loop-less-2 c = search needs
+
+loop-again-2 : tie.Need-loop-again-2 Inv-loop μ-loop
+loop-again-2 c = let s = c .before .before .before .before .before in let l = c .before .before .before .loop in let k = M.size-goes (s .args .members .now) (l .low + (l .high - l .low) / 2) (omega (arith, l .inv .2)) (rw (c .before .number .ensures) at (c .if1 .left)) in (omega arith, l .inv .1, l .inv .2)
+
+returns : tie.Need-returns Inv-loop μ-loop
+returns c = let l = c .before .loop in omega (arith, l .inv .0, l .inv .1)
 
 pub standing-spec : {M : Type 1} → statement M
 standing-spec =
@@ -48,9 +50,12 @@ standing-spec =
     Inv-loop
     μ-loop
     loop-holds
+    sub-mid
+    add-mid
     number-requires
-    returns
-    add-i
     loop-less
     loop-again
-    returns-2)
+    add-low
+    loop-less-2
+    loop-again-2
+    returns)

@@ -1,3 +1,4 @@
+use Rattle.tables.proofs.PlacesLaws as P
 -- `service::choose` meets its contract. The loop's invariant: the best of the rows before i, against the choice of the rows from i on, is the
 -- choice of all rows. The measure is the rows that are left.
 use Prim.Native.Nat.{_≤_, _-_}
@@ -22,7 +23,7 @@ abbrev μ-loop : tie.MeasureT-loop
 μ-loop cs t clock n lead₀ i₀ lead i = n - i
 
 count-requires : tie.Need-count-requires Inv-loop μ-loop
-count-requires c κs = search needs
+count-requires c κs = let s = c .before .before in P.as-table (s .args .places .now) (s .pre .0) (s .pre .1)
 
 loop-holds : tie.Need-loop-holds Inv-loop μ-loop
 loop-holds c =

@@ -1,3 +1,4 @@
+use Rattle.tables.proofs.PlacesLaws as P
 -- `service::depart` meets its contract: the row found is the first of the connection in service, and is the one removed.
 use native.Mathlib.Omega.{arith}
 use mathlib.Core.Path.{_≡_, sym, _∙_}
@@ -11,7 +12,7 @@ use Rattle.service.proofs.depart.Statement.{statement}
 use Rattle.service.proofs.depart.Tie as tie
 
 count-requires : tie.Need-count-requires
-count-requires c κs = search needs
+count-requires c κs = let s = c .before .before .before in P.as-table (s .args .places .now) (s .pre .0 .table) (s .pre .0 .size)
 
 find-requires : tie.Need-find-requires
 find-requires c κs = search needs

@@ -6,14 +6,14 @@ use Prim.Native.Nat.{ℕ}
 use lib.ListN.{length}
 use Rattle.tables.specs.Places.{rows, table-of}
 use Rattle.tables.proofs.PlacesLaws.{rows-end}
-use Rattle.tables.proofs.NoticeLaws.{notices-length-is, notices-table}
+use Rattle.tables.proofs.NoticeLaws.{notices-length-is, as-a-table}
 use Rattle.service.proofs.TickLaws as L
 use borrow.Author.Needs.{needs}
 use Rattle.service.proofs.depart_notice.Statement.{statement}
 use Rattle.service.proofs.depart_notice.Tie as tie
 
-held-requires : tie.Need-held-requires
-held-requires c κs = search needs
+count-requires : tie.Need-count-requires
+count-requires c κs = let s = c .before .before .before in as-a-table (s .args .notices .now) (s .pre .0 .notices)
 
 row-requires : tie.Need-row-requires
 row-requires c κs = let s = c .before .before .before .before .before in omega (arith, notices-length-is (s .args .notices .now) (s .pre .0 .notices))
@@ -25,7 +25,7 @@ remove-requires c κs =
     let f = s .pre .0 .notices in
     let l = s .pre .0 .notice-line (λ e. omega arith) (s .pre .2) in
     let k = rows-end q in
-    let t : q ≡ table-of (length q) (rows q) = notices-table q f ∙ ap (λ (n : ℕ). table-of n (rows q)) (sym (notices-length-is q f)) in
+    let t : q ≡ table-of (length q) (rows q) = as-a-table q f in
     search needs
 
 with-line-requires : tie.Need-with-line-requires
@@ -50,4 +50,4 @@ returns c m =
 
 pub depart-notice-spec : {M : Type 1} → statement M
 depart-notice-spec =
-    tie.close (tie.spec held-requires row-requires remove-requires with-line-requires pass-requires same-length returns)
+    tie.close (tie.spec count-requires row-requires remove-requires with-line-requires pass-requires same-length returns)

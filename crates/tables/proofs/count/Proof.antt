@@ -1,5 +1,5 @@
 use lib.ListN.{length}
-use Prim.Native.Nat.{_+_, _-_, _/_, _≤_}
+use Prim.Native.Nat.{_+_, _*_, _-_, _/_, _≤_}
 use native.Mathlib.Omega.{arith}
 use Rattle.tables.specs.Places.{rows}
 use Rattle.tables.proofs.PlacesLaws.{rows-end, used-below, unused-above}
@@ -8,13 +8,13 @@ use Rattle.tables.proofs.count.Statement.{statement}
 use Rattle.tables.proofs.count.Tie as tie
 
 abbrev Inv-loop : tie.InvT-loop
-Inv-loop t low₀ high₀ low high = (low ≤ length (rows t)) × (length (rows t) ≤ high) × (high ≤ 512)
+Inv-loop t low₀ high₀ low high = (low ≤ length (rows t)) × (length (rows t) ≤ high) × (5 * high ≤ length t)
 
 abbrev μ-loop : tie.MeasureT-loop
 μ-loop t low₀ high₀ low high = high - low
 
 loop-holds : tie.Need-loop-holds Inv-loop μ-loop
-loop-holds c = (omega arith, omega (arith, rows-end (c .args .table .now), c .pre .1), omega arith)
+loop-holds c = (omega arith, omega (arith, rows-end (c .args .table .now)), omega arith)
 
 sub-mid : tie.Need-sub-mid Inv-loop μ-loop
 sub-mid c = search needs
@@ -47,7 +47,7 @@ loop-less-2 : tie.Need-loop-less-2 Inv-loop μ-loop
 loop-less-2 c = search needs
 
 loop-again-2 : tie.Need-loop-again-2 Inv-loop μ-loop
-loop-again-2 c = let l = c .before .before .before .loop in let k = unused-above (c .before .before .before .before .args .table .now) (l .low + (l .high - l .low) / 2) (c .before .before .before .before .pre .0) (c .if1 .left) in (omega arith, l .inv .1, l .inv .2)
+loop-again-2 c = let l = c .before .before .before .loop in let k = unused-above (c .before .before .before .before .args .table .now) (l .low + (l .high - l .low) / 2) (c .before .before .before .before .pre) (c .if1 .left) in (omega arith, l .inv .1, l .inv .2)
 
 returns : tie.Need-returns Inv-loop μ-loop
 returns c = let l = c .before .loop in omega (arith, l .inv .0, l .inv .1)

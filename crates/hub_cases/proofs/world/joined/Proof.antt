@@ -7,7 +7,7 @@ abbrev Inv-loop : tie.InvT-loop
 Inv-loop from behind x₀ i₀ x i = from ≤ i
 
 abbrev μ-loop : tie.MeasureT-loop
-μ-loop from behind x₀ i₀ x i = 5222 - i
+μ-loop from behind x₀ i₀ x i = 1000000 - i
 
 loop-holds : tie.Need-loop-holds Inv-loop μ-loop
 loop-holds c = search needs

@@ -1,3 +1,4 @@
+use Rattle.tables.proofs.PlacesLaws as P
 use Prim.Native.Nat.{_≤_, _-_}
 use native.Mathlib.Omega.{arith}
 use Rattle.rules.specs.Limits.{clock-end}
@@ -14,7 +15,7 @@ abbrev μ-loop : tie.MeasureT-loop
 μ-loop t clock n first₀ i₀ first i = n - i
 
 count-requires : tie.Need-count-requires Inv-loop μ-loop
-count-requires c κs = search needs
+count-requires c κs = let s = c .before in P.as-table (s .args .places .now) (s .pre .0) (s .pre .1)
 
 loop-holds : tie.Need-loop-holds Inv-loop μ-loop
 loop-holds c = (omega arith, omega arith, seen-none (c .before .before .args .places .now))
