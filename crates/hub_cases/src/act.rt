@@ -24,11 +24,13 @@ use crate::world::notice;
 use crate::world::past;
 use crate::world::place;
 use crate::world::put;
+use crate::world::put_all;
 use rules::Packet;
 use state::Told;
 use std::num::wrapping_add_u32;
 use std::num::wrapping_add_usize;
 use std::num::wrapping_sub_u32;
+use std::num::wrapping_sub_usize;
 
 // Which form it is: 0 to 14 calls; 15 more; 16 to 19 looks; 20 to 25 acts; 26 to 51 numbers changed by hand; then end, group, recipe, and nothing at all.
 pub fn number_of(f: Form) -> u32 {
@@ -43,8 +45,8 @@ pub fn number_of(f: Form) -> u32 {
 }
 
 // The fresh hub, tables of zeros, lent in their lengths.
-pub fn fresh() -> World {
-    let zeros = World { n: [0; NOWHERE] };
+pub fn fresh(w: &mut World) {
+    let zeros: World = [0; NOWHERE];
     let none = Packet {
         connection: 0,
         len: 0,
@@ -60,9 +62,11 @@ pub fn fresh() -> World {
         packet: none,
         hub: hub::fresh_hub(),
     };
-    let x = put(world::told(zeros, told), LENT, hub::CONNECTIONS as u32);
-    let y = put(x, LENT + 1, hub::PLACES as u32);
-    put(y, LENT_NOTICES, hub::NOTICES as u32)
+    put_all(w, 0, &zeros);
+    world::told(w, told);
+    put(w, LENT, hub::CONNECTIONS as u32);
+    put(w, LENT + 1, hub::PLACES as u32);
+    put(w, LENT_NOTICES, hub::NOTICES as u32);
 }
 
 // Where the number stands that a form changes by hand, in the row n where there are rows; m the second number of the form.
@@ -80,31 +84,43 @@ pub fn changed(k: u32, n: u32, m: u32) -> usize {
     }
 }
 
+// So many numbers from a place on become v.
+fn fill(w: &mut World, from: usize, n: usize, v: u32) {
+    put(w, from, v);
+    // a number that goes to the next place, and on from there, fills them all
+    copy(
+        w,
+        wrapping_add_usize(from, 1),
+        from,
+        wrapping_sub_usize(n, 1),
+    );
+}
+
 // The world after an act.
-pub fn acted(w: World, k: u32) -> World {
+pub fn acted(w: &mut World, k: u32) {
     let v = get(w, VALUE);
     match k {
         22 => copy(w, LENT, READ, 2),
-        // a number that goes to the next place, and on from there, fills them all
-        23 => copy(put(w, 0, v), 1, 0, hub::CONNECTIONS - 1),
-        25 => copy(put(w, NOTICES, v), NOTICES + 1, NOTICES, hub::NOTICES - 1),
-        _ => copy(put(w, PLACES, v), PLACES + 1, PLACES, hub::PLACES - 1),
+        23 => fill(w, 0, hub::CONNECTIONS, v),
+        25 => fill(w, NOTICES, hub::NOTICES, v),
+        _ => fill(w, PLACES, hub::PLACES, v),
     }
 }
 
 // The numbers of the last call are those that were read.
-pub fn asked(w: World) -> World {
-    copy(w, ASKED, READ, 15)
+pub fn asked(w: &mut World) {
+    copy(w, ASKED, READ, 15);
 }
 
 // Those of an admission with an average: window and average gap, which stand before the answer in the script, go to their places.
-pub fn asked_average(w: World) -> World {
-    let x = copy(asked(w), ASKED + 3, READ + 5, 5);
-    copy(x, AVERAGE, READ + 3, 2)
+pub fn asked_average(w: &mut World) {
+    asked(w);
+    copy(w, ASKED + 3, READ + 5, 5);
+    copy(w, AVERAGE, READ + 3, 2);
 }
 
 // How often a call is made: many ticks are one call.
-fn times(w: World) -> u32 {
+fn times(w: &World) -> u32 {
     match get(w, CALL) {
         5 | 11 => get(w, ASKED),
         _ => 1,
@@ -112,27 +128,23 @@ fn times(w: World) -> u32 {
 }
 
 // The world after the call.
-pub fn called(w: World) -> World {
+pub fn called(w: &mut World) {
     let times = times(w);
-    let mut x = w;
     let mut i: u32 = 0;
     while i < times {
-        let n = x.n;
-        x = world::call(x, n, n, n);
+        world::call(w);
         i += 1;
     }
-    x
 }
 
 // The numbers that were read, but for the first, are added to those of the last call.
-pub fn more(w: World) -> World {
-    let mut x = w;
+pub fn more(w: &mut World) {
     let mut i: usize = 0;
     while i < 5 {
         let at = wrapping_add_usize(ASKED, i);
-        let by = get(x, wrapping_add_usize(READ + 1, i));
-        x = put(x, at, wrapping_add_u32(get(x, at), by));
+        let by = get(w, wrapping_add_usize(READ + 1, i));
+        let v = wrapping_add_u32(get(w, at), by);
+        put(w, at, v);
         i += 1;
     }
-    x
 }

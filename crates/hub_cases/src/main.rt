@@ -12,10 +12,9 @@ use world::NOWHERE;
 use world::World;
 
 fn follow(text: &[u8]) {
-    let none = World { n: [0; NOWHERE] };
+    let mut now: World = [0; NOWHERE];
+    let mut kept: World = [0; NOWHERE];
     let mut s = State {
-        now: none,
-        kept: none,
         here: 0,
         next: 0,
         back: 0,
@@ -31,7 +30,7 @@ fn follow(text: &[u8]) {
             run::say(s.agreed, s.cases, s.before);
             return;
         }
-        s = run::step(text, s);
+        s = run::step(text, s, &mut now, &mut kept);
         left -= 1;
     }
 }

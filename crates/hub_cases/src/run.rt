@@ -1,4 +1,4 @@
-// The way through the script, and the cases so far.
+// The way through the script, and the cases so far. `now` is the world, `kept` what it was after the last case: changes by hand are taken back to it.
 use crate::act;
 use crate::expect;
 use crate::text;
@@ -20,9 +20,6 @@ use std::num::wrapping_add_usize;
 use std::num::wrapping_sub_usize;
 
 pub struct State {
-    // the world, and what it was after the last case: changes by hand are taken back to it
-    pub now: World,
-    pub kept: World,
     // where the instruction begins, and the next one
     pub here: usize,
     pub next: usize,
@@ -62,15 +59,14 @@ fn complain(text: &[u8], at: usize) {
 }
 
 // A case more. All cases of a recipe are one.
-fn counted(s: State, w: World, agreed: bool) -> State {
+fn counted(s: State, now: &World, kept: &mut World, agreed: bool) -> State {
     let ok = agreed as u64;
     let mut x = s;
-    x.now = w;
     if s.back != 0 {
         x.all = s.all & ok;
         return x;
     }
-    x.kept = w;
+    put_all(kept, 0, now);
     x.before = wrapping_add_u64(s.before, ok & (s.before == s.cases) as u64);
     x.agreed = wrapping_add_u64(s.agreed, ok);
     x.cases = wrapping_add_u64(s.cases, 1);
@@ -78,16 +74,15 @@ fn counted(s: State, w: World, agreed: bool) -> State {
 }
 
 // The end of a recipe: the script goes on where it was called.
-fn ended(text: &[u8], s: State) -> State {
+fn ended(text: &[u8], s: State, now: &World, kept: &mut World) -> State {
     if s.back == 0 {
         complain(text, s.here);
         return s;
     }
     let mut x = s;
-    let w = s.now;
     x.next = s.back;
     x.back = 0;
-    counted(x, w, s.all != 0)
+    counted(x, now, kept, s.all != 0)
 }
 
 // The name of a group.
@@ -132,70 +127,90 @@ fn called(text: &[u8], f: Form, s: State) -> State {
 }
 
 // The call whose numbers the world has.
-fn case(s: State, w: World) -> State {
-    let after = act::called(w);
-    counted(s, after, same(expect::expect(w), after))
+fn case(s: State, now: &mut World, kept: &mut World) -> State {
+    let mut expected: World = [0; NOWHERE];
+    put_all(&mut expected, 0, now);
+    expect::expect(&mut expected);
+    act::called(now);
+    let agreed = same(&expected, now);
+    counted(s, now, kept, agreed)
 }
 
 // The last call again and again, with other numbers.
-fn repeated(s: State) -> State {
+fn repeated(s: State, now: &mut World, kept: &mut World) -> State {
     let mut x = s;
-    let w = s.now;
-    let n = get(w, READ);
+    let n = get(now, READ);
     let mut i: u32 = 0;
     while i < n {
-        let v = x.now;
-        x = case(x, act::more(v));
+        act::more(now);
+        x = case(x, now, kept);
         i += 1;
     }
     x
 }
 
+// A call, by the number of its form. With an average, and with or without what is short, it is an admission as any other.
+fn made(s: State, now: &mut World, kept: &mut World, k: u32) -> State {
+    match k {
+        13 | 14 => {
+            act::asked_average(now);
+            put(now, CALL, 1);
+        }
+        _ => {
+            act::asked(now);
+            put(now, CALL, k);
+        }
+    }
+    case(s, now, kept)
+}
+
+// A look at a number of the world.
+fn looked(s: State, now: &World, kept: &mut World, k: u32) -> State {
+    let v = match k {
+        16 => get(now, CLOCK),
+        17 => expect::rows(now),
+        18 => expect::notices(now),
+        _ => get(now, SILENT),
+    };
+    counted(s, now, kept, v == get(now, READ))
+}
+
 // A number is changed by hand, if there is such a place.
-fn changed(text: &[u8], s: State, k: u32) -> State {
-    let w = s.now;
-    let at = act::changed(k, get(w, READ), get(w, READ + 1));
+fn changed(text: &[u8], s: State, now: &mut World, k: u32) {
+    let at = act::changed(k, get(now, READ), get(now, READ + 1));
     if NOWHERE <= at {
         complain(text, s.here);
-        return s;
+        return;
     }
-    let y = put(w, at, get(w, VALUE));
-    let mut x = s;
-    x.now = y;
-    x
+    let v = get(now, VALUE);
+    put(now, at, v);
 }
 
 // What the form with a number says.
-fn obey(text: &[u8], f: Form, s: State, k: u32) -> State {
-    let w = s.now;
+fn obey(text: &[u8], f: Form, s: State, now: &mut World, kept: &mut World, k: u32) -> State {
     let mut x = s;
     match k {
-        0..=12 => case(s, put(act::asked(w), CALL, k)),
-        // with an average, and with or without what is short, it is an admission as any other
-        13 | 14 => case(s, put(act::asked_average(w), CALL, 1)),
-        15 => repeated(s),
-        16 => counted(s, w, get(w, CLOCK) == get(w, READ)),
-        17 => counted(s, w, expect::rows(w) == get(w, READ)),
-        18 => counted(s, w, expect::notices(w) == get(w, READ)),
-        19 => counted(s, w, get(w, SILENT) == get(w, READ)),
+        0..=14 => made(s, now, kept, k),
+        15 => repeated(s, now, kept),
+        16..=19 => looked(s, now, kept, k),
         20 => {
-            let y = act::fresh();
-            x.now = y;
-            x.kept = y;
-            x
+            act::fresh(now);
+            put_all(kept, 0, now);
+            s
         }
         21 => {
-            let y = s.kept;
-            x.now = y;
-            x
+            put_all(now, 0, kept);
+            s
         }
         22..=25 => {
-            let y = act::acted(w, k);
-            x.now = y;
-            x
+            act::acted(now, k);
+            s
         }
-        26..=51 => changed(text, s, k),
-        52 => ended(text, s),
+        26..=51 => {
+            changed(text, s, now, k);
+            s
+        }
+        52 => ended(text, s, now, kept),
         53 => opened(text, s),
         // the script ends where the recipes begin
         54 => {
@@ -208,14 +223,13 @@ fn obey(text: &[u8], f: Form, s: State, k: u32) -> State {
 }
 
 // One instruction, or the heading of a group or a recipe.
-pub fn step(text: &[u8], s: State) -> State {
+pub fn step(text: &[u8], s: State, now: &mut World, kept: &mut World) -> State {
     let f = text::read(text, s.next);
     let a = f.a;
-    let w = s.now;
-    let y = put(put_all(w, READ, &a), VALUE, f.value);
+    put_all(now, READ, &a);
+    put(now, VALUE, f.value);
     let mut x = s;
-    x.now = y;
     x.here = s.next;
     x.next = f.next;
-    obey(text, f, x, act::number_of(f))
+    obey(text, f, x, now, kept, act::number_of(f))
 }

@@ -10,9 +10,7 @@ use state::Hub;
 use state::Told;
 use std::num::wrapping_add_usize;
 
-pub struct World {
-    pub n: [u32; NOWHERE],
-}
+pub type World = [u32; NOWHERE];
 
 // Each table has room for 16 rows more than its length: it is lent too long as well.
 const MORE: usize = 16;
@@ -66,7 +64,7 @@ pub const SHORT: usize = CALL + 1;
 
 pub const PLACES: usize = SHORT + 3;
 
-// No place: what is put there makes the world differ from every other.
+// No place: what is put there is lost, and what is read there is 0.
 pub const NOWHERE: usize = PLACES + hub::PLACES + MORE * PACKET_WIDTH;
 
 // How many rows have room.
@@ -76,57 +74,70 @@ pub const NOTICE_ROWS: u32 = ((VERDICT - NOTICES) / PACKET_WIDTH) as u32;
 
 pub const PLACE_ROWS: u32 = ((NOWHERE - PLACES) / PACKET_WIDTH) as u32;
 
-pub fn get(w: World, at: usize) -> u32 {
+fn least(a: usize, b: usize) -> usize
+    ensures { λ r. ⌜ (r ≤ a) × (r ≤ b) ⌝ }
+{
+    if a < b {
+        return a;
+    }
+    b
+}
+
+pub fn get(w: &World, at: usize) -> u32 {
     if NOWHERE <= at {
         return 0;
     }
-    w.n[at]
+    w[at]
 }
 
-pub fn put(w: World, at: usize, v: u32) -> World {
-    let mut x = w;
+pub fn put(w: &mut World, at: usize, v: u32) {
     if NOWHERE <= at {
-        return x;
+        return;
     }
-    x.n[at] = v;
-    x
+    w[at] = v;
 }
 
 // These numbers stand from a place on.
-pub fn put_all(w: World, to: usize, a: &[u32]) -> World {
-    let mut x = w;
+pub fn put_all(w: &mut World, to: usize, a: &[u32]) {
+    if NOWHERE <= to {
+        return;
+    }
+    let n = least(a.len(), NOWHERE - to);
     let mut i: usize = 0;
-    while i < a.len() {
-        let at = wrapping_add_usize(to, i);
-        if NOWHERE <= at {
-            return x;
-        }
-        x.n[at] = a[i];
+    while i < n {
+        w[to + i] = a[i];
         i += 1;
     }
-    x
+}
+
+// The numbers from a place on.
+pub fn take(w: &World, from: usize, a: &mut [u32]) {
+    if NOWHERE <= from {
+        return;
+    }
+    let n = least(a.len(), NOWHERE - from);
+    let mut i: usize = 0;
+    while i < n {
+        a[i] = w[from + i];
+        i += 1;
+    }
 }
 
 // n numbers become those from another place on, the first one first.
-pub fn copy(w: World, to: usize, from: usize, n: usize) -> World {
-    let mut x = w;
+pub fn copy(w: &mut World, to: usize, from: usize, n: usize) {
     let mut i: usize = 0;
     while i < n {
-        let at = wrapping_add_usize(to, i);
-        if NOWHERE <= at {
-            return x;
-        }
-        x.n[at] = get(x, wrapping_add_usize(from, i));
+        let v = get(w, wrapping_add_usize(from, i));
+        put(w, wrapping_add_usize(to, i), v);
         i += 1;
     }
-    x
 }
 
 // Whether two worlds are the same, number by number.
-pub fn same(a: World, b: World) -> bool {
+pub fn same(a: &World, b: &World) -> bool {
     let mut i: usize = 0;
     while i < NOWHERE {
-        if a.n[i] != b.n[i] {
+        if a[i] != b[i] {
             return false;
         }
         i += 1;
@@ -190,23 +201,21 @@ pub fn bound(k: u32) -> usize {
     BOUNDS + k as usize
 }
 
-fn hub_of(w: World) -> Hub {
+// The link whose levels, largest packet and eight bounds stand from a place on.
+fn link_at(w: &World, at: usize, silence: u32) -> Link {
+    let mut bounds = [0u32; 8];
+    take(w, wrapping_add_usize(at, 2), &mut bounds);
+    Link {
+        levels: get(w, at),
+        largest: get(w, wrapping_add_usize(at, 1)),
+        silence: silence,
+        bounds: bounds,
+    }
+}
+
+fn hub_of(w: &World) -> Hub {
     Hub {
-        link: Link {
-            levels: get(w, LEVELS),
-            largest: get(w, LEVELS + 1),
-            silence: get(w, SILENCE),
-            bounds: [
-                get(w, BOUNDS),
-                get(w, BOUNDS + 1),
-                get(w, BOUNDS + 2),
-                get(w, BOUNDS + 3),
-                get(w, BOUNDS + 4),
-                get(w, BOUNDS + 5),
-                get(w, BOUNDS + 6),
-                get(w, BOUNDS + 7),
-            ],
-        },
+        link: link_at(w, LEVELS, get(w, SILENCE)),
         clock: get(w, CLOCK),
         serving: get(w, SERVING),
         to_go: get(w, SERVING + 1),
@@ -214,54 +223,55 @@ fn hub_of(w: World) -> Hub {
     }
 }
 
-// What a call answered and the hub that it left.
-pub fn told(w: World, r: Told) -> World {
-    let h = r.hub;
+// The hub that a call left.
+fn left(w: &mut World, h: Hub) {
     let l = h.link;
-    let p = r.packet;
     let b = l.bounds;
+    put_all(w, BOUNDS, &b);
+    put(w, LEVELS, l.levels);
+    put(w, LEVELS + 1, l.largest);
+    put(w, SILENCE, l.silence);
+    put(w, CLOCK, h.clock);
+    put(w, SERVING, h.serving);
+    put(w, SERVING + 1, h.to_go);
+    put(w, SILENT, h.silent);
+}
+
+// What a call answered, and that hub.
+pub fn told(w: &mut World, r: Told) {
+    let p = r.packet;
     let s = r.short;
-    let x = put_all(w, BOUNDS, &b);
-    let x = put(x, SHORT, s.level);
-    let x = put(x, SHORT + 1, (s.units % 4294967296) as u32);
-    let x = put(x, SHORT + 2, (s.units / 4294967296) as u32);
-    let x = put(x, VERDICT, r.verdict);
-    let x = put(x, NUMBER, r.number);
-    let x = put(x, GONE, r.gone as u32);
-    let x = put(x, PACKET, p.connection);
-    let x = put(x, PACKET + 1, p.len);
-    let x = put(x, PACKET + 2, p.tag);
-    let x = put(x, PACKET + 3, p.arrival);
-    let x = put(x, PACKET + 4, p.eligibility);
-    let x = put(x, CLOCK, h.clock);
-    let x = put(x, SERVING, h.serving);
-    let x = put(x, SERVING + 1, h.to_go);
-    let x = put(x, SILENT, h.silent);
-    let x = put(x, LEVELS, l.levels);
-    let x = put(x, LEVELS + 1, l.largest);
-    put(x, SILENCE, l.silence)
+    put(w, VERDICT, r.verdict);
+    put(w, NUMBER, r.number);
+    put(w, GONE, r.gone as u32);
+    put(w, PACKET, p.connection);
+    put(w, PACKET + 1, p.len);
+    put(w, PACKET + 2, p.tag);
+    put(w, PACKET + 3, p.arrival);
+    put(w, PACKET + 4, p.eligibility);
+    put(w, SHORT, s.level);
+    put(w, SHORT + 1, (s.units % 4294967296) as u32);
+    put(w, SHORT + 2, (s.units / 4294967296) as u32);
+    left(w, r.hub);
 }
 
 // The link that a call asks for: levels, largest packet, eight bounds, and its silence where one is given.
-pub fn link_asked(w: World) -> World {
-    if get(w, CALL) == 9 {
-        return copy(w, LEVELS, ASKED, 11);
-    }
-    copy(w, LEVELS, ASKED, 10)
+fn link_asked(w: &World) -> Link {
+    let silence = match get(w, CALL) {
+        9 => get(w, ASKED + 10),
+        _ => 0,
+    };
+    link_at(w, ASKED, silence)
 }
 
 // The call with its numbers on the hub with these tables.
-fn ask(w: World, members: &mut [u32], places: &mut [u32], notices: &mut [u32]) -> Told {
+fn ask(w: &World, members: &mut [u32], places: &mut [u32], notices: &mut [u32]) -> Told {
     let h = hub_of(w);
     let a = get(w, ASKED);
     let b = get(w, ASKED + 1);
     let c = get(w, ASKED + 2);
     match get(w, CALL) {
-        0 | 9 => {
-            let g = hub_of(link_asked(w));
-            let l = g.link;
-            hub::link(h, members, places, notices, l)
-        }
+        0 | 9 => hub::link(h, members, places, notices, link_asked(w)),
         1 | 12 => {
             let x = Connection {
                 level: a,
@@ -278,41 +288,47 @@ fn ask(w: World, members: &mut [u32], places: &mut [u32], notices: &mut [u32]) -
     }
 }
 
-// How much of a table is lent, at most all of it.
-fn lent(w: World, at: usize, most: usize) -> usize
-    ensures { λ r. ⌜ r ≤ most ⌝ }
-{
-    let n = get(w, at) as usize;
-    if n < most {
-        return n;
-    }
-    most
+// The tables, with the rows behind them.
+type Members = [u32; NOTICES];
+
+type Notices = [u32; VERDICT - NOTICES];
+
+type Places = [u32; NOWHERE - PLACES];
+
+// The tables as a call left them.
+fn put_tables(w: &mut World, members: &Members, places: &Places, notices: &Notices) {
+    put_all(w, 0, members);
+    put_all(w, PLACES, places);
+    put_all(w, NOTICES, notices);
 }
 
-// The numbers of a world, and from a place on those of another.
-fn joined(w: World, behind: [u32; NOWHERE], from: usize) -> World {
-    let mut x = w;
-    let mut i: usize = from;
-    while i < NOWHERE {
-        x.n[i] = behind[i];
-        i += 1;
-    }
-    x
+// The call: of each table so much is lent as the script says.
+fn ask_lent(w: &World, members: &mut [u32], places: &mut [u32], notices: &mut [u32]) -> Told {
+    let a = least(get(w, LENT) as usize, members.len());
+    let b = least(get(w, LENT + 1) as usize, places.len());
+    let c = least(get(w, LENT_NOTICES) as usize, notices.len());
+    ask(w, &mut members[0..a], &mut places[0..b], &mut notices[0..c])
 }
 
-// The world after the call: each table is lent of a copy of its numbers.
-pub fn call(
-    w: World,
-    lines: [u32; NOWHERE],
-    notices: [u32; NOWHERE],
-    places: [u32; NOWHERE],
-) -> World {
-    let mut x = lines;
-    let mut y = notices;
-    let mut z = places;
-    let a = lent(w, LENT, NOTICES);
-    let b = PLACES + lent(w, LENT + 1, NOWHERE - PLACES);
-    let c = NOTICES + lent(w, LENT_NOTICES, VERDICT - NOTICES);
-    let r = ask(w, &mut x[0..a], &mut z[PLACES..b], &mut y[NOTICES..c]);
-    told(joined(joined(World { n: x }, y, NOTICES), z, PLACES), r)
+// The call, on copies of the tables.
+fn ask_copies(
+    w: &World,
+    members: &mut Members,
+    places: &mut Places,
+    notices: &mut Notices,
+) -> Told {
+    take(w, 0, members);
+    take(w, PLACES, places);
+    take(w, NOTICES, notices);
+    ask_lent(w, members, places, notices)
+}
+
+// The world after the call.
+pub fn call(w: &mut World) {
+    let mut members: Members = [0; NOTICES];
+    let mut places: Places = [0; NOWHERE - PLACES];
+    let mut notices: Notices = [0; VERDICT - NOTICES];
+    let r = ask_copies(w, &mut members, &mut places, &mut notices);
+    told(w, r);
+    put_tables(w, &members, &places, &notices);
 }

@@ -4,10 +4,10 @@ use Rattle.hub_cases.proofs.follow.Statement.{statement}
 use Rattle.hub_cases.proofs.follow.Tie as tie
 
 abbrev Inv-loop : tie.InvT-loop
-Inv-loop text s₀ left₀ s left = left ≤ left₀
+Inv-loop text now₀ kept₀ s₀ left₀ now kept s left = left ≤ 1_000_000
 
 abbrev μ-loop : tie.MeasureT-loop
-μ-loop text s₀ left₀ s left = left
+μ-loop text now₀ kept₀ s₀ left₀ now kept s left = left
 
 loop-holds : tie.Need-loop-holds Inv-loop μ-loop
 loop-holds c = search needs

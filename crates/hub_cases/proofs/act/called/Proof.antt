@@ -4,10 +4,10 @@ use Rattle.hub_cases.proofs.act.called.Statement.{statement}
 use Rattle.hub_cases.proofs.act.called.Tie as tie
 
 abbrev Inv-loop : tie.InvT-loop
-Inv-loop times x₀ i₀ x i = i ≤ times
+Inv-loop w₀ times i₀ w i = i ≤ times
 
 abbrev μ-loop : tie.MeasureT-loop
-μ-loop times x₀ i₀ x i = times - i
+μ-loop w₀ times i₀ w i = times - i
 
 times-requires : tie.Need-times-requires Inv-loop μ-loop
 times-requires c κs = search needs

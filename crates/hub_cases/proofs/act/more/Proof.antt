@@ -4,10 +4,10 @@ use Rattle.hub_cases.proofs.act.more.Statement.{statement}
 use Rattle.hub_cases.proofs.act.more.Tie as tie
 
 abbrev Inv-loop : tie.InvT-loop
-Inv-loop x₀ i₀ x i = i ≤ 5
+Inv-loop w₀ i₀ w i = i ≤ 5
 
 abbrev μ-loop : tie.MeasureT-loop
-μ-loop x₀ i₀ x i = 5 - i
+μ-loop w₀ i₀ w i = 5 - i
 
 loop-holds : tie.Need-loop-holds Inv-loop μ-loop
 loop-holds c = search needs

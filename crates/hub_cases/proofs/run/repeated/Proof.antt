@@ -4,10 +4,10 @@ use Rattle.hub_cases.proofs.run.repeated.Statement.{statement}
 use Rattle.hub_cases.proofs.run.repeated.Tie as tie
 
 abbrev Inv-loop : tie.InvT-loop
-Inv-loop x₀ n i₀ x i = i ≤ n
+Inv-loop now₀ kept₀ x₀ n i₀ now kept x i = i ≤ n
 
 abbrev μ-loop : tie.MeasureT-loop
-μ-loop x₀ n i₀ x i = n - i
+μ-loop now₀ kept₀ x₀ n i₀ now kept x i = n - i
 
 get-requires : tie.Need-get-requires Inv-loop μ-loop
 get-requires c κs = search needs

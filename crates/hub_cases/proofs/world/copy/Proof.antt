@@ -4,10 +4,10 @@ use Rattle.hub_cases.proofs.world.copy.Statement.{statement}
 use Rattle.hub_cases.proofs.world.copy.Tie as tie
 
 abbrev Inv-loop : tie.InvT-loop
-Inv-loop to from n x₀ i₀ x i = i ≤ n
+Inv-loop w₀ to from n i₀ w i = i ≤ n
 
 abbrev μ-loop : tie.MeasureT-loop
-μ-loop to from n x₀ i₀ x i = n - i
+μ-loop w₀ to from n i₀ w i = n - i
 
 loop-holds : tie.Need-loop-holds Inv-loop μ-loop
 loop-holds c = search needs
@@ -15,20 +15,14 @@ loop-holds c = search needs
 wrapping-add-usize-requires : tie.Need-wrapping-add-usize-requires Inv-loop μ-loop
 wrapping-add-usize-requires c κs = search needs
 
-returns : tie.Need-returns Inv-loop μ-loop
-returns c = search needs
+get-requires : tie.Need-get-requires Inv-loop μ-loop
+get-requires c κs = search needs
 
 wrapping-add-usize-requires-2 : tie.Need-wrapping-add-usize-requires-2 Inv-loop μ-loop
 wrapping-add-usize-requires-2 c κs = search needs
 
-get-requires : tie.Need-get-requires Inv-loop μ-loop
-get-requires c κs = search needs
-
-mul-x : tie.Need-mul-x Inv-loop μ-loop
-mul-x c = search needs
-
-element-write-x : tie.Need-element-write-x Inv-loop μ-loop
-element-write-x c = search needs
+put-requires : tie.Need-put-requires Inv-loop μ-loop
+put-requires c κs = search needs
 
 add-i : tie.Need-add-i Inv-loop μ-loop
 add-i c = search needs
@@ -39,8 +33,8 @@ loop-less c = search needs
 loop-again : tie.Need-loop-again Inv-loop μ-loop
 loop-again c = search needs
 
-returns-2 : tie.Need-returns-2 Inv-loop μ-loop
-returns-2 c = search needs
+returns : tie.Need-returns Inv-loop μ-loop
+returns c = search needs
 
 pub copy-spec : {M : Type 1} → statement M
 copy-spec =
@@ -50,12 +44,10 @@ copy-spec =
     μ-loop
     loop-holds
     wrapping-add-usize-requires
-    returns
-    wrapping-add-usize-requires-2
     get-requires
-    mul-x
-    element-write-x
+    wrapping-add-usize-requires-2
+    put-requires
     add-i
     loop-less
     loop-again
-    returns-2)
+    returns)

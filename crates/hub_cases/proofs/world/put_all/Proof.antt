@@ -1,35 +1,40 @@
 use Prim.Native.Nat.{_≤_, _-_}
-use lib.ListN.{length}
 use borrow.Author.Needs.{needs}
 use Rattle.hub_cases.proofs.world.put_all.Statement.{statement}
 use Rattle.hub_cases.proofs.world.put_all.Tie as tie
 
 abbrev Inv-loop : tie.InvT-loop
-Inv-loop to a x₀ i₀ x i = i ≤ length a
+Inv-loop w₀ to a n i₀ w i = i ≤ n
 
 abbrev μ-loop : tie.MeasureT-loop
-μ-loop to a x₀ i₀ x i = length a - i
-
-loop-holds : tie.Need-loop-holds Inv-loop μ-loop
-loop-holds c = search needs
-
-wrapping-add-usize-requires : tie.Need-wrapping-add-usize-requires Inv-loop μ-loop
-wrapping-add-usize-requires c κs = search needs
+μ-loop w₀ to a n i₀ w i = n - i
 
 returns : tie.Need-returns Inv-loop μ-loop
 returns c = search needs
 
-mul-x : tie.Need-mul-x Inv-loop μ-loop
-mul-x c = search needs
+sub-least : tie.Need-sub-least Inv-loop μ-loop
+sub-least c = search needs
 
-shared-slice-read-x : tie.Need-shared-slice-read-x Inv-loop μ-loop
-shared-slice-read-x c = search needs
+least-requires : tie.Need-least-requires Inv-loop μ-loop
+least-requires c κs = search needs
 
-mul-x-2 : tie.Need-mul-x-2 Inv-loop μ-loop
-mul-x-2 c = search needs
+loop-holds : tie.Need-loop-holds Inv-loop μ-loop
+loop-holds c = search needs
 
-element-write-x : tie.Need-element-write-x Inv-loop μ-loop
-element-write-x c = search needs
+mul-w : tie.Need-mul-w Inv-loop μ-loop
+mul-w c = search needs
+
+shared-slice-read-w : tie.Need-shared-slice-read-w Inv-loop μ-loop
+shared-slice-read-w c = search needs
+
+add-w : tie.Need-add-w Inv-loop μ-loop
+add-w c = search needs
+
+mul-w-2 : tie.Need-mul-w-2 Inv-loop μ-loop
+mul-w-2 c = search needs
+
+element-write-w : tie.Need-element-write-w Inv-loop μ-loop
+element-write-w c = search needs
 
 add-i : tie.Need-add-i Inv-loop μ-loop
 add-i c = search needs
@@ -49,13 +54,15 @@ put-all-spec =
     (tie.spec
     Inv-loop
     μ-loop
-    loop-holds
-    wrapping-add-usize-requires
     returns
-    mul-x
-    shared-slice-read-x
-    mul-x-2
-    element-write-x
+    sub-least
+    least-requires
+    loop-holds
+    mul-w
+    shared-slice-read-w
+    add-w
+    mul-w-2
+    element-write-w
     add-i
     loop-less
     loop-again

@@ -4,10 +4,10 @@ use Rattle.hub_cases.proofs.world.same.Statement.{statement}
 use Rattle.hub_cases.proofs.world.same.Tie as tie
 
 abbrev Inv-loop : tie.InvT-loop
-Inv-loop a b i₀ i = i ≤ 1000000
+Inv-loop a b i₀ i = i ≤ 1_000_000
 
 abbrev μ-loop : tie.MeasureT-loop
-μ-loop a b i₀ i = 1000000 - i
+μ-loop a b i₀ i = 1_000_000 - i
 
 loop-holds : tie.Need-loop-holds Inv-loop μ-loop
 loop-holds c = search needs
