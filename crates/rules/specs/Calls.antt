@@ -1,5 +1,4 @@
 -- The five calls: their verdicts as one table, and what each does where the verdict is 0. Document 01, "Verdict numbers"; document 02, R-1.
---
 use Prim.Native.Nat.{ℕ, zero, suc}
 use mathlib.Core.Bool.{Bool, cond, not}
 use mathlib.Core.List.{List, [], _∷_, _++_}

@@ -1,4 +1,4 @@
--- The limits of document 01, each a name of its own, so that a request can move it in one place.
+-- The limits of documents 01 and 02, each a name of its own, so that a request can move it in one place.
 use Prim.Native.Nat.{ℕ}
 
 -- "Link, connections, places": levels of a link, units of the largest packet, ticks of a delay bound and of a gap

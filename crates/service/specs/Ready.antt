@@ -1,5 +1,4 @@
 -- What a tick needs of the hub and the tables. A sound state has it before the clock's end: `ready` in proofs/ReadyLaws. Document 01, "A sound state".
---
 use Prim.Native.Nat.{ℕ, _<_}
 use mathlib.Core.Path.{_≡_}
 use mathlib.Core.Bool.{true}
