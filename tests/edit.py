@@ -24,12 +24,13 @@ class Body(NamedTuple):
 
 
 class Edit(NamedTuple):
-    """An edit: its crate, its name, its replacements (file, old, new), and the one body that they change, or None."""
+    """An edit: its crate, its name, its replacements (file, old, new), the one body that they change, or None, and the file that refuses it, where it names one."""
 
     crate: str
     name: str
     pairs: tuple
     body: Optional[Body]
+    at: Optional[str]
 
 
 def text_of(path):
@@ -49,6 +50,12 @@ def pairs_of(text):
         elif line.startswith("new:"):
             yield file, old, line.removeprefix("new:").removeprefix(" ")
             old = ""
+
+
+def at_of(text):
+    """The file that an `at:` line names, or None. `rt must-fail` passes over it."""
+    named = re.search("^at: (.*)$", text, re.MULTILINE)
+    return named and named.group(1)
 
 
 def bodies(folder, file):
@@ -84,9 +91,10 @@ def edits_of(project, crate, part="edits"):
     folder = os.path.join(above, part)
     for name in sorted(os.listdir(folder)) if os.path.isdir(folder) else ():
         if name.endswith(".edit"):
-            pairs = tuple(pairs_of(text_of(os.path.join(folder, name))))
+            text = text_of(os.path.join(folder, name))
+            pairs = tuple(pairs_of(text))
             changed = {body_of(above, file, old) for file, old, _ in pairs}
-            yield Edit(crate, name.removesuffix(".edit"), pairs, changed.pop() if len(changed) == 1 else None)
+            yield Edit(crate, name.removesuffix(".edit"), pairs, changed.pop() if len(changed) == 1 else None, at_of(text))
 
 
 def apply(edit, folder):
