@@ -1,9 +1,9 @@
-/* The questions that the hub's firmware asks (document 01, "Two questions from C firmware"; document 02, R-2, R-4, R-6 and R-7), answered by the
+/* The questions that the hub's firmware asks (document 01, "Two questions from C firmware"; document 02, R-2, R-4 and R-6 to R-8), answered by the
    same rules as the hub's own calls: the archive's functions are proved equal to the rules' definitions.
 
    Link with the archive that `rt staticlib firmware` writes, target/staticlib/libfirmware.a, for x86-64. It needs `memset` of the C library
    and nothing else. The functions may be called at any time and from any thread: they keep nothing, write nothing that the caller can see,
-   take no memory but some 18,000 bytes of stack, and always return. */
+   take no memory but some 19,000 bytes of stack, and always return. */
 #ifndef MTREDOVIM_H
 #define MTREDOVIM_H
 
@@ -16,7 +16,7 @@ extern "C" {
 
 /* The tick at which the next packet of a connection without an average is eligible, were it accepted now. Any numbers are allowed, also those that no
    hub gives.
-     flag  0: no packet of the connection was accepted yet; any other number: one was
+     flag  0: no packet of the connection was accepted yet; any other number: one was. What another sent under its number before doesn't count
      last  the eligibility of the one accepted last, in ticks; with flag 0 it doesn't count
      gap   the connection's gap, in ticks
      now   the present tick
@@ -34,6 +34,8 @@ uint64_t mtredovim_next_eligibility(uint32_t flag, uint32_t last, uint32_t gap, 
    length doesn't fit, the bytes are no `LK`, a limit of the link or of a connection is broken, or there are more than 200 rows. The limits of an
    average: the average gap is at least the gap and divides the window, 1 to 16 times; one of the two alone breaks them. A bad row gives 255
    wherever it stands, also where a level fails. No rows and a good `LK`: 0. Whether all reservations find room is not asked.
+   For the answer that an admission gets, hand in a row for the newcomer and one for each connection of the hub, also for each that is closed and
+   still charged: those count as before. A free number has no row.
 
    The caller sees to it that each pointer is valid for reading as many bytes as its length says, while the function runs. With length 0 any
    pointer will do that is not null: nothing is read there. Null is never allowed. */
@@ -42,8 +44,8 @@ uint8_t mtredovim_short_level(const uint8_t *lk, size_t lk_len, const uint8_t *r
 /* By how many units that level is over, asked with the same bytes and under the same conditions: the level's sum with S, less its delay bound,
    where the silence is added to every size and to S.
    Answer, in units: 0 exactly where mtredovim_short_level answers 0 or 255. Where an admission is refused with 8, the two answers for the hub's
-   connections and the newcomer are level and units of its `CA`. A sum can reach 13,841,205,312 and the units 32,768 less: more than 32 bits
-   hold, so the answer has 64. */
+   connections, charged ones too, and the newcomer are level and units of its `CA`. A sum can reach 13,841,205,312 and the units 32,768 less: more
+   than 32 bits hold, so the answer has 64. */
 uint64_t mtredovim_short_units(const uint8_t *lk, size_t lk_len, const uint8_t *rows, size_t rows_len);
 
 #ifdef __cplusplus

@@ -1,4 +1,4 @@
-"""Traces from before a request that made a trace record longer or moved a limit, and what their answers become."""
+"""Traces from before a request that made a trace record longer, moved a limit or brought a record, and what their answers become."""
 
 import struct
 import sys
@@ -10,16 +10,25 @@ INSERTED = {
     "R-4": [(b"LK", 5, 1)],  # the silence, behind S
     "R-6": [(b"CN", 7, 4)],  # window and average gap, behind the size
     "R-7": [],  # nothing: it has moved two limits
+    "R-8": [],  # nothing: it has brought a record
 }
 
 # The verdicts of an admission that met a limit of before R-7: 64 connections, 512 places.
 OLD_LIMITS = (7, 9)
 
+# The record that R-8 has brought, which was malformed before.
+CLOSE = b"CL"
+
+
+def from_then_on(request):
+    """This request and those after it."""
+    names = list(INSERTED)
+    return names[names.index(request):]
+
 
 def since(request):
     """What this request and those after it have inserted."""
-    names = list(INSERTED)
-    return [place for name in names[names.index(request):] for place in INSERTED[name]]
+    return [place for name in from_then_on(request) for place in INSERTED[name]]
 
 
 def old_length(trace, at, inserted):
@@ -35,11 +44,11 @@ def with_zeros(trace, request):
     """The trace with zeros in the places that came with a request or later, and how many of them whole records got.
 
     A record that is cut short ends it; one that reaches the place gets its zeros, so that it lacks as
-    many bytes as before. Bytes that are no record, and all behind them, are left as they are.
+    many bytes as before. Bytes that were no record then, a close among them, and all behind them are left as they are.
     """
     inserted = since(request)
     parts, at, zeros = [], 0, 0
-    while length := old_length(trace, at, inserted):
+    while (length := old_length(trace, at, inserted)) and not trace.startswith(CLOSE, at):
         record = trace[at:at + length]
         at += length
         whole = len(record) == length
@@ -60,10 +69,14 @@ def moved(answers, zeros):
     return answers
 
 
-def until_a_limit(answers):
-    """The answers up to the first admission that met a limit of before R-7; nothing is said of those behind it. All of them where none did."""
+def still_given(trace, answers, request):
+    """The answers of a trace from before a request that are given today: all of them, but up to the first admission that met a limit of before R-7, and
+    without the `ER` at bytes that are a close today. Nothing is said of what is given in their place and behind them."""
+    limits = OLD_LIMITS if "R-7" in from_then_on(request) else ()
     for at, mark, _, numbers in records(answers, ANSWERS):
-        if mark == b"CA" and numbers[0] in OLD_LIMITS:
+        if mark == b"CA" and numbers[0] in limits:
+            return answers[:at]
+        if mark == b"ER" and trace.startswith(CLOSE, numbers[1]) and len(trace) > numbers[1] + len(CLOSE):
             return answers[:at]
     return answers
 

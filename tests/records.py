@@ -6,6 +6,7 @@ import struct
 TRACE = {
     b"LK": ("link", [("levels", 1), ("largest", 2), ("silence", 1)]),
     b"CN": ("admit", [("level", 1), ("gap", 2), ("size", 2), ("window", 2), ("average", 2)]),
+    b"CL": ("close", [("connection", 1)]),
     b"PK": ("offer", [("connection", 1), ("length", 2), ("tag", 4)]),
     b"NQ": ("notice", [("length", 2), ("tag", 4)]),
     b"TK": ("ticks", [("asked", 2)]),
@@ -13,6 +14,7 @@ TRACE = {
 ANSWERS = {
     b"LA": ("linked", [("verdict", 1)]),
     b"CA": ("admitted", [("verdict", 1), ("connection", 1), ("level", 1), ("units", 4)]),
+    b"CD": ("closed", [("verdict", 1)]),
     b"PA": ("offered", [("verdict", 1), ("eligibility", 4)]),
     b"NA": ("noticed", [("verdict", 1), ("eligibility", 4)]),
     b"DP": ("departed", [("connection", 1), ("tag", 4), ("arrival", 4), ("eligibility", 4), ("finish", 4)]),
@@ -70,6 +72,10 @@ def link(largest, silence, bounds):
 def admit(level, gap, size, window=0, average=0):
     """A connection; window and average gap are both 0 where it has no average."""
     return written(b"CN", level, gap, size, window, average)
+
+
+def close(connection):
+    return written(b"CL", connection)
 
 
 def offer(connection, length, tag):

@@ -1,15 +1,16 @@
 """Pairs of traces that differ in everything but one line (R-3).
 
-One line keeps its word, which is its gap and, with an average, n packets to a window (R-6), and
-makes the same offers at the same ticks in both; the other lines, the notices and the calls around
-it are drawn anew for each. The line's number may differ; in every fourth pair up to 199 lines stand
-before it (R-7).
+One line keeps its word, which is its gap and, with an average, n packets to a window (R-6), is
+closed in neither (R-8), and makes the same offers at the same ticks in both; the other lines, the
+notices and the calls around it, closes among them, are drawn anew for each. The line's number may
+differ, and may have had other owners before; in every fourth pair up to 199 lines stand before it
+(R-7).
 """
 
 import random
 from collections import namedtuple
 
-from records import ANSWERS, CannotRead, admit, link, notice, offer, records, ticks, written
+from records import ANSWERS, CannotRead, admit, close, link, notice, offer, records, ticks, written
 
 CLOCK_END = 4_000_000_000
 LAST_TICK = 240
@@ -85,6 +86,7 @@ class Ward:
         self.bounds, self.largest, _ = limits
         self.link = link(self.largest, limits[2], self.bounds)
         self.records = [self.link]
+        self.closes = numbers.choice((0, 0.17))
         self.own = None
         self.expected = {}
 
@@ -94,7 +96,7 @@ class Ward:
             self.records.append(admit(self.numbers.randint(1, len(self.bounds)), 65_535, 1))
 
     def others(self):
-        """A call of somebody else, never an offer under the shared line's number."""
+        """A call of somebody else, never an offer or a close under the shared line's number."""
         numbers = self.numbers
         choice = numbers.random()
         if choice < 0.15:
@@ -106,6 +108,8 @@ class Ward:
             return self.link
         some = (*range(8), numbers.randrange(MOST_CONNECTIONS), MOST_CONNECTIONS, 254, 255)
         connection = numbers.choice([c for c in some if c != self.own])
+        if choice < 0.33 + self.closes:
+            return close(connection)
         return offer(connection, numbers.randint(0, self.largest + 1), numbers.getrandbits(32))
 
     def crowd(self):

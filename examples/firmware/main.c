@@ -1,5 +1,6 @@
 /* How firmware asks the hub's questions: the admissions P1 to P7 and the offers of P8 and P10 of document 01, "Table of proved examples"; P1 to P3
-   once more on a line that needs a tick of silence after each packet (document 02, R-4); and a camera that sends in bursts (R-6). */
+   once more on a line that needs a tick of silence after each packet (document 02, R-4); a camera that sends in bursts (R-6); and P4 beside a
+   connection that is closed (R-8). */
 #include <inttypes.h>
 #include <stdio.h>
 
@@ -51,6 +52,12 @@ static const uint8_t no_camera[] = {
     2, 2,  0, 1, 0, 24, 0, 7, 0,
 };
 
+/* P4 once P1 is closed and its charge is over: P1 has no row then. */
+static const uint8_t freed[] = {
+    2, 20, 0, 4, 0, 0, 0, 0, 0,
+    1, 9,  0, 2, 0, 0, 0, 0, 0,
+};
+
 /* Would the last of these rows be let in beside the others? */
 static void may_join(const char *name, const uint8_t *lk, const uint8_t *rows, size_t count)
 {
@@ -100,5 +107,7 @@ int main(void)
     may_join("the camera, with an average gap of 7", link_a, no_camera, 2);
     when("its third packet at 3", 1, 2, 2, 3);
     when_averaged("its fourth packet at 5", 4, 2, 0, 24, 5);
+    may_join("P4, while P1 is closed and still charged", link_a, instead, 3);
+    may_join("P4, once P1 is freed", link_a, freed, 2);
     return 0;
 }

@@ -1,9 +1,9 @@
 //! The questions of the firmware (section "Two questions from C firmware"; units by R-2,
 //! the silence in `LK` by R-4, averages in the rows by R-6, 200 rows by R-7).
 
-use crate::hub;
 use crate::level_test::lowest_shortage;
 use crate::link::{Connection, Link, MOST_CONNECTIONS};
+use crate::owners;
 use crate::record::{whole_figures, Record};
 
 /// The answer to the level question if it cannot be asked.
@@ -15,7 +15,7 @@ const ROW: usize = 9;
 /// Question (a): the next eligibility. Flag 0: no earlier packet; any other number: one.
 pub fn next_eligibility(flag: u32, last: u32, gap: u32, now: u32) -> u64 {
     let last = (flag != 0).then_some(u64::from(last));
-    hub::next_eligibility(last, u64::from(gap), u64::from(now))
+    owners::next_eligibility(last, u64::from(gap), u64::from(now))
 }
 
 /// Question (b): 0 if all level tests hold, else the lowest failing level, or 255.

@@ -1,10 +1,12 @@
-//! The state of the hub and its calls: link, admit, offer, offer of a notice, tick.
+//! The state of the hub and its calls: link, admit, offer, offer of a notice, close, tick.
+
+use std::iter::once;
 
 use crate::departure::{Departure, Tick};
 use crate::level_test::lowest_shortage;
-use crate::link::{Connection, Figures, Link, MOST_CONNECTIONS, MOST_RESERVED};
+use crate::link::{Connection, Figures, Link, MOST_RESERVED};
 use crate::notices::{Notice, Notices};
-use crate::recent::Recent;
+use crate::owners::Owners;
 use crate::verdict::Refusal;
 
 /// The clock begins at 0 and ends here (section "Link, connections, places").
@@ -19,29 +21,6 @@ struct Held {
     tag: u32,
     arrival: Tick,
     eligibility: Tick,
-}
-
-/// An accepted connection and the eligibilities of its last accepted packets.
-#[derive(Clone, Debug)]
-struct Standing {
-    connection: Connection,
-    recent: Recent,
-}
-
-impl Standing {
-    /// Eligibility of a packet that arrives now: a gap behind the last accepted one and, with an
-    /// average, also I behind the n-th accepted one before it.
-    fn next_eligibility(&self, arrival: Tick) -> Tick {
-        let gap = Tick::from(self.connection.gap());
-        let spaced = next_eligibility(self.recent.back(1), gap, arrival);
-        match self.connection.average() {
-            None => spaced,
-            Some(average) => {
-                let nth = self.recent.back(usize::from(average.packets()));
-                next_eligibility(nth, Tick::from(average.window()), spaced)
-            }
-        }
-    }
 }
 
 /// What the output line is doing. A silence with no tick to go is an idle line.
@@ -73,7 +52,7 @@ enum Sent {
 #[derive(Clone, Debug)]
 pub struct Hub {
     link: Option<Link>,
-    standing: Vec<Standing>,
+    owners: Owners,
     places: Vec<Held>,
     notices: Notices,
     line: Line,
@@ -90,7 +69,7 @@ impl Hub {
     pub fn new() -> Hub {
         Hub {
             link: None,
-            standing: Vec::new(),
+            owners: Owners::default(),
             places: Vec::new(),
             notices: Notices::default(),
             line: Line::Idle,
@@ -107,9 +86,31 @@ impl Hub {
         self.link.as_ref().ok_or(Refusal::NoLink)
     }
 
-    /// The standing connections in order of acceptance.
-    pub fn connections(&self) -> Vec<Connection> {
-        self.standing.iter().map(|one| one.connection).collect()
+    /// The connections that stand, with their numbers.
+    pub fn standing(&self) -> impl Iterator<Item = (u8, &Connection)> {
+        self.owners.standing()
+    }
+
+    /// The connection that stands under a number.
+    pub fn connection(&self, number: u8) -> Option<&Connection> {
+        let owner = self.owners.standing_at(number)?;
+        Some(&owner.connection)
+    }
+
+    /// The connections that count against a newcomer: those that stand and those that are closed
+    /// and charged.
+    pub fn counted(&self) -> impl Iterator<Item = &Connection> + Clone {
+        self.owners.counted()
+    }
+
+    /// The numbers that are closed and charged, with the moments that free them.
+    pub fn charged(&self) -> impl Iterator<Item = (u8, Tick)> + '_ {
+        self.owners.charged()
+    }
+
+    /// The number that the next accepted connection gets; nothing if none is free.
+    pub fn next_number(&self) -> Option<u8> {
+        self.owners.lowest_free()
     }
 
     /// How many packets a connection holds; one in service counts until its last unit has gone.
@@ -120,10 +121,16 @@ impl Hub {
             .count()
     }
 
-    /// When a packet that is offered now would be eligible; nothing for a number that nobody has.
+    /// When a packet that is offered now would be eligible; nothing for a number that does not
+    /// stand.
     pub fn eligibility_now(&self, connection: u8) -> Option<Tick> {
-        let standing = self.standing.get(usize::from(connection))?;
-        Some(standing.next_eligibility(self.clock))
+        let owner = self.owners.standing_at(connection)?;
+        Some(owner.next_eligibility(self.clock))
+    }
+
+    /// The eligibility of the last packet that a standing connection sent, if it has sent one.
+    pub fn last_eligibility(&self, connection: u8) -> Option<Tick> {
+        self.owners.standing_at(connection)?.recent.back(1)
     }
 
     /// How many notices wait; one in service counts until its last unit has gone.
@@ -148,40 +155,34 @@ impl Hub {
         Ok(())
     }
 
-    /// Admits a connection and gives its number: verdicts 2, 5, 6, 7, 8, 9 in that order. With 8
-    /// comes which level is short and by how much, the newcomer counted.
+    /// Admits a connection and gives its number, the lowest that is free: verdicts 2, 5, 6, 7,
+    /// 8, 9 in that order. With 8 comes which level is short and by how much, the newcomer counted
+    ///
     pub fn admit(&mut self, figures: Figures) -> Result<u8, Refusal> {
         let link = self.link()?;
         let newcomer = Connection::new(link, figures)?;
-        let number = self.standing.len();
-        if number >= MOST_CONNECTIONS {
-            return Err(Refusal::AllConnectionsStand);
-        }
-        let mut counted = self.connections();
-        counted.push(newcomer);
-        if let Some(shortage) = lowest_shortage(link, &counted) {
+        let number = self.owners.lowest_free().ok_or(Refusal::NoNumberFree)?;
+        let counted = self.counted().chain(once(&newcomer));
+        if let Some(shortage) = lowest_shortage(link, counted.clone()) {
             return Err(Refusal::LevelTest(shortage));
         }
-        let reserved: u64 = counted.iter().map(|one| one.reservation(link)).sum();
+        let reserved: u64 = counted.map(|one| one.reservation(link)).sum();
         if reserved > MOST_RESERVED {
             return Err(Refusal::Reservations);
         }
-        self.standing.push(Standing {
-            connection: newcomer,
-            recent: Recent::default(),
-        });
-        Ok(number as u8)
+        self.owners.give(number, newcomer);
+        Ok(number)
     }
 
     /// Offers a packet and gives its eligibility: verdicts 2, 10, 11, 12, 13 in that order.
     pub fn offer(&mut self, connection: u8, length: u16, tag: u32) -> Result<Tick, Refusal> {
         let link = *self.link()?;
         let held = self.held_by(connection) as u64;
-        let standing = self
-            .standing
-            .get_mut(usize::from(connection))
+        let owner = self
+            .owners
+            .standing_at_mut(connection)
             .ok_or(Refusal::NoSuchConnection)?;
-        let terms = standing.connection;
+        let terms = owner.connection;
         if !(1..=terms.size()).contains(&length) {
             return Err(Refusal::Length);
         }
@@ -191,8 +192,8 @@ impl Hub {
         if self.clock >= CLOCK_END {
             return Err(Refusal::ClockEnded);
         }
-        let eligibility = standing.next_eligibility(self.clock);
-        standing.recent.remember(eligibility);
+        let eligibility = owner.next_eligibility(self.clock);
+        owner.recent.remember(eligibility);
         self.places.push(Held {
             connection,
             level: terms.level(),
@@ -226,6 +227,24 @@ impl Hub {
         Ok(arrival)
     }
 
+    /// Closes a connection: verdicts 2, 10, 16 in that order. It stays charged until the
+    /// largest bound has passed since its last eligibility; if it never sent that is over now.
+    pub fn close(&mut self, connection: u8) -> Result<(), Refusal> {
+        let bound = Tick::from(self.link()?.largest_bound());
+        let owner = self
+            .owners
+            .standing_at(connection)
+            .ok_or(Refusal::NoSuchConnection)?;
+        if self.held_by(connection) > 0 {
+            return Err(Refusal::PacketsHeld);
+        }
+        let last = owner.recent.back(1);
+        let charge_end = last.map_or(self.clock, |last| last + bound);
+        self.owners.close(connection, charge_end);
+        self.owners.free_ended(self.clock);
+        Ok(())
+    }
+
     /// One tick (section "One tick"): verdicts 2 and 13.
     pub fn tick(&mut self) -> Result<Option<Departure>, Refusal> {
         let silence = self.link()?.silence();
@@ -236,7 +255,7 @@ impl Hub {
             self.start_chosen();
         }
         let departure = self.send_or_be_silent(silence);
-        self.clock += 1;
+        self.run_clock(1);
         Ok(departure)
     }
 
@@ -304,6 +323,13 @@ impl Hub {
         }
     }
 
+    /// Step 3, of one tick or of many quiet ones: numbers whose charge has come to its end are freed
+    /// . No call comes between quiet ticks, so that nobody sees which of them freed a number.
+    fn run_clock(&mut self, ticks: Tick) {
+        self.clock += ticks;
+        self.owners.free_ended(self.clock);
+    }
+
     /// How many ticks from now on are sure to be quiet: in each of them the line either sends
     /// a unit that is not the last, or is silent, or stays idle because no held packet is eligible
     /// yet and no notice waits.
@@ -336,16 +362,7 @@ impl Hub {
                 self.line = Line::silent_for(*ticks_to_go - passed as u8);
             }
         }
-        self.clock += passed;
+        self.run_clock(passed);
         passed
-    }
-}
-
-/// Eligibility (section "Eligibility"): the first packet on arrival, each later one the greater
-/// of its arrival and the eligibility before it plus X.
-pub fn next_eligibility(last: Option<Tick>, gap: Tick, arrival: Tick) -> Tick {
-    match last {
-        None => arrival,
-        Some(last) => arrival.max(last + gap),
     }
 }

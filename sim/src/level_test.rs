@@ -6,10 +6,14 @@ use crate::verdict::Shortage;
 /// The sum for one level with bound d: over all connections of levels 1 to that level,
 /// (d divided by X, rounded up) times size; and S; each size and S with the silence behind it.
 /// Over 200 rows from C it can reach 13,841,205,312, which needs 34 bits.
-pub fn level_sum(link: &Link, connections: &[Connection], level: u8) -> u64 {
+pub fn level_sum<'a>(
+    link: &Link,
+    connections: impl IntoIterator<Item = &'a Connection>,
+    level: u8,
+) -> u64 {
     let bound = link.bound(level);
     let packets: u64 = connections
-        .iter()
+        .into_iter()
         .filter(|connection| connection.level() <= level)
         .map(|connection| connection.packets_within(bound) * link.cost(connection.size()))
         .sum();
@@ -17,12 +21,19 @@ pub fn level_sum(link: &Link, connections: &[Connection], level: u8) -> u64 {
 }
 
 /// The lowest level that fails; nothing if the test holds at every level.
-pub fn lowest_shortage(link: &Link, connections: &[Connection]) -> Option<Shortage> {
-    (1..=link.levels()).find_map(|level| shortage_at(link, connections, level))
+pub fn lowest_shortage<'a>(
+    link: &Link,
+    connections: impl IntoIterator<Item = &'a Connection> + Clone,
+) -> Option<Shortage> {
+    (1..=link.levels()).find_map(|level| shortage_at(link, connections.clone(), level))
 }
 
 /// A level fails if its sum is above its bound.
-fn shortage_at(link: &Link, connections: &[Connection], level: u8) -> Option<Shortage> {
+fn shortage_at<'a>(
+    link: &Link,
+    connections: impl IntoIterator<Item = &'a Connection>,
+    level: u8,
+) -> Option<Shortage> {
     let sum = level_sum(link, connections, level);
     let bound = u64::from(link.bound(level));
     (sum > bound).then(|| Shortage {

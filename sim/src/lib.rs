@@ -11,6 +11,7 @@ pub mod kinds;
 pub mod level_test;
 pub mod link;
 pub mod notices;
+pub mod owners;
 pub mod random;
 pub mod recent;
 pub mod record;

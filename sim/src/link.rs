@@ -71,6 +71,11 @@ impl Link {
         &self.bounds[..usize::from(self.levels)]
     }
 
+    /// The largest bound, which is that of the last level.
+    pub fn largest_bound(&self) -> u16 {
+        self.bound(self.levels)
+    }
+
     /// d of one level; 0 for a level that the link does not have.
     pub fn bound(&self, level: u8) -> u16 {
         let row = usize::from(level).wrapping_sub(1);

@@ -48,6 +48,12 @@ impl Random {
         self.between(0, (length as u64).saturating_sub(1)) as usize
     }
 
+    /// One of these; nothing if there are none.
+    pub fn one_of<T: Copy>(&mut self, from: &[T]) -> Option<T> {
+        let place = self.place(from.len());
+        from.get(place).copied()
+    }
+
     pub fn pick<T: Copy, const N: usize>(&mut self, from: [T; N]) -> T {
         from[self.place(N)]
     }

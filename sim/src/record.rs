@@ -1,6 +1,6 @@
 //! Trace and answer records (section "Trace and answer records"; `NQ` and `NA` by R-1,
 //! level and units in `CA` by R-2, the silence in `LK` by R-4, window and average gap in `CN` by
-//!
+//! R-6, `CL` and `CD` by R-8).
 
 use crate::departure::{Departure, Tick};
 use crate::link::{Figures, MOST_LEVELS};
@@ -22,6 +22,9 @@ pub enum Record {
         bounds: [u16; MOST_LEVELS],
     },
     Connection(Figures),
+    Close {
+        connection: u8,
+    },
     Packet {
         connection: u8,
         length: u16,
@@ -43,6 +46,9 @@ impl Record {
         let record = match &fields.take::<2>()? {
             b"LK" => read_link(&mut fields)?,
             b"CN" => Record::Connection(read_figures(&mut fields)?),
+            b"CL" => Record::Close {
+                connection: fields.one()?,
+            },
             b"PK" => Record::Packet {
                 connection: fields.one()?,
                 length: fields.two()?,
@@ -70,6 +76,7 @@ impl Record {
                 bounds,
             } => append_link(out, levels, largest, silence, &bounds),
             Record::Connection(figures) => append_connection(out, &figures),
+            Record::Close { connection } => out.extend_from_slice(&[b'C', b'L', connection]),
             Record::Packet {
                 connection,
                 length,
@@ -192,6 +199,9 @@ pub enum Answer {
         connection: u8,
         short: Option<Shortage>,
     },
+    Closed {
+        verdict: u8,
+    },
     Packet {
         verdict: u8,
         eligibility: Tick,
@@ -216,6 +226,7 @@ impl Answer {
         match *self {
             Answer::Link { verdict }
             | Answer::Connection { verdict, .. }
+            | Answer::Closed { verdict }
             | Answer::Packet { verdict, .. }
             | Answer::Notice { verdict, .. }
             | Answer::Ticks { verdict, .. } => Some(verdict),
@@ -236,6 +247,7 @@ impl Answer {
                 out.extend_from_slice(&[b'C', b'A', verdict, connection]);
                 append_shortage(out, short);
             }
+            Answer::Closed { verdict } => out.extend_from_slice(&[b'C', b'D', verdict]),
             Answer::Packet {
                 verdict,
                 eligibility,

@@ -55,6 +55,7 @@ impl Job {
                 bounds,
             } => self.set_link(Link::new(levels, largest, silence, bounds)),
             Record::Connection(figures) => self.admit(figures),
+            Record::Close { connection } => self.close(connection),
             Record::Packet {
                 connection,
                 length,
@@ -83,6 +84,13 @@ impl Job {
             verdict: number_of(&result),
             connection: result.unwrap_or(NO_CONNECTION),
             short,
+        }
+    }
+
+    fn close(&mut self, connection: u8) -> Answer {
+        let result = self.hub.close(connection);
+        Answer::Closed {
+            verdict: number_of(&result),
         }
     }
 

@@ -13,7 +13,7 @@ use crate::verdict::HIGHEST;
 const VERDICTS: usize = HIGHEST as usize + 1;
 
 /// The answers that carry a verdict.
-const MARKS: [&str; 6] = ["LA", "CA", "PA", "TA", "ER", "NA"];
+const MARKS: [&str; 7] = ["LA", "CA", "PA", "TA", "ER", "NA", "CD"];
 
 /// How many bytes of a `CA` the units have.
 const UNIT_BYTES: usize = 4;
@@ -57,6 +57,7 @@ impl Stats {
             }
             Answer::Malformed { .. } => 4,
             Answer::Notice { .. } => 5,
+            Answer::Closed { .. } => 6,
             Answer::Departed(departure) => {
                 self.departures += 1;
                 self.notices += u64::from(departure.connection == NOTICE_NUMBER);

@@ -1,4 +1,4 @@
-//! The verdict numbers (section "Verdict numbers"; 15 by R-1).
+//! The verdict numbers (section "Verdict numbers"; 15 by R-1, 16 by R-8).
 
 /// A level that fails and by how many units: its sum, in which S is counted, less its bound.
 #[derive(Clone, Copy, Debug, PartialEq, Eq)]
@@ -15,7 +15,7 @@ pub enum Refusal {
     LinkLimit,
     NoSuchLevel,
     ConnectionLimit,
-    AllConnectionsStand,
+    NoNumberFree,
     LevelTest(Shortage),
     Reservations,
     NoSuchConnection,
@@ -24,13 +24,14 @@ pub enum Refusal {
     ClockEnded,
     Malformed,
     NoticesFull,
+    PacketsHeld,
 }
 
 /// The verdict of a call that was done.
 pub const DONE: u8 = 0;
 
 /// The highest verdict number.
-pub const HIGHEST: u8 = Refusal::NoticesFull.number();
+pub const HIGHEST: u8 = Refusal::PacketsHeld.number();
 
 impl Refusal {
     pub const fn number(self) -> u8 {
@@ -40,7 +41,7 @@ impl Refusal {
             Refusal::LinkLimit => 4,
             Refusal::NoSuchLevel => 5,
             Refusal::ConnectionLimit => 6,
-            Refusal::AllConnectionsStand => 7,
+            Refusal::NoNumberFree => 7,
             Refusal::LevelTest(_) => 8,
             Refusal::Reservations => 9,
             Refusal::NoSuchConnection => 10,
@@ -49,6 +50,7 @@ impl Refusal {
             Refusal::ClockEnded => 13,
             Refusal::Malformed => 14,
             Refusal::NoticesFull => 15,
+            Refusal::PacketsHeld => 16,
         }
     }
 }

@@ -1,11 +1,12 @@
 //! What must hold of every connection in every generated trace (docs/RULES-AFTER-BASE.md, section
 //! R-6), told by the records and their answers alone.
 
+mod told;
+
 use sim::kinds::{Kind, KINDS};
 use sim::link::{Connection, Figures};
-use sim::notices::NOTICE_NUMBER;
 use sim::record::{Answer, Record};
-use sim::replay::{Job, Pace};
+use told::{records, Line, Told};
 
 const REMEMBERED: usize = 16;
 
@@ -15,13 +16,6 @@ enum By {
     Nothing,
     Gap,
     Window,
-}
-
-/// A connection: its figures, and the eligibilities of its packets in the order accepted.
-struct Line {
-    figures: Figures,
-    eligibilities: Vec<u64>,
-    departed: usize,
 }
 
 impl Line {
@@ -106,103 +100,68 @@ struct Met {
     full_windows: usize,
 }
 
-/// A trace, followed record by record.
-struct Followed {
-    job: Job,
-    lines: Vec<Line>,
-}
-
-impl Followed {
-    fn accept(&mut self, record: Record, answer: Answer, met: &mut Met) {
-        match (record, answer) {
-            (Record::Connection(figures), Answer::Connection { verdict: 0, .. }) => {
-                self.lines.push(Line {
-                    figures,
-                    eligibilities: Vec::new(),
-                    departed: 0,
-                });
-            }
-            (
-                Record::Packet { connection, .. },
-                Answer::Packet {
-                    verdict: 0,
-                    eligibility,
-                },
-            ) => {
-                let line = &mut self.lines[usize::from(connection)];
-                let (expected, by) = line.next(self.job.hub().clock());
-                assert_eq!(eligibility, expected);
-                line.eligibilities.push(eligibility);
-                match (by, line.average()) {
-                    (By::Gap, _) => met.by_gap += 1,
-                    (By::Window, Some((_, packets))) => met.by_window[packets] += 1,
-                    _ => {}
-                }
-            }
+/// Each accepted packet is eligible by the rule's words, and all connections are sound behind each
+/// record, also those that are closed.
+fn carry_out(told: &mut Told, record: Record, met: &mut Met) {
+    let clock = told.clock();
+    let expected = match record {
+        Record::Packet { connection, .. } => told.standing(connection).map(|line| {
+            let average = line.average();
+            (line.next(clock), average)
+        }),
+        _ => None,
+    };
+    let answer = told.carry_out(record);
+    if let (
+        Answer::Packet {
+            verdict: 0,
+            eligibility,
+        },
+        Some(((expected, by), average)),
+    ) = (answer, expected)
+    {
+        assert_eq!(eligibility, expected);
+        match (by, average) {
+            (By::Gap, _) => met.by_gap += 1,
+            (By::Window, Some((_, packets))) => met.by_window[packets] += 1,
             _ => {}
         }
     }
-
-    fn carry_out(&mut self, record: Record, met: &mut Met) {
-        let (mut last, mut departed) = (None, Vec::new());
-        let result: Result<(), ()> = self.job.carry_out(record, &mut |answer| {
-            match answer {
-                Answer::Departed(departure) => departed.push(departure),
-                _ => last = Some(answer),
-            }
-            Ok(())
-        });
-        assert_eq!(result, Ok(()));
-        for departure in departed {
-            if departure.connection != NOTICE_NUMBER {
-                let line = &mut self.lines[usize::from(departure.connection)];
-                assert_eq!(departure.eligibility, line.eligibilities[line.departed]);
-                line.departed += 1;
-            }
-        }
-        self.accept(record, last.expect("an answer"), met);
-        let clock = self.job.hub().clock();
-        for line in &self.lines {
-            assert!(line.is_sound(clock), "{:?} at {clock}", line.figures);
-            let held = line.eligibilities.len() - line.departed;
-            met.more_than_remembered += usize::from(held > REMEMBERED);
-        }
+    let clock = told.clock();
+    for (_, line) in told.owners() {
+        assert!(line.is_sound(clock), "{:?} at {clock}", line.figures);
+        met.more_than_remembered += usize::from(line.held() > REMEMBERED);
     }
+}
 
-    /// No stretch of the length of a bound, of a window or of about a window holds more packets
-    /// than are counted for it.
-    fn check_stretches(&self, met: &mut Met) {
-        let link = match self.job.hub().link() {
-            Ok(link) => link,
-            Err(_) => return,
-        };
-        for line in &self.lines {
-            let terms = Connection::new(link, line.figures).expect("it stands");
-            let mut stretches = link.bounds().to_vec();
-            if let Some((window, packets)) = line.average() {
-                let window = window as u16;
-                stretches.extend([window, window.saturating_add(1), window - 1, window / 2]);
-                met.full_windows += usize::from(line.most_within(u64::from(window)) == packets);
-            }
-            for ticks in stretches {
-                let most = line.most_within(u64::from(ticks)) as u64;
-                assert!(most <= terms.packets_within(ticks), "{terms:?} {ticks}");
-            }
+/// No stretch of the length of a bound, of a window or of about a window holds more packets than
+/// are counted for it.
+fn check_stretches(told: &Told, met: &mut Met) {
+    let link = match told.job.hub().link() {
+        Ok(link) => link,
+        Err(_) => return,
+    };
+    for line in &told.lines {
+        let terms = Connection::new(link, line.figures).expect("it was accepted");
+        let mut stretches = link.bounds().to_vec();
+        if let Some((window, packets)) = line.average() {
+            let window = window as u16;
+            stretches.extend([window, window.saturating_add(1), window - 1, window / 2]);
+            met.full_windows += usize::from(line.most_within(u64::from(window)) == packets);
+        }
+        for ticks in stretches {
+            let most = line.most_within(u64::from(ticks)) as u64;
+            assert!(most <= terms.packets_within(ticks), "{terms:?} {ticks}");
         }
     }
 }
 
 fn follow(trace: &[u8], met: &mut Met) {
-    let mut followed = Followed {
-        job: Job::new(Pace::Passing),
-        lines: Vec::new(),
-    };
-    let mut rest = trace;
-    while let Some((record, length)) = Record::read(rest) {
-        rest = &rest[length..];
-        followed.carry_out(record, met);
+    let mut told = Told::new();
+    for record in records(trace) {
+        carry_out(&mut told, record, met);
     }
-    followed.check_stretches(met);
+    check_stretches(&told, met);
 }
 
 #[test]

@@ -280,7 +280,7 @@ fn the_order_of_verdicts() {
     }
     assert_eq!(hub.admit(broken), BROKEN);
     let good = line(300, 300, 300);
-    assert_eq!(hub.admit(good), Err(Refusal::AllConnectionsStand));
+    assert_eq!(hub.admit(good), Err(Refusal::NoNumberFree));
 }
 
 #[test]

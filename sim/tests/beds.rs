@@ -24,7 +24,7 @@ fn line(gap: u16) -> Figures {
 /// The same admission so many times, which is accepted under the next numbers.
 fn admit_all(hub: &mut Hub, figures: Figures, count: usize) {
     for _ in 0..count {
-        let number = hub.connections().len() as u8;
+        let number = hub.standing().count() as u8;
         assert_eq!(hub.admit(figures), Ok(number));
     }
 }
@@ -37,7 +37,7 @@ fn run_until(hub: &mut Hub, clock: u64) -> Vec<Departure> {
     departed
 }
 
-const ALL_STAND: Result<u8, Refusal> = Err(Refusal::AllConnectionsStand);
+const ALL_STAND: Result<u8, Refusal> = Err(Refusal::NoNumberFree);
 const NO_PLACE: Result<u8, Refusal> = Err(Refusal::Reservations);
 const NOBODY: Result<u64, Refusal> = Err(Refusal::NoSuchConnection);
 const FULL: Result<u64, Refusal> = Err(Refusal::ReservationFull);

@@ -29,10 +29,10 @@ fn hub_after_p2() -> Hub {
 /// Sums of both levels over the standing connections and a newcomer.
 fn sums_with(hub: &Hub, level: u8, gap: u16, size: u16) -> (u64, u64) {
     let link = link_a();
-    let mut counted = hub.connections();
-    counted
-        .push(Connection::new(&link, Figures::plain(level, gap, size)).expect("within its limits"));
-    (level_sum(&link, &counted, 1), level_sum(&link, &counted, 2))
+    let newcomer = Connection::new(&link, Figures::plain(level, gap, size));
+    let newcomer = newcomer.expect("within its limits");
+    let sum = |level| level_sum(&link, hub.counted().chain([&newcomer]), level);
+    (sum(1), sum(2))
 }
 
 /// Verdict 8, with the level that is short and its units.
@@ -40,8 +40,9 @@ fn short(level: u8, units: u64) -> Result<u8, Refusal> {
     Err(Refusal::LevelTest(Shortage { level, units }))
 }
 
-fn reservation(hub: &Hub, connection: usize) -> u64 {
-    hub.connections()[connection].reservation(&link_a())
+fn reservation(hub: &Hub, number: u8) -> Option<u64> {
+    let connection = hub.connection(number)?;
+    Some(connection.reservation(&link_a()))
 }
 
 fn run(hub: &mut Hub, ticks: usize) -> Vec<Departure> {
@@ -54,7 +55,7 @@ fn p1_first_connection() {
     let mut hub = hub_a();
     assert_eq!(sums_with(&hub, 1, 10, 4), (8, 12));
     assert_eq!(hub.admit(Figures::plain(1, 10, 4)), Ok(0));
-    assert_eq!(reservation(&hub, 0), 1);
+    assert_eq!(reservation(&hub, 0), Some(1));
 }
 
 #[test]
@@ -70,7 +71,7 @@ fn p3_rounded_up() {
     let mut hub = hub_after_p2();
     assert_eq!(sums_with(&hub, 1, 9, 1), (10, 19));
     assert_eq!(hub.admit(Figures::plain(1, 9, 1)), Ok(2));
-    assert_eq!(reservation(&hub, 2), 2);
+    assert_eq!(reservation(&hub, 2), Some(2));
 }
 
 #[test]
@@ -96,7 +97,7 @@ fn p7_a_level_below_fails() {
     for number in 0..3 {
         assert_eq!(hub.admit(Figures::plain(2, 20, 4)), Ok(number));
     }
-    assert_eq!(level_sum(&link_a(), &hub.connections(), 2), 16);
+    assert_eq!(level_sum(&link_a(), hub.counted(), 2), 16);
     assert_eq!(sums_with(&hub, 1, 10, 4), (8, 24));
     assert_eq!(hub.admit(Figures::plain(1, 10, 4)), short(2, 4));
 }

@@ -35,6 +35,8 @@ fn both_paces_agree() {
         "noticeend",
         "silenceend",
         "averageend",
+        "closelimit",
+        "closeend",
     ];
     for kind in KINDS.iter().filter(|kind| !slow.contains(&kind.name)) {
         for seed in 0..SEEDS {
@@ -156,10 +158,35 @@ fn most_used(name: &str, seed: u64) -> (usize, usize) {
             Ok(())
         });
         assert_eq!(result, Ok(()));
-        most.0 = most.0.max(job.hub().connections().len());
+        most.0 = most.0.max(job.hub().standing().count());
         most.1 = most.1.max(held);
     }
     most
+}
+
+#[test]
+fn connections_are_closed_and_opened() {
+    let all = [
+        "closes",
+        "closesmall",
+        "closeturns",
+        "closecharges",
+        "closebeds",
+        "closereopened",
+    ];
+    for name in all {
+        assert!(total(name).departures > 300, "{name}");
+    }
+    for name in ["closes", "closesmall", "closeturns", "closecharges"] {
+        assert!(total(name).verdict(8) > 100, "{name}");
+    }
+    assert!(total("closesmall").verdict(16) > 50);
+    let refusals = total("closerefusals");
+    assert!(refusals.verdict(2) > 20 && refusals.verdict(10) > 100 && refusals.verdict(16) > 500);
+    let beds = total("closebeds");
+    assert!(beds.verdict(7) > 50 && beds.verdict(9) > 100);
+    let end = total("closeend");
+    assert!(end.verdict(10) > 50 && end.verdict(13) > 50 && end.verdict(16) > 50);
 }
 
 #[test]
@@ -170,4 +197,6 @@ fn damage_is_noticed() {
     assert_eq!(total("badrecord").verdict(14), SEEDS);
     assert!(total("noticedamage").verdict(14) > SEEDS / 2);
     assert!(total("badnotice").verdict(14) > SEEDS / 2);
+    assert!(total("closedamage").verdict(14) > SEEDS / 2);
+    assert!(total("badclose").verdict(14) > SEEDS / 2);
 }

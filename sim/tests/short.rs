@@ -1,13 +1,16 @@
 //! Which level was short, and by how much (docs/RULES-AFTER-BASE.md, section R-2).
 
+mod told;
+
 use std::collections::BTreeSet;
 
 use sim::hub::Hub;
 use sim::kinds::{Kind, KINDS};
 use sim::link::{Figures, Link};
 use sim::record::{Answer, Record};
-use sim::replay::{answers, Job, Pace};
+use sim::replay::{answers, Pace};
 use sim::verdict::{Refusal, Shortage};
+use told::{records, Told};
 
 const LINK_A: &[u8] = b"LK\x02\x04\x00\x00\x0A\x00\x14\x00";
 
@@ -167,7 +170,8 @@ fn the_most_units_that_an_admission_can_be_over() {
     assert_eq!(given, b"CA\x08\xFF\x01\x00\x88\xFF\x03");
 }
 
-/// What a `CN` met: the link, the connections counted, itself the last, and its answer.
+/// What a `CN` met: the link, the connections counted, closed ones that are charged among them,
+/// itself the last, and its answer.
 struct Met {
     link: Link,
     counted: Vec<Figures>,
@@ -177,27 +181,21 @@ struct Met {
 
 /// Every admission of a trace on a link that was set.
 fn admissions(trace: &[u8]) -> Vec<Met> {
-    let (mut job, mut all, mut rest) = (Job::new(Pace::Passing), Vec::new(), trace);
-    let mut standing = Vec::new();
-    while let Some((record, length)) = Record::read(rest) {
-        rest = &rest[length..];
-        let mut last = None;
-        let result: Result<(), ()> = job.carry_out(record, &mut |answer| {
-            last = Some(answer);
-            Ok(())
-        });
-        assert_eq!(result, Ok(()));
-        if let (
-            Record::Connection(figures),
-            Some(Answer::Connection { verdict, short, .. }),
-            Ok(link),
-        ) = (record, last, job.hub().link())
-        {
-            let mut counted = standing.clone();
-            counted.push(figures);
-            if verdict == 0 {
-                standing.clone_from(&counted);
+    let (mut told, mut all) = (Told::new(), Vec::new());
+    for record in records(trace) {
+        let figures = match record {
+            Record::Connection(figures) => figures,
+            _ => {
+                told.carry_out(record);
+                continue;
             }
+        };
+        let mut counted: Vec<Figures> = told.owners().map(|(_, line)| line.figures).collect();
+        counted.push(figures);
+        let answer = told.carry_out(record);
+        if let (Answer::Connection { verdict, short, .. }, Ok(link)) =
+            (answer, told.job.hub().link())
+        {
             all.push(Met {
                 link: *link,
                 counted,

@@ -34,8 +34,7 @@ impl Told {
             Record::Notice { length, tag } => (NOTICE_NUMBER, length, tag),
             _ => return,
         };
-        let connections = job.hub().connections();
-        let standing = connections.get(usize::from(connection));
+        let standing = job.hub().connection(connection);
         self.accepted.push(Accepted {
             level: standing.map_or(u8::MAX, |one| one.level()),
             length: u64::from(length),

@@ -278,8 +278,8 @@ fn check_bounds(trace: &[u8], kind: &str, seed: u64) {
         let of_levels = |departure: &Departure| departure.connection != NOTICE_NUMBER;
         for departure in departed.into_iter().filter(of_levels) {
             let link = job.hub().link().expect("a link");
-            let level = job.hub().connections()[usize::from(departure.connection)].level();
-            let bound = u64::from(link.bound(level));
+            let line = job.hub().connection(departure.connection);
+            let bound = u64::from(link.bound(line.expect("it stands").level()));
             let latest = departure.eligibility + bound;
             assert!(departure.finish <= latest, "{kind} {seed} {departure:?}");
         }
@@ -327,6 +327,16 @@ fn check_words(trace: &[u8], kind: &str, seed: u64) -> (usize, usize) {
             Ok(())
         });
         assert_eq!(result, Ok(()));
+        if let Some(Answer::Connection {
+            verdict: 0,
+            connection,
+            ..
+        }) = last_answer
+        {
+            // The new owner of a number has nothing to do with those before it.
+            offered[usize::from(connection)].clear();
+            keeps[usize::from(connection)] = true;
+        }
         let (connection, length) = match record {
             Record::Packet {
                 connection, length, ..
@@ -334,8 +344,8 @@ fn check_words(trace: &[u8], kind: &str, seed: u64) -> (usize, usize) {
             _ => continue,
         };
         let (line, clock) = (usize::from(connection), job.hub().clock());
-        let terms = match job.hub().connections().get(line).copied() {
-            Some(terms) => terms,
+        let terms = match job.hub().connection(connection) {
+            Some(terms) => *terms,
             None => continue,
         };
         if length == 0 || length > terms.size() || clock >= CLOCK_END {

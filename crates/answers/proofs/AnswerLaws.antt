@@ -8,11 +8,11 @@ use borrow.Author.Tests.{eqb-true}
 use lib.ListN.{getD}
 use Rattle.fields.specs.Numbers.{little, number, put-fields, get-fields, sum}
 use Rattle.fields.specs.Kinds.{bytes}
-use Rattle.answers.specs.Kinds.{LA, CA, PA, NA, DP, TA, ER}
+use Rattle.answers.specs.Kinds.{LA, CA, CD, PA, NA, DP, TA, ER}
 use Rattle.fields.specs.Formats.{starts, read-kinds, laid}
 use Rattle.answers.specs.Answers.{answers, answer-table, answer-layout, longest-answer}
 use Rattle.fields.specs.Laws.{Reads-back-what-is-written, Has-the-length-of}
-use Rattle.answers.specs.declared.Reply.the-variants.{Linked, Admitted, Offered, Noticed, Departed, Ticked, Broken, Malformed}
+use Rattle.answers.specs.declared.Reply.the-variants.{Linked, Admitted, Closed, Offered, Noticed, Departed, Ticked, Broken, Malformed}
 use Rattle.fields.proofs.NumberLaws.{one-byte}
 use Rattle.fields.proofs.MarkLaws.{distinct, absent}
 use Rattle.fields.proofs.WindowLaws.{All-within}
@@ -26,6 +26,7 @@ pub answer-back : Reads-back-what-is-written answers
 unfolding read-kinds starts laid bytes put-fields little
 answer-back (Linked verdict) rest w = kind-back LA (verdict ∷ []) rest _ refl w refl refl
 answer-back (Admitted verdict connection level units) rest w = kind-back CA (verdict ∷ connection ∷ level ∷ units ∷ []) rest _ refl w refl refl
+answer-back (Closed verdict) rest w = kind-back CD (verdict ∷ []) rest _ refl w refl refl
 answer-back (Offered verdict eligibility) rest w = kind-back PA (verdict ∷ eligibility ∷ []) rest _ refl w refl refl
 answer-back (Noticed verdict eligibility) rest w = kind-back NA (verdict ∷ eligibility ∷ []) rest _ refl w refl refl
 answer-back (Departed connection tag arrival eligibility finish) rest w =
@@ -41,17 +42,20 @@ answers-fair = (
   (
     plain-fair CA (two-letters 0x43 0x41 (omega arith) (omega arith)) (λ b c. refl) (λ bs a. refl),
     (
-      plain-fair PA (two-letters 0x50 0x41 (omega arith) (omega arith)) (λ b c. refl) (λ bs a. refl),
+      plain-fair CD (two-letters 0x43 0x44 (omega arith) (omega arith)) (λ b c. refl) (λ bs a. refl),
       (
-        plain-fair NA (two-letters 0x4E 0x41 (omega arith) (omega arith)) (λ b c. refl) (λ bs a. refl),
+        plain-fair PA (two-letters 0x50 0x41 (omega arith) (omega arith)) (λ b c. refl) (λ bs a. refl),
         (
-          plain-fair DP (two-letters 0x44 0x50 (omega arith) (omega arith)) (λ b c. refl) (λ bs a. refl),
+          plain-fair NA (two-letters 0x4E 0x41 (omega arith) (omega arith)) (λ b c. refl) (λ bs a. refl),
           (
-            plain-fair TA (two-letters 0x54 0x41 (omega arith) (omega arith)) (λ b c. refl) (λ bs a. refl),
+            plain-fair DP (two-letters 0x44 0x50 (omega arith) (omega arith)) (λ b c. refl) (λ bs a. refl),
             (
-              plain-fair ER (two-letters 0x45 0x52 (omega arith) (omega arith)) (λ b c. refl)
-                  (λ bs a. ap (λ v. some (ER, v ∷ number 4 bs 3 ∷ [])) (sym (one-byte bs 2 ∙ eqb-true (getD bs 2 0) 14 a))),
-              tt,
+              plain-fair TA (two-letters 0x54 0x41 (omega arith) (omega arith)) (λ b c. refl) (λ bs a. refl),
+              (
+                plain-fair ER (two-letters 0x45 0x52 (omega arith) (omega arith)) (λ b c. refl)
+                    (λ bs a. ap (λ v. some (ER, v ∷ number 4 bs 3 ∷ [])) (sym (one-byte bs 2 ∙ eqb-true (getD bs 2 0) 14 a))),
+                tt,
+              ),
             ),
           ),
         ),
@@ -64,6 +68,7 @@ pub answer-length : Has-the-length-of answers answer-table
 unfolding laid sum
 answer-length (Linked verdict) h = length-bytes LA (verdict ∷ [])
 answer-length (Admitted verdict connection level units) h = length-bytes CA (verdict ∷ connection ∷ level ∷ units ∷ [])
+answer-length (Closed verdict) h = length-bytes CD (verdict ∷ [])
 answer-length (Offered verdict eligibility) h = length-bytes PA (verdict ∷ eligibility ∷ [])
 answer-length (Noticed verdict eligibility) h = length-bytes NA (verdict ∷ eligibility ∷ [])
 answer-length (Departed connection tag arrival eligibility finish) h = length-bytes DP (connection ∷ tag ∷ arrival ∷ eligibility ∷ finish ∷ [])
@@ -86,7 +91,10 @@ answers-within = (
           λ b a. omega arith,
           (
             λ b a. omega arith,
-            (λ b a. omega arith, tt),
+            (
+              λ b a. omega arith,
+              (λ b a. omega arith, tt),
+            ),
           ),
         ),
       ),

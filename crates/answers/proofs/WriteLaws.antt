@@ -9,13 +9,14 @@ use Rattle.fields.specs.Numbers.{little, put-fields}
 use Rattle.fields.specs.Kinds.{bytes}
 use Rattle.fields.specs.Formats.{laid, fitting, over}
 use Rattle.answers.specs.declared.Reply.{Reply}
-use Rattle.answers.specs.declared.Reply.the-variants.{Linked, Admitted, Offered, Noticed, Departed, Ticked, Broken, Malformed}
+use Rattle.answers.specs.declared.Reply.the-variants.{Linked, Admitted, Closed, Offered, Noticed, Departed, Ticked, Broken, Malformed}
 use Rattle.answers.specs.Answers.{answer-bytes, answer-table, longest-answer}
 use Rattle.answers.proofs.Laws.{answers-have-lengths}
 
 table-short : (r : Reply) → answer-table r ≤ longest-answer
 table-short (Linked v) = omega arith
 table-short (Admitted v c l u) = omega arith
+table-short (Closed v) = omega arith
 table-short (Offered v e) = omega arith
 table-short (Noticed v e) = omega arith
 table-short (Departed c t a e f) = omega arith
@@ -50,6 +51,10 @@ linked-low v x e = rw (e, low-twice x)
 pub admitted-low : (v n l u x y z w : ℕ) → v ≡ x % 256 → n ≡ y % 256 → l ≡ z % 256 → u ≡ w → answer-bytes (Admitted v n l u) ≡ answer-bytes (Admitted x y z w)
 unfolding laid bytes put-fields little
 admitted-low v n l u x y z w e f g h = rw (e, f, g, h, low-twice x, low-twice y, low-twice z)
+
+pub closed-low : (v x : ℕ) → v ≡ x % 256 → answer-bytes (Closed v) ≡ answer-bytes (Closed x)
+unfolding laid bytes put-fields little
+closed-low v x e = rw (e, low-twice x)
 
 pub offered-low : (v n x y : ℕ) → v ≡ x % 256 → n ≡ y → answer-bytes (Offered v n) ≡ answer-bytes (Offered x y)
 unfolding laid bytes put-fields little

@@ -1,10 +1,10 @@
--- Document 01, "Trace and answer records": the answer kinds of its table, in its order; the one of document 02, R-1, behind `PA`; and `CA` as R-2 has it.
--- Each with the answer that its numbers make.
+-- Document 01, "Trace and answer records": the answer kinds of its table, in its order; those of document 02, R-8 behind `CA` and R-1 behind `PA`;
+-- and `CA` as R-2 has it. Each with the answer that its numbers make.
 use mathlib.Core.List.{[], _∷_}
 use lib.Dec.{eqb}
 use Rattle.fields.specs.Kinds.{Kind, plain}
 use Rattle.answers.specs.declared.Reply.{Reply}
-use Rattle.answers.specs.declared.Reply.the-variants.{Linked, Admitted, Offered, Noticed, Departed, Ticked, Broken}
+use Rattle.answers.specs.declared.Reply.the-variants.{Linked, Admitted, Closed, Offered, Noticed, Departed, Ticked, Broken}
 
 -- "verdict (1)"
 abbrev pub LA : Kind Reply
@@ -13,6 +13,10 @@ LA = plain (0x4C ∷ 0x41 ∷ []) (1 ∷ []) (λ x. Linked (x 0))
 -- "verdict (1), connection (1)"; document 02, R-2: "one byte of level and four of units"
 abbrev pub CA : Kind Reply
 CA = plain (0x43 ∷ 0x41 ∷ []) (1 ∷ 1 ∷ 1 ∷ 4 ∷ []) (λ x. Admitted (x 0) (x 1) (x 2) (x 3))
+
+-- document 02, R-8, as docs/RULES-AFTER-BASE.md lays it out: "verdict (1)"
+abbrev pub CD : Kind Reply
+CD = plain (0x43 ∷ 0x44 ∷ []) (1 ∷ []) (λ x. Closed (x 0))
 
 -- "verdict (1), eligibility (4)"
 abbrev pub PA : Kind Reply

@@ -1,4 +1,4 @@
-// The answer records of document 01, "Trace and answer records", and of document 02, R-1 and R-2: their kinds as values, read and written.
+// The answer records of document 01, "Trace and answer records", and of document 02, R-1, R-2 and R-8: their kinds as values, read and written.
 ghost use mathlib.Core.Path.{_≡_};
 ghost use mathlib.Core.Option.{none};
 ghost use Prim.Native.Nat.{_%_};
@@ -18,6 +18,8 @@ use fields::read::two;
 const LA: [u8; 2] = *b"LA";
 
 const CA: [u8; 2] = *b"CA";
+
+const CD: [u8; 2] = *b"CD";
 
 const PA: [u8; 2] = *b"PA";
 
@@ -42,6 +44,9 @@ pub enum Reply {
         connection: u8,
         level: u8,
         units: u32,
+    },
+    Closed {
+        verdict: u8,
     },
     Offered {
         verdict: u8,
@@ -106,6 +111,7 @@ fn mark_of(s: &[u8]) -> u16
     let mark = known(s, DP, mark);
     let mark = known(s, NA, mark);
     let mark = known(s, PA, mark);
+    let mark = known(s, CD, mark);
     let mark = known(s, CA, mark);
     known(s, LA, mark)
 }
@@ -148,7 +154,7 @@ fn read_departed(s: &[u8]) -> FoundReply
     whole_of(s, 19, departed)
 }
 
-// The answer that the bytes start with: the marks are LA, CA, PA, NA, DP, TA and ER as numbers.
+// The answer that the bytes start with: the marks are LA, CA, CD, PA, NA, DP, TA and ER as numbers.
 pub fn read(s: &[u8]) -> FoundReply
     ensures { λ r. ⌜ r ≡ read-answer (now (s .entry)) ⌝ }
 {
@@ -157,6 +163,7 @@ pub fn read(s: &[u8]) -> FoundReply
     match mark {
         0x414C => whole_of(s, 3, Reply::Linked { verdict: verdict }),
         0x4143 => read_admitted(s),
+        0x4443 => whole_of(s, 3, Reply::Closed { verdict: verdict }),
         0x4150 => {
             let offered = Reply::Offered {
                 verdict: verdict,
@@ -210,6 +217,7 @@ fn draft(r: Reply) -> Draft
             .one(connection)
             .one(level)
             .four(units),
+        Reply::Closed { verdict } => Draft::headed(CD, verdict),
         Reply::Offered {
             verdict,
             eligibility,

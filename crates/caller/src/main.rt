@@ -1,5 +1,5 @@
-// A caller of the hub, to read and to copy: a link, two lines, six offers and a notice, 22 ticks. It prints each answer and each departure; its README.md works
-// out by hand what they must be. docs/CALLERS.md has every type and every call.
+// A caller of the hub, to read and to copy: a link, three lines, seven offers and a notice, a close, 55 ticks. It prints each answer and each departure; its
+// README.md works out by hand what they must be. docs/CALLERS.md has every type and every call.
 use libc::STDOUT_FILENO;
 use rules::Connection;
 use rules::Link;
@@ -49,7 +49,7 @@ fn show(call: &[u8], r: Told) -> Hub {
 // So many ticks, one call each. A tick answers with at most one packet, and is refused only where no link is set or the clock has ended.
 fn ticks(
     before: Hub,
-    members: &Connections,
+    members: &mut Connections,
     places: &mut Places,
     notices: &mut Notices,
     n: u32,
@@ -70,20 +70,19 @@ fn ticks(
 // A link, and lines that ask to be admitted. A line says its level, the gap that it keeps between packets and their largest size; one that sends in bursts also
 // an averaging window and an average gap, and no window has more packets than that gap goes into it; for the others both are 0. The number that a line is given
 // names it in its offers.
-fn open(fresh: Hub, members: &mut Connections, places: &Places, notices: &Notices) -> Hub {
+fn open(
+    fresh: Hub,
+    members: &mut Connections,
+    places: &Places,
+    notices: &Notices,
+    urgent: Connection,
+) -> Hub {
     // packets of up to 4 units, a tick of silence after each; bound 10 for level 1, which is the most urgent, 40 for level 2, and 0 past the levels
     let line = Link {
         levels: 2,
         largest: 4,
         silence: 1,
         bounds: [10, 40, 0, 0, 0, 0, 0, 0],
-    };
-    let urgent = Connection {
-        level: 1,
-        gap: 10,
-        size: 4,
-        window: 0,
-        average: 0,
     };
     // two packets in each 20 ticks, which may follow each other after 2
     let camera = Connection {
@@ -116,12 +115,37 @@ fn send(opened: Hub, members: &mut Connections, places: &mut Places, notices: &m
     ticks(h, members, places, notices, 14)
 }
 
+// A bed is emptied, and its line is closed. What it has sent counts on until the clock reaches its last eligibility plus the largest bound; the tick that
+// reaches it frees the number, and the next line that is admitted gets the lowest free one and starts fresh.
+fn reopen(
+    sent: Hub,
+    members: &mut Connections,
+    places: &mut Places,
+    notices: &mut Notices,
+    urgent: Connection,
+) -> Hub {
+    let h = show(b"close", hub::close(sent, members, places, notices, 0));
+    let h = show(b"admit", hub::admit(h, members, places, notices, urgent));
+    let h = ticks(h, members, places, notices, 29);
+    let h = show(b"admit", hub::admit(h, members, places, notices, urgent));
+    let h = show(b"offer", hub::offer(h, members, places, notices, 0, 4, 93));
+    ticks(h, members, places, notices, 4)
+}
+
 fn main() {
     let mut members: Connections = [0; hub::CONNECTIONS];
     let mut places: Places = [0; hub::PLACES];
     let mut notices: Notices = [0; hub::NOTICES];
-    let h = open(hub::fresh_hub(), &mut members, &places, &notices);
+    let urgent = Connection {
+        level: 1,
+        gap: 10,
+        size: 4,
+        window: 0,
+        average: 0,
+    };
+    let h = open(hub::fresh_hub(), &mut members, &places, &notices, urgent);
     let h = send(h, &mut members, &mut places, &mut notices);
+    let h = reopen(h, &mut members, &mut places, &mut notices, urgent);
     write(b"clock: ", h.clock as u64);
     io::write_all(STDOUT_FILENO, b"\n");
 }

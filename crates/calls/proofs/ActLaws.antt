@@ -1,42 +1,51 @@
 -- How a refusal and each call done meet the contract, on a sound hub.
 use Prim.Native.Nat.{ℕ, _+_, _*_, _-_, _≤_, _<_}
+use mathlib.Core.Logic.{⊎-elim}
 use native.Mathlib.Omega.{arith}
-use mathlib.Core.Path.{_≡_, refl, sym, ap, _∙_}
+use mathlib.Core.Path.{_≡_, refl, sym, ap, _∙_, subst}
 use mathlib.Core.Bool.{Bool, true, false, cond, not}
 use mathlib.Core.List.{List, [], _∷_, _++_}
 use lib.Dec.{eqb}
-use lib.ListN.{length, getD, set, drop, length-append, length-map}
-use lib.Seq.{getD-append-seam, drop-length}
+use lib.ListN.{length, getD, set, drop, length-append, length-map, length-set, List·getD-eq-default}
+use lib.Seq.{drop-length, getD-set-same, getD-set-other}
 use Rattle.rules.specs.declared.Link.{Link}
 use Rattle.rules.specs.declared.Connection.{Connection}
 use Rattle.rules.specs.declared.Packet.{Packet}
 use Rattle.rules.specs.declared.Short.{Short}
-use Rattle.rules.specs.Words.{sum}
+use Rattle.rules.specs.Words.{All}
 use Rattle.rules.specs.Limits.{max-connections, clock-end, beyond-32-bits, notice-number}
-use Rattle.rules.specs.Model.{Past, Call, link, admit, offer, notice, tick, no-short, no-past, nth, past, figures, notice-packet}
-use Rattle.rules.specs.Admission.{reservation, reserved}
-use Rattle.rules.specs.Service.{next-eligibility, remember, of, ticked}
-use Rattle.rules.specs.Calls.{verdict, refused-number, refused-short, eligibility-now, placed}
+use Rattle.rules.specs.Model.{Past, State, Call, link, admit, offer, notice, close, tick, no-short, no-connection, no-past, past, figures, closed-at, notice-packet}
+use Rattle.rules.specs.Admission.{owned, free-number, joining, largest-bound}
+use Rattle.rules.specs.Service.{next-eligibility, remember, of, ticked, charge-over, expired, swept-connections, swept-pasts, swept-marks}
+use Rattle.rules.specs.SoundState.{Free-number}
+use Rattle.rules.specs.Calls.{verdict, refused-number, refused-short, eligibility-now, placed, marked}
 use Rattle.rules.proofs.Rows.{map-append}
-use Rattle.rules.proofs.Sums.{sum-eq}
-use Rattle.rules.proofs.Standing.{nth-old, stands-below}
+use Rattle.rules.proofs.Lists.{list-eq}
+use Rattle.rules.proofs.Sums.{split, same}
+use Rattle.rules.proofs.Tests.{never}
+use Rattle.rules.proofs.Figures.{link-facts, connection-facts, cost-pos}
+use Rattle.rules.proofs.Standing.{level-free, stands-open, stands-below, free-is, charged-unexpired, unexpired-charged, expired-same, swept-length, swept-pasts-length, swept-marks-length, kept-figures, kept-past, kept-closed, freed-figures, freed-past, freed-closed, connections-stay, pasts-stay, marks-stay}
+use Rattle.rules.proofs.Closing.{expired-yes}
 use Rattle.rules.proofs.Line.{tick-leaves}
-use Rattle.rules.proofs.Bounds.{rows-fit-places, eligibilities-fit-32}
+use Rattle.rules.proofs.Bounds.{rows-fit-places, eligibilities-fit-32, charges-fit-32}
 use Rattle.rules.proofs.SoundKept.{done-sound}
-use Rattle.rules.proofs.Verdicts.{admit-done, Offer-done, offer-done, notice-done}
+use Rattle.rules.proofs.Verdicts.{admit-done, Offer-done, offer-done, notice-done, Close-done, close-done}
 use Rattle.tables.specs.Places.{places-length, rows, written-places, table-of, no-packet}
 use Rattle.tables.specs.Notices.{notices-length, notice-of, notices-in}
 use Rattle.tables.proofs.NoticeLaws.{notice-rows}
 use Rattle.connections.specs.declared.Member.{Member}
-use Rattle.connections.specs.Members.{member-in, members-in, connections-in, pasts-in, connection-of, past-of, written-members}
-use Rattle.connections.proofs.MemberLaws.{connections-length}
+use Rattle.connections.specs.Members.{member-in, connections-in, pasts-in, closed-in, connection-of, past-of, last-of, used-by, used-in, first-in, written-table, written-members}
+use Rattle.connections.specs.Closing.{Closed-in-order, Swept}
+use Rattle.connections.proofs.MemberLaws.{connections-length, pasts-length, closed-length}
+use Rattle.connections.proofs.WrittenLaws.{members-rows, used-is, first-is}
+use Rattle.connections.proofs.OwnerLaws.{first-same}
 use Rattle.connections.proofs.RegulatorLaws.{Member-facts, member-facts}
-use Rattle.connections.proofs.FigureLaws.{sum-more}
 use Rattle.state.specs.declared.Hub.{Hub}
 use Rattle.state.specs.declared.Told.{Told}
 use Rattle.state.specs.View.{Tables, tables, view, written, sound-hub}
 use Rattle.state.specs.Told.{refusal}
 use Rattle.state.specs.Does.{Does}
+use Rattle.state.proofs.SoundLaws as S
 use Rattle.state.proofs.SoundLaws.{shapes, formed-tables, is-sound, members-kept, places-kept, notices-kept, tables-kept, notices-size, line-holds, others, figures-in-limits}
 use Rattle.state.proofs.DoesLaws.{refuses, acts}
 use Rattle.service.specs.Ready.{Ready}
@@ -67,17 +76,57 @@ module _ (h : Hub) (t : Tables) (ok : sound-hub h t ≡ true) where
       let f = shapes t (formed-tables h t ok) in
       ready h (t .members) (t .places) (t .notices) (f .places-shape) (f .notices-shape) (others h t ok n) (line-holds h t ok n) r
 
-  pub tick-acts : (r : Told) (p n : List ℕ) → verdict tick (view h t) ≡ 0 → Gives (ticked (view h t)) r p n → Does tick h t r (tables (t .members) p n)
-  tick-acts r p n e g =
+  -- what is closed has an owner that has sent
+  module _ (n : h .link .levels ≡ 0 → ⊥) where
+    some-bound : 1 ≤ largest-bound (h .link)
+    some-bound = let f = link-facts (h .link) (S.linked h t ok n .link-in) in omega (arith, f .largest-le (h .link .levels) (f .some-level) (omega arith), cost-pos (h .link) (h .link .largest) (f .some-largest))
+
+    closed-below : (c : ℕ) → closed-at (view h t) c ≡ true → c < max-connections
+    closed-below c e =
+        ⊎-elim (λ l. never (sym (List·getD-eq-default (closed-in (t .members)) false {n = c} (omega (arith, closed-length (t .members)))) ∙ e)) (λ l. l) (split max-connections c)
+
+    sent : (c : ℕ) → closed-at (view h t) c ≡ true → 1 ≤ length (past (view h t) c)
+    sent c e = go (past (view h t) c) (unexpired-charged (view h t) c (S.charged h t ok n c (closed-below c e)) e)
+      where
+        go : (q : Past) → charge-over (largest-bound (h .link)) (h .clock) q ≡ false → 1 ≤ length q
+        go [] x = never (sym x)
+        go (a ∷ q) x = omega arith
+
+    pub last-fits : (c : ℕ) → last-of (past (view h t) c) + 1 < beyond-32-bits
+    last-fits c = go (past (view h t) c) (charges-fit-32 (view h t) (is-sound h t ok) c)
+      where
+        go : (q : Past) → All (λ e. e + largest-bound (h .link) < beyond-32-bits) q → last-of q + 1 < beyond-32-bits
+        go [] x = omega arith
+        go (a ∷ q) x = omega (arith, x .0, some-bound)
+
+    pub closed-order : Closed-in-order (t .members)
+    closed-order = record { closed-owned = has-owner; closed-sent = sent; closed-fits = λ c e. last-fits c }
+      where
+        has-owner : (c : ℕ) → closed-at (view h t) c ≡ true → owned (connections-in (t .members)) c ≡ true
+        has-owner c e = go (owned (connections-in (t .members)) c) refl
+          where
+            go : (b : Bool) → owned (connections-in (t .members)) c ≡ b → owned (connections-in (t .members)) c ≡ true
+            go true o = o
+            go false o = never (sym (S.linked h t ok n .free-blank c (closed-below c e) o .not-closed) ∙ e)
+
+  pub tick-acts : (r : Told) (m p n : List ℕ) (b : ℕ) → verdict tick (view h t) ≡ 0 → Gives (ticked (view h t)) r p n
+      → b ≡ largest-bound (h .link) → Swept (t .members) b (r .hub .clock) m → Does tick h t r (tables m p n)
+  tick-acts r m p n b e g f w =
       let l = tick-leaves (view h t) in
-      let m : t .members ≡ written (ticked (view h t) .next) .members
-      = members-kept h t ok ∙ ap (λ (xs : List Connection). written-members xs (pasts-in (t .members))) (sym (l .connections)) ∙ ap (written-members (ticked (view h t) .next .connections)) (sym (l .pasts)) in
-      acts tick h t ok r (tables (t .members) p n) e (g .0) (λ i. tables (m i) (g .1 i) (g .2 i))
+      let k = w (ticked (view h t) .next)
+      (record {
+        connections-are = l .connections;
+        pasts-are = l .pasts;
+        marks-are = l .closed;
+        bound-is = ap largest-bound (l .link) ∙ sym f;
+        clock-is = sym (ap (λ (d : Told). d .hub .clock) (g .0));
+      }) in
+      acts tick h t ok r (tables m p n) e (g .0) (λ i. tables (k i) (g .1 i) (g .2 i))
 
 -- ---- an admission
 
-pub admit-room : (h : Hub) (t : Tables) (x : Connection) (n : ℕ) → verdict (admit x) (view h t) ≡ 0 → n ≡ length (members-in (t .members)) → n < max-connections
-admit-room h t x n e f = omega (arith, admit-done (view h t) x e .few, connections-length (t .members))
+pub admit-room : (h : Hub) (t : Tables) (x : Connection) (c : ℕ) → verdict (admit x) (view h t) ≡ 0 → c ≡ free-number (connections-in (t .members)) → c < max-connections
+admit-room h t x c e f = omega (arith, admit-done (view h t) x e .free)
 
 module _ (h : Hub) (t : Tables) (ok : sound-hub h t ≡ true) (x : Connection) where
   -- refused as it was ruled
@@ -91,22 +140,22 @@ module _ (h : Hub) (t : Tables) (ok : sound-hub h t ≡ true) (x : Connection) w
       refuses (admit x) h t ok (v .verdict) (v .verdict - 1) 255 _ (sym i) (omega (arith, n)) refl
       (λ k. record { verdict = v .verdict; number = 255; short = j k; gone = false; packet = f k; hub = h })
 
-  -- done: a row for the newcomer
-  pub admit-acts : (r : Told) (n : ℕ) (m : List ℕ) → verdict (admit x) (view h t) ≡ 0 → n ≡ length (members-in (t .members)) → r ≡ refusal h 0 n
-      → m ≡ written-members (connections-in (t .members) ++ x ∷ []) (pasts-in (t .members) ++ no-past ∷ [])
+  -- done: the newcomer at the lowest free number, of which nothing is left
+  pub admit-acts : (r : Told) (c : ℕ) (m : List ℕ) → verdict (admit x) (view h t) ≡ 0 → c ≡ free-number (connections-in (t .members)) → r ≡ refusal h 0 c
+      → m ≡ written-members (joining (connections-in (t .members)) x) (pasts-in (t .members)) (closed-in (t .members))
       → Does (admit x) h t r (tables m (t .places) (t .notices))
-  admit-acts r n m e f g i =
-      acts (admit x) h t ok r (tables m (t .places) (t .notices)) e
-      (g ∙ ap (refusal h 0) (f ∙ sym (connections-length (t .members))))
-      (λ k. tables (i k) (places-kept h t ok k) (notices-kept h t ok k))
+  admit-acts r c m e f g i =
+      acts (admit x) h t ok r (tables m (t .places) (t .notices)) e (g ∙ ap (refusal h 0) f) (λ k. tables (i k) (places-kept h t ok k) (notices-kept h t ok k))
 
--- reservations with a newcomer
-pub reserved-newcomer : (l : Link) (cs : List Connection) (x : Connection) (a b : ℕ) → a ≡ reserved l cs → b ≡ reservation l x → a + b ≡ reserved l (cs ++ x ∷ [])
-reserved-newcomer l cs x a b e f =
-    sum-more (length cs) a b (λ (c : ℕ). reservation l (nth (cs ++ x ∷ []) c))
-    (e ∙ sum-eq (length cs) (λ c k. ap (reservation l) (sym (nth-old cs x c k))))
-    (f ∙ ap (reservation l) (sym (getD-append-seam cs x [] _)))
-    ∙ ap (λ (k : ℕ). sum k (λ (c : ℕ). reservation l (nth (cs ++ x ∷ []) c))) (sym (length-append cs (x ∷ [])))
+  pub admit-blank : verdict (admit x) (view h t) ≡ 0 → (c : ℕ) → c ≡ free-number (connections-in (t .members)) → Free-number (view h t) c
+  admit-blank e c f =
+      let D = admit-done (view h t) x e in
+      let l : free-number (connections-in (t .members)) < length (connections-in (t .members)) = omega (arith, D .free, connections-length (t .members)) in
+      subst (Free-number (view h t)) (sym f)
+      (S.linked h t ok (D .set) .free-blank _ (D .free) (level-free (connections-in (t .members)) _ (free-is (connections-in (t .members)) l)))
+
+  pub admit-level : verdict (admit x) (view h t) ≡ 0 → 1 ≤ x .level
+  admit-level e = let D = admit-done (view h t) x e in connection-facts (h .link) x (D .level-in) (D .figures-in) .low-level
 
 -- ---- an offer
 
@@ -132,8 +181,8 @@ module _ (h : Hub) (t : Tables) (ok : sound-hub h t ≡ true) (c len tag : ℕ) 
   did : Offer-done (view h t) c len
   did = offer-done (view h t) c len tag good
 
-  pub offer-below : c < length (members-in (t .members))
-  offer-below = omega (arith, stands-below (connections-in (t .members)) c (did .standing), connections-length (t .members))
+  pub offer-below : c < max-connections
+  offer-below = omega (arith, stands-below (view h t) c (did .standing), connections-length (t .members))
 
   -- the places are enough for one more
   pub offer-room : 5 * length (rows (t .places)) + 5 ≤ places-length
@@ -145,8 +194,8 @@ module _ (h : Hub) (t : Tables) (ok : sound-hub h t ≡ true) (c len tag : ℕ) 
       )
 
   -- the eligibility of the row read
-  pub offer-reads : (m : Member) → m ≡ member-in (t .members) c → Member-facts (h .link) (t .members) c m
-  offer-reads m e = member-facts (h .link) (t .members) c m (shapes t (formed-tables h t ok) .members-shape) offer-below (figures-in-limits h t ok (did .set)) e
+  pub offer-reads : (m : Member) → m ≡ member-in (t .members) c → Member-facts (t .members) c m
+  offer-reads m e = member-facts (h .link) (t .members) c m (members-rows (t .members) (shapes t (formed-tables h t ok) .members-shape)) offer-below (figures-in-limits h t ok (did .set)) e
 
   pub offer-eligibility : (m : Member) (e : ℕ) → m ≡ member-in (t .members) c → e ≡ next-eligibility (connection-of m) (past-of m) (h .clock) → e ≡ eligibility-now (view h t) c
   offer-eligibility m e i j =
@@ -158,11 +207,17 @@ module _ (h : Hub) (t : Tables) (ok : sound-hub h t ≡ true) (c len tag : ℕ) 
   offer-fits = eligibilities-fit-32 (view h t) (is-sound h t ok) .1 c .1
 
   pub offer-acts : (r : Told) (e : ℕ) (m p : List ℕ) → e ≡ eligibility-now (view h t) c → r ≡ refusal h 0 e
-      → m ≡ written-members (connections-in (t .members)) (set (pasts-in (t .members)) c (remember (past (view h t) c) e))
+      → m ≡ written-table (connections-in (t .members)) (set (pasts-in (t .members)) c (remember (past (view h t) c) e)) (closed-in (t .members)) (used-in (t .members)) (first-in (t .members))
       → p ≡ written-places (rows (t .places) ++ record { connection = c; len = len; tag = tag; arrival = h .clock; eligibility = e } ∷ [])
       → Does (offer c len tag) h t r (tables m p (t .notices))
   offer-acts r e m p i j k l =
-      let m′ = k ∙ ap (λ (u : ℕ). written-members (connections-in (t .members)) (set (pasts-in (t .members)) c (remember (past (view h t) c) u))) i in
+      let f = shapes t (formed-tables h t ok) .members-shape in
+      let hs : ℕ → List Past = λ u. set (pasts-in (t .members)) c (remember (past (view h t) c) u) in
+      let m′ = k
+      ∙ ap (λ (u : ℕ). written-table (connections-in (t .members)) (hs u) (closed-in (t .members)) (used-in (t .members)) (first-in (t .members))) i
+      ∙ ap (λ (u : ℕ). written-table (connections-in (t .members)) (hs (eligibility-now (view h t) c)) (closed-in (t .members)) u (first-in (t .members))) (used-is (t .members) f)
+      ∙ ap (written-table (connections-in (t .members)) (hs (eligibility-now (view h t) c)) (closed-in (t .members)) (used-by (connections-in (t .members))))
+      (first-is (t .members) f ∙ sym (first-same (pasts-in (t .members)) (closed-in (t .members)) c (remember (past (view h t) c) (eligibility-now (view h t) c)) (stands-open (view h t) c (did .standing)))) in
       let p′ = l ∙ ap (λ (u : ℕ). written-places (rows (t .places) ++ record { connection = c; len = len; tag = tag; arrival = h .clock; eligibility = u } ∷ [])) i in
       acts (offer c len tag) h t ok r (tables m p (t .notices)) good (j ∙ ap (refusal h 0) i) (λ n. tables (m′ n) (p′ n) (notices-kept h t ok n))
 
@@ -184,3 +239,86 @@ module _ (h : Hub) (t : Tables) (ok : sound-hub h t ≡ true) (len tag : ℕ) (g
       ∙ ap (λ (ps : List Packet). table-of notices-length (ps ++ note ∷ [])) (sym (notice-rows (t .notices) (shapes t (formed-tables h t ok) .notices-shape)))
       ∙ ap (table-of notices-length) (sym (map-append notice-packet (notices-in (t .notices)) (record { len = len; tag = tag; arrival = h .clock } ∷ []))) in
       acts (notice len tag) h t ok r (tables (t .members) (t .places) q) good j (λ i. tables (members-kept h t ok i) (places-kept h t ok i) (k i))
+
+-- ---- a close
+
+module _ (h : Hub) (t : Tables) (ok : sound-hub h t ≡ true) (c : ℕ) (good : verdict (close c) (view h t) ≡ 0) where
+  closing : Close-done (view h t) c
+  closing = close-done (view h t) c good
+
+  pub close-below : c < max-connections
+  close-below = omega (arith, stands-below (view h t) c (closing .standing), connections-length (t .members))
+
+  pub close-open : closed-at (view h t) c ≡ false
+  close-open = stands-open (view h t) c (closing .standing)
+
+  pub close-fits : last-of (past (view h t) c) + 1 < beyond-32-bits
+  close-fits = last-fits h t ok (closing .set) c
+
+  pub close-reads : (m : Member) → m ≡ member-in (t .members) c → Member-facts (t .members) c m
+  close-reads m e = member-facts (h .link) (t .members) c m (members-rows (t .members) (shapes t (formed-tables h t ok) .members-shape)) close-below (figures-in-limits h t ok (closing .set)) e
+
+  -- nobody but c can be freed by it
+  abbrev s : State
+  s = view h t
+
+  abbrev r : State
+  r = marked (view h t) c
+
+  others-stay : (i : ℕ) → i < max-connections → (i ≡ c → ⊥) → expired r i ≡ false
+  others-stay i l n =
+      expired-same s r i (getD-set-other (s .closed) c i true false (λ e. n e)) refl refl refl ∙ S.charged h t ok (closing .set) i l
+
+  marked-now : closed-at r c ≡ true
+  marked-now = getD-set-same (s .closed) c true false (omega (arith, close-below, closed-length (t .members)))
+
+  long : length (r .closed) ≡ max-connections
+  long = length-set (s .closed) c true ∙ closed-length (t .members)
+
+  -- its charge is not over: it is charged
+  pub close-charges : (d : Told) (m : List ℕ) → charge-over (largest-bound (h .link)) (h .clock) (past s c) ≡ false → d ≡ refusal h 0 0
+      → m ≡ written-members (connections-in (t .members)) (pasts-in (t .members)) (set (closed-in (t .members)) c true)
+      → Does (close c) h t d (tables m (t .places) (t .notices))
+  close-charges d m e f g =
+      let a = connections-stay r (connections-length (t .members)) (pasts-length (t .members)) long none in
+      let b = pasts-stay r (connections-length (t .members)) (pasts-length (t .members)) long none in
+      let k = marks-stay r (connections-length (t .members)) (pasts-length (t .members)) long none in
+      acts (close c) h t ok d (tables m (t .places) (t .notices)) good f
+      (λ i. tables ((g ∙ (λ j. written-members (sym a j) (sym b j) (sym k j))) i) (places-kept h t ok i) (notices-kept h t ok i))
+    where
+      none : (i : ℕ) → i < max-connections → expired r i ≡ false
+      none i l = ⊎-elim (λ q. subst (λ (j : ℕ). expired r j ≡ false) (sym q) (charged-unexpired r c e)) (others-stay i l) (same i c)
+
+  -- its charge is over: it is freed
+  pub close-frees : (d : Told) (m : List ℕ) → charge-over (largest-bound (h .link)) (h .clock) (past s c) ≡ true → d ≡ refusal h 0 0
+      → m ≡ written-members (set (connections-in (t .members)) c no-connection) (set (pasts-in (t .members)) c no-past) (closed-in (t .members))
+      → Does (close c) h t d (tables m (t .places) (t .notices))
+  close-frees d m e f g =
+      let a = freed-list (swept-connections r) no-connection (connections-in (t .members)) no-connection (swept-length r) (connections-length (t .members)) (λ l. freed-figures r c l gone) (λ i l n. kept-figures r i l (others-stay i l n)) in
+      let b = freed-list (swept-pasts r) no-past (pasts-in (t .members)) no-past (swept-pasts-length r) (pasts-length (t .members)) (λ l. freed-past r c l gone) (λ i l n. kept-past r i l (others-stay i l n)) in
+      let k = freed-list (swept-marks r) false (closed-in (t .members)) false (swept-marks-length r) (closed-length (t .members)) (λ l. freed-closed r c l gone) (λ i l n. kept-closed r i l (others-stay i l n) ∙ getD-set-other (s .closed) c i true false (λ q. n q)) in
+      acts (close c) h t ok d (tables m (t .places) (t .notices)) good f
+      (λ i. tables ((g ∙ (λ j. written-members (sym a j) (sym b j) (same-marks j)) ∙ ap (written-members (swept-connections r) (swept-pasts r)) (sym k)) i) (places-kept h t ok i) (notices-kept h t ok i))
+    where
+      gone : expired r c ≡ true
+      gone = expired-yes r c marked-now e
+
+      -- a list of all numbers that has x at c, and else what another has
+      freed-list : {A : Type 0} (xs : List A) (x : A) (ys : List A) (d : A) → length xs ≡ max-connections → length ys ≡ max-connections
+          → (c < max-connections → getD xs c d ≡ x) → ((i : ℕ) → i < max-connections → (i ≡ c → ⊥) → getD xs i d ≡ getD ys i d) → xs ≡ set ys c x
+      freed-list xs x ys d lx ly here there =
+          list-eq xs (set ys c x) d (lx ∙ sym (length-set ys c x ∙ ly))
+          (λ i l.
+          ⊎-elim
+          (λ q. ap (λ (j : ℕ). getD xs j d) q ∙ here close-below ∙ sym (ap (λ (j : ℕ). getD (set ys c x) j d) q ∙ getD-set-same ys c x d (omega (arith, close-below, ly))))
+          (λ n. there i (omega (arith, lx)) n ∙ sym (getD-set-other ys c i x d (λ q. n q)))
+          (same i c))
+
+      same-marks : closed-in (t .members) ≡ set (closed-in (t .members)) c false
+      same-marks =
+          list-eq (closed-in (t .members)) (set (closed-in (t .members)) c false) false (sym (length-set (closed-in (t .members)) c false))
+          (λ i l.
+          ⊎-elim
+          (λ q. ap (λ (j : ℕ). getD (closed-in (t .members)) j false) q ∙ close-open ∙ sym (ap (λ (j : ℕ). getD (set (closed-in (t .members)) c false) j false) q ∙ getD-set-same (closed-in (t .members)) c false false (omega (arith, close-below, closed-length (t .members)))))
+          (λ n. sym (getD-set-other (closed-in (t .members)) c i false false (λ q. n q)))
+          (same i c))

@@ -1,5 +1,5 @@
 -- The verdict of a call on a sound state: the first number of its causes; the rows in front of its table decided first, and then the others.
-use Prim.Native.Nat.{ℕ, _≤_, _<_}
+use Prim.Native.Nat.{ℕ, _+_, _≤_, _<_}
 use native.Mathlib.Omega.{arith}
 use mathlib.Core.Path.{_≡_, refl, sym, ap, _∙_, subst}
 use mathlib.Core.Logic.{_⊎_, inl, inr}
@@ -7,30 +7,31 @@ use mathlib.Core.Bool.{Bool, true, false, cond, not}
 use mathlib.Core.List.{List, [], _∷_, _++_}
 use lib.Dec.{leb, ltb, eqb}
 use lib.ListN.{length}
-use borrow.Author.Tests.{eq-eqb, ne-eqb, lt-ltb, le-ltb, not-false}
+use borrow.Author.Tests.{eq-eqb, ne-eqb, lt-ltb, le-ltb, leb-false, not-false}
+use Rattle.rules.specs.declared.Link.{Link}
 use Rattle.rules.specs.declared.Connection.{Connection}
 use Rattle.rules.specs.declared.Short.{Short}
 use Rattle.rules.specs.Words.{All, within, first-number}
 use Rattle.rules.specs.Limits.{max-largest, max-connections, max-reserved}
-use Rattle.rules.specs.Model.{State, Call, admit, offer, no-short, nth, figures}
-use Rattle.rules.specs.Admission.{stands, reservation, reserved, level-test, passes}
+use Rattle.rules.specs.Model.{State, Call, admit, offer, close, no-short, no-connection, nth, figures}
+use Rattle.rules.specs.Admission.{level-within, stands, free-number, joining, reservation, reserved, level-test, passes}
 use Rattle.rules.specs.Service.{of}
 use Rattle.rules.specs.SoundTest.{sound}
-use Rattle.rules.specs.Calls.{no-link-set, clock-ended, causes, verdicts, verdict, refused-short}
-use Rattle.rules.proofs.Tests.{passed, never, never-number, within-intro}
+use Rattle.rules.specs.Calls.{no-link-set, no-such-connection, clock-ended, causes, verdicts, verdict, refused-short}
+use Rattle.rules.proofs.Tests.{passed, never, never-number, within-intro, within-true}
 use Rattle.rules.proofs.Sums.{cond-is, split}
-use Rattle.rules.proofs.Standing.{stands-below}
+use Rattle.rules.proofs.Standing.{owned-level, level-free, stands-owned, free-is}
 use Rattle.rules.proofs.Results.{level-test-tells}
 use Rattle.limits.proofs.ChainLaws.{too-low, too-high}
 use Rattle.tables.specs.Places.{rows}
-use Rattle.connections.specs.Members.{members-in, None-free, connections-in}
-use Rattle.connections.specs.Within.{Within}
-use Rattle.connections.proofs.MemberLaws.{connections-length, connection-none}
-use Rattle.connections.proofs.FigureLaws.{link-limits, figure-limits}
+use Rattle.connections.specs.Members.{connections-in}
+use Rattle.connections.specs.Within.{Within, Sums-with}
+use Rattle.connections.proofs.MemberLaws.{connections-length}
+use Rattle.connections.proofs.FigureLaws.{link-limits, figure-limits, sums-joining, reserved-joining}
 use Rattle.state.specs.declared.Hub.{Hub}
 use Rattle.state.specs.View.{Tables, view, sound-hub}
-use Rattle.state.proofs.SoundLaws.{sound-view, none-free, figures-in-limits, few-members-of}
-use Rattle.calls.specs.Rulings.{ruling-of, early-admit, early-offer}
+use Rattle.state.proofs.SoundLaws.{sound-view, figures-in-limits}
+use Rattle.calls.specs.Rulings.{ruling-of, early-admit, early-offer, early-close}
 
 pub by-causes : (k : Call) (s : State) → sound s ≡ true → first-number (causes k s) ≡ verdict k s
 unfolding verdicts
@@ -56,19 +57,6 @@ behind-gives front behind a e = none-in-front front behind (passed front a e)
 pub zero-then : (v w : ℕ) → v ≡ w → v ≡ 0 → w ≡ 0
 zero-then v w e z = sym e ∙ z
 
--- ---- connection c stands where its row has a size
-
-module _ (t : List ℕ) (free : None-free t) (c : ℕ) where
-  pub size-tells : eqb (nth (connections-in t) c .size) 0 ≡ not (stands (connections-in t) c)
-  unfolding stands
-  size-tells = go (split (length (connections-in t)) c)
-    where
-      go : (length (connections-in t) ≤ c) ⊎ (c < length (connections-in t)) → eqb (nth (connections-in t) c .size) 0 ≡ not (ltb c (length (connections-in t)))
-      go (inl h) =
-          ap (λ (x : Connection). eqb (x .size) 0) (connection-none t c (omega (arith, connections-length t)))
-          ∙ ap not (sym (le-ltb c (length (connections-in t)) h))
-      go (inr h) = ne-eqb (nth (connections-in t) c .size) 0 (λ e. omega (arith, free c h)) ∙ ap not (sym (lt-ltb c (length (connections-in t)) h))
-
 -- ---- a length that does not fit
 
 pub too-short : (largest len : ℕ) → len < 1 → true ≡ not (within 1 largest len)
@@ -83,28 +71,25 @@ too-long largest len h = go (split len largest)
 
 -- ---- an offer: what needs no walk over the places, then the rest
 
-module _ (h : Hub) (t : Tables) (ok : sound-hub h t ≡ true) (c len tag : ℕ) (x : Connection) (is : x ≡ nth (connections-in (t .members)) c) where
+module _ (h : Hub) (t : Tables) (ok : sound-hub h t ≡ true) (c len tag : ℕ) (b : Bool) (there : b ≡ stands (view h t) c) (x : Connection) (is : x ≡ nth (connections-in (t .members)) c) where
   abbrev offered : State
   offered = view h t
 
-  known : eqb (x .size) 0 ≡ not (stands (connections-in (t .members)) c)
-  known = ap (λ (y : Connection). eqb (y .size) 0) is ∙ size-tells (t .members) (none-free h t ok) c
-
   abbrev in-front : List (ℕ × Bool)
-  in-front = no-link-set offered ∷ (10, not (stands (offered .connections) c)) ∷ (11, not (within 1 (figures offered c .size) len)) ∷ []
+  in-front = no-link-set offered ∷ no-such-connection offered c ∷ (11, not (within 1 (figures offered c .size) len)) ∷ []
 
   abbrev rest : List (ℕ × Bool)
   rest = (12, leb (reservation (h .link) (figures offered c)) (length (of c (rows (t .places))))) ∷ clock-ended offered ∷ []
 
-  front-is : early-offer (h .link) x len ≡ in-front
-  front-is i = no-link-set offered ∷ (10, known i) ∷ (11, not (within 1 (is i .size) len)) ∷ []
+  front-is : early-offer (h .link) b x len ≡ in-front
+  front-is i = no-link-set offered ∷ (10, not (there i)) ∷ (11, not (within 1 (is i .size) len)) ∷ []
 
-  pub offer-early : (v : ℕ) → v ≡ first-number (early-offer (h .link) x len) → (v ≡ 0 → ⊥) → v ≡ verdict (offer c len tag) offered
+  pub offer-early : (v : ℕ) → v ≡ first-number (early-offer (h .link) b x len) → (v ≡ 0 → ⊥) → v ≡ verdict (offer c len tag) offered
   offer-early v e n =
       let f = e ∙ ap first-number front-is in
       f ∙ front-gives in-front rest (λ z. n (f ∙ z)) ∙ by-causes (offer c len tag) offered (sound-view h t ok)
 
-  module _ (none : first-number (early-offer (h .link) x len) ≡ 0) where
+  module _ (none : first-number (early-offer (h .link) b x len) ≡ 0) where
     unrefused : first-number in-front ≡ 0
     unrefused = ap first-number (sym front-is) ∙ none
 
@@ -118,30 +103,57 @@ module _ (h : Hub) (t : Tables) (ok : sound-hub h t ≡ true) (c len tag : ℕ) 
         ∙ behind-gives in-front rest (omega arith, (omega arith, (omega arith, tt))) unrefused
         ∙ by-causes (offer c len tag) offered (sound-view h t ok)
 
-    -- the connection stands, so it has a gap
-    pub offer-gap : 1 ≤ x .gap
-    offer-gap =
+    -- the connection has an owner, so it has a level and a gap
+    pub offer-figures : (1 ≤ x .level) × (1 ≤ x .gap)
+    offer-figures =
         let w = figures-in-limits h t ok (λ e. never (sym (tests .0) ∙ eq-eqb (h .link .levels) 0 e)) in
-        let s = stands-below (connections-in (t .members)) c (not-false _ (tests .1 .0)) in
-        subst (λ (y : Connection). 1 ≤ y .gap) (sym is) (figure-limits (h .link) (nth (connections-in (t .members)) c) (w .figures-in c s) .some-gap)
+        let o = stands-owned offered c (not-false _ (tests .1 .0)) in (
+          subst (λ (y : Connection). 1 ≤ y .level) (sym is) (omega (arith, owned-level (connections-in (t .members)) c o)),
+          subst (λ (y : Connection). 1 ≤ y .gap) (sym is) (figure-limits (h .link) (nth (connections-in (t .members)) c) (w .figures-in c o) .some-gap),
+        )
+
+-- ---- a close, the same
+
+module _ (h : Hub) (t : Tables) (ok : sound-hub h t ≡ true) (c : ℕ) (b : Bool) (there : b ≡ stands (view h t) c) where
+  abbrev ahead : List (ℕ × Bool)
+  ahead = no-link-set (view h t) ∷ no-such-connection (view h t) c ∷ []
+
+  abbrev then : List (ℕ × Bool)
+  then = (16, leb 1 (length (of c (rows (t .places))))) ∷ []
+
+  ahead-is : early-close (h .link) b ≡ ahead
+  ahead-is i = no-link-set (view h t) ∷ (10, not (there i)) ∷ []
+
+  pub close-early : (v : ℕ) → v ≡ first-number (early-close (h .link) b) → (v ≡ 0 → ⊥) → v ≡ verdict (close c) (view h t)
+  close-early v e n =
+      let f = e ∙ ap first-number ahead-is in
+      f ∙ front-gives ahead then (λ z. n (f ∙ z)) ∙ by-causes (close c) (view h t) (sound-view h t ok)
+
+  pub close-late : first-number (early-close (h .link) b) ≡ 0 → (v : ℕ) → v ≡ first-number then → v ≡ verdict (close c) (view h t)
+  close-late none v e = e ∙ behind-gives ahead then (omega arith, (omega arith, tt)) (ap first-number (sym ahead-is) ∙ none) ∙ by-causes (close c) (view h t) (sound-view h t ok)
+
+-- a level within its limits
+some-level : (l : Link) (x : Connection) → level-within l x ≡ true → 1 ≤ x .level
+unfolding level-within
+some-level l x e = within-true 1 (l .levels) (x .level) e .0
 
 -- ---- an admission: what needs no sum, then the level test, then the reservations
 
-module _ (h : Hub) (t : Tables) (ok : sound-hub h t ≡ true) (x : Connection) (n : ℕ) (is : n ≡ length (members-in (t .members))) where
+module _ (h : Hub) (t : Tables) (ok : sound-hub h t ≡ true) (x : Connection) (c : ℕ) (is : c ≡ free-number (connections-in (t .members))) where
   abbrev asked : State
   asked = view h t
 
   abbrev together : List Connection
-  together = connections-in (t .members) ++ x ∷ []
+  together = joining (connections-in (t .members)) x
 
   abbrev front : List (ℕ × Bool)
-  front = early-admit (h .link) (length (connections-in (t .members))) x
+  front = early-admit (h .link) (free-number (connections-in (t .members))) x
 
   abbrev behind : List (ℕ × Bool)
   behind = (8, not (passes (h .link) together)) ∷ (9, ltb max-reserved (reserved (h .link) together)) ∷ []
 
-  same-front : early-admit (h .link) n x ≡ front
-  same-front = ap (λ (k : ℕ). early-admit (h .link) k x) (is ∙ sym (connections-length (t .members)))
+  same-front : early-admit (h .link) c x ≡ front
+  same-front = ap (λ (k : ℕ). early-admit (h .link) k x) is
 
   -- a verdict other than 8 says nothing of a level
   ruled-as : (v : ℕ) (s : Short) → s ≡ no-short → verdict (admit x) asked ≡ v → (v ≡ 8 → ⊥) → record { verdict = v; short = s } ≡ ruling-of (admit x) asked
@@ -154,12 +166,12 @@ module _ (h : Hub) (t : Tables) (ok : sound-hub h t ≡ true) (x : Connection) (
   not-eight : first-number front ≡ 8 → ⊥
   not-eight = never-number 8 front ((λ e. absurd (omega arith)), ((λ e. absurd (omega arith)), ((λ e. absurd (omega arith)), ((λ e. absurd (omega arith)), tt)))) (omega arith)
 
-  pub admit-early : (v : ℕ) (s : Short) → v ≡ first-number (early-admit (h .link) n x) → (v ≡ 0 → ⊥) → s ≡ no-short → record { verdict = v; short = s } ≡ ruling-of (admit x) asked
+  pub admit-early : (v : ℕ) (s : Short) → v ≡ first-number (early-admit (h .link) c x) → (v ≡ 0 → ⊥) → s ≡ no-short → record { verdict = v; short = s } ≡ ruling-of (admit x) asked
   admit-early v s e z q =
       let f = e ∙ ap first-number same-front in
       ruled-as v s q (sym (f ∙ front-gives front behind (λ y. z (f ∙ y)) ∙ by-causes (admit x) asked (sound-view h t ok))) (λ y. not-eight (sym f ∙ y))
 
-  module _ (none : first-number (early-admit (h .link) n x) ≡ 0) where
+  module _ (none : first-number (early-admit (h .link) c x) ≡ 0) where
     none-early : first-number front ≡ 0
     none-early = ap first-number (sym same-front) ∙ none
 
@@ -176,13 +188,23 @@ module _ (h : Hub) (t : Tables) (ok : sound-hub h t ≡ true) (x : Connection) (
     pub admit-within : Within (h .link) (connections-in (t .members))
     admit-within = figures-in-limits h t ok link-is-set
 
-    pub admit-few : n ≤ max-connections
-    admit-few = few-members-of h t ok link-is-set n is
-
-    pub admit-figures : (1 ≤ x .gap) × (x .size ≤ max-largest)
+    pub admit-figures : (1 ≤ x .level) × (1 ≤ x .gap) × (x .size ≤ max-largest)
     admit-figures =
         let f = figure-limits (h .link) x (not-false _ (all-false .1 .1 .0)) in
-        (f .some-gap, omega (arith, f .size-le, link-limits (h .link) (admit-within .link-in) .largest-le))
+        (some-level (h .link) x (not-false _ (all-false .1 .0)), f .some-gap, omega (arith, f .size-le, link-limits (h .link) (admit-within .link-in) .largest-le))
+
+    -- there is a free number, and nothing is left of its owner
+    free-room : free-number (connections-in (t .members)) < length (connections-in (t .members))
+    free-room = omega (arith, leb-false max-connections (free-number (connections-in (t .members))) (all-false .1 .1 .1 .0), connections-length (t .members))
+
+    free-blank : nth (connections-in (t .members)) (free-number (connections-in (t .members))) ≡ no-connection
+    free-blank = admit-within .blank-in _ (level-free (connections-in (t .members)) _ (free-is (connections-in (t .members)) free-room))
+
+    pub admit-sums : Sums-with (h .link) (connections-in (t .members)) x together
+    admit-sums = sums-joining (h .link) (connections-in (t .members)) x free-room free-blank
+
+    pub admit-reserved : (a b : ℕ) → a ≡ reserved (h .link) (connections-in (t .members)) → b ≡ reservation (h .link) x → a + b ≡ reserved (h .link) together
+    admit-reserved a b e f = rw (e, f) (sym (reserved-joining (h .link) (connections-in (t .members)) x free-room free-blank))
 
     module _ (s : Short) (e : s ≡ level-test (h .link) together) where
       pub admit-short : (s .level ≡ 0 → ⊥) → record { verdict = 8; short = s } ≡ ruling-of (admit x) asked

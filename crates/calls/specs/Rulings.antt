@@ -1,4 +1,4 @@
--- What the code decides of a call's table of verdicts, and in which parts. Document 01, "Verdict numbers"; document 02, R-2.
+-- What the code decides of a call's table of verdicts, and in which parts. Document 01, "Verdict numbers"; document 02, R-2 and R-8.
 use Prim.Native.Nat.{ℕ}
 use mathlib.Core.Bool.{Bool, not}
 use mathlib.Core.List.{List, [], _∷_}
@@ -16,10 +16,14 @@ use Rattle.calls.specs.declared.verdicts.Ruling.{Ruling}
 abbrev pub ruling-of : Call → State → Ruling
 ruling-of k s = record { verdict = verdict k s; short = refused-short k s (verdict k s) }
 
--- the rows of an admission's table that need no sum, where n connections stand
+-- the rows of an admission's table that need no sum, where c is the lowest free number
 abbrev pub early-admit : Link → ℕ → Connection → List (ℕ × Bool)
-early-admit l n x = (2, eqb (l .levels) 0) ∷ (5, not (level-within l x)) ∷ (6, not (figures-within l x)) ∷ (7, leb max-connections n) ∷ []
+early-admit l c x = (2, eqb (l .levels) 0) ∷ (5, not (level-within l x)) ∷ (6, not (figures-within l x)) ∷ (7, leb max-connections c) ∷ []
 
--- the rows of an offer's table that need no walk over the places, of a connection with figures x; it has a size where it stands
-abbrev pub early-offer : Link → Connection → ℕ → List (ℕ × Bool)
-early-offer l x len = (2, eqb (l .levels) 0) ∷ (10, eqb (x .size) 0) ∷ (11, not (within 1 (x .size) len)) ∷ []
+-- the rows of an offer's table that need no walk over the places, of a connection with figures x, and whether it stands
+abbrev pub early-offer : Link → Bool → Connection → ℕ → List (ℕ × Bool)
+early-offer l stands x len = (2, eqb (l .levels) 0) ∷ (10, not stands) ∷ (11, not (within 1 (x .size) len)) ∷ []
+
+-- .. and of a close's
+abbrev pub early-close : Link → Bool → List (ℕ × Bool)
+early-close l stands = (2, eqb (l .levels) 0) ∷ (10, not stands) ∷ []

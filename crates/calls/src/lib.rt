@@ -1,9 +1,9 @@
-// The five calls on a state that has been tested: same rules, no second test. A run that has tested once uses these.
+// The six calls on a state that has been tested: same rules, no second test. A run that has tested once uses these.
 mod verdicts; // verdicts.rt: the verdict of each call
 
 ghost use mathlib.Core.Path.{_≡_};
 ghost use mathlib.Core.Bool.{true};
-ghost use Rattle.rules.specs.Model.{link, admit, offer, notice, tick};
+ghost use Rattle.rules.specs.Model.{link, admit, offer, notice, close, tick};
 ghost use Rattle.rules.specs.Calls.{verdict};
 ghost use Rattle.state.specs.View.{given, before, after, view, sound-hub};
 ghost use Rattle.state.specs.Does.{Does};
@@ -30,8 +30,20 @@ pub fn link_tested(h: Hub, members: &[u32], places: &[u32], notices: &[u32], l: 
     say(g, 0, 0)
 }
 
+// A tick that is done: its three steps, and then every number whose charge is over is freed.
+fn run_on(h: Hub, members: &mut [u32], places: &mut [u32], notices: &mut [u32]) -> Told
+    requires { ⌜ (sound-hub h (given members places notices) ≡ true) × (verdict tick (view h (given members places notices)) ≡ 0) ⌝ }
+    ensures { λ r. ⌜ Does tick h (before members places notices) r (after members places notices) ⌝ }
+{
+    let told = service::run_tick(h, members, places, notices);
+    let bound = connections::bound_of(h.link, h.link.levels);
+    let clock = told.hub.clock;
+    connections::closing::sweep(members, bound, clock);
+    told
+}
+
 // One tick.
-pub fn tick_tested(h: Hub, members: &[u32], places: &mut [u32], notices: &mut [u32]) -> Told
+pub fn tick_tested(h: Hub, members: &mut [u32], places: &mut [u32], notices: &mut [u32]) -> Told
     requires { ⌜ sound-hub h (given members places notices) ≡ true ⌝ }
     ensures { λ r. ⌜ Does tick h (before members places notices) r (after members places notices) ⌝ }
 {
@@ -39,7 +51,7 @@ pub fn tick_tested(h: Hub, members: &[u32], places: &mut [u32], notices: &mut [u
     if v != 0 {
         return say(h, v, 0);
     }
-    service::run_tick(h, members, places, notices)
+    run_on(h, members, places, notices)
 }
 
 // A connection asks to be admitted.
@@ -53,8 +65,9 @@ pub fn admit_tested(
     requires { ⌜ sound-hub h (given members places notices) ≡ true ⌝ }
     ensures { λ r. ⌜ Does (admit x) h (before members places notices) r (after members places notices) ⌝ }
 {
-    let n = connections::standing(members);
-    let v = verdicts::admit_verdict(h, members, places, notices, n, x);
+    let n = connections::used(members);
+    let c = connections::free_number(members, n);
+    let v = verdicts::admit_verdict(h, members, places, notices, n, c, x);
     let short = v.short;
     if v.verdict != 0 {
         return Told {
@@ -66,8 +79,8 @@ pub fn admit_tested(
             hub: h,
         };
     }
-    connections::add_member(members, n, x);
-    say(h, 0, n as u32)
+    connections::add_member(members, c, x);
+    say(h, 0, c as u32)
 }
 
 // An offer that is accepted: behind the others, with its eligibility, which is remembered.
@@ -151,4 +164,32 @@ pub fn notice_tested(
         },
     );
     say(h, 0, h.clock)
+}
+
+// A close that is done: the number is freed at once where its charge is over, else its owner is charged.
+fn close_now(h: Hub, members: &mut [u32], places: &[u32], notices: &[u32], c: u32) -> Told
+    requires { ⌜ (sound-hub h (given members places notices) ≡ true) × (verdict (close c) (view h (given members places notices)) ≡ 0) ⌝ }
+    ensures { λ r. ⌜ Does (close c) h (before members places notices) r (after members places notices) ⌝ }
+{
+    let k = c as usize;
+    let m = connections::member_at(members, k);
+    let largest = connections::bound_of(h.link, h.link.levels);
+    if connections::closing::charge_over(m, largest, h.clock) {
+        connections::closing::free_member(members, k);
+        return say(h, 0, 0);
+    }
+    connections::closing::mark_closed(members, k);
+    say(h, 0, 0)
+}
+
+// A connection is closed.
+pub fn close_tested(h: Hub, members: &mut [u32], places: &[u32], notices: &[u32], c: u32) -> Told
+    requires { ⌜ sound-hub h (given members places notices) ≡ true ⌝ }
+    ensures { λ r. ⌜ Does (close c) h (before members places notices) r (after members places notices) ⌝ }
+{
+    let v = verdicts::close_verdict(h, members, places, notices, c);
+    if v != 0 {
+        return say(h, v, 0);
+    }
+    close_now(h, members, places, notices, c)
 }

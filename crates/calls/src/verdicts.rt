@@ -1,5 +1,5 @@
 // The verdict of each call on a sound state: what the table of verdicts asks, each by a function of its own, and the first number of which the test holds.
-// Document 01, "Verdict numbers"; document 02, R-1.
+// Document 01, "Verdict numbers"; document 02, R-1 and R-8.
 ghost use mathlib.Core.Path.{_≡_};
 ghost use mathlib.Core.Bool.{true, cond, not};
 ghost use Prim.Native.Nat.{ℕ, _≤_};
@@ -7,14 +7,14 @@ ghost use lib.Dec.{leb, eqb};
 ghost use lib.ListN.{length};
 ghost use Rattle.rules.specs.Words.{within, first-number};
 ghost use Rattle.rules.specs.Limits.{clock-end};
-ghost use Rattle.rules.specs.Model.{link, admit, offer, notice, tick};
-ghost use Rattle.rules.specs.Admission.{reservation};
+ghost use Rattle.rules.specs.Model.{link, admit, offer, notice, close, tick};
+ghost use Rattle.rules.specs.Admission.{reservation, free-number};
 ghost use Rattle.rules.specs.Service.{of};
 ghost use Rattle.rules.specs.Calls.{verdict};
 ghost use Rattle.tables.specs.Places.{rows, written-places, places-length};
-ghost use Rattle.connections.specs.Members.{members-in};
+ghost use Rattle.connections.specs.Members.{connections-in, used-in};
 ghost use Rattle.state.specs.View.{given, before, view, sound-hub};
-ghost use Rattle.calls.specs.Rulings.{ruling-of, early-admit, early-offer};
+ghost use Rattle.calls.specs.Rulings.{ruling-of, early-admit, early-offer, early-close};
 use limits::CLOCK_END;
 use limits::MAX_CONNECTIONS;
 use limits::MAX_NOTICES;
@@ -95,7 +95,7 @@ fn held_by(places: &[u32], c: u32) -> u64
 
 // Connection c, with figures x, holds as many packets as its reservation.
 fn full(l: Link, x: Connection, places: &[u32], c: u32) -> bool
-    requires { ⌜ (1 ≤ x .gap) × (now places ≡ written-places (rows (now places))) × (length (now places) ≡ places-length) ⌝ }
+    requires { ⌜ (1 ≤ x .level) × (1 ≤ x .gap) × (now places ≡ written-places (rows (now places))) × (length (now places) ≡ places-length) ⌝ }
     ensures { λ r. ⌜ r ≡ leb (reservation l x) (length (of c (rows (now (places .entry))))) ⌝ }
 {
     connections::reserve(l, x) <= held_by(places, c)
@@ -121,32 +121,34 @@ pub(crate) fn tick_verdict(h: Hub, members: &[u32], places: &[u32], notices: &[u
     first_of(unset(h), 2, first_of(ended(h), 13, 0))
 }
 
-// What speaks against an admission before a sum is made.
-fn admit_refusal(h: Hub, n: usize, x: Connection) -> u32
-    ensures { λ r. ⌜ r ≡ first-number (early-admit (h .link) n x) ⌝ }
+// What speaks against an admission before a sum is made; c is the lowest free number.
+fn admit_refusal(h: Hub, c: usize, x: Connection) -> u32
+    ensures { λ r. ⌜ r ≡ first-number (early-admit (h .link) c x) ⌝ }
 {
     let l = h.link;
     let figures = first_of(
         !limits::figures_ok(l, x),
         6,
-        first_of(MAX_CONNECTIONS <= n, 7, 0),
+        first_of(MAX_CONNECTIONS <= c, 7, 0),
     );
     first_of(unset(h), 2, first_of(!limits::level_ok(l, x), 5, figures))
 }
 
+// The owners stand in the first n rows, and c is the lowest free number.
 pub(crate) fn admit_verdict(
     h: Hub,
     members: &[u32],
     places: &[u32],
     notices: &[u32],
     n: usize,
+    c: usize,
     x: Connection,
 ) -> Ruling
-    requires { ⌜ (sound-hub h (given members places notices) ≡ true) × (n ≡ length (members-in (now members))) ⌝ }
+    requires { ⌜ (sound-hub h (given members places notices) ≡ true) × (n ≡ used-in (now members)) × (c ≡ free-number (connections-in (now members))) ⌝ }
     ensures { λ r. ⌜ r ≡ ruling-of (admit x) (view h (before members places notices)) ⌝ }
 {
     let l = h.link;
-    let early = admit_refusal(h, n, x);
+    let early = admit_refusal(h, c, x);
     if early != 0 {
         return Ruling {
             verdict: early,
@@ -167,14 +169,14 @@ pub(crate) fn admit_verdict(
     }
 }
 
-// What speaks against an offer to a connection with figures x before the rows are walked. A connection that stands has a size.
-fn offer_refusal(h: Hub, x: Connection, len: u32) -> u32
-    ensures { λ r. ⌜ r ≡ first-number (early-offer (h .link) x len) ⌝ }
+// What speaks against an offer to a connection with figures x before the rows are walked.
+fn offer_refusal(h: Hub, stands: bool, x: Connection, len: u32) -> u32
+    ensures { λ r. ⌜ r ≡ first-number (early-offer (h .link) stands x len) ⌝ }
 {
     first_of(
         unset(h),
         2,
-        first_of(x.size == 0, 10, first_of(misfits(x.size, len), 11, 0)),
+        first_of(!stands, 10, first_of(misfits(x.size, len), 11, 0)),
     )
 }
 
@@ -191,11 +193,29 @@ pub(crate) fn offer_verdict(
 {
     let l = h.link;
     let x = connections::figures_of(members, c);
-    let early = offer_refusal(h, x, len);
+    let early = offer_refusal(h, connections::stands(members, c), x, len);
     if early != 0 {
         return early;
     }
     first_of(full(l, x, places, c), 12, first_of(ended(h), 13, 0))
+}
+
+// What speaks against a close before the rows are walked.
+fn close_refusal(h: Hub, stands: bool) -> u32
+    ensures { λ r. ⌜ r ≡ first-number (early-close (h .link) stands) ⌝ }
+{
+    first_of(unset(h), 2, first_of(!stands, 10, 0))
+}
+
+pub(crate) fn close_verdict(h: Hub, members: &[u32], places: &[u32], notices: &[u32], c: u32) -> u32
+    requires { ⌜ sound-hub h (given members places notices) ≡ true ⌝ }
+    ensures { λ r. ⌜ r ≡ verdict (close c) (view h (before members places notices)) ⌝ }
+{
+    let early = close_refusal(h, connections::stands(members, c));
+    if early != 0 {
+        return early;
+    }
+    first_of(1 <= held_by(places, c), 16, 0)
 }
 
 pub(crate) fn notice_verdict(

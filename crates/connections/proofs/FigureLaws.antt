@@ -1,7 +1,8 @@
 -- Laws that the figures of connections give the code: bounds by level, counts, shares and sums.
 use mathlib.Core.Path.{_≡_, refl, sym, ap, _∙_, subst}
 use mathlib.Core.Bool.{true, _&&_}
-use mathlib.Core.List.{List, [], _∷_, _++_}
+use mathlib.Core.List.{List, [], _∷_}
+use mathlib.Core.Logic.{⊎-elim}
 use Prim.Native.Nat.{ℕ, zero, suc, _+_, _*_, _-_, _/_, _%_, _≤_, _<_, min}
 use native.Mathlib.Nat.{mul-le-mul-right, mul-le-mul-left, le-trans, pos-of-div-pos}
 use native.Mathlib.Omega.{arith}
@@ -13,14 +14,15 @@ use Rattle.rules.specs.declared.Link.{Link}
 use Rattle.rules.specs.declared.Connection.{Connection}
 use Rattle.rules.specs.Words.{within, sum}
 use Rattle.rules.specs.Limits.{max-levels, max-largest, max-silence, max-bound, max-gap, max-burst, beyond-32-bits}
-use Rattle.rules.specs.Model.{nth}
-use Rattle.rules.specs.Admission.{rising, link-within, burst, average-within, figures-within, bound, rounded-up, average-count, count, cost, load, level-sum, short-from, level-test}
+use Rattle.rules.specs.Model.{nth, no-connection}
+use Rattle.rules.specs.Admission.{rising, link-within, burst, average-within, figures-within, free-number, joining, bound, rounded-up, average-count, count, reservation, reserved, cost, load, level-sum, short-from, level-test}
 use Rattle.rules.proofs.Tests.{never, and-true, within-true}
-use Rattle.rules.proofs.Sums.{upto-yes, upto-no, cond-is}
-use Rattle.rules.proofs.Figures.{few-at-once}
-use Rattle.rules.proofs.Count.{rounded-up-le, count-plain, count-average}
-use Rattle.rules.proofs.Shortage.{load-newcomer}
-use Rattle.connections.specs.Within.{Within, share-of, most-share}
+use Rattle.rules.proofs.Sums.{same, upto-yes, upto-no, upto-le, cond-is}
+use Rattle.rules.proofs.Standing.{level-owned, level-free}
+use Rattle.rules.proofs.Figures.{few-at-once, reservation-is, sum-is}
+use Rattle.rules.proofs.Count.{rounded-up-le, count-plain, count-average, count-none}
+use Rattle.connections.specs.Within.{Within, Sums-with, share-of, most-share}
+use Rattle.connections.proofs.OwnerLaws.{sum-joining}
 
 -- ---- bounds
 
@@ -120,14 +122,36 @@ share-none l m d x h = sym (upto-no (x .level) m (count x d * cost l (x .size)) 
 pub share-fits : (n k : ℕ) → n ≤ max-bound → k ≤ max-largest + max-silence → n * k ≤ most-share
 share-fits n k a b = le-trans (mul-le-mul-right k a) (mul-le-mul-left max-bound b)
 
+-- a free number costs nothing
+pub share-free : (l : Link) (m d : ℕ) → share-of l m d no-connection ≡ 0
+share-free l m d = omega (arith, upto-le 0 m (count no-connection d * cost l 0), ap (λ (k : ℕ). k * cost l 0) (count-none d))
+
+pub reservation-free : (l : Link) → reservation l no-connection ≡ 0
+reservation-free l = reservation-is l no-connection ∙ count-none (bound l 0)
+
 -- ---- sums
 
 -- the figures of an entry within the limits
-pub figure-at : (l : Link) (cs : List Connection) → Within l cs → (c : ℕ) (x : Connection) → c < length cs → x ≡ nth cs c → (1 ≤ x .gap) × (x .size ≤ max-largest) × (l .silence ≤ max-silence)
-figure-at l cs W c x h e =
-    let f = figure-limits l (nth cs c) (W .figures-in c h) in
-    let k = link-limits l (W .link-in) in
-    (subst (λ (y : Connection). 1 ≤ y .gap) (sym e) (f .some-gap), subst (λ (y : Connection). y .size ≤ max-largest) (sym e) (omega (arith, f .size-le, k .largest-le)), k .silence-le)
+pub record Entry-limits (l : Link) (x : Connection) : Type 0 where
+  pub free-blank : x .level ≡ 0 → x ≡ no-connection
+  pub owner-gap : (x .level ≡ 0 → ⊥) → 1 ≤ x .gap
+  pub size-most : x .size ≤ max-largest
+  pub silence-most : l .silence ≤ max-silence
+
+pub entry-limits : (l : Link) (cs : List Connection) → Within l cs → (c : ℕ) (x : Connection) → x ≡ nth cs c → Entry-limits l x
+entry-limits l cs W c x e = subst (Entry-limits l) (sym e) (record { free-blank = blank; owner-gap = λ n. owner n .some-gap; size-most = size; silence-most = k .silence-le })
+  where
+    k : Link-limits l
+    k = link-limits l (W .link-in)
+
+    blank : nth cs c .level ≡ 0 → nth cs c ≡ no-connection
+    blank z = W .blank-in c (level-free cs c z)
+
+    owner : (nth cs c .level ≡ 0 → ⊥) → Figure-limits l (nth cs c)
+    owner n = figure-limits l (nth cs c) (W .figures-in c (level-owned cs c n))
+
+    size : nth cs c .size ≤ max-largest
+    size = ⊎-elim (λ z. omega (arith, ap (λ (y : Connection). y .size) (blank z))) (λ n. omega (arith, owner n .size-le, k .largest-le)) (same (nth cs c .level) 0)
 
 -- a running sum, one entry further
 pub sum-more : (i s r : ℕ) (f : ℕ → ℕ) → s ≡ sum i f → r ≡ f i → s + r ≡ sum (i + 1) f
@@ -169,22 +193,31 @@ module _ (l : Link) (cs : List Connection) where
     pub test-end : l .levels < m → record { level = 0; units = 0 } ≡ short-from l cs m (l .levels + 1 - m)
     test-end h = let e : l .levels + 1 - m ≡ 0 = omega arith in ap (short-from l cs m) (sym e)
 
--- a newcomer adds its share
-module _ (l : Link) (cs : List Connection) (x : Connection) where
-  pub sum-newcomer : (m d a b c : ℕ) → d ≡ bound l m → a ≡ load l cs m d → b ≡ share-of l m d x → c ≡ l .largest + l .silence → a + b + c ≡ level-sum l (cs ++ x ∷ []) m
-  unfolding level-sum cost
-  sum-newcomer m d a b c e f g h = rw (f, g, h, e) (ap (λ (k : ℕ). k + (l .largest + l .silence)) (sym (load-newcomer l cs x m (bound l m))))
-
--- a connection of a level above all others adds to no sum, so the test is the same with and without it
-module _ (l : Link) (cs : List Connection) (x : Connection) (above : l .levels < x .level) where
-  sum-same : (m : ℕ) → m ≤ l .levels → level-sum l (cs ++ x ∷ []) m ≡ level-sum l cs m
-  unfolding level-sum
-  sum-same m h = omega (arith, load-newcomer l cs x m (bound l m), share-none l m (bound l m) x (omega arith))
-
-  short-same : (m k : ℕ) → m + k ≤ l .levels + 1 → short-from l (cs ++ x ∷ []) m k ≡ short-from l cs m k
+-- it hangs on the sums alone
+module _ (l : Link) (cs ds : List Connection) (e : (m : ℕ) → m ≤ l .levels → level-sum l cs m ≡ level-sum l ds m) where
+  short-same : (m k : ℕ) → m + k ≤ l .levels + 1 → short-from l cs m k ≡ short-from l ds m k
   short-same m zero h = refl
-  short-same m (suc k) h = rw (sum-same m (omega arith), short-same (suc m) k (omega arith))
+  short-same m (suc k) h = rw (e m (omega arith), short-same (suc m) k (omega arith))
 
-  pub test-same : level-test l (cs ++ x ∷ []) ≡ level-test l cs
+  pub test-same : level-test l cs ≡ level-test l ds
   unfolding level-test
   test-same = short-same 1 (l .levels) (omega arith)
+
+-- ---- a newcomer
+
+-- the sum of level m with it, for any connections whose sums these are
+pub sum-with : (l : Link) (cs js : List Connection) (x : Connection) → Sums-with l cs x js → (m s : ℕ) → m ≤ l .levels
+    → s ≡ load l cs m (bound l m) + share-of l m (bound l m) x + cost l (l .largest) → s ≡ level-sum l js m
+sum-with l cs js x S m s h e = e ∙ sym (S m h)
+
+-- a level above all others adds to no sum
+pub sums-above : (l : Link) (cs : List Connection) (x : Connection) → l .levels < x .level → Sums-with l cs x cs
+sums-above l cs x above m h = omega (arith, sum-is l cs m, share-none l m (bound l m) x (omega arith))
+
+-- at the lowest free number, of which nothing is left, it adds its own share and its own reservation
+module _ (l : Link) (cs : List Connection) (x : Connection) (room : free-number cs < length cs) (blank : nth cs (free-number cs) ≡ no-connection) where
+  pub sums-joining : Sums-with l cs x (joining cs x)
+  sums-joining m h = sum-is l (joining cs x) m ∙ ap (λ (k : ℕ). k + cost l (l .largest)) (sum-joining cs (share-of l m (bound l m)) (share-free l m (bound l m)) x room blank)
+
+  pub reserved-joining : reserved l (joining cs x) ≡ reserved l cs + reservation l x
+  reserved-joining = sum-joining cs (reservation l) (reservation-free l) x room blank

@@ -1,35 +1,43 @@
--- Laws of the table of connections: its rows, its shape, and a past set in it.
+-- Laws of the table of connections: a row, what is read of the table by number, and a row or one of the two numbers behind the rows put into it.
 use mathlib.Core.Path.{_≡_, refl, sym, ap, _∙_}
-use mathlib.Core.Bool.{true, false}
-use mathlib.Core.List.{List, [], _∷_, _++_, append-nil}
-use mathlib.Core.Logic.{_⊎_, inl, inr}
-use Prim.Native.Nat.{ℕ, zero, suc, _+_, _*_, _-_, _/_, _≤_, _<_}
+use mathlib.Core.Bool.{false, not, Bool·not-not}
+use mathlib.Core.List.{List, [], _∷_, _++_, map, append-assoc, append-nil}
+use Prim.Native.Nat.{ℕ, zero, suc, _+_, _*_, _-_, _≤_, _<_}
 use native.Mathlib.Omega.{arith}
 use native.Mathlib.Numerals.{unary-clauses}
-use lib.ListN.{length-map, length-drop, length-replicate, List·getD-map, List·getD-eq-default, drop-of-length-le, length, getD, set, take, drop, replicate}
-use lib.Seq.{sets, sets-eq, take-nil, length-take-le, drop-drop, drop-cons}
+use lib.Dec.{eqb}
+use lib.ListN.{length-map, length-append, length-drop, length-replicate, List·getD-map, List·getD-eq-default, drop-of-length-le, length, getD, set, take, drop, replicate}
+use lib.Seq.{sets, sets-eq, take-nil, length-take-le, drop-drop, drop-cons, set-at, getD-at}
 use Rattle.rules.specs.declared.Connection.{Connection}
+use Rattle.rules.specs.Words.{All}
 use Rattle.rules.specs.Limits.{max-connections, max-remembered}
-use Rattle.rules.specs.Model.{Past, nth, no-connection, no-past}
-use Rattle.rules.proofs.Tests.{never}
-use Rattle.rules.proofs.Sums.{split, same}
-use Rattle.limits.specs.Zeros.{zeros}
-use Rattle.limits.proofs.ZeroLaws.{zeros-are}
-use Rattle.tables.specs.Table.{row-in, numbers, by-number, used, padded}
-use Rattle.tables.proofs.TableLaws.{numbers-all, length-row, used-end, read-at, row-behind, row-last, put-at, put-last}
+use Rattle.rules.specs.Model.{nth, no-connection, no-past}
+use Rattle.rules.specs.Admission.{owned}
+use Rattle.rules.proofs.Standing.{level-free}
+use Rattle.tables.specs.Table.{row-in, rows-in, numbers, write}
+use Rattle.tables.proofs.TableLaws.{numbers-all, length-numbers, length-rows, made-at, write-rows, length-write, put-at, first-back}
 use Rattle.connections.specs.declared.Member.{Member}
-use Rattle.connections.specs.Members.{member-head, member-width, members-length, row-of, member-of, no-member, member-in, put-member, members-in, None-free, connection-of, past-of, connections-in, pasts-in, member, paired, written-members}
+use Rattle.connections.specs.Members.{member-head, member-width, rows-end, members-length, row-of, member-of, no-member, member-in, put-member, members-in, connection-of, past-of, closed-of, connections-in, pasts-in, closed-in, used-in, first-in, written-rows}
 
 -- ---- a row
 
-pub row-back : (r : List ℕ) → length r ≡ member-width → row-of (member-of r) ≡ r
+row-back : (r : List ℕ) → length r ≡ member-width → row-of (member-of r) ≡ r
 row-back [] e = absurd (omega arith)
 row-back (a ∷ []) e = absurd (omega arith)
 row-back (a ∷ b ∷ []) e = absurd (omega arith)
 row-back (a ∷ b ∷ c ∷ []) e = absurd (omega arith)
 row-back (a ∷ b ∷ c ∷ d ∷ []) e = absurd (omega arith)
 row-back (a ∷ b ∷ c ∷ d ∷ f ∷ []) e = absurd (omega arith)
-row-back (a ∷ b ∷ c ∷ d ∷ f ∷ g ∷ r) e = ap (λ (l : List ℕ). a ∷ b ∷ c ∷ d ∷ f ∷ g ∷ l) (numbers-all max-remembered r (omega arith))
+row-back (a ∷ b ∷ c ∷ d ∷ f ∷ g ∷ []) e = absurd (omega arith)
+row-back (a ∷ b ∷ c ∷ d ∷ f ∷ g ∷ h ∷ r) e = ap (λ (l : List ℕ). a ∷ b ∷ c ∷ d ∷ f ∷ g ∷ h ∷ l) (numbers-all max-remembered r (omega arith))
+
+-- sixteen eligibilities, remembered or not
+abbrev pub Long : Member → Type 0
+Long m = length (m .ticks) ≡ max-remembered
+
+row-again : (m : Member) → Long m → member-of (row-of m) ≡ m
+row-again m e =
+    ap (λ (ts : List ℕ). record { level = m .level; size = m .size; gap = m .gap; window = m .window; average = m .average; mark = m .mark; known = m .known; ticks = ts }) (numbers-all max-remembered (m .ticks) e)
 
 -- the remembered eligibilities of a row, read and written as a part of the table
 
@@ -56,136 +64,143 @@ ticks-read t i h =
     ∙ copied-over v max-remembered n
     ∙ sym (ap (numbers max-remembered) r ∙ numbers-all max-remembered v n)
 
-pub put-parts : (t : List ℕ) (at : ℕ) (m : Member) → length (m .ticks) ≡ max-remembered
-    → sets (set (set (set (set (set (set t at (m .level)) (at + 1) (m .size)) (at + 2) (m .gap)) (at + 3) (m .window)) (at + 4) (m .average)) (at + 5) (m .known)) (at + member-head) (m .ticks) ≡ sets t at (row-of m)
+pub put-parts : (t : List ℕ) (at : ℕ) (m : Member) → Long m
+    → sets (set (set (set (set (set (set (set t at (m .level)) (at + 1) (m .size)) (at + 2) (m .gap)) (at + 3) (m .window)) (at + 4) (m .average)) (at + 5) (m .mark)) (at + 6) (m .known)) (at + member-head) (m .ticks) ≡ sets t at (row-of m)
 put-parts t at m e = rw (← numbers-all max-remembered (m .ticks) e) (simp unary-clauses)
 
-members-used : (t : List ℕ) → length (members-in t) ≡ length (used by-number member-width t)
+-- ---- what is read, by number
+
+pub length-members : (t : List ℕ) → length (members-in t) ≡ max-connections
 unfolding members-in
-members-used t = length-map (used by-number member-width t) member-of
+length-members t = length-map (rows-in member-width max-connections t) member-of ∙ length-rows member-width max-connections t
 
-pub members-end : (t : List ℕ) → member-width * length (members-in t) ≤ length t
-members-end t = omega (arith, used-end by-number member-width t, members-used t)
+rows-long : (rs : List (List ℕ)) → All Long (map member-of rs)
+rows-long [] = tt
+rows-long (r ∷ rs) = (length-numbers max-remembered (drop member-head r), rows-long rs)
 
-pub member-is : (t : List ℕ) (i : ℕ) → i < length (members-in t) → getD (members-in t) i no-member ≡ member-in t i
+pub all-long : (t : List ℕ) → All Long (members-in t)
 unfolding members-in
-member-is t i h = read-at by-number member-width member-of t i (omega (arith, members-used t))
+all-long t = rows-long (rows-in member-width max-connections t)
 
--- ---- rows by number
+module _ (t : List ℕ) where
+  pub connections-length : length (connections-in t) ≡ max-connections
+  connections-length = length-map (members-in t) connection-of ∙ length-members t
 
--- a free row, and one that is not there, read as no member
-free-row : (r : List ℕ) → zeros r ≡ true → length r ≡ member-width → member-of r ≡ no-member
-free-row r z e = ap member-of (zeros-are r z ∙ ap (λ (n : ℕ). replicate {A = ℕ} n 0) e)
+  pub pasts-length : length (pasts-in t) ≡ max-connections
+  pasts-length = length-map (members-in t) past-of ∙ length-members t
 
-module _ (t : List ℕ) (i : ℕ) (l : i < length t / member-width) where
-  row-free : length (members-in t) ≤ i → zeros (row-in member-width t i) ≡ true
-  row-free h = row-behind member-width t i l (omega (arith, members-used t))
+  pub closed-length : length (closed-in t) ≡ max-connections
+  closed-length = length-map (members-in t) closed-of ∙ length-members t
 
-  member-at-number : getD (members-in t) i no-member ≡ member-in t i
-  member-at-number = go (split (length (members-in t)) i)
-    where
-      go : (length (members-in t) ≤ i) ⊎ (i < length (members-in t)) → getD (members-in t) i no-member ≡ member-in t i
-      go (inl h) = List·getD-eq-default (members-in t) no-member h ∙ sym (free-row (row-in member-width t i) (row-free h) (length-row member-width t i (omega arith)))
-      go (inr h) = member-is t i h
+module _ (t : List ℕ) (c : ℕ) where
+  pub nth-member : nth (connections-in t) c ≡ connection-of (getD (members-in t) c no-member)
+  nth-member = List·getD-map connection-of (members-in t) c no-member
 
-nth-member : (cs : List ℕ) (c : ℕ) → nth (connections-in cs) c ≡ connection-of (getD (members-in cs) c no-member)
-nth-member cs c = List·getD-map connection-of (members-in cs) c no-member
+  pub past-member : getD (pasts-in t) c no-past ≡ past-of (getD (members-in t) c no-member)
+  past-member = List·getD-map past-of (members-in t) c no-member
 
-pub connection-at-number : (cs : List ℕ) (c : ℕ) → c < length cs / member-width → nth (connections-in cs) c ≡ connection-of (member-in cs c)
-connection-at-number cs c l = nth-member cs c ∙ ap connection-of (member-at-number cs c l)
+  pub closed-member : getD (closed-in t) c false ≡ closed-of (getD (members-in t) c no-member)
+  closed-member = List·getD-map closed-of (members-in t) c no-member
 
-pub connection-is : (cs : List ℕ) (c : ℕ) → c < length (members-in cs) → nth (connections-in cs) c ≡ connection-of (member-in cs c)
-connection-is cs c l = nth-member cs c ∙ ap connection-of (member-is cs c l)
+  module _ (h : c < max-connections) where
+    pub member-is : getD (members-in t) c no-member ≡ member-in t c
+    unfolding members-in
+    member-is = made-at member-width max-connections member-of t c h
 
-pub connection-none : (cs : List ℕ) (c : ℕ) → length (members-in cs) ≤ c → nth (connections-in cs) c ≡ no-connection
-connection-none cs c l = nth-member cs c ∙ ap connection-of (List·getD-eq-default (members-in cs) no-member l)
+    pub connection-is : nth (connections-in t) c ≡ connection-of (member-in t c)
+    connection-is = nth-member ∙ ap connection-of member-is
 
-pub past-is : (cs : List ℕ) (c : ℕ) → c < length (members-in cs) → getD (pasts-in cs) c no-past ≡ past-of (member-in cs c)
-past-is cs c l = List·getD-map past-of (members-in cs) c no-member ∙ ap past-of (member-is cs c l)
+    pub level-is : nth (connections-in t) c .level ≡ member-in t c .level
+    level-is = ap (λ (x : Connection). x .level) connection-is
 
-pub connections-length : (cs : List ℕ) → length (connections-in cs) ≡ length (members-in cs)
-connections-length cs = length-map (members-in cs) connection-of
+    pub owned-is : owned (connections-in t) c ≡ not (eqb (member-in t c .level) 0)
+    unfolding owned
+    owned-is = ap (λ (n : ℕ). not (eqb n 0)) level-is
 
--- ---- how many there are
+    pub past-is : getD (pasts-in t) c no-past ≡ past-of (member-in t c)
+    past-is = past-member ∙ ap past-of member-is
 
--- from the end: a free row is none of them, one that is not is the last
-module _ (t : List ℕ) (i : ℕ) (h : length (members-in t) ≤ suc i) where
-  pub end-lower : zeros (row-in member-width t i) ≡ true → length (members-in t) ≤ i
-  end-lower z = go (same (length (members-in t)) (suc i))
-    where
-      go : (length (members-in t) ≡ suc i) ⊎ (length (members-in t) ≡ suc i → ⊥) → length (members-in t) ≤ i
-      go (inl e) = never (sym (row-last member-width t i (sym (members-used t) ∙ e)) ∙ z)
-      go (inr n) = omega (arith, n)
+    pub closed-is : getD (closed-in t) c false ≡ closed-of (member-in t c)
+    closed-is = closed-member ∙ ap closed-of member-is
 
-  pub end-here : i < length t / member-width → zeros (row-in member-width t i) ≡ false → suc i ≡ length (members-in t)
-  end-here l z = go (split (length (members-in t)) i)
-    where
-      go : (length (members-in t) ≤ i) ⊎ (i < length (members-in t)) → suc i ≡ length (members-in t)
-      go (inl k) = never (sym z ∙ row-free t i l k)
-      go (inr k) = omega arith
+    pub open-is : not (getD (closed-in t) c false) ≡ eqb (member-in t c .mark) 0
+    open-is = ap not closed-is ∙ Bool·not-not (eqb (member-in t c .mark) 0)
 
--- where none is free between others: a row with no size is behind them, one with a size is among them
-module _ (t : List ℕ) (i : ℕ) where
-  pub size-stops : None-free t → member-in t i .size ≡ 0 → length (members-in t) ≤ i
-  size-stops f z = go (split (length (members-in t)) i)
-    where
-      go : (length (members-in t) ≤ i) ⊎ (i < length (members-in t)) → length (members-in t) ≤ i
-      go (inl k) = k
-      go (inr k) = absurd (omega (arith, f i (omega (arith, connections-length t)), ap (λ (x : Connection). x .size) (connection-is t i k)))
+  module _ (h : max-connections ≤ c) where
+    pub member-none : getD (members-in t) c no-member ≡ no-member
+    member-none = List·getD-eq-default (members-in t) no-member {n = c} (omega (arith, length-members t))
 
-  pub size-goes : i < length t / member-width → (member-in t i .size ≡ 0 → ⊥) → i < length (members-in t)
-  size-goes l n = go (split (length (members-in t)) i)
-    where
-      go : (length (members-in t) ≤ i) ⊎ (i < length (members-in t)) → i < length (members-in t)
-      go (inl k) = absurd (n (ap (λ (m : Member). m .size) (sym (member-at-number t i l) ∙ List·getD-eq-default (members-in t) no-member k)))
-      go (inr k) = k
+    pub connection-none : nth (connections-in t) c ≡ no-connection
+    connection-none = nth-member ∙ ap connection-of member-none
 
-pub members-from : (t : List ℕ) (i : ℕ) → i < length (members-in t) → drop i (members-in t) ≡ member-in t i ∷ drop (suc i) (members-in t)
-members-from t i h = drop-cons (members-in t) i no-member h ∙ ap (λ (p : Member). p ∷ drop (suc i) (members-in t)) (member-is t i h)
+    pub owned-none : owned (connections-in t) c ≡ false
+    owned-none = level-free (connections-in t) c (ap (λ (x : Connection). x .level) connection-none)
 
-pub pasts-length : (cs : List ℕ) → length (pasts-in cs) ≡ length (connections-in cs)
-pasts-length cs = length-map (members-in cs) past-of ∙ sym (connections-length cs)
+    pub past-none : getD (pasts-in t) c no-past ≡ no-past
+    past-none = past-member ∙ ap past-of member-none
 
--- ---- a row written anew
+    pub closed-none : getD (closed-in t) c false ≡ false
+    closed-none = closed-member ∙ ap closed-of member-none
 
-pub paired-all : (cs : List Connection) (hs : List Past) → length hs ≡ length cs → length (paired cs hs) ≡ length cs
-paired-all [] hs e = refl
-paired-all (c ∷ cs) [] e = absurd (omega arith)
-paired-all (c ∷ cs) (h ∷ hs) e = ap suc (paired-all cs hs (omega arith))
+-- ---- the table is its rows and two numbers
 
-paired-length : (t : List ℕ) → length (paired (connections-in t) (pasts-in t)) ≡ length (members-in t)
-paired-length t = paired-all (connections-in t) (pasts-in t) (pasts-length t) ∙ connections-length t
+module _ (t : List ℕ) (e : length t ≡ members-length) where
+  behind : drop rows-end t ≡ used-in t ∷ first-in t ∷ []
+  behind =
+      drop-cons t rows-end 0 (omega arith)
+      ∙ ap (λ (l : List ℕ). used-in t ∷ l) (drop-cons t (rows-end + 1) 0 (omega arith) ∙ ap (λ (l : List ℕ). first-in t ∷ l) (drop-of-length-le t {i = members-length} (omega arith)))
 
-paired-set : (cs : List Connection) (hs : List Past) (c : ℕ) (h : Past) → length hs ≡ length cs → paired cs (set hs c h) ≡ set (paired cs hs) c (member (nth cs c) h)
-paired-set [] hs c h e = refl
-paired-set (x ∷ cs) [] c h e = absurd (omega arith)
-paired-set (x ∷ cs) (k ∷ hs) zero h e = refl
-paired-set (x ∷ cs) (k ∷ hs) (suc c) h e = ap (λ (l : List Member). member x k ∷ l) (paired-set cs hs c h (omega arith))
+  pub rows-written : t ≡ written-rows (members-in t) (used-in t) (first-in t)
+  unfolding members-in written-rows
+  rows-written =
+      sym
+      (ap (λ (l : List ℕ). write row-of (map member-of (rows-in member-width max-connections t)) ++ l) (sym behind)
+      ∙ write-rows member-width member-of row-of row-back max-connections t (omega arith))
 
-paired-snoc : (cs : List Connection) (hs : List Past) (x : Connection) (h : Past) → length hs ≡ length cs → paired (cs ++ x ∷ []) (hs ++ h ∷ []) ≡ paired cs hs ++ member x h ∷ []
-paired-snoc [] [] x h e = refl
-paired-snoc [] (k ∷ hs) x h e = absurd (omega arith)
-paired-snoc (c ∷ cs) [] x h e = absurd (omega arith)
-paired-snoc (c ∷ cs) (k ∷ hs) x h e = ap (λ (l : List Member). member c k ∷ l) (paired-snoc cs hs x h (omega arith))
+-- a row put in place of another
+pub put-row : (ms : List Member) (u f i : ℕ) (m : Member) → i < length ms → put-member (written-rows ms u f) i m ≡ written-rows (set ms i m) u f
+unfolding written-rows
+put-row ms u f i m h = put-at member-width row-of (λ m. refl) (u ∷ f ∷ []) ms i m h
 
-module _ (t : List ℕ) (w : t ≡ written-members (connections-in t) (pasts-in t)) (long : length t ≡ members-length) where
-  -- another past of connection c
-  pub set-past : (c : ℕ) (h : Past) → c < length (members-in t) → put-member t c (member (nth (connections-in t) c) h) ≡ written-members (connections-in t) (set (pasts-in t) c h)
-  unfolding written-members
-  set-past c h l =
-      let m : Member = member (nth (connections-in t) c) h in
-      let n : length (paired (connections-in t) (pasts-in t)) ≡ length (members-in t) = paired-length t in
-      ap (λ (u : List ℕ). put-member u c m) w
-      ∙ put-at member-width row-of (λ m. refl) members-length (paired (connections-in t) (pasts-in t)) c m (omega arith) (omega (arith, members-end t))
-      ∙ ap (padded member-width row-of members-length) (sym (paired-set (connections-in t) (pasts-in t) c h (pasts-length t)))
+module _ (ms : List Member) (u f : ℕ) (e : length ms ≡ max-connections) where
+  length-rows-of : length (write row-of ms) ≡ rows-end
+  length-rows-of = length-write member-width row-of (λ m. refl) ms ∙ ap (λ (k : ℕ). member-width * k) e
 
-  -- a new connection, behind the others
-  pub add-last : (n : ℕ) (x : Connection) → n ≡ length (members-in t) → n < max-connections
-      → put-member t n (member x no-past) ≡ written-members (connections-in t ++ x ∷ []) (pasts-in t ++ no-past ∷ [])
-  unfolding written-members
-  add-last n x e h =
-      let ln : length (paired (connections-in t) (pasts-in t)) ≡ n = paired-length t ∙ sym e in
-      ap (λ (u : List ℕ). put-member u n (member x no-past)) w
-      ∙ ap (λ (k : ℕ). put-member (padded member-width row-of members-length (paired (connections-in t) (pasts-in t))) k (member x no-past)) (sym ln)
-      ∙ put-last member-width row-of (λ m. refl) members-length (paired (connections-in t) (pasts-in t)) (member x no-past) (omega arith)
-      ∙ ap (padded member-width row-of members-length) (sym (paired-snoc (connections-in t) (pasts-in t) x no-past (pasts-length t)))
+  length-with-one : length (write row-of ms ++ u ∷ []) ≡ rows-end + 1
+  length-with-one = omega (arith, length-append (write row-of ms) (u ∷ []), length-rows-of)
+
+  one-more : (v : ℕ) → (write row-of ms ++ u ∷ []) ++ v ∷ [] ≡ write row-of ms ++ u ∷ v ∷ []
+  one-more v = append-assoc (write row-of ms) (u ∷ []) (v ∷ [])
+
+  pub length-written : length (written-rows ms u f) ≡ members-length
+  unfolding written-rows
+  length-written = omega (arith, length-append (write row-of ms) (u ∷ f ∷ []), length-rows-of)
+
+  -- another number behind the rows
+  pub set-used : (v : ℕ) → set (written-rows ms u f) rows-end v ≡ written-rows ms v f
+  unfolding written-rows
+  set-used v = set-at (write row-of ms) u (f ∷ []) v rows-end length-rows-of
+
+  pub set-first : (v : ℕ) → set (written-rows ms u f) (rows-end + 1) v ≡ written-rows ms u v
+  unfolding written-rows
+  set-first v =
+      ap (λ (l : List ℕ). set l (rows-end + 1) v) (sym (one-more f))
+      ∙ set-at (write row-of ms ++ u ∷ []) f [] v (rows-end + 1) length-with-one
+      ∙ one-more v
+
+  -- what is written is read back
+  pub used-in-back : used-in (written-rows ms u f) ≡ u
+  unfolding written-rows
+  used-in-back = getD-at (write row-of ms) u (f ∷ []) 0 rows-end length-rows-of
+
+  pub first-in-back : first-in (written-rows ms u f) ≡ f
+  unfolding written-rows
+  first-in-back = ap (λ (l : List ℕ). getD l (rows-end + 1) 0) (sym (one-more f)) ∙ getD-at (write row-of ms ++ u ∷ []) f [] 0 (rows-end + 1) length-with-one
+
+  all-again : (ns : List Member) → All Long ns → All (λ m. member-of (row-of m) ≡ m) ns
+  all-again [] h = tt
+  all-again (n ∷ ns) h = (row-again n (h .0), all-again ns (h .1))
+
+  pub members-back : All Long ms → members-in (written-rows ms u f) ≡ ms
+  unfolding members-in written-rows
+  members-back h = first-back member-width row-of (λ m. refl) member-of max-connections ms (u ∷ f ∷ []) e (all-again ms h)

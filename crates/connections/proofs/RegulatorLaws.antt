@@ -2,22 +2,23 @@
 use Prim.Native.Nat.{ℕ, zero, suc, _+_, _-_, _/_, _≤_, _<_, min, max}
 use native.Mathlib.Omega.{arith}
 use mathlib.Core.Path.{_≡_, refl, sym, ap, _∙_, subst}
-use mathlib.Core.Bool.{true}
+use mathlib.Core.Bool.{Bool, true, false}
 use mathlib.Core.List.{List, [], _∷_, _++_, append-nil}
-use mathlib.Core.Option.{Option, none, some}
+use mathlib.Core.Option.{none, some}
 use lib.Dec.{eqb}
 use lib.ListN.{length, getD, getElem?, set, take, drop, replicate, length-append, length-take, length-drop, length-replicate, drop-of-length-le}
 use lib.Seq.{sets, sets-eq, take-nil, take-all, take-append-le, drop-drop, length-take-le, getD-take, getD-drop}
 use borrow.Author.Tests.{eq-eqb, ne-eqb}
-use Rattle.rules.specs.Limits.{max-remembered}
+use Rattle.rules.specs.Limits.{max-connections, max-remembered}
 use Rattle.rules.specs.declared.Link.{Link}
 use Rattle.rules.specs.declared.Connection.{Connection}
 use Rattle.rules.specs.Model.{Past, nth, no-past}
-use Rattle.rules.specs.Admission.{burst}
+use Rattle.rules.specs.Admission.{burst, owned}
 use Rattle.rules.specs.Service.{nth-before, ticks-after, earliest, next-eligibility, remember}
 use Rattle.rules.specs.WithoutAverage.{base-eligibility}
 use Rattle.rules.proofs.WithoutAverage.{as-before}
 use Rattle.rules.proofs.Spacing.{earliest-is, next-is}
+use Rattle.rules.proofs.Figures.{burst-none}
 use Rattle.rules.proofs.Sums.{cond-is}
 use Rattle.rules.proofs.Tests.{and-true, and-intro}
 use Rattle.limits.specs.Zeros.{zeros}
@@ -25,11 +26,11 @@ use Rattle.limits.proofs.ZeroLaws.{zeros-parts, zeros-rep, zeros-left, drop-zer
 use Rattle.tables.specs.Table.{numbers}
 use Rattle.tables.proofs.TableLaws.{numbers-again}
 use Rattle.connections.specs.declared.Member.{Member}
-use Rattle.connections.specs.Members.{connection-of, past-of, connections-in, pasts-in, member, member-in, members-in, member-formed, members-formed}
+use Rattle.connections.specs.Members.{connection-of, past-of, closed-of, connections-in, pasts-in, closed-in, member, member-in, member-formed, rows-formed}
 use Rattle.connections.specs.Within.{Within, gap-only, last-only}
 use Rattle.connections.proofs.FigureLaws.{burst-is, figure-limits}
-use Rattle.connections.proofs.MemberLaws.{connection-is, past-is, connections-length}
-use Rattle.connections.proofs.WrittenLaws.{formed-parts, member-formed-at}
+use Rattle.connections.proofs.MemberLaws.{connection-is, past-is, closed-is}
+use Rattle.connections.proofs.WrittenLaws.{formed-parts, mark-back, member-formed-at}
 
 -- ---- the n-th before
 
@@ -117,15 +118,15 @@ module _ (m : Member) (e : ℕ) (long : length (m .ticks) ≡ max-remembered) (f
   more-ticks =
       ap (λ (l : List ℕ). e ∷ l)
       (ap (numbers 15) (take-both (m .known) 15 (m .ticks))
-      ∙ numbers-again (m .known) 15 (take 15 (m .ticks)) (length-take-le 15 (m .ticks) (omega arith)) (zeros-taken (m .known) 15 (m .ticks) (formed-parts m f .1)))
+      ∙ numbers-again (m .known) 15 (take 15 (m .ticks)) (length-take-le 15 (m .ticks) (omega arith)) (zeros-taken (m .known) 15 (m .ticks) (formed-parts m f .zero-behind)))
 
   more-known : length (remember (past-of m) e) ≡ min max-remembered (m .known + 1)
   unfolding remember
-  more-known = omega (arith, length-take max-remembered (e ∷ past-of m), length-take (m .known) (m .ticks), formed-parts m f .0)
+  more-known = omega (arith, length-take max-remembered (e ∷ past-of m), length-take (m .known) (m .ticks), formed-parts m f .known-le)
 
   pub remembering-is : (k : ℕ) (ts : List ℕ) → k ≡ min max-remembered (m .known + 1) → ts ≡ e ∷ take 15 (m .ticks)
-      → _≡_ {A = Member} (record { level = m .level; size = m .size; gap = m .gap; window = m .window; average = m .average; known = k; ticks = ts }) (member (connection-of m) (remember (past-of m) e))
-  remembering-is k ts a b = rw (a ∙ sym more-known, b ∙ sym more-ticks)
+      → _≡_ {A = Member} (record { level = m .level; size = m .size; gap = m .gap; window = m .window; average = m .average; mark = m .mark; known = k; ticks = ts }) (member (connection-of m) (remember (past-of m) e) (closed-of m))
+  remembering-is k ts a b = rw (a ∙ sym more-known, b ∙ sym more-ticks, mark-back m f)
 
 -- ---- fewer
 
@@ -154,17 +155,17 @@ numbers-padded n k l h i z =
 
 module _ (m : Member) (n : ℕ) (long : length (m .ticks) ≡ max-remembered) (f : member-formed m ≡ true) where
   pub forgets-all : m .known ≤ n
-      → _≡_ {A = Member} (record { level = m .level; size = m .size; gap = m .gap; window = m .window; average = m .average; known = 0; ticks = replicate max-remembered 0 }) (member (connection-of m) (drop n (past-of m)))
+      → _≡_ {A = Member} (record { level = m .level; size = m .size; gap = m .gap; window = m .window; average = m .average; mark = m .mark; known = 0; ticks = replicate max-remembered 0 }) (member (connection-of m) (drop n (past-of m)) (closed-of m))
   forgets-all h =
       let e : drop n (past-of m) ≡ [] = drop-of-length-le (past-of m) {i = n} (omega (arith, length-take (m .known) (m .ticks))) in
-      ap (member (connection-of m)) (sym e)
+      rw (e, mark-back m f)
 
   module _ (h : n < m .known) where
     rest : drop n (past-of m) ≡ take (m .known - n) (drop n (m .ticks))
     rest = drop-take-less n (m .known) (m .ticks)
 
     fewer-known : length (drop n (past-of m)) ≡ m .known - n
-    fewer-known = omega (arith, length-drop n (past-of m), length-take (m .known) (m .ticks), formed-parts m f .0)
+    fewer-known = omega (arith, length-drop n (past-of m), length-take (m .known) (m .ticks), formed-parts m f .known-le)
 
     fewer-ticks : numbers max-remembered (drop n (past-of m)) ≡ sets (replicate max-remembered 0) 0 (take (max-remembered - n) (drop n (m .ticks)))
     fewer-ticks =
@@ -172,30 +173,41 @@ module _ (m : Member) (n : ℕ) (long : length (m .ticks) ≡ max-remembered) (f
         let j : n + (m .known - n) ≡ m .known = omega arith in
         let k = formed-parts m f in
         ap (numbers max-remembered) rest
-        ∙ numbers-padded max-remembered (m .known - n) l (omega (arith, length-drop n (m .ticks))) (omega (arith, length-drop n (m .ticks), k .0))
-        (ap zeros (drop-drop (m .known - n) n (m .ticks) ∙ ap (λ (i : ℕ). drop i (m .ticks)) j) ∙ k .1)
+        ∙ numbers-padded max-remembered (m .known - n) l (omega (arith, length-drop n (m .ticks))) (omega (arith, length-drop n (m .ticks), k .known-le))
+        (ap zeros (drop-drop (m .known - n) n (m .ticks) ∙ ap (λ (i : ℕ). drop i (m .ticks)) j) ∙ k .zero-behind)
         ∙ ap (sets (replicate max-remembered 0) 0) (sym (take-all (max-remembered - n) l (omega (arith, length-drop n (m .ticks)))))
 
     pub forgets-some : (k : ℕ) (ts : List ℕ) → k ≡ m .known - n → ts ≡ sets (replicate max-remembered 0) 0 (take (max-remembered - n) (drop n (m .ticks)))
-        → _≡_ {A = Member} (record { level = m .level; size = m .size; gap = m .gap; window = m .window; average = m .average; known = k; ticks = ts }) (member (connection-of m) (drop n (past-of m)))
-    forgets-some k ts a b = rw (a ∙ sym fewer-known, b ∙ sym fewer-ticks)
+        → _≡_ {A = Member} (record { level = m .level; size = m .size; gap = m .gap; window = m .window; average = m .average; mark = m .mark; known = k; ticks = ts }) (member (connection-of m) (drop n (past-of m)) (closed-of m))
+    forgets-some k ts a b = rw (a ∙ sym fewer-known, b ∙ sym fewer-ticks, mark-back m f)
 
 -- ---- a connection read from its table
-pub record Member-facts (l : Link) (t : List ℕ) (c : ℕ) (m : Member) : Type 0 where
+
+pub record Member-facts (t : List ℕ) (c : ℕ) (m : Member) : Type 0 where
   pub shape : member-formed m ≡ true
   pub few : m .known ≤ max-remembered
   pub regular : burst (connection-of m) ≤ max-remembered
   pub figures : connection-of m ≡ nth (connections-in t) c
   pub past : past-of m ≡ getD (pasts-in t) c no-past
+  pub mark : closed-of m ≡ getD (closed-in t) c false
 
-pub member-facts : (l : Link) (t : List ℕ) (c : ℕ) (m : Member) → members-formed t ≡ true → c < length (members-in t) → Within l (connections-in t) → m ≡ member-in t c → Member-facts l t c m
+-- sixteen at most in an averaging window, none where a number is free
+burst-few : (l : Link) (cs : List Connection) → Within l cs → (c : ℕ) → burst (nth cs c) ≤ max-remembered
+burst-few l cs W c = go (owned cs c) refl
+  where
+    go : (b : Bool) → owned cs c ≡ b → burst (nth cs c) ≤ max-remembered
+    go true o = figure-limits l (nth cs c) (W .figures-in c o) .burst-le
+    go false o = omega (arith, burst-none (nth cs c) (ap (λ (x : Connection). x .window) (W .blank-in c o)))
+
+pub member-facts : (l : Link) (t : List ℕ) (c : ℕ) (m : Member) → rows-formed t ≡ true → c < max-connections → Within l (connections-in t) → m ≡ member-in t c → Member-facts t c m
 member-facts l t c m f k W e =
     let i : connection-of m ≡ nth (connections-in t) c = ap connection-of e ∙ sym (connection-is t c k) in
-    let j : member-formed m ≡ true = ap member-formed e ∙ member-formed-at t c f k in
+    let j : member-formed m ≡ true = ap member-formed e ∙ member-formed-at t f c k in
     record {
       shape = j;
-      few = formed-parts m j .0;
-      regular = subst (λ (x : Connection). burst x ≤ max-remembered) (sym i) (figure-limits l (nth (connections-in t) c) (W .figures-in c (omega (arith, connections-length t))) .burst-le);
+      few = formed-parts m j .known-le;
+      regular = subst (λ (x : Connection). burst x ≤ max-remembered) (sym i) (burst-few l (connections-in t) W c);
       figures = i;
       past = ap past-of e ∙ sym (past-is t c k);
+      mark = ap closed-of e ∙ sym (closed-is t c k);
     }

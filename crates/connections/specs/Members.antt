@@ -1,34 +1,37 @@
--- The table of connections, a row for each, at its number: level, size, gap, averaging window, average gap, how many eligibilities are remembered, and these,
--- newest first. Document 01 leaves its form open; docs/RULES-AFTER-BASE.md, R-6, has it.
-use Prim.Native.Nat.{ℕ, _*_, _<_}
-use mathlib.Core.Bool.{Bool, _&&_}
-use mathlib.Core.List.{List, [], _∷_, map}
+-- The table of connections: a row for each number, with level, size, gap, averaging window, average gap, a mark, how many eligibilities are remembered, and these,
+-- newest first; and behind the rows two numbers that sum them up. Document 01 leaves its form open; docs/RULES-AFTER-BASE.md, R-6 and R-8, has it.
+use Prim.Native.Nat.{ℕ, zero, suc, _+_, _*_, min}
+use mathlib.Core.Bool.{Bool, cond, not, _&&_}
+use mathlib.Core.List.{List, [], _∷_, _++_, map}
 use lib.Dec.{eqb, leb}
 use lib.ListN.{length, getD, take, drop}
 use lib.Seq.{sets}
 use Rattle.rules.specs.declared.Connection.{Connection}
 use Rattle.rules.specs.Words.{each}
 use Rattle.rules.specs.Limits.{max-connections, max-remembered}
-use Rattle.rules.specs.Model.{Past, nth}
+use Rattle.rules.specs.Model.{Past}
 use Rattle.limits.specs.Zeros.{zeros}
-use Rattle.tables.specs.Table.{row-in, numbers, by-number, read, padded}
+use Rattle.tables.specs.Table.{row-in, rows-in, numbers, write}
 use Rattle.connections.specs.declared.Member.{Member}
 
 abbrev pub member-head : ℕ
-member-head = 6
+member-head = 7
 
 abbrev pub member-width : ℕ
-member-width = 22
+member-width = 23
 
--- the numbers of the table: a row for each connection
+-- where the rows end, and the numbers of the table: a row for each number, and two behind them
+abbrev pub rows-end : ℕ
+rows-end = member-width * max-connections
+
 abbrev pub members-length : ℕ
-members-length = member-width * max-connections
+members-length = rows-end + 2
 
 -- ---- rows
 
 -- the numbers of a row, in their order, and the row that they make
 abbrev pub row-of : Member → List ℕ
-row-of m = m .level ∷ m .size ∷ m .gap ∷ m .window ∷ m .average ∷ m .known ∷ numbers max-remembered (m .ticks)
+row-of m = m .level ∷ m .size ∷ m .gap ∷ m .window ∷ m .average ∷ m .mark ∷ m .known ∷ numbers max-remembered (m .ticks)
 
 abbrev pub member-of : List ℕ → Member
 member-of r = record {
@@ -37,7 +40,8 @@ member-of r = record {
   gap = getD r 2 0;
   window = getD r 3 0;
   average = getD r 4 0;
-  known = getD r 5 0;
+  mark = getD r 5 0;
+  known = getD r 6 0;
   ticks = numbers max-remembered (drop member-head r);
 }
 
@@ -51,9 +55,9 @@ member-in t i = member-of (row-in member-width t i)
 abbrev pub put-member : List ℕ → ℕ → Member → List ℕ
 put-member t i m = sets t (member-width * i) (row-of m)
 
--- the rows by number: number c is row c, and a free row, all zero, may stand between others
+-- the rows by number: number c is row c, and a free one is all zero
 unfoldable pub members-in : List ℕ → List Member
-members-in t = read by-number member-width member-of t
+members-in t = map member-of (rows-in member-width max-connections t)
 
 -- ---- what they stand for
 
@@ -63,40 +67,90 @@ connection-of m = record { level = m .level; gap = m .gap; size = m .size; windo
 abbrev pub past-of : Member → Past
 past-of m = take (m .known) (m .ticks)
 
+abbrev pub closed-of : Member → Bool
+closed-of m = not (eqb (m .mark) 0)
+
 abbrev pub connections-in : List ℕ → List Connection
 connections-in t = map connection-of (members-in t)
 
 abbrev pub pasts-in : List ℕ → List Past
 pasts-in t = map past-of (members-in t)
 
--- no row is free between others
-abbrev pub None-free : List ℕ → Type 0
-None-free t = (c : ℕ) → c < length (connections-in t) → 0 < nth (connections-in t) c .size
+abbrev pub closed-in : List ℕ → List Bool
+closed-in t = map closed-of (members-in t)
+
+-- ---- the two numbers behind the rows
+
+-- how many numbers there are up to the last that has an owner
+abbrev pub up-to : Bool → ℕ → ℕ
+up-to free zero = cond free 0 1
+up-to free (suc n) = suc (suc n)
+
+abbrev pub used-by : List Connection → ℕ
+used-by [] = 0
+used-by (x ∷ cs) = up-to (eqb (x .level) 0) (used-by cs)
+
+-- one more than the earliest last eligibility of those that are closed; 0 where none is
+abbrev pub earlier : ℕ → ℕ → ℕ
+earlier a zero = a
+earlier a (suc b) = min a (suc b)
+
+abbrev pub last-of : Past → ℕ
+last-of h = getD h 0 0
+
+abbrev pub first-closed : List Past → List Bool → ℕ
+first-closed [] bs = 0
+first-closed (h ∷ hs) [] = 0
+first-closed (h ∷ hs) (b ∷ bs) = cond b (earlier (suc (last-of h)) (first-closed hs bs)) (first-closed hs bs)
+
+-- as they stand in a table
+abbrev pub used-in : List ℕ → ℕ
+used-in t = getD t rows-end 0
+
+abbrev pub first-in : List ℕ → ℕ
+first-in t = getD t (rows-end + 1) 0
 
 -- ---- writing
 
-abbrev pub member : Connection → Past → Member
-member x h = record {
+abbrev pub member : Connection → Past → Bool → Member
+member x h b = record {
   level = x .level;
   size = x .size;
   gap = x .gap;
   window = x .window;
   average = x .average;
+  mark = cond b 1 0;
   known = length h;
   ticks = numbers max-remembered h;
 }
 
-abbrev pub paired : List Connection → List Past → List Member
-paired [] hs = []
-paired (x ∷ xs) [] = []
-paired (x ∷ xs) (h ∷ hs) = member x h ∷ paired xs hs
+abbrev pub members-for : List Connection → List Past → List Bool → List Member
+members-for [] hs bs = []
+members-for (x ∷ xs) [] bs = []
+members-for (x ∷ xs) (h ∷ hs) [] = []
+members-for (x ∷ xs) (h ∷ hs) (b ∷ bs) = member x h b ∷ members-for xs hs bs
 
-unfoldable pub written-members : List Connection → List Past → List ℕ
-written-members cs hs = padded member-width row-of members-length (paired cs hs)
+-- rows, and behind them any two numbers
+unfoldable pub written-rows : List Member → ℕ → ℕ → List ℕ
+written-rows ms used first = write row-of ms ++ used ∷ first ∷ []
 
--- the table is what is written of what is read: its length, no more eligibilities remembered than there is room for, and zeros behind them
+abbrev pub written-table : List Connection → List Past → List Bool → ℕ → ℕ → List ℕ
+written-table cs hs bs used first = written-rows (members-for cs hs bs) used first
+
+-- .. and behind them those that sum them up
+abbrev pub written-members : List Connection → List Past → List Bool → List ℕ
+written-members cs hs bs = written-table cs hs bs (used-by cs) (first-closed hs bs)
+
+-- the table is what is written of what is read: its length, no more eligibilities remembered than there is room for, zeros behind them, a mark that is one, and
+-- the two numbers those of the rows
 abbrev pub member-formed : Member → Bool
-member-formed m = leb (m .known) max-remembered && zeros (drop (m .known) (m .ticks))
+member-formed m = leb (m .known) max-remembered && (zeros (drop (m .known) (m .ticks)) && leb (m .mark) 1)
+
+unfoldable pub rows-formed : List ℕ → Bool
+rows-formed t = eqb (length t) members-length && each member-formed (members-in t)
+
+unfoldable pub sums-formed : List ℕ → Bool
+sums-formed t = eqb (used-in t) (used-by (connections-in t)) && eqb (first-in t) (first-closed (pasts-in t) (closed-in t))
 
 unfoldable pub members-formed : List ℕ → Bool
-members-formed t = eqb (length t) members-length && each member-formed (members-in t)
+members-formed t = rows-formed t && sums-formed t

@@ -1,20 +1,21 @@
--- What the sums over connections rely on: every figure within its limits, so that nothing is lost in 64 bits.
-use Prim.Native.Nat.{ℕ, _+_, _*_, _<_}
+-- What the sums over connections rely on: every figure within its limits, so that nothing is lost in 64 bits; and what they add up to.
+use Prim.Native.Nat.{ℕ, _+_, _*_, _≤_}
 use mathlib.Core.Path.{_≡_}
-use mathlib.Core.Bool.{true, cond}
+use mathlib.Core.Bool.{true, false, cond}
 use mathlib.Core.List.{List, [], _∷_}
 use lib.Dec.{eqb}
-use lib.ListN.{length}
 use Rattle.rules.specs.declared.Link.{Link}
 use Rattle.rules.specs.declared.Connection.{Connection}
 use Rattle.rules.specs.Limits.{max-largest, max-silence, max-bound}
-use Rattle.rules.specs.Model.{Past, nth}
+use Rattle.rules.specs.Model.{Past, no-connection, nth}
 use Rattle.rules.specs.Words.{upto}
-use Rattle.rules.specs.Admission.{link-within, figures-within, count, cost}
+use Rattle.rules.specs.Admission.{link-within, figures-within, owned, bound, count, cost, load, level-sum}
 
+-- the link is within its limits; each number has an owner whose figures are, or is free, and then blank
 pub record Within (l : Link) (cs : List Connection) : Type 0 where
   pub link-in : link-within l ≡ true
-  pub figures-in : (c : ℕ) → c < length cs → figures-within l (nth cs c) ≡ true
+  pub figures-in : (c : ℕ) → owned cs c ≡ true → figures-within l (nth cs c) ≡ true
+  pub blank-in : (c : ℕ) → owned cs c ≡ false → nth cs c ≡ no-connection
 
 -- what a connection adds to the sum of level m with bound d, and the most that this can be
 abbrev pub share-of : Link → ℕ → ℕ → Connection → ℕ
@@ -22,6 +23,10 @@ share-of l m d x = upto (x .level) m (count x d * cost l (x .size))
 
 abbrev pub most-share : ℕ
 most-share = max-bound * (max-largest + max-silence)
+
+-- the sums of the connections js are those of cs with the share of a newcomer x
+abbrev pub Sums-with : Link → List Connection → Connection → List Connection → Type 0
+Sums-with l cs x js = (m : ℕ) → m ≤ l .levels → level-sum l js m ≡ load l cs m (bound l m) + share-of l m (bound l m) x + cost l (l .largest)
 
 -- a connection of which only the gap counts, as for an eligibility, and what is remembered where at most the last one is: nothing where the flag is 0
 abbrev pub gap-only : ℕ → Connection

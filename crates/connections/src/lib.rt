@@ -1,40 +1,45 @@
 // The table of connections, and what is asked of its figures: reservations and the level test.
+pub mod closing; // closing.rt: connections that are closed, and numbers that are freed
 pub mod regulator; // regulator.rt: the next eligibility of a connection, and what it remembers
 
 ghost use mathlib.Core.Path.{_≡_};
-ghost use mathlib.Core.Bool.{true};
-ghost use mathlib.Core.List.{[], _∷_, _++_};
-ghost use Prim.Native.Nat.{_+_, _*_, _-_, _/_, _<_, _≤_, min};
+ghost use mathlib.Core.Bool.{true, false, not, _&&_};
+ghost use mathlib.Core.List.{List};
+ghost use Prim.Native.Nat.{_+_, _*_, _-_, _/_, _<_, _≤_, min, max};
 ghost use lib.ListN.{length, getD, set, drop};
+ghost use Rattle.rules.specs.declared.Connection.{Connection as Figures};
 ghost use Rattle.rules.specs.Limits.{max-largest, max-silence, max-bound, max-connections, beyond-32-bits};
-ghost use Rattle.rules.specs.Model.{no-short, nth, no-past};
-ghost use Rattle.rules.specs.Admission.{bound, burst, rounded-up, average-count, count, reservation, reserved, load, level-sum, level-test};
+ghost use Rattle.rules.specs.Model.{no-short, nth, no-past, no-connection};
+ghost use Rattle.rules.specs.Admission.{bound, burst, rounded-up, average-count, count, reservation, reserved, cost, load, level-test, owned, free-number, joining};
 ghost use Rattle.rules.specs.Service.{remember};
 ghost use Rattle.limits.specs.Zeros.{zeros};
 ghost use Rattle.tables.specs.Table.{row-in};
-ghost use Rattle.connections.specs.Members.{member-width, members-length, member-in, put-member, members-in, None-free, connection-of, connections-in, pasts-in, written-members, members-formed};
-ghost use Rattle.connections.specs.Within.{Within, most-share, share-of};
+ghost use Rattle.connections.specs.Members.{member-width, rows-end, members-length, member-in, put-member, connection-of, connections-in, pasts-in, closed-in, used-by, used-in, first-in, written-table, written-members, rows-formed, members-formed};
+ghost use Rattle.connections.specs.Within.{Within, Sums-with, most-share, share-of};
+use limits::MAX_CONNECTIONS;
 use limits::MAX_LEVELS;
 use limits::MAX_REMEMBERED;
 use limits::MEMBER_HEAD;
+use limits::MEMBER_ROWS;
 use limits::MEMBER_WIDTH;
 use rules::Connection;
 use rules::Link;
 use rules::Short;
 
-// A row of the table: a connection's figures, how many eligibilities of its accepted packets are remembered, and these, newest first.
+// A row of the table: a connection's figures, a mark where it is closed, how many eligibilities of its accepted packets are remembered, and these, newest first.
 pub struct Member {
     pub level: u32,
     pub size: u32,
     pub gap: u32,
     pub window: u32,
     pub average: u32,
+    pub mark: u32,
     pub known: u32,
     pub ticks: [u32; MAX_REMEMBERED],
 }
 
 // Number k of row i.
-fn number(members: &[u32], i: usize, k: usize) -> u32
+pub fn number(members: &[u32], i: usize, k: usize) -> u32
     requires { ⌜ (member-width * i + member-width ≤ length (now members)) × (k < member-width) ⌝ }
     ensures { λ r. ⌜ r ≡ getD (row-in member-width (now (members .entry)) i) k 0 ⌝ }
 {
@@ -79,7 +84,8 @@ pub fn member_at(members: &[u32], i: usize) -> Member
         gap: x.gap,
         window: x.window,
         average: x.average,
-        known: number(members, i, 5),
+        mark: number(members, i, 5),
+        known: number(members, i, 6),
         ticks: ticks_at(members, i),
     }
 }
@@ -95,13 +101,14 @@ fn put_member(members: &mut [u32], i: usize, m: Member)
     members[at + 2] = m.gap;
     members[at + 3] = m.window;
     members[at + 4] = m.average;
-    members[at + 5] = m.known;
+    members[at + 5] = m.mark;
+    members[at + 6] = m.known;
     let ticks = m.ticks;
     tables::copy(members, at + MEMBER_HEAD, &ticks);
 }
 
 // Row i is free: all its numbers are 0.
-fn is_free(members: &[u32], i: usize) -> bool
+pub fn is_free(members: &[u32], i: usize) -> bool
     requires { ⌜ member-width * i + member-width ≤ length (now members) ⌝ }
     ensures { λ r. ⌜ r ≡ zeros (row-in member-width (now (members .entry)) i) ⌝ }
 {
@@ -110,64 +117,71 @@ fn is_free(members: &[u32], i: usize) -> bool
     limits::zero_from(&members[at..end], 0)
 }
 
-// The number of rows, up to the last that is not free.
-pub fn members_in(members: &[u32]) -> usize
-    ensures { λ r. ⌜ r ≡ length (members-in (now (members .entry))) ⌝ }
+// How many rows there are up to the last owner's: the first of the two numbers behind the rows.
+pub fn used(members: &[u32]) -> usize
+    requires { ⌜ length (now members) ≡ members-length ⌝ }
+    ensures { λ r. ⌜ r ≡ used-in (now (members .entry)) ⌝ }
 {
-    let mut n = members.len() / MEMBER_WIDTH;
-    while 0 < n {
-        if !is_free(members, n - 1) {
-            return n;
-        }
-        n -= 1;
-    }
-    0
+    members[MEMBER_ROWS] as usize
 }
 
-// The number of rows where none of them is free, by halving: those behind have no size.
-pub fn standing(members: &[u32]) -> usize
-    requires { ⌜ None-free (now members) ⌝ }
-    ensures { λ r. ⌜ r ≡ length (members-in (now (members .entry))) ⌝ }
+// The lowest free number, of a table with owners up to row n.
+pub fn free_number(members: &[u32], n: usize) -> usize
+    requires { ⌜ (length (now members) ≡ members-length) × (n ≡ used-by (connections-in (now members))) ⌝ }
+    ensures { λ r. ⌜ r ≡ free-number (connections-in (now (members .entry))) ⌝ }
 {
-    let mut low: usize = 0;
-    let mut high: usize = members.len() / MEMBER_WIDTH;
-    while low < high {
-        let mid = low + (high - low) / 2;
-        if number(members, mid, 1) == 0 {
-            high = mid;
-        } else {
-            low = mid + 1;
+    let mut i: usize = 0;
+    while i < n {
+        if number(members, i, 0) == 0 {
+            return i;
         }
+        i += 1;
     }
-    low
+    n
 }
 
-// A connection that was just admitted, behind the n that stand.
-pub fn add_member(members: &mut [u32], n: usize, x: Connection)
-    requires { ⌜ (now members ≡ written-members (connections-in (now members)) (pasts-in (now members))) × (n ≡ length (members-in (now members))) × (n < max-connections) × (length (now members) ≡ members-length) ⌝ }
-    ensures { λ r. ⌜ now (members .exit) ≡ written-members (connections-in (now (members .entry)) ++ x ∷ []) (pasts-in (now (members .entry)) ++ no-past ∷ []) ⌝ }
+// Row c has an owner: the first of the two numbers behind the rows, raised where it is less.
+fn use_up_to(members: &mut [u32], c: usize)
+    requires { ⌜ (length (now members) ≡ members-length) × (c < max-connections) ⌝ }
+    ensures { λ r. ⌜ now (members .exit) ≡ set (now (members .entry)) rows-end (max (used-in (now (members .entry))) (c + 1)) ⌝ }
+{
+    let n = used(members);
+    if c < n {
+        return;
+    }
+    members[MEMBER_ROWS] = c as u32 + 1;
+}
+
+// A connection that was just admitted, at the lowest free number c, of which nothing is left.
+pub fn add_member(members: &mut [u32], c: usize, x: Connection)
+    requires { ⌜ (members-formed (now members) ≡ true) × (c ≡ free-number (connections-in (now members))) × (c < max-connections) × (1 ≤ x .level) ⌝ }
+    requires { ⌜ (getD (pasts-in (now members)) c no-past ≡ no-past) × (getD (closed-in (now members)) c false ≡ false) ⌝ }
+    ensures { λ r. ⌜ now (members .exit) ≡ written-members (joining (connections-in (now (members .entry))) x) (pasts-in (now (members .entry))) (closed-in (now (members .entry))) ⌝ }
 {
     put_member(
         members,
-        n,
+        c,
         Member {
             level: x.level,
             size: x.size,
             gap: x.gap,
             window: x.window,
             average: x.average,
+            mark: 0,
             known: 0,
             ticks: [0u32; MAX_REMEMBERED],
         },
     );
+    use_up_to(members, c);
 }
 
-// The figures of connection c; zeros where there is none.
+// The figures of number c; zeros where it has no owner.
 pub fn figures_of(members: &[u32], c: u32) -> Connection
+    requires { ⌜ length (now members) ≡ members-length ⌝ }
     ensures { λ r. ⌜ r ≡ nth (connections-in (now (members .entry))) c ⌝ }
 {
     let k = c as usize;
-    if k < members.len() / MEMBER_WIDTH {
+    if k < MAX_CONNECTIONS {
         return figures_at(members, k);
     }
     Connection {
@@ -179,27 +193,40 @@ pub fn figures_of(members: &[u32], c: u32) -> Connection
     }
 }
 
-// The level of connection c; 0 where there is none.
+// Number c stands: it has an owner that is not closed.
+pub fn stands(members: &[u32], c: u32) -> bool
+    requires { ⌜ length (now members) ≡ members-length ⌝ }
+    ensures { λ r. ⌜ r ≡ (owned (connections-in (now (members .entry))) c && not (getD (closed-in (now (members .entry))) c false)) ⌝ }
+{
+    let k = c as usize;
+    if MAX_CONNECTIONS <= k {
+        return false;
+    }
+    (number(members, k, 0) != 0) & (number(members, k, 5) == 0)
+}
+
+// The level of number c; 0 where it has no owner.
 pub fn level_of(members: &[u32], c: u32) -> u32
+    requires { ⌜ length (now members) ≡ members-length ⌝ }
     ensures { λ r. ⌜ r ≡ nth (connections-in (now (members .entry))) c .level ⌝ }
 {
     let x = figures_of(members, c);
     x.level
 }
 
-// Connection c has had a packet accepted, with the eligibility e.
+// Connection c has had a packet accepted, with the eligibility e. The numbers behind the rows stay.
 pub fn put_past(members: &mut [u32], c: usize, e: u32)
-    requires { ⌜ (members-formed (now members) ≡ true) × (c < length (members-in (now members))) ⌝ }
-    ensures { λ r. ⌜ now (members .exit) ≡ written-members (connections-in (now (members .entry))) (set (pasts-in (now (members .entry))) c (remember (getD (pasts-in (now (members .entry))) c no-past) e)) ⌝ }
+    requires { ⌜ (rows-formed (now members) ≡ true) × (c < max-connections) ⌝ }
+    ensures { λ r. ⌜ now (members .exit) ≡ written-table (connections-in (now (members .entry))) (set (pasts-in (now (members .entry))) c (remember (getD (pasts-in (now (members .entry))) c no-past) e)) (closed-in (now (members .entry))) (used-in (now (members .entry))) (first-in (now (members .entry))) ⌝ }
 {
     let m = member_at(members, c);
     put_member(members, c, regulator::remembering(m, e));
 }
 
-// Connection c forgets its newest n.
+// Connection c forgets its newest n. The numbers behind the rows stay.
 pub fn forget(members: &mut [u32], c: usize, n: u32)
-    requires { ⌜ (members-formed (now members) ≡ true) × (c < length (members-in (now members))) ⌝ }
-    ensures { λ r. ⌜ now (members .exit) ≡ written-members (connections-in (now (members .entry))) (set (pasts-in (now (members .entry))) c (drop n (getD (pasts-in (now (members .entry))) c no-past))) ⌝ }
+    requires { ⌜ (rows-formed (now members) ≡ true) × (c < max-connections) ⌝ }
+    ensures { λ r. ⌜ now (members .exit) ≡ written-table (connections-in (now (members .entry))) (set (pasts-in (now (members .entry))) c (drop n (getD (pasts-in (now (members .entry))) c no-past))) (closed-in (now (members .entry))) (used-in (now (members .entry))) (first-in (now (members .entry))) ⌝ }
 {
     let m = member_at(members, c);
     put_member(members, c, regulator::forgetting(m, n));
@@ -274,11 +301,14 @@ pub fn count_in(x: Connection, w: u32) -> u64
     least(most, average_in(x, n, w))
 }
 
-// The places reserved for a connection.
+// The places reserved for a connection; none for a free number.
 pub fn reserve(l: Link, x: Connection) -> u64
-    requires { ⌜ 1 ≤ x .gap ⌝ }
+    requires { ⌜ (x .level ≡ 0 → x ≡ no-connection) × ((x .level ≡ 0 → ⊥) → 1 ≤ x .gap) ⌝ }
     ensures { λ r. ⌜ (r ≡ reservation l x) × (r < beyond-32-bits) ⌝ }
 {
+    if x.level == 0 {
+        return 0;
+    }
     let d = bound_of(l, x.level);
     count_in(x, d)
 }
@@ -291,11 +321,14 @@ fn cost_of(len: u32, silence: u32) -> u64
     wide(len) + wide(silence)
 }
 
-// What a connection adds to the sum of level m with bound d.
+// What a connection adds to the sum of level m with bound d; a free number nothing.
 fn share(l: Link, x: Connection, m: u32, d: u32) -> u64
-    requires { ⌜ (1 ≤ x .gap) × (d ≤ max-bound) × (x .size ≤ max-largest) × (l .silence ≤ max-silence) ⌝ }
+    requires { ⌜ (x .level ≡ 0 → x ≡ no-connection) × ((x .level ≡ 0 → ⊥) → 1 ≤ x .gap) × (d ≤ max-bound) × (x .size ≤ max-largest) × (l .silence ≤ max-silence) ⌝ }
     ensures { λ r. ⌜ (r ≡ share-of l m d x) × (r ≤ most-share) ⌝ }
 {
+    if x.level == 0 {
+        return 0;
+    }
     if m < x.level {
         return 0;
     }
@@ -304,15 +337,15 @@ fn share(l: Link, x: Connection, m: u32, d: u32) -> u64
 
 // The connection in row i.
 pub fn connection_at(members: &[u32], i: usize) -> Connection
-    requires { ⌜ i < length (members-in (now members)) ⌝ }
+    requires { ⌜ (length (now members) ≡ members-length) × (i < max-connections) ⌝ }
     ensures { λ r. ⌜ r ≡ nth (connections-in (now (members .entry))) i ⌝ }
 {
     figures_at(members, i)
 }
 
-// The sum of level m over the first n connections.
+// The sum of level m over the connections, which have owners up to row n at most.
 fn load_of(l: Link, members: &[u32], n: usize, m: u32, d: u32) -> u64
-    requires { ⌜ (n ≡ length (members-in (now members))) × (n ≤ max-connections) × (d ≤ max-bound) × Within l (connections-in (now members)) ⌝ }
+    requires { ⌜ (length (now members) ≡ members-length) × (used-by (connections-in (now members)) ≤ n) × (n ≤ max-connections) × (d ≤ max-bound) × Within l (connections-in (now members)) ⌝ }
     ensures { λ r. ⌜ (r ≡ load l (connections-in (now (members .entry))) m d) × (r ≤ max-connections * most-share) ⌝ }
 {
     let mut sum: u64 = 0;
@@ -327,8 +360,8 @@ fn load_of(l: Link, members: &[u32], n: usize, m: u32, d: u32) -> u64
 
 // The sum of level m with a newcomer counted.
 fn sum_at(l: Link, members: &[u32], n: usize, x: Connection, m: u32) -> u64
-    requires { ⌜ (n ≡ length (members-in (now members))) × (n ≤ max-connections) × (1 ≤ x .gap) × (x .size ≤ max-largest) × (m ≤ l .levels) × Within l (connections-in (now members)) ⌝ }
-    ensures { λ r. ⌜ r ≡ level-sum l (connections-in (now (members .entry)) ++ x ∷ []) m ⌝ }
+    requires { ⌜ (length (now members) ≡ members-length) × (used-by (connections-in (now members)) ≤ n) × (n ≤ max-connections) × (1 ≤ x .level) × (1 ≤ x .gap) × (x .size ≤ max-largest) × (m ≤ l .levels) × Within l (connections-in (now members)) ⌝ }
+    ensures { λ r. ⌜ r ≡ load l (connections-in (now (members .entry))) m (bound l m) + share-of l m (bound l m) x + cost l (l .largest) ⌝ }
 {
     let d = bound_of(l, m);
     load_of(l, members, n, m, d) + share(l, x, m, d) + cost_of(l.largest, l.silence)
@@ -341,10 +374,10 @@ pub fn no_short() -> Short
     Short { level: 0, units: 0 }
 }
 
-// The level test over the first n connections and a newcomer.
+// The level test over the connections, which have owners up to row n at most, and a newcomer: that of any connections whose sums are these.
 pub fn level_test(l: Link, members: &[u32], n: usize, x: Connection) -> Short
-    requires { ⌜ (n ≡ length (members-in (now members))) × (n ≤ max-connections) × (1 ≤ x .gap) × (x .size ≤ max-largest) × Within l (connections-in (now members)) ⌝ }
-    ensures { λ r. ⌜ r ≡ level-test l (connections-in (now (members .entry)) ++ x ∷ []) ⌝ }
+    requires { ⌜ (length (now members) ≡ members-length) × (used-by (connections-in (now members)) ≤ n) × (n ≤ max-connections) × (1 ≤ x .level) × (1 ≤ x .gap) × (x .size ≤ max-largest) × Within l (connections-in (now members)) ⌝ }
+    ensures { λ r. ⌜ ((js : List Figures) → Sums-with l (connections-in (now (members .entry))) x js → r ≡ level-test l js) ⌝ }
 {
     let mut m: u32 = 1;
     while m <= l.levels {
@@ -361,9 +394,9 @@ pub fn level_test(l: Link, members: &[u32], n: usize, x: Connection) -> Short
     Short { level: 0, units: 0 }
 }
 
-// The level test over the first n connections. Nobody new is counted: a connection of a level above all others adds to no sum.
+// The level test over the connections, which have owners up to row n at most. Nobody new is counted: a connection of a level above all others adds to no sum.
 pub fn standing_test(l: Link, members: &[u32], n: usize) -> Short
-    requires { ⌜ (n ≡ length (members-in (now members))) × (n ≤ max-connections) × Within l (connections-in (now members)) ⌝ }
+    requires { ⌜ (length (now members) ≡ members-length) × (used-by (connections-in (now members)) ≤ n) × (n ≤ max-connections) × Within l (connections-in (now members)) ⌝ }
     ensures { λ r. ⌜ r ≡ level-test l (connections-in (now (members .entry))) ⌝ }
 {
     let nobody = Connection {
@@ -376,9 +409,9 @@ pub fn standing_test(l: Link, members: &[u32], n: usize) -> Short
     level_test(l, members, n, nobody)
 }
 
-// All reservations of the first n connections together.
+// All reservations together of the connections, which have owners up to row n at most.
 pub fn reserved_by(l: Link, members: &[u32], n: usize) -> u64
-    requires { ⌜ (n ≡ length (members-in (now members))) × (n ≤ max-connections) × Within l (connections-in (now members)) ⌝ }
+    requires { ⌜ (length (now members) ≡ members-length) × (used-by (connections-in (now members)) ≤ n) × (n ≤ max-connections) × Within l (connections-in (now members)) ⌝ }
     ensures { λ r. ⌜ (r ≡ reserved l (connections-in (now (members .entry)))) × (r ≤ max-connections * beyond-32-bits) ⌝ }
 {
     let mut sum: u64 = 0;

@@ -7,7 +7,7 @@ ghost use lib.ListN.{getD, drop};
 ghost use Rattle.rules.specs.Limits.{max-remembered};
 ghost use Rattle.rules.specs.Admission.{burst};
 ghost use Rattle.rules.specs.Service.{nth-before, ticks-after, earliest, next-eligibility, remember};
-ghost use Rattle.connections.specs.Members.{connection-of, past-of, member, member-formed};
+ghost use Rattle.connections.specs.Members.{connection-of, past-of, closed-of, member, member-formed};
 ghost use Rattle.connections.specs.Within.{gap-only, last-only};
 use super::Member;
 use super::packets_in;
@@ -89,7 +89,7 @@ fn one_more(known: u32) -> u32
 // The same connection once a packet is accepted with the eligibility e: it comes first, and of the others the last is forgotten where there is no room.
 pub(crate) fn remembering(m: Member, e: u32) -> Member
     requires { ⌜ member-formed m ≡ true ⌝ }
-    ensures { λ r. ⌜ r ≡ member (connection-of m) (remember (past-of m) e) ⌝ }
+    ensures { λ r. ⌜ r ≡ member (connection-of m) (remember (past-of m) e) (closed-of m) ⌝ }
 {
     let old = m.ticks;
     let mut ticks = [0u32; MAX_REMEMBERED];
@@ -101,6 +101,7 @@ pub(crate) fn remembering(m: Member, e: u32) -> Member
         gap: m.gap,
         window: m.window,
         average: m.average,
+        mark: m.mark,
         known: one_more(m.known),
         ticks: ticks,
     }
@@ -109,7 +110,7 @@ pub(crate) fn remembering(m: Member, e: u32) -> Member
 // The same connection once its newest n are forgotten.
 pub(crate) fn forgetting(m: Member, n: u32) -> Member
     requires { ⌜ member-formed m ≡ true ⌝ }
-    ensures { λ r. ⌜ r ≡ member (connection-of m) (drop n (past-of m)) ⌝ }
+    ensures { λ r. ⌜ r ≡ member (connection-of m) (drop n (past-of m)) (closed-of m) ⌝ }
 {
     if m.known <= n {
         return Member {
@@ -118,6 +119,7 @@ pub(crate) fn forgetting(m: Member, n: u32) -> Member
             gap: m.gap,
             window: m.window,
             average: m.average,
+            mark: m.mark,
             known: 0,
             ticks: [0u32; MAX_REMEMBERED],
         };
@@ -132,6 +134,7 @@ pub(crate) fn forgetting(m: Member, n: u32) -> Member
         gap: m.gap,
         window: m.window,
         average: m.average,
+        mark: m.mark,
         known: m.known - n,
         ticks: ticks,
     }

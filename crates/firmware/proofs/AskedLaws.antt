@@ -1,13 +1,13 @@
 -- What the code asks, step by step, against the questions.
 use Prim.Native.Nat.{ℕ, zero, suc, _+_, _*_, _≤_, _<_}
 use native.Mathlib.Omega.{arith}
-use mathlib.Core.Path.{_≡_, refl, sym, ap, _∙_, subst}
+use mathlib.Core.Path.{_≡_, refl, sym, ap, _∙_}
 use mathlib.Core.Bool.{Bool, true, false, cond, _&&_}
 use mathlib.Core.Logic.{_⊎_, inl, inr, ⊎-elim}
 use mathlib.Core.List.{List, [], _∷_, _++_}
 use mathlib.Core.Option.{Option, none, some}
 use lib.Dec.{eqb, leb, ltb}
-use lib.ListN.{length, getD, take, drop, replicate, length-append}
+use lib.ListN.{length, getD, take, drop, replicate, length-append, List·getD-append}
 use lib.Seq.{getD-append-seam}
 use borrow.Author.Tests.{leb-true, le-leb, lt-leb, eq-eqb, ne-eqb}
 use Rattle.rules.specs.declared.Link.{Link}
@@ -21,7 +21,7 @@ use Rattle.rules.specs.SoundTest.{connection-sound}
 use Rattle.rules.specs.Service.{next-eligibility}
 use Rattle.rules.proofs.Sums.{same, cond-is}
 use Rattle.rules.proofs.Tests.{never, and-true, every-true}
-use Rattle.rules.proofs.Standing.{nth-old}
+use Rattle.rules.proofs.Figures.{connection-facts}
 use Rattle.rules.proofs.LevelTest.{names-lowest}
 use Rattle.fields.specs.Numbers.{number, get-fields}
 use Rattle.fields.specs.Kinds.{Kind, size}
@@ -33,13 +33,13 @@ use types.Run.{OneOf, miss}
 use denote.Enum.Declared.{tagOf}
 use Rattle.traces.proofs.Record.{the-type}
 use Rattle.traces.specs.declared.Record.{Record}
-use Rattle.traces.specs.declared.Record.the-variants.{Link as LinkRecord, Admit, Offer, Notice, Ticks, Malformed}
+use Rattle.traces.specs.declared.Record.the-variants.{Link as LinkRecord, Admit, Close, Offer, Notice, Ticks, Malformed}
 use Rattle.traces.specs.declared.Found.{Found}
-use Rattle.traces.specs.Kinds.{LK, CN, PK, NQ, TK}
+use Rattle.traces.specs.Kinds.{LK, CN, CL, PK, NQ, TK}
 use Rattle.traces.specs.Trace.{found, read-trace}
 use Rattle.named.specs.Named.{link-named, connection-named}
-use Rattle.connections.specs.Within.{Within, gap-only, last-only}
-use Rattle.connections.proofs.FigureLaws.{figure-limits, link-limits}
+use Rattle.connections.specs.Within.{gap-only, last-only}
+use Rattle.connections.proofs.FigureLaws.{link-limits}
 use Rattle.limits.proofs.ChainLaws.{fails, goes-on}
 use Rattle.firmware.specs.Questions.{next-asked, link-asked, row-bytes, rows-asked, row-asked, first-rows, all-rows}
 use Rattle.firmware.specs.Questions.{testable, well-asked, short-asked}
@@ -70,6 +70,7 @@ eight-of (a ∷ b ∷ c ∷ d ∷ e ∷ f ∷ g ∷ h ∷ l) = refl
 abbrev pub linked-by : Record → Option Link
 linked-by (LinkRecord n s silence d1 d2 d3 d4 d5 d6 d7 d8) = some (link-named (n ∷ s ∷ silence ∷ d1 ∷ d2 ∷ d3 ∷ d4 ∷ d5 ∷ d6 ∷ d7 ∷ d8 ∷ []))
 linked-by (Admit level gap size window average) = none
+linked-by (Close c) = none
 linked-by (Offer c len tag) = none
 linked-by (Notice len tag) = none
 linked-by (Ticks n) = none
@@ -79,9 +80,10 @@ made-link : (n s silence : ℕ) (ds : List ℕ) → linked-by (made-of LK (n ∷
 made-link n s silence ds = rw (eight-of ds)
 
 -- a record of no other kind names one, as the code tells it apart: by the number of its variant
-pub of-no-link : (r : Record) → OneOf (1 ∷ 2 ∷ 3 ∷ 4 ∷ 5 ∷ []) (tagOf the-type r) → linked-by r ≡ none
-of-no-link (LinkRecord n s silence d1 d2 d3 d4 d5 d6 d7 d8) h = absurd (miss (1 ∷ 2 ∷ 3 ∷ 4 ∷ 5 ∷ []) 0 tt h)
+pub of-no-link : (r : Record) → OneOf (1 ∷ 2 ∷ 3 ∷ 4 ∷ 5 ∷ 6 ∷ []) (tagOf the-type r) → linked-by r ≡ none
+of-no-link (LinkRecord n s silence d1 d2 d3 d4 d5 d6 d7 d8) h = absurd (miss (1 ∷ 2 ∷ 3 ∷ 4 ∷ 5 ∷ 6 ∷ []) 0 tt h)
 of-no-link (Admit level gap size window average) h = refl
+of-no-link (Close c) h = refl
 of-no-link (Offer c len tag) h = refl
 of-no-link (Notice len tag) h = refl
 of-no-link (Ticks n) h = refl
@@ -129,7 +131,7 @@ module _ (lk : List ℕ) where
       → or-none (linked-by (read-trace lk .what)) ≡ cond b (link-named numbers) no-link
   unfolding read-kinds
   link-by-mark true e = rw e (kind-link e)
-  link-by-mark false e = rw e (λ t. ap or-none (kinds-none (CN ∷ PK ∷ NQ ∷ TK ∷ []) (λ x. refl, (λ x. refl, (λ x. refl, (λ x. refl, tt)))) lk))
+  link-by-mark false e = rw e (λ t. ap or-none (kinds-none (CN ∷ CL ∷ PK ∷ NQ ∷ TK ∷ []) (λ x. refl, (λ x. refl, (λ x. refl, (λ x. refl, (λ x. refl, tt))))) lk))
 
   module _ (f : Found) (e : f ≡ read-trace lk) where
     taken-is : read-trace lk .taken ≡ f .taken
@@ -182,7 +184,7 @@ module _ (rows : List ℕ) where
           ap (nth (first-rows n rows ++ row-asked rows n ∷ [])) (e ∙ sym (length-first n))
           ∙ getD-append-seam (first-rows n rows) (row-asked rows n) [] no-connection
           ∙ ap (row-asked rows) (sym e)
-      go (inr e) ih = nth-old (first-rows n rows) (row-asked rows n) i (omega (arith, length-first n, e)) ∙ ih (omega (arith, e))
+      go (inr e) ih = List·getD-append (first-rows n rows) (row-asked rows n ∷ []) no-connection i (omega (arith, length-first n, e)) ∙ ih (omega (arith, e))
 
 -- ---- rows within their limits
 
@@ -193,19 +195,14 @@ abbrev pub not-well-asked : Short
 not-well-asked = record { level = 255; units = 0 }
 
 module _ (l : Link) (rows : List ℕ) (n : ℕ) (ok : every n (row-ok l rows) ≡ true) where
-  figures-ok : (i : ℕ) → i < n → figures-within l (row-asked rows i) ≡ true
-  figures-ok i h = and-true (level-within l (row-asked rows i)) (figures-within l (row-asked rows i)) (every-true n (row-ok l rows) ok i h) .1
+  within-ok : (i : ℕ) → i < n → (level-within l (row-asked rows i) ≡ true) × (figures-within l (row-asked rows i) ≡ true)
+  within-ok i h = and-true (level-within l (row-asked rows i)) (figures-within l (row-asked rows i)) (every-true n (row-ok l rows) ok i h)
 
-  pub sized : (i : ℕ) → i < n → 1 ≤ row-asked rows i .size
-  sized i h = figure-limits l (row-asked rows i) (figures-ok i h) .some-size
+  pub figures-ok : (i : ℕ) → i < n → figures-within l (row-asked rows i) ≡ true
+  figures-ok i h = within-ok i h .1
 
-  pub all-within : link-within l ≡ true → Within l (first-rows n rows)
-  all-within e = record {
-    link-in = e;
-    figures-in = λ i h.
-        let k : i < n = omega (arith, length-first rows n) in
-        subst (λ (x : Connection). figures-within l x ≡ true) (sym (nth-first rows n i k)) (figures-ok i k);
-  }
+  pub levelled : (i : ℕ) → i < n → 1 ≤ row-asked rows i .level
+  levelled i h = connection-facts l (row-asked rows i) (within-ok i h .0) (within-ok i h .1) .low-level
 
 -- ---- the tests of the link and the rows, in the order of the code
 

@@ -1,66 +1,144 @@
 -- The table that the rows are laid out in: what is read of it, and a row more.
-use Prim.Native.Nat.{ℕ, zero, suc, _+_, _≤_, _<_}
+use Prim.Native.Nat.{ℕ, zero, suc, _+_, _-_, _≤_, _<_}
 use native.Mathlib.Omega.{arith}
 use native.Mathlib.Numerals.{add-one}
 use mathlib.Core.Path.{_≡_, refl, sym, ap, _∙_, subst}
-use mathlib.Core.List.{List, [], _∷_, _++_}
-use lib.ListN.{length, replicate, length-append}
+use mathlib.Core.Bool.{true, false}
+use mathlib.Core.Logic.{⊎-elim}
+use mathlib.Core.List.{List, [], _∷_, _++_, append-assoc}
+use lib.ListN.{length, getD, set, replicate, length-append, length-replicate, getD-replicate, List·getD-append}
+use lib.Seq.{set-at}
+use Rattle.rules.specs.declared.Link.{Link}
 use Rattle.rules.specs.declared.Connection.{Connection}
-use Rattle.rules.specs.Words.{All}
+use Rattle.rules.specs.Words.{All, every}
 use Rattle.rules.specs.Limits.{max-connections}
-use Rattle.rules.specs.Model.{no-past, nth}
-use Rattle.rules.proofs.Lists.{all-snoc}
-use Rattle.connections.specs.Members.{members-length, members-in, connections-in, pasts-in, written-members}
-use Rattle.connections.proofs.MemberLaws.{connections-length}
-use Rattle.connections.proofs.WrittenLaws.{Few, connections-back, pasts-back, members-formed-back, members-long}
+use Rattle.rules.specs.Model.{no-connection, no-past, nth}
+use Rattle.rules.specs.Admission.{link-within, figures-within, owned, free-number, joining, level-test}
+use Rattle.rules.proofs.Lists.{all-from}
+use Rattle.rules.proofs.Sums.{split}
+use Rattle.rules.proofs.Standing.{owned-level, free-level}
+use Rattle.connections.specs.Members.{members-length, connections-in, pasts-in, closed-in, used-by, first-closed, written-rows, written-members, members-formed}
+use Rattle.connections.specs.Within.{Within}
+use Rattle.connections.proofs.WrittenLaws.{Few, connections-back, pasts-back, closed-back, members-formed-back, members-long}
 use Rattle.firmware.specs.Questions.{row-asked, first-rows}
-use Rattle.firmware.specs.Laid.{no-pasts, laid-out}
-use Rattle.firmware.proofs.AskedLaws.{length-first, nth-first}
+use Rattle.firmware.specs.Laid.{laid-rows, no-pasts, no-marks, laid-out}
+use Rattle.firmware.proofs.AskedLaws.{length-first, nth-first, row-ok, figures-ok, levelled}
+use Rattle.firmware.proofs.FreeLaws.{padded, test-padded, free-behind, used-padded, nth-behind}
 
 -- an empty table
 pub blank : (rows : List ℕ) → replicate members-length 0 ≡ laid-out 0 rows
-unfolding written-members
+unfolding written-rows
 blank rows = refl
 
-length-none : (n : ℕ) → length (no-pasts n) ≡ n
-length-none zero = refl
-length-none (suc n) = omega (arith, length-append (no-pasts n) (no-past ∷ []), length-none n)
-
-few-none : (n : ℕ) → All Few (no-pasts n)
+few-none : (k : ℕ) → All Few (replicate k no-past)
 few-none zero = tt
-few-none (suc n) = all-snoc Few (no-pasts n) no-past (few-none n) (omega arith)
+few-none (suc k) = (omega arith, few-none k)
 
-module _ (rows : List ℕ) (n : ℕ) (few : n ≤ max-connections) (sized : (i : ℕ) → i < n → 1 ≤ row-asked rows i .size)
-    (t : List ℕ) (e : t ≡ laid-out n rows) where
-  each-past : length (no-pasts n) ≡ length (first-rows n rows)
-  each-past = length-none n ∙ sym (length-first rows n)
+each-past : length no-pasts ≡ max-connections
+each-past = length-replicate max-connections no-past
 
-  used : (c : ℕ) → c < length (first-rows n rows) → 0 < nth (first-rows n rows) c .size
-  used c h =
-      let k : c < n = omega (arith, length-first rows n) in
-      subst (λ (x : Connection). 0 < x .size) (sym (nth-first rows n c k)) (sized c k)
+each-mark : length no-marks ≡ max-connections
+each-mark = length-replicate max-connections false
 
-  fit : length (first-rows n rows) ≤ max-connections
-  fit = omega (arith, length-first rows n)
+module _ (rows : List ℕ) (n : ℕ) (few : n ≤ max-connections) where
+  length-rows : length (laid-rows n rows) ≡ max-connections
+  length-rows =
+      omega (
+        arith,
+        length-append (first-rows n rows) (replicate (max-connections - n) no-connection),
+        length-first rows n,
+        length-replicate (max-connections - n) no-connection,
+      )
 
-  pub connections-laid : connections-in t ≡ first-rows n rows
-  connections-laid = ap connections-in e ∙ connections-back (first-rows n rows) (no-pasts n) each-past used fit (few-none n)
+  nth-row : (i : ℕ) → i < n → nth (laid-rows n rows) i ≡ row-asked rows i
+  nth-row i h =
+      List·getD-append (first-rows n rows) (replicate (max-connections - n) no-connection) no-connection i (omega (arith, length-first rows n))
+      ∙ nth-first rows n i h
 
-  pasts-laid : pasts-in t ≡ no-pasts n
-  pasts-laid = ap pasts-in e ∙ pasts-back (first-rows n rows) (no-pasts n) each-past used fit (few-none n)
+  nth-free : (i : ℕ) → n ≤ i → nth (laid-rows n rows) i ≡ no-connection
+  nth-free i h = nth-behind (first-rows n rows) (max-connections - n) i (omega (arith, length-first rows n))
 
-  pub count-laid : n ≡ length (members-in t)
-  count-laid = sym (length-first rows n) ∙ ap (λ (xs : List Connection). length xs) (sym connections-laid) ∙ connections-length t
+  module _ (t : List ℕ) (e : t ≡ laid-out n rows) where
+    abbrev used : ℕ
+    used = used-by (laid-rows n rows)
 
-  pub length-laid : length t ≡ members-length
-  length-laid =
-      ap (λ (u : List ℕ). length u) e
-      ∙ members-long (laid-out n rows) (members-formed-back (first-rows n rows) (no-pasts n) each-past used fit (few-none n))
+    abbrev earliest : ℕ
+    earliest = first-closed no-pasts no-marks
 
-  pub written-laid : t ≡ written-members (connections-in t) (pasts-in t)
-  written-laid = e ∙ rw (connections-laid, pasts-laid)
+    connections-laid : connections-in t ≡ laid-rows n rows
+    connections-laid = ap connections-in e ∙ connections-back (laid-rows n rows) no-pasts no-marks used earliest length-rows each-past each-mark (few-none max-connections)
 
-  -- with row n behind the others
-  pub next-laid : (x : Connection) → x ≡ row-asked rows n
-      → written-members (connections-in t ++ x ∷ []) (pasts-in t ++ no-past ∷ []) ≡ laid-out (n + 1) rows
-  next-laid x k = rw (connections-laid, pasts-laid, k, add-one n)
+    pasts-laid : pasts-in t ≡ no-pasts
+    pasts-laid = ap pasts-in e ∙ pasts-back (laid-rows n rows) no-pasts no-marks used earliest length-rows each-past each-mark (few-none max-connections)
+
+    marks-laid : closed-in t ≡ no-marks
+    marks-laid = ap closed-in e ∙ closed-back (laid-rows n rows) no-pasts no-marks used earliest length-rows each-past each-mark (few-none max-connections)
+
+    pub formed-laid : members-formed t ≡ true
+    formed-laid = ap members-formed e ∙ members-formed-back (laid-rows n rows) no-pasts no-marks length-rows each-past each-mark (few-none max-connections)
+
+    pub length-laid : length t ≡ members-length
+    length-laid = members-long t formed-laid
+
+    pub used-laid : used-by (connections-in t) ≤ n
+    used-laid = omega (arith, ap used-by connections-laid, used-padded (first-rows n rows) (max-connections - n), length-first rows n)
+
+    -- the level test of the table is that of its rows
+    pub test-laid : (l : Link) → level-test l (connections-in t) ≡ level-test l (first-rows n rows)
+    test-laid l = ap (level-test l) connections-laid ∙ test-padded l (first-rows n rows) (max-connections - n)
+
+    pub within-laid : (l : Link) → link-within l ≡ true → every n (row-ok l rows) ≡ true → Within l (connections-in t)
+    within-laid l k ok = subst (Within l) (sym connections-laid) (record { link-in = k; figures-in = figures; blank-in = free })
+      where
+        figures : (c : ℕ) → owned (laid-rows n rows) c ≡ true → figures-within l (nth (laid-rows n rows) c) ≡ true
+        figures c o =
+            ⊎-elim
+            (λ h. absurd (owned-level (laid-rows n rows) c o (ap (λ (x : Connection). x .level) (nth-free c h))))
+            (λ h. subst (λ (x : Connection). figures-within l x ≡ true) (sym (nth-row c h)) (figures-ok l rows n ok c h))
+            (split n c)
+
+        free : (c : ℕ) → owned (laid-rows n rows) c ≡ false → nth (laid-rows n rows) c ≡ no-connection
+        free c o =
+            ⊎-elim
+            (λ h. nth-free c h)
+            (λ h. absurd (omega (arith, levelled l rows n ok c h, ap (λ (x : Connection). x .level) (nth-row c h), free-level (laid-rows n rows) c o)))
+            (split n c)
+
+    -- row n is put behind the others
+    module _ (more : n < max-connections) (owned-so-far : (i : ℕ) → i < n → 1 ≤ row-asked rows i .level) where
+      rest : max-connections - n ≡ suc (max-connections - suc n)
+      rest = omega arith
+
+      with-rest : laid-rows n rows ≡ first-rows n rows ++ no-connection ∷ replicate (max-connections - suc n) no-connection
+      with-rest = ap (padded (first-rows n rows)) rest
+
+      levels : All (λ x. 1 ≤ x .level) (first-rows n rows)
+      levels =
+          all-from (λ x. 1 ≤ x .level) (first-rows n rows) no-connection
+          (λ i h.
+          let k : i < n = omega (arith, length-first rows n) in
+          subst (λ (x : Connection). 1 ≤ x .level) (sym (nth-first rows n i k)) (owned-so-far i k))
+
+      pub next-free : n ≡ free-number (connections-in t)
+      next-free =
+          sym
+          (ap free-number (connections-laid ∙ with-rest)
+          ∙ free-behind (first-rows n rows) (replicate (max-connections - suc n) no-connection) levels
+          ∙ length-first rows n)
+
+      pub next-past : getD (pasts-in t) n no-past ≡ no-past
+      next-past = rw pasts-laid (getD-replicate max-connections n no-past no-past more)
+
+      pub next-mark : getD (closed-in t) n false ≡ false
+      next-mark = rw marks-laid (getD-replicate max-connections n false false more)
+
+      joined : (x : Connection) → x ≡ row-asked rows n → joining (connections-in t) x ≡ laid-rows (n + 1) rows
+      joined x k =
+          ap (λ (c : ℕ). set (connections-in t) c x) (sym next-free)
+          ∙ ap (λ (cs : List Connection). set cs n x) (connections-laid ∙ with-rest)
+          ∙ set-at (first-rows n rows) no-connection (replicate (max-connections - suc n) no-connection) x n (length-first rows n)
+          ∙ sym (append-assoc (first-rows n rows) (x ∷ []) (replicate (max-connections - suc n) no-connection))
+          ∙ rw (k, add-one n)
+
+      pub next-laid : (x : Connection) → x ≡ row-asked rows n → written-members (joining (connections-in t) x) (pasts-in t) (closed-in t) ≡ laid-out (n + 1) rows
+      next-laid x k = rw (joined x k, pasts-laid, marks-laid)

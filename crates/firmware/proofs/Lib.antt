@@ -1,3 +1,4 @@
 pub mod AskedLaws
+pub mod FreeLaws
 pub mod LaidLaws
 pub mod Results

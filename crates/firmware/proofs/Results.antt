@@ -11,19 +11,21 @@ use lib.Seq.{getD-append-seam}
 use borrow.Author.Tests.{lt-leb, eqb-false, eq-eqb, ne-eqb}
 use Rattle.rules.specs.declared.Link.{Link}
 use Rattle.rules.specs.declared.Connection.{Connection}
-use Rattle.rules.specs.Words.{within}
-use Rattle.rules.specs.Limits.{max-levels, max-connections}
+use Rattle.rules.specs.Words.{All}
+use Rattle.rules.specs.Limits.{max-connections}
 use Rattle.rules.specs.declared.Short.{Short}
 use Rattle.rules.specs.Model.{Past, State, admit, offer, no-short, Answer, no-connection, nth, past, figures}
-use Rattle.rules.specs.Admission.{link-within, level-within, figures-within, burst, cost, level-sum, level-test, passes}
+use Rattle.rules.specs.Admission.{link-within, level-within, figures-within, free-number, joining, burst, cost, level-sum, level-test, passes}
 use Rattle.rules.specs.Service.{nth-before, ticks-after, next-eligibility}
-use Rattle.rules.specs.SoundState.{Sound}
+use Rattle.rules.specs.SoundState.{Orderly, Sound}
 use Rattle.rules.specs.SoundTest.{sound}
 use Rattle.rules.specs.Calls.{verdicts, verdict, answer}
 use Rattle.rules.specs.Promises as R
 use Rattle.rules.specs.Promises.{No-level-fails}
 use Rattle.rules.proofs.Sums.{same}
-use Rattle.rules.proofs.Tests.{never-number, and-true, within-true, every-true, not-true-false}
+use Rattle.rules.proofs.Lists.{all-from}
+use Rattle.rules.proofs.Tests.{never-number, and-true, every-true, not-true-false}
+use Rattle.rules.proofs.Standing.{level-free}
 use Rattle.rules.proofs.Verdicts.{settled}
 use Rattle.rules.proofs.Figures.{link-facts, burst-none}
 use Rattle.rules.proofs.Spacing.{earliest-is, next-is}
@@ -31,8 +33,9 @@ use Rattle.rules.proofs.SoundExact.{exact}
 use Rattle.rules.proofs.Results.{answer-verdict, level-test-tells, short-is-told}
 use Rattle.firmware.specs.Questions.{past-asked, next-asked, link-asked, rows-asked, row-asked, all-rows, testable, well-asked, short-asked}
 use Rattle.firmware.specs.Promises.{Same-eligibility-as-an-offer, Greater-with-an-average, Refused-exactly, Holds-exactly, No-units-exactly}
-use Rattle.firmware.specs.Promises.{Names-the-lowest, No-rows-hold, Same-test-as-an-admission}
+use Rattle.firmware.specs.Promises.{Names-the-lowest, No-rows-hold, owners, Same-test-as-an-admission}
 use Rattle.firmware.proofs.AskedLaws.{row-ok, length-first, nth-first, Asked, asked, refuses, answers, is-level}
+use Rattle.firmware.proofs.FreeLaws.{Blank, test-owners, owners-room}
 
 -- ---- (a)
 
@@ -117,12 +120,12 @@ no-rows-hold lk e =
 
 -- verdict 8 is given where its test holds and none before it
 eight : (s : State) (x : Connection) → sound s ≡ true → (s .link .levels ≡ 0 → ⊥)
-    → level-within (s .link) x ≡ true → figures-within (s .link) x ≡ true → length (s .connections) < max-connections
-    → passes (s .link) (s .connections ++ x ∷ []) ≡ false → verdict (admit x) s ≡ 8
+    → level-within (s .link) x ≡ true → figures-within (s .link) x ≡ true → free-number (s .connections) < max-connections
+    → passes (s .link) (joining (s .connections) x) ≡ false → verdict (admit x) s ≡ 8
 unfolding verdicts
-eight s x ok n v f h e = rw (ok, ne-eqb (s .link .levels) 0 n, v, f, lt-leb max-connections (length (s .connections)) h, e)
+eight s x ok n v f h e = rw (ok, ne-eqb (s .link .levels) 0 n, v, f, lt-leb max-connections (free-number (s .connections)) h, e)
 
-not-eight : (s : State) (x : Connection) → passes (s .link) (s .connections ++ x ∷ []) ≡ true → verdict (admit x) s ≡ 8 → ⊥
+not-eight : (s : State) (x : Connection) → passes (s .link) (joining (s .connections) x) ≡ true → verdict (admit x) s ≡ 8 → ⊥
 unfolding verdicts
 not-eight s x p =
     never-number 8 (verdicts (admit x) s)
@@ -132,52 +135,62 @@ not-eight s x p =
     other : {A : Type 0} (n : ℕ) → eqb n 8 ≡ false → n ≡ 8 → A
     other n e i = absurd (eqb-false n 8 e i)
 
--- the newcomer is the last row
-module _ (lk rows : List ℕ) (s : State) (x : Connection) (same-rows : all-rows rows ≡ s .connections ++ x ∷ []) (A : Asked (link-asked lk) rows) where
-  count : length (s .connections) + 1 ≡ rows-asked rows
+module _ (lk rows : List ℕ) (s : State) (x : Connection) (S : Sound s) (same-link : link-asked lk ≡ s .link)
+    (same-rows : all-rows rows ≡ owners (s .connections) ++ x ∷ []) (e : well-asked lk rows ≡ true) where
+  question : Asked (link-asked lk) rows
+  question = asked (link-asked lk) rows e
+
+  -- the newcomer is the last row
+  count : length (owners (s .connections)) + 1 ≡ rows-asked rows
   count =
-      sym (length-append (s .connections) (x ∷ []))
+      sym (length-append (owners (s .connections)) (x ∷ []))
       ∙ ap (λ (cs : List Connection). length cs) (sym same-rows)
       ∙ length-first rows (rows-asked rows)
 
-  newcomer : row-asked rows (length (s .connections)) ≡ x
+  newcomer : row-asked rows (length (owners (s .connections))) ≡ x
   newcomer =
-      sym (nth-first rows (rows-asked rows) (length (s .connections)) (omega (arith, count)))
-      ∙ ap (λ (cs : List Connection). nth cs (length (s .connections))) same-rows
-      ∙ getD-append-seam (s .connections) x [] no-connection
+      sym (nth-first rows (rows-asked rows) (length (owners (s .connections))) (omega (arith, count)))
+      ∙ ap (λ (cs : List Connection). nth cs (length (owners (s .connections)))) same-rows
+      ∙ getD-append-seam (owners (s .connections)) x [] no-connection
 
-  newcomer-in : (level-within (link-asked lk) x ≡ true) × (figures-within (link-asked lk) x ≡ true)
+  newcomer-in : (level-within (s .link) x ≡ true) × (figures-within (s .link) x ≡ true)
   newcomer-in =
-      let r = every-true (rows-asked rows) (row-ok (link-asked lk) rows) (A .rows-in) (length (s .connections)) (omega (arith, count)) in
-      and-true (level-within (link-asked lk) x) (figures-within (link-asked lk) x)
-      (subst (λ (y : Connection). (level-within (link-asked lk) y && figures-within (link-asked lk) y) ≡ true) newcomer r)
+      let r = every-true (rows-asked rows) (row-ok (link-asked lk) rows) (question .rows-in) (length (owners (s .connections))) (omega (arith, count)) in
+      and-true (level-within (s .link) x) (figures-within (s .link) x)
+      (subst (λ (l : Link). (level-within l x && figures-within l x) ≡ true) same-link
+      (subst (λ (y : Connection). (level-within (link-asked lk) y && figures-within (link-asked lk) y) ≡ true) newcomer r))
 
-  -- a failing test is named 8
-  gets-eight : Sound s → link-asked lk ≡ s .link → passes (s .link) (s .connections ++ x ∷ []) ≡ false → verdict (admit x) s ≡ 8
-  unfolding link-within
-  gets-eight S e f =
-      let within-link : Link → Type 0 = λ l. (link-within l ≡ true) × (level-within l x ≡ true) × (figures-within l x ≡ true) in
-      let a = subst within-link e (A .link-in, newcomer-in .0, newcomer-in .1) in
-      let n = within-true 1 max-levels (s .link .levels) (and-true (within 1 max-levels (s .link .levels)) _ (a .0) .0) in
-      eight s x (exact s .1 S) (λ z. omega (arith, n .0)) (a .1) (a .2) (omega (arith, count, A .few)) f
+  -- there is a link, and fewer owners than numbers
+  linked : s .link .levels ≡ 0 → ⊥
+  linked z = omega (arith, z, link-facts (s .link) (subst (λ (l : Link). link-within l ≡ true) same-link (question .link-in)) .some-level)
 
--- the two tests are one
-module _ (lk rows : List ℕ) (s : State) (x : Connection) (S : Sound s) (same-link : link-asked lk ≡ s .link)
-    (same-rows : all-rows rows ≡ s .connections ++ x ∷ []) (e : well-asked lk rows ≡ true) where
-  same-test : short-asked lk rows ≡ level-test (s .link) (s .connections ++ x ∷ [])
-  same-test = answers lk rows e ∙ rw (same-link, same-rows)
+  rules-kept : Orderly s
+  rules-kept = S .with-one linked .orderly
 
-  passed : short-asked lk rows .level ≡ 0 → passes (s .link) (s .connections ++ x ∷ []) ≡ true
+  room : free-number (s .connections) < length (s .connections)
+  room = owners-room (s .connections) (omega (arith, count, question .few, rules-kept .numbers))
+
+  blanks : All Blank (s .connections)
+  blanks =
+      all-from Blank (s .connections) no-connection
+      (λ c h z. rules-kept .free-blank c (omega (arith, rules-kept .numbers)) (level-free (s .connections) c z) .no-figures)
+
+  -- the two tests are one
+  same-test : short-asked lk rows ≡ level-test (s .link) (joining (s .connections) x)
+  same-test = answers lk rows e ∙ rw (same-link, same-rows) (test-owners (s .link) (s .connections) x blanks room)
+
+  passed : short-asked lk rows .level ≡ 0 → passes (s .link) (joining (s .connections) x) ≡ true
   passed z = eq-eqb _ 0 (ap (λ (t : Short). t .level) (sym same-test) ∙ z)
 
-  fails : (short-asked lk rows .level ≡ 0 → ⊥) → passes (s .link) (s .connections ++ x ∷ []) ≡ false
+  fails : (short-asked lk rows .level ≡ 0 → ⊥) → passes (s .link) (joining (s .connections) x) ≡ false
   fails n = ne-eqb _ 0 (λ z. n (ap (λ (t : Short). t .level) same-test ∙ z))
 
+  -- a failing test is named 8
+  gets-eight : (short-asked lk rows .level ≡ 0 → ⊥) → verdict (admit x) s ≡ 8
+  gets-eight n = eight s x (exact s .1 S) linked (newcomer-in .0) (newcomer-in .1) (omega (arith, room, rules-kept .numbers)) (fails n)
+
   eight-if : answer (admit x) s .verdict ≡ 8 ↔ (short-asked lk rows .level ≡ 0 → ⊥)
-  eight-if = (
-    λ v z. not-eight s x (passed z) (sym (answer-verdict (admit x) s) ∙ v),
-    λ n. answer-verdict (admit x) s ∙ gets-eight lk rows s x same-rows (asked (link-asked lk) rows e) S same-link (fails n),
-  )
+  eight-if = (λ v z. not-eight s x (passed z) (sym (answer-verdict (admit x) s) ∙ v), λ n. answer-verdict (admit x) s ∙ gets-eight n)
 
   none : short-asked lk rows .level ≡ 0 → no-short ≡ short-asked lk rows
   none z = let u = tells lk rows e .1 .1 (tells lk rows e .0 .0 z) in sym (rw (z, u))

@@ -1,10 +1,12 @@
 -- THE STATEMENTS of the questions, apart from their proofs: each is proved in proofs/Results under the same name in small letters.
 use Prim.Native.Nat.{ℕ, max}
 use mathlib.Core.Path.{_≡_}
-use mathlib.Core.Bool.{true}
+use mathlib.Core.Bool.{true, not}
 use mathlib.Core.Logic.{_↔_}
 use mathlib.Core.List.{List, [], _∷_, _++_}
+use lib.Dec.{eqb}
 use Rattle.rules.specs.declared.Connection.{Connection}
+use Rattle.rules.specs.Words.{filter}
 use Rattle.rules.specs.Model.{State, admit, offer, past, figures}
 use Rattle.rules.specs.Admission.{link-within, burst}
 use Rattle.rules.specs.Service.{nth-before, ticks-after}
@@ -62,14 +64,18 @@ No-rows-hold = (lk : List ℕ) → link-within (link-asked lk) ≡ true → (sho
 
 -- ---- (b) is the question that an admission asks
 
--- asked with the hub's link, and its connections and a newcomer as rows: a level is named exactly where the newcomer's admission gets 8,
+-- the connections that have an owner, by number: those that stand and those that are closed and still charged (document 02, R-8)
+abbrev pub owners : List Connection → List Connection
+owners cs = filter (λ x. not (eqb (x .level) 0)) cs
+
+-- asked with the hub's link, and its owners and a newcomer as rows: a level is named exactly where the newcomer's admission gets 8,
 -- and level and units are those of its answer
 abbrev pub Same-test-as-an-admission : Type 0
 Same-test-as-an-admission =
     (lk rows : List ℕ) (s : State) (x : Connection)
     → Sound s
     → link-asked lk ≡ s .link
-    → all-rows rows ≡ s .connections ++ x ∷ []
+    → all-rows rows ≡ owners (s .connections) ++ x ∷ []
     → well-asked lk rows ≡ true
     → (answer (admit x) s .verdict ≡ 8 ↔ (short-asked lk rows .level ≡ 0 → ⊥))
     × (answer (admit x) s .short ≡ short-asked lk rows)

@@ -95,7 +95,7 @@ fn rows_ok(l: Link, rows: &[u8], n: usize) -> bool
 
 // The connections of the first n rows, put into an empty table.
 fn lay_out(rows: &[u8], n: usize, members: &mut [u32])
-    requires { ⌜ (n ≤ max-connections) × (row-bytes * n ≤ length (now rows)) × ((i : ℕ) → i < n → 1 ≤ row-asked (now rows) i .size) × (now members ≡ laid-out 0 (now rows)) ⌝ }
+    requires { ⌜ (n ≤ max-connections) × (row-bytes * n ≤ length (now rows)) × ((i : ℕ) → i < n → 1 ≤ row-asked (now rows) i .level) × (now members ≡ laid-out 0 (now rows)) ⌝ }
     ensures { λ r. ⌜ now (members .exit) ≡ laid-out n (now (rows .entry)) ⌝ }
 {
     let mut i: usize = 0;

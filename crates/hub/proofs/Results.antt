@@ -3,31 +3,33 @@ use Prim.Native.Nat.{ℕ, zero, suc, _+_, _≤_, _<_}
 use native.Mathlib.Omega.{arith}
 use mathlib.Core.Path.{_≡_, refl, sym, ap, _∙_, subst, transport}
 use mathlib.Core.Bool.{Bool, true, false, cond, _&&_}
+use mathlib.Core.Logic.{_↔_}
 use mathlib.Core.List.{List, [], _∷_, _++_, map}
 use mathlib.Core.Option.{Option, none, some}
 use lib.Dec.{eqb}
-use lib.ListN.{length, getElem?}
+use lib.ListN.{length, drop}
 use Rattle.rules.specs.declared.Packet.{Packet}
 use Rattle.rules.specs.declared.Connection.{Connection}
 use Rattle.rules.specs.Words.{All, push}
 use Rattle.rules.specs.Limits.{clock-end, notice-number}
 use Rattle.rules.specs.declared.Notice.{Notice}
-use Rattle.rules.specs.Model.{State, Call, link, admit, offer, notice, tick, Answer, figures}
-use Rattle.rules.specs.Admission.{stands}
-use Rattle.rules.specs.Service.{Spaced, of, first, notice-departs, packet-departs, after-unit, started}
+use Rattle.rules.specs.Model.{State, Call, link, admit, offer, notice, close, tick, Answer, past, figures}
+use Rattle.rules.specs.Admission.{owned, stands, largest-bound}
+use Rattle.rules.specs.Service.{Spaced, of, first, notice-departs, packet-departs, after-unit, started, charge-over}
 use Rattle.rules.specs.SoundState.{Sound}
 use Rattle.rules.specs.SoundTest.{sound}
-use Rattle.rules.specs.Calls.{verdict, done, refused-number, answer}
-use Rattle.rules.specs.Runs.{Departure, History, taken, leaving, after, run-from, nothing-yet, run, departures, in-hub, bound-of, allowed, offer-tick, offer-ticks-from, offer-ticks, Keeps-its-word, Exchange, exchange, exchanges-from, exchanges, own-answer}
-use Rattle.rules.specs.Promises.{Kept-promise}
+use Rattle.rules.specs.Calls.{verdict, done, refused-number, settle, answer, eligibility-now}
+use Rattle.rules.specs.Runs.{Departure, History, while-owned, taken, leaving, after, run-from, nothing-yet, run, departures, in-hub, bound-of, allowed, offer-tick, offer-ticks-from, offer-ticks, Keeps-its-word, Exchange, exchange, exchanges-from, exchanges, own-answer}
+use Rattle.rules.specs.Promises.{Conserved-since, Left-by, Kept-promise, Still-charged, Lowest-free}
 use Rattle.rules.proofs.Sums.{cond-is}
 use Rattle.rules.proofs.Verdicts.{settled}
 use Rattle.rules.proofs.SoundKept.{kept}
 use Rattle.rules.proofs.Every.{fresh-invariant}
 use Rattle.rules.proofs.Alone.{asks}
-use Rattle.rules.proofs.Results.{demand-1-refusals, verdict-1-exactly, runs-are-sound, conservation, demand-3-first, demand-3-second, told-by-its-own, bed-nine-and-bed-ten, counted}
+use Rattle.rules.proofs.Results.{answer-verdict, demand-1-refusals, verdict-1-exactly, runs-are-sound, conservation, conservation-by-owner, demand-3-first, demand-3-second, told-by-its-own, bed-nine-and-bed-ten, counted, close-is-refused, closed-gets-10, closed-or-freed, freed-by-the-tick, charge-lasts, lowest-number-is-given}
 use Rattle.tables.specs.Places.{written-places, table-of}
-use Rattle.connections.specs.Members.{written-members}
+use Rattle.connections.specs.Members.{written-rows}
+use Rattle.state.specs.declared.Hub.{Hub}
 use Rattle.state.specs.declared.Told.{Told}
 use Rattle.state.specs.View.{Tables, view, hub-of, written, sound-hub}
 use Rattle.state.specs.Told.{is-some, packet-or-unused, told-of, refusal}
@@ -36,7 +38,7 @@ use Rattle.state.proofs.WrittenLaws.{writable, read-written, written-sound}
 use Rattle.state.proofs.SoundLaws.{is-sound, tables-kept}
 use Rattle.state.proofs.DoesLaws.{told-as, left-as}
 use Rattle.hub.specs.Sequence.{Notes, brought, went, call, calls-from, blank, calls, state-of, notes-of, seen-ticks-from, seen-ticks, Seen-to-keep-its-word, heard, heard-from, all-heard}
-use Rattle.hub.specs.Promises.{One-outcome, Written-reads-back, Sound-is-written, Demand-1-of-the-code, Verdict-1-of-the-code, Sound-is-kept-by-the-code, Follows-the-rules, Conservation-of-the-code, Noted-by, Demand-3-first-of-the-code, Kept-by-the-code, Demand-3-second-of-the-code, Told-by-its-own-of-the-code, Bed-nine-and-bed-ten-of-the-code, Counted-of-the-code}
+use Rattle.hub.specs.Promises.{One-outcome, Written-reads-back, Sound-is-written, Demand-1-of-the-code, Verdict-1-of-the-code, Sound-is-kept-by-the-code, Answers-as-the-rules, Close-is-refused-of-the-code, Closed-gets-10-of-the-code, Closed-or-freed-of-the-code, Freed-by-the-tick-of-the-code, Charge-lasts-of-the-code, Lowest-number-is-given-of-the-code, Follows-the-rules, Conservation-of-the-code, Noted-since, Conservation-by-owner-of-the-code, Noted-by, Demand-3-first-of-the-code, Kept-by-the-code, Demand-3-second-of-the-code, Told-by-its-own-of-the-code, Bed-nine-and-bed-ten-of-the-code, Counted-of-the-code}
 
 -- ---- one outcome
 
@@ -81,6 +83,67 @@ pub sound-is-kept-by-the-code : Sound-is-kept-by-the-code
 sound-is-kept-by-the-code k h t r u D e =
     rw (told-as k h t e r u D, left-as k h t e r u D) (written-sound (answer k (view h t) .next) (kept k (view h t) (is-sound h t e)))
 
+pub answers-as-the-rules : Answers-as-the-rules
+answers-as-the-rules k h t r u D e =
+    let n = answer k (view h t) .next in
+    let a = told-as k h t e r u D in (
+      ap (λ (x : Told). view (x .hub) u) a ∙ ap (λ (w : Tables). view (hub-of n) w) (left-as k h t e r u D) ∙ read-written n (writable n (kept k (view h t) (is-sound h t e))),
+      ap (λ (x : Told). x .verdict) a,
+      ap (λ (x : Told). x .number) a,
+    )
+
+-- ---- closing
+
+-- verdict 0 is given on a sound hub only
+done-sound : (k : Call) (h : Hub) (t : Tables) (r : Told) (u : Tables) → Does k h t r u → r .verdict ≡ 0 → sound-hub h t ≡ true
+done-sound k h t r u D z = go (sound-hub h t) refl
+  where
+    go : (b : Bool) → sound-hub h t ≡ b → sound-hub h t ≡ true
+    go true e = e
+    go false e = absurd (omega (arith, z, verdict-1-of-the-code k h t r u D .0 e))
+
+pub close-is-refused-of-the-code : Close-is-refused-of-the-code
+close-is-refused-of-the-code c h t r u D e linked =
+    subst (λ (v : ℕ). (v ≡ 10 ↔ stands (view h t) c ≡ false) × (v ≡ 16 ↔ ((stands (view h t) c ≡ true) × (1 ≤ length (of c (view h t .held))))))
+    (sym (answers-as-the-rules (close c) h t r u D e .1))
+    (close-is-refused c (view h t) (is-sound h t e) linked)
+
+pub closed-gets-10-of-the-code : Closed-gets-10-of-the-code
+closed-gets-10-of-the-code c len tag h t e is-closed =
+    let ten = closed-gets-10 (view h t) c len tag (is-sound h t e) is-closed in (
+      λ r u D. answers-as-the-rules (offer c len tag) h t r u D e .1 ∙ ten .0,
+      λ r u D. answers-as-the-rules (close c) h t r u D e .1 ∙ ten .1,
+    )
+
+pub closed-or-freed-of-the-code : Closed-or-freed-of-the-code
+closed-or-freed-of-the-code c h t r u D z =
+    let over = charge-over (largest-bound (h .link)) (h .clock) (past (view h t) c) in
+    let same = answers-as-the-rules (close c) h t r u D (done-sound (close c) h t r u D z) in
+    subst (λ (n : State). (over ≡ true → owned (n .connections) c ≡ false) × (over ≡ false → Still-charged (view h t) c n))
+    (sym (same .0))
+    (closed-or-freed c (view h t) (sym (same .1) ∙ z))
+
+pub freed-by-the-tick-of-the-code : Freed-by-the-tick-of-the-code
+freed-by-the-tick-of-the-code c h t r u D z is-closed =
+    let over = charge-over (largest-bound (h .link)) (h .clock + 1) (past (view h t) c) in
+    let same = answers-as-the-rules tick h t r u D (done-sound tick h t r u D z) in
+    subst (λ (n : State). (over ≡ true → owned (n .connections) c ≡ false) × (over ≡ false → Still-charged (view h t) c n))
+    (sym (same .0))
+    (freed-by-the-tick c (view h t) (sym (same .1) ∙ z) is-closed)
+
+pub charge-lasts-of-the-code : Charge-lasts-of-the-code
+charge-lasts-of-the-code k c h t r u D e is-closed =
+    subst (λ (n : State). (charge-over (largest-bound (h .link)) (n .clock) (past (view h t) c) ≡ false → Still-charged (view h t) c n)
+    × (charge-over (largest-bound (h .link)) (n .clock) (past (view h t) c) ≡ true → owned (n .connections) c ≡ false))
+    (sym (answers-as-the-rules k h t r u D e .0))
+    (charge-lasts k (view h t) c (is-sound h t e) is-closed)
+
+pub lowest-number-is-given-of-the-code : Lowest-number-is-given-of-the-code
+lowest-number-is-given-of-the-code x h t r u D z =
+    let same = answers-as-the-rules (admit x) h t r u D (done-sound (admit x) h t r u D z) in
+    subst (Lowest-free (view h t) x (r .number)) (sym (same .0))
+    (subst (λ (n : ℕ). Lowest-free (view h t) x n (answer (admit x) (view h t) .next)) (sym (same .2)) (lowest-number-is-given x (view h t) (sym (same .1) ∙ z)))
+
 -- ---- any calls follow the rules
 
 -- the departure that an answer tells, read by the caller and by the rules
@@ -112,6 +175,7 @@ done-left (link l) s = refl
 done-left (admit x) s = refl
 done-left (offer c len tag) s = refl
 done-left (notice len tag) s = refl
+done-left (close c) s = refl
 done-left tick s = unit-left (started s) (started s .to-go) ∙ same-date s (done tick s .departed)
 
 answer-left : (k : Call) (s : State) → went (told-of (answer k s)) ≡ leaving s (answer k s .departed)
@@ -122,6 +186,7 @@ answer-brought (link l) s a = refl
 answer-brought (admit x) s a = refl
 answer-brought (offer c len tag) s a = refl
 answer-brought (notice len tag) s a = refl
+answer-brought (close c) s a = refl
 answer-brought tick s a = refl
 
 module _ (s : State) (S : Sound s) where
@@ -148,7 +213,7 @@ follows-from [] h S = refl
 follows-from (k ∷ ks) h S = ap (λ (g : Notes). calls-from g ks) (follows-one h k S) ∙ follows-from ks (after h k) (kept k (h .now) S)
 
 blank-is : blank ≡ notes-of nothing-yet
-unfolding written-members written-places table-of
+unfolding written-rows written-places table-of
 blank-is = refl
 
 pub follows-the-rules : Follows-the-rules
@@ -164,15 +229,22 @@ same-figures ks c = ap (λ (s : State). figures s c) (state-is ks)
 same-bound : (ks : List Call) (c : ℕ) → bound-of (state-of (calls ks)) c ≡ bound-of (run ks .now) c
 same-bound ks c = ap (λ (s : State). bound-of s c) (state-is ks)
 
+-- an answer to what the caller keeps is the rules' answer to their state
+told-then : (ks : List Call) (k : Call) (r : Told) (u : Tables) → Does k (calls ks .hub) (calls ks .tables) r u → r ≡ told-of (answer k (run ks .now))
+told-then ks k r u D =
+    D .answers ∙ ap (λ (g : Notes). tells k (g .hub) (g .tables)) (follows-the-rules ks) ∙ same-tells (run ks .now) (runs-are-sound ks) k
+
 -- ---- a connection that keeps its word
 
 -- the ticks seen in the calls are those of the rules' run
 ticks-all : (c : ℕ) (ks : List Call) (h : History) (ts : List ℕ) → Sound (h .now) → seen-ticks-from c (notes-of h) ts ks ≡ offer-ticks-from c h ts ks
 ticks-all c [] h ts S = refl
 ticks-all c (k ∷ ks) h ts S =
-    ap (λ (s : State). seen-ticks-from c (call (notes-of h) k) (push ts (offer-tick c s k)) ks) (back (h .now) S)
-    ∙ ap (λ (g : Notes). seen-ticks-from c g (push ts (offer-tick c (h .now) k)) ks) (follows-one h k S)
-    ∙ ticks-all c ks (after h k) (push ts (offer-tick c (h .now) k)) (kept k (h .now) S)
+    let us = push ts (offer-tick c (h .now) k) in
+    ap (λ (s : State). seen-ticks-from c (call (notes-of h) k) (while-owned (state-of (call (notes-of h) k)) c (push ts (offer-tick c s k))) ks) (back (h .now) S)
+    ∙ ap (λ (g : Notes). seen-ticks-from c g (while-owned (state-of g) c us) ks) (follows-one h k S)
+    ∙ ap (λ (s : State). seen-ticks-from c (notes-of (after h k)) (while-owned s c us) ks) (back (after h k .now) (kept k (h .now) S))
+    ∙ ticks-all c ks (after h k) (while-owned (after h k .now) c us) (kept k (h .now) S)
 
 ticks-are : (c : ℕ) (ks : List Call) → seen-ticks c ks ≡ offer-ticks c ks
 ticks-are c ks = ap (λ (g : Notes). seen-ticks-from c g [] ks) blank-is ∙ ticks-all c ks nothing-yet [] (fresh-invariant .sound)
@@ -189,18 +261,59 @@ conservation-of-the-code ks c =
     (sym (follows-the-rules ks))
     (conservation ks c ∙ ap (λ (s : State). map (λ (d : Departure). d .what) (departures c (run ks .departed)) ++ of c (in-hub s)) (sym (back (run ks .now) (runs-are-sound ks))))
 
+-- from one moment on, in the notes g of the calls before it and G of all, with the state now
+abbrev Since : Notes → Notes → State → ℕ → Type 0
+Since g G s c =
+    drop (length (of c (g .accepted))) (of c (G .accepted))
+    ≡ map (λ (d : Departure). d .what) (drop (length (departures c (g .departed))) (departures c (G .departed))) ++ of c (in-hub s)
+
+noted-since : (earlier later : List Call) (c : ℕ) → Conserved-since earlier later c → Noted-since earlier later c
+noted-since earlier later c e =
+    subst (λ (g : Notes). Since g (calls (earlier ++ later)) (state-of (calls (earlier ++ later))) c) (sym (follows-the-rules earlier))
+    (subst (λ (s : State). Since (notes-of (run earlier)) (calls (earlier ++ later)) s c) (sym (state-is (earlier ++ later)))
+    (subst (λ (G : Notes). Since (notes-of (run earlier)) G (run (earlier ++ later) .now) c) (sym (follows-the-rules (earlier ++ later))) e))
+
+pub conservation-by-owner-of-the-code : Conservation-by-owner-of-the-code
+conservation-by-owner-of-the-code earlier later x r u D z =
+    let a = told-then earlier (admit x) r u D in
+    subst (Noted-since earlier (admit x ∷ later)) (sym (ap (λ (y : Told). y .number) a))
+    (noted-since earlier (admit x ∷ later) _ (conservation-by-owner earlier later x (sym (ap (λ (y : Told). y .verdict) a) ∙ z)))
+
 -- ---- demand 3
 
+-- a packet that has left in the rules' run has left in the notes: accepted behind the calls `earlier`, with its eligibility e
+module _ (earlier later : List Call) (c len tag : ℕ) where
+  abbrev all : List Call
+  all = earlier ++ offer c len tag ∷ later
+
+  -- in the notes g of the calls before it and G of all, with its owner's bound d
+  abbrev Noted : Notes → Notes → ℕ → ℕ → Type 0
+  Noted g G e d =
+      Noted-by G c (length (of c (g .accepted))) (record { connection = c; len = len; tag = tag; arrival = g .hub .clock; eligibility = e }) (e + d)
+
+  noted : (e : ℕ)
+      → Left-by (run all) c (length (of c (run earlier .accepted))) (record { connection = c; len = len; tag = tag; arrival = run earlier .now .clock; eligibility = e })
+      (e + bound-of (run earlier .now) c)
+      → Noted (calls earlier) (calls all) e (bound-of (state-of (calls earlier)) c)
+  noted e q =
+      subst (Noted (calls earlier) (calls all) e) (sym (same-bound earlier c))
+      (subst (λ (g : Notes). Noted g (calls all) e (bound-of (run earlier .now) c)) (sym (follows-the-rules earlier))
+      (subst (λ (G : Notes). Noted (notes-of (run earlier)) G e (bound-of (run earlier .now) c)) (sym (follows-the-rules all))
+      (record { finish = q .finish; is-departure = q .is-departure; in-time = q .in-time })))
+
+  clock-is : calls all .hub .clock ≡ run all .now .clock
+  clock-is = ap (λ (g : Notes). g .hub .clock) (follows-the-rules all)
+
 pub demand-3-first-of-the-code : Demand-3-first-of-the-code
-demand-3-first-of-the-code ks c i p level is over =
-    let e = follows-the-rules ks in
-    let b = same-bound ks c in
-    let k = demand-3-first ks c i p level (subst (λ (g : Notes). getElem? (of c (g .accepted)) i ≡ some p) e is) (omega (arith, b, ap (λ (g : Notes). g .hub .clock) e)) in
-    record {
-      finish = k .finish;
-      is-departure = subst (λ (g : Notes). getElem? (departures c (g .departed)) i ≡ some (record { what = p; finish = k .finish })) (sym e) (k .is-departure);
-      in-time = omega (arith, b, k .in-time);
-    }
+demand-3-first-of-the-code earlier later c len tag r u D z over =
+    let s = run earlier .now in
+    let it = offer c len tag in
+    let a = told-then earlier it r u D in
+    let v : answer it s .verdict ≡ 0 = sym (ap (λ (x : Told). x .verdict) a) ∙ z in
+    let n : r .number ≡ eligibility-now s c = ap (λ (x : Told). x .number) a ∙ ap (λ (w : ℕ). settle it s w .number) (sym (answer-verdict it s) ∙ v) in
+    let then : eligibility-now s c + bound-of s c ≤ run (earlier ++ it ∷ later) .now .clock = (omega (arith, over, n, same-bound earlier c, clock-is earlier later c len tag)) in
+    subst (λ (e : ℕ). Noted earlier later c len tag (calls earlier) (calls (earlier ++ it ∷ later)) e (bound-of (state-of (calls earlier)) c)) (sym n)
+    (noted earlier later c len tag (eligibility-now s c) (demand-3-first earlier later c len tag v then))
 
 module _ (earlier later : List Call) (c len tag : ℕ) (word : Seen-to-keep-its-word c (earlier ++ offer c len tag ∷ [])) (good : allowed (state-of (calls earlier)) c len ≡ true) where
   promise : Kept-promise earlier later c len tag
@@ -211,39 +324,17 @@ module _ (earlier later : List Call) (c len tag : ℕ) (word : Seen-to-keep-its-
   same-clock : calls earlier .hub .clock ≡ run earlier .now .clock
   same-clock = ap (λ (g : Notes). g .hub .clock) (follows-the-rules earlier)
 
-  told : (r : Told) (u : Tables) → Does (offer c len tag) (calls earlier .hub) (calls earlier .tables) r u
-      → r ≡ told-of (answer (offer c len tag) (run earlier .now))
-  told r u D =
-      D .answers
-      ∙ ap (λ (g : Notes). tells (offer c len tag) (g .hub) (g .tables)) (follows-the-rules earlier)
-      ∙ same-tells (run earlier .now) (runs-are-sound earlier) (offer c len tag)
-
-  -- the packet in the notes g of the calls before it and G of all, with its level's bound d
-  abbrev Noted : Notes → Notes → ℕ → Type 0
-  Noted g G d =
-      Noted-by G c (length (of c (g .accepted))) (record { connection = c; len = len; tag = tag; arrival = g .hub .clock; eligibility = g .hub .clock })
-      (g .hub .clock + d)
-
-  noted : run earlier .now .clock < clock-end
-      → run earlier .now .clock + bound-of (run earlier .now) c ≤ run (earlier ++ offer c len tag ∷ later) .now .clock
-      → Noted (calls earlier) (calls (earlier ++ offer c len tag ∷ later)) (bound-of (state-of (calls earlier)) c)
-  noted l over =
-      let q = promise .in-time l over in
-      subst (Noted (calls earlier) (calls (earlier ++ offer c len tag ∷ later))) (sym (same-bound earlier c))
-      (subst (λ (g : Notes). Noted g (calls (earlier ++ offer c len tag ∷ later)) (bound-of (run earlier .now) c)) (sym (follows-the-rules earlier))
-      (subst (λ (G : Notes). Noted (notes-of (run earlier)) G (bound-of (run earlier .now) c)) (sym (follows-the-rules (earlier ++ offer c len tag ∷ later)))
-      (record { finish = q .finish; is-departure = q .is-departure; in-time = q .in-time })))
-
   kept-by-the-code : Kept-by-the-code earlier later c len tag
   kept-by-the-code = record {
-    never-for-room = λ r u D z. promise .never-for-room (sym (ap (λ (x : Told). x .verdict) (told r u D)) ∙ z);
+    never-for-room = λ r u D z. promise .never-for-room (sym (ap (λ (x : Told). x .verdict) (told-then earlier (offer c len tag) r u D)) ∙ z);
     accepted = λ r u D l.
-        let a = told r u D in
+        let a = told-then earlier (offer c len tag) r u D in
         let running : run earlier .now .clock < clock-end = omega (arith, same-clock) in
         (ap (λ (x : Told). x .verdict) a ∙ promise .accepted running, ap (λ (x : Told). x .number) a ∙ promise .on-arrival running ∙ sym same-clock);
     in-time = λ l over.
-        noted (omega (arith, same-clock))
-        (omega (arith, same-clock, same-bound earlier c, ap (λ (g : Notes). g .hub .clock) (follows-the-rules (earlier ++ offer c len tag ∷ later))));
+        subst (λ (e : ℕ). Noted earlier later c len tag (calls earlier) (calls (all earlier later c len tag)) e (bound-of (state-of (calls earlier)) c)) (sym same-clock)
+        (noted earlier later c len tag (run earlier .now .clock)
+        (promise .in-time (omega (arith, same-clock)) (omega (arith, same-clock, same-bound earlier c, clock-is earlier later c len tag))));
   }
 
 pub demand-3-second-of-the-code : Demand-3-second-of-the-code
@@ -261,16 +352,19 @@ heard-one c h (offer d len tag) S =
   where
     listen : State → Told → Option Exchange
     listen s r =
-        cond (eqb d c && stands (s .connections) c) (some (record { asked = record { at = h .now .clock; len = len; tag = tag }; verdict = r .verdict; eligibility = r .number })) none
+        cond (eqb d c && stands s c) (some (record { asked = record { at = h .now .clock; len = len; tag = tag }; verdict = r .verdict; eligibility = r .number })) none
 heard-one c h (notice len tag) S = refl
+heard-one c h (close d) S = refl
 heard-one c h tick S = refl
 
 heard-all : (c : ℕ) (ks : List Call) (h : History) (es : List Exchange) → Sound (h .now) → heard-from c (notes-of h) es ks ≡ exchanges-from c h es ks
 heard-all c [] h es S = refl
 heard-all c (k ∷ ks) h es S =
-    ap (λ (o : Option Exchange). heard-from c (call (notes-of h) k) (push es o) ks) (heard-one c h k S)
-    ∙ ap (λ (g : Notes). heard-from c g (push es (exchange c (h .now) k)) ks) (follows-one h k S)
-    ∙ heard-all c ks (after h k) (push es (exchange c (h .now) k)) (kept k (h .now) S)
+    let fs = push es (exchange c (h .now) k) in
+    ap (λ (o : Option Exchange). heard-from c (call (notes-of h) k) (while-owned (state-of (call (notes-of h) k)) c (push es o)) ks) (heard-one c h k S)
+    ∙ ap (λ (g : Notes). heard-from c g (while-owned (state-of g) c fs) ks) (follows-one h k S)
+    ∙ ap (λ (s : State). heard-from c (notes-of (after h k)) (while-owned s c fs) ks) (back (after h k .now) (kept k (h .now) S))
+    ∙ heard-all c ks (after h k) (while-owned (after h k .now) c fs) (kept k (h .now) S)
 
 -- so what is heard is what the rules say
 heard-is : (c : ℕ) (ks : List Call) → all-heard c ks ≡ exchanges c ks

@@ -2,17 +2,21 @@
 use Prim.Native.Nat.{ℕ, _+_, _≤_, _<_}
 use mathlib.Core.Path.{_≡_}
 use mathlib.Core.Bool.{true, false}
+use mathlib.Core.Logic.{_↔_}
 use mathlib.Core.List.{List, [], _∷_, _++_, map}
 use mathlib.Core.Option.{some}
-use lib.ListN.{length, getElem?}
+use lib.ListN.{length, getElem?, drop}
 use Rattle.rules.specs.declared.Packet.{Packet}
-use Rattle.rules.specs.Limits.{clock-end, notice-number}
+use Rattle.rules.specs.declared.Connection.{Connection}
+use Rattle.rules.specs.Limits.{clock-end}
 use Rattle.rules.specs.Words.{All}
-use Rattle.rules.specs.Model.{State, Call, offer, figures}
-use Rattle.rules.specs.Service.{of}
+use Rattle.rules.specs.Model.{State, Call, admit, offer, close, tick, past, figures, closed-at}
+use Rattle.rules.specs.Admission.{owned, stands, largest-bound}
+use Rattle.rules.specs.Service.{of, charge-over}
 use Rattle.rules.specs.SoundState.{Sound}
-use Rattle.rules.specs.Calls.{refused-number}
+use Rattle.rules.specs.Calls.{refused-number, answer}
 use Rattle.rules.specs.Runs.{Departure, run, departures, in-hub, bound-of, allowed, Exchange, own-answer}
+use Rattle.rules.specs.Promises.{Still-charged, Lowest-free}
 use Rattle.state.specs.declared.Hub.{Hub}
 use Rattle.state.specs.declared.Told.{Told}
 use Rattle.state.specs.View.{Tables, view, hub-of, written, sound-hub}
@@ -58,6 +62,76 @@ Sound-is-kept-by-the-code =
     → sound-hub h before ≡ true
     → sound-hub (told .hub) after ≡ true
 
+-- on a sound hub the verdict, the number and the state that is left are the rules'
+abbrev pub Answers-as-the-rules : Type 0
+Answers-as-the-rules =
+    (k : Call) (h : Hub) (before : Tables) (told : Told) (after : Tables)
+    → Does k h before told after
+    → sound-hub h before ≡ true
+    → (view (told .hub) after ≡ answer k (view h before) .next)
+    × (told .verdict ≡ answer k (view h before) .verdict)
+    × (told .number ≡ answer k (view h before) .number)
+
+-- ---- closing, of the code (document 02, R-8)
+
+-- on a sound hub with a link a close gets 10 exactly for a number that does not stand, 16 exactly for one that does and holds packets
+abbrev pub Close-is-refused-of-the-code : Type 0
+Close-is-refused-of-the-code =
+    (c : ℕ) (h : Hub) (before : Tables) (told : Told) (after : Tables)
+    → Does (close c) h before told after
+    → sound-hub h before ≡ true
+    → (h .link .levels ≡ 0 → ⊥)
+    → (told .verdict ≡ 10 ↔ stands (view h before) c ≡ false)
+    × (told .verdict ≡ 16 ↔ ((stands (view h before) c ≡ true) × (1 ≤ length (of c (view h before .held)))))
+
+-- an offer to a closed number, and another close of it, get 10
+abbrev pub Closed-gets-10-of-the-code : Type 0
+Closed-gets-10-of-the-code =
+    (c len tag : ℕ) (h : Hub) (before : Tables)
+    → sound-hub h before ≡ true
+    → closed-at (view h before) c ≡ true
+    → ((told : Told) (after : Tables) → Does (offer c len tag) h before told after → told .verdict ≡ 10)
+    × ((told : Told) (after : Tables) → Does (close c) h before told after → told .verdict ≡ 10)
+
+-- a connection that is closed is freed at once where it never sent or the clock has reached its last eligibility plus the largest bound; else it is charged
+abbrev pub Closed-or-freed-of-the-code : Type 0
+Closed-or-freed-of-the-code =
+    (c : ℕ) (h : Hub) (before : Tables) (told : Told) (after : Tables)
+    → Does (close c) h before told after
+    → told .verdict ≡ 0
+    → (charge-over (largest-bound (h .link)) (h .clock) (past (view h before) c) ≡ true → owned (view (told .hub) after .connections) c ≡ false)
+    × (charge-over (largest-bound (h .link)) (h .clock) (past (view h before) c) ≡ false → Still-charged (view h before) c (view (told .hub) after))
+
+-- a charged connection is freed by the tick that reaches its time, and by no other
+abbrev pub Freed-by-the-tick-of-the-code : Type 0
+Freed-by-the-tick-of-the-code =
+    (c : ℕ) (h : Hub) (before : Tables) (told : Told) (after : Tables)
+    → Does tick h before told after
+    → told .verdict ≡ 0
+    → closed-at (view h before) c ≡ true
+    → (charge-over (largest-bound (h .link)) (h .clock + 1) (past (view h before) c) ≡ true → owned (view (told .hub) after .connections) c ≡ false)
+    × (charge-over (largest-bound (h .link)) (h .clock + 1) (past (view h before) c) ≡ false → Still-charged (view h before) c (view (told .hub) after))
+
+-- whatever the call, a closed number is charged as long as the clock has not reached its time, and free once it has
+abbrev pub Charge-lasts-of-the-code : Type 0
+Charge-lasts-of-the-code =
+    (k : Call) (c : ℕ) (h : Hub) (before : Tables) (told : Told) (after : Tables)
+    → Does k h before told after
+    → sound-hub h before ≡ true
+    → closed-at (view h before) c ≡ true
+    → (charge-over (largest-bound (h .link)) (told .hub .clock) (past (view h before) c) ≡ false → Still-charged (view h before) c (view (told .hub) after))
+    × (charge-over (largest-bound (h .link)) (told .hub .clock) (past (view h before) c) ≡ true → owned (view (told .hub) after .connections) c ≡ false)
+
+-- an admission gives the lowest number that has no owner, and its new owner starts fresh
+abbrev pub Lowest-number-is-given-of-the-code : Type 0
+Lowest-number-is-given-of-the-code =
+    (x : Connection) (h : Hub) (before : Tables) (told : Told) (after : Tables)
+    → Does (admit x) h before told after
+    → told .verdict ≡ 0
+    → Lowest-free (view h before) x (told .number) (view (told .hub) after)
+
+-- ---- any calls
+
 -- demand 3, of the code: for any calls of the public functions, each given what the last one left, from the fresh hub and zero tables,
 -- the answers are those of the rules' run
 abbrev pub Follows-the-rules : Type 0
@@ -71,6 +145,21 @@ Conservation-of-the-code =
     (ks : List Call) (c : ℕ)
     → of c (calls ks .accepted) ≡ map (λ (d : Departure). d .what) (departures c (calls ks .departed)) ++ of c (in-hub (state-of (calls ks)))
 
+-- from one moment on: what the answers accepted of number c since is what they let go since, followed by what waits
+abbrev pub Noted-since : List Call → List Call → ℕ → Type 0
+Noted-since earlier later c =
+    drop (length (of c (calls earlier .accepted))) (of c (calls (earlier ++ later) .accepted))
+    ≡ map (λ (d : Departure). d .what) (drop (length (departures c (calls earlier .departed))) (departures c (calls (earlier ++ later) .departed)))
+    ++ of c (in-hub (state-of (calls (earlier ++ later))))
+
+-- it holds from each admission on, for the owner that it gives the number to (document 02, R-8)
+abbrev pub Conservation-by-owner-of-the-code : Type 0
+Conservation-by-owner-of-the-code =
+    (earlier later : List Call) (x : Connection) (told : Told) (after : Tables)
+    → Does (admit x) (calls earlier .hub) (calls earlier .tables) told after
+    → told .verdict ≡ 0
+    → Noted-since earlier (admit x ∷ later) (told .number)
+
 -- each accepted packet of a level has left by its eligibility plus its level's bound, whatever the other connections and the notices do: in the caller's own
 -- notes of the answers
 pub record Noted-by (g : Notes) (c i : ℕ) (p : Packet) (deadline : ℕ) : Type 0 where
@@ -78,13 +167,16 @@ pub record Noted-by (g : Notes) (c i : ℕ) (p : Packet) (deadline : ℕ) : Type
   pub is-departure : getElem? (departures c (g .departed)) i ≡ some (record { what = p; finish = finish })
   pub in-time : finish ≤ deadline
 
+-- any calls `earlier`, an offer of c that is accepted, any calls `later`; the bound is the one of c's owner at the offer (document 02, R-8)
 abbrev pub Demand-3-first-of-the-code : Type 0
 Demand-3-first-of-the-code =
-    (ks : List Call) (c i : ℕ) (p : Packet)
-    → (c ≡ notice-number → ⊥)
-    → getElem? (of c (calls ks .accepted)) i ≡ some p
-    → p .eligibility + bound-of (state-of (calls ks)) c ≤ calls ks .hub .clock
-    → Noted-by (calls ks) c i p (p .eligibility + bound-of (state-of (calls ks)) c)
+    (earlier later : List Call) (c len tag : ℕ) (told : Told) (after : Tables)
+    → Does (offer c len tag) (calls earlier .hub) (calls earlier .tables) told after
+    → told .verdict ≡ 0
+    → told .number + bound-of (state-of (calls earlier)) c ≤ calls (earlier ++ offer c len tag ∷ later) .hub .clock
+    → Noted-by (calls (earlier ++ offer c len tag ∷ later)) c (length (of c (calls earlier .accepted)))
+    (record { connection = c; len = len; tag = tag; arrival = calls earlier .hub .clock; eligibility = told .number })
+    (told .number + bound-of (state-of (calls earlier)) c)
 
 -- and a connection that keeps its word is never refused for room: while the clock runs its offer is accepted, eligible on arrival, and leaves within the bound of
 -- its arrival. Any calls `earlier`, an offer of c of allowed length, any calls `later`; c has kept its word up to this offer

@@ -7,10 +7,10 @@ use lib.Dec.{eqb}
 use Rattle.rules.specs.declared.Packet.{Packet}
 use Rattle.rules.specs.Words.{push}
 use Rattle.rules.specs.Limits.{notice-number}
-use Rattle.rules.specs.Model.{State, Call, link, admit, offer, notice, tick, fresh, figures}
+use Rattle.rules.specs.Model.{State, Call, link, admit, offer, notice, close, tick, fresh, figures}
 use Rattle.rules.specs.Admission.{stands}
 use Rattle.rules.specs.Service.{Spaced}
-use Rattle.rules.specs.Runs.{Departure, History, if-done, offer-tick, Exchange}
+use Rattle.rules.specs.Runs.{Departure, History, while-owned, if-done, offer-tick, Exchange}
 use Rattle.state.specs.declared.Hub.{Hub}
 use Rattle.state.specs.declared.Told.{Told}
 use Rattle.state.specs.View.{Tables, zero-tables, view, hub-of, written}
@@ -30,6 +30,7 @@ brought (admit x) h r = none
 brought (offer c len tag) h r = if-done (r .verdict) (record { connection = c; len = len; tag = tag; arrival = h .clock; eligibility = r .number })
 brought (notice len tag) h r =
     if-done (r .verdict) (record { connection = notice-number; len = len; tag = tag; arrival = h .clock; eligibility = r .number })
+brought (close c) h r = none
 brought tick h r = none
 
 abbrev pub went : Told → Option Departure
@@ -67,10 +68,10 @@ notes-of h = record { accepted = h .accepted; departed = h .departed; hub = hub-
 
 -- ---- a connection that keeps its word, seen in the calls and in what the caller keeps between them
 
--- the ticks of the offers to connection c of allowed length, in order
+-- the ticks of the offers of allowed length to the present owner of number c, in order
 abbrev pub seen-ticks-from : ℕ → Notes → List ℕ → List Call → List ℕ
 seen-ticks-from c g ts [] = ts
-seen-ticks-from c g ts (k ∷ ks) = seen-ticks-from c (call g k) (push ts (offer-tick c (state-of g) k)) ks
+seen-ticks-from c g ts (k ∷ ks) = seen-ticks-from c (call g k) (while-owned (state-of (call g k)) c (push ts (offer-tick c (state-of g) k))) ks
 
 abbrev pub seen-ticks : ℕ → List Call → List ℕ
 seen-ticks c ks = seen-ticks-from c blank [] ks
@@ -86,16 +87,17 @@ heard c g (link l) = none
 heard c g (admit x) = none
 heard c g (offer d len tag) =
     let r = tells (offer d len tag) (g .hub) (g .tables) in
-    cond (eqb d c && stands (state-of g .connections) c)
+    cond (eqb d c && stands (state-of g) c)
     (some (record { asked = record { at = g .hub .clock; len = len; tag = tag }; verdict = r .verdict; eligibility = r .number }))
     none
 heard c g (notice len tag) = none
+heard c g (close d) = none
 heard c g tick = none
 
 abbrev pub heard-from : ℕ → Notes → List Exchange → List Call → List Exchange
 heard-from c g es [] = es
-heard-from c g es (k ∷ ks) = heard-from c (call g k) (push es (heard c g k)) ks
+heard-from c g es (k ∷ ks) = heard-from c (call g k) (while-owned (state-of (call g k)) c (push es (heard c g k))) ks
 
--- all offers to connection c while it stands, in order, each with its answer
+-- all offers to the present owner of number c while it stands, in order, each with its answer
 abbrev pub all-heard : ℕ → List Call → List Exchange
 all-heard c ks = heard-from c blank [] ks

@@ -1,8 +1,8 @@
-// The hub of one output line: link, admit, offer, notice, tick. Any hub value and any tables: an answer or a numbered refusal; a refused call changes nothing.
-// The caller keeps a `Hub`, a table of connections of 4,400 numbers, a places table of 10,240 and a table of notices of 320, all zero at first, and hands them
+// The hub of one output line: link, admit, offer, notice, close, tick. Any hub value and any tables: an answer or a numbered refusal; a refused call changes nothing.
+// The caller keeps a `Hub`, a table of connections of 4,602 numbers, a places table of 10,240 and a table of notices of 320, all zero at first, and hands them
 // to every call.
 ghost use mathlib.Core.Path.{_≡_};
-ghost use Rattle.rules.specs.Model.{fresh, link, admit, offer, notice, tick};
+ghost use Rattle.rules.specs.Model.{fresh, link, admit, offer, notice, close, tick};
 ghost use Rattle.state.specs.View.{before, after, hub-of};
 ghost use Rattle.state.specs.Does.{Does};
 use limits::MAX_LEVELS;
@@ -93,8 +93,18 @@ pub fn notice(
     calls::notice_tested(h, members, places, notices, len, tag)
 }
 
+// Close a connection: its number is freed, at once or by the tick with which its charge is over. Verdicts 0, 1, 2, 10, 16.
+pub fn close(h: Hub, members: &mut [u32], places: &[u32], notices: &[u32], c: u32) -> Told
+    ensures { λ r. ⌜ Does (close c) h (before members places notices) r (after members places notices) ⌝ }
+{
+    if !sound::is_sound(h, members, places, notices) {
+        return say(h, 1, 0);
+    }
+    calls::close_tested(h, members, places, notices, c)
+}
+
 // One tick: the packet that departed, with finish at the hub's clock then, or none. Verdicts 0, 1, 2, 13.
-pub fn tick(h: Hub, members: &[u32], places: &mut [u32], notices: &mut [u32]) -> Told
+pub fn tick(h: Hub, members: &mut [u32], places: &mut [u32], notices: &mut [u32]) -> Told
     ensures { λ r. ⌜ Does tick h (before members places notices) r (after members places notices) ⌝ }
 {
     if !sound::is_sound(h, members, places, notices) {

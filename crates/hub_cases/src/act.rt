@@ -7,6 +7,7 @@ use crate::world::ASKED;
 use crate::world::AVERAGE;
 use crate::world::CALL;
 use crate::world::CLOCK;
+use crate::world::FREES;
 use crate::world::LENT;
 use crate::world::LENT_NOTICES;
 use crate::world::NOTICES;
@@ -14,6 +15,7 @@ use crate::world::NOWHERE;
 use crate::world::PLACES;
 use crate::world::READ;
 use crate::world::SILENCE;
+use crate::world::USED;
 use crate::world::VALUE;
 use crate::world::World;
 use crate::world::bound;
@@ -32,14 +34,15 @@ use std::num::wrapping_add_usize;
 use std::num::wrapping_sub_u32;
 use std::num::wrapping_sub_usize;
 
-// Which form it is: 0 to 14 calls; 15 more; 16 to 19 looks; 20 to 25 acts; 26 to 51 numbers changed by hand; then end, group, recipe, and nothing at all.
+// Which form it is: 0 to 15 calls; 16 more; 17 to 22 looks; 23 to 30 acts; 31 to 59 numbers changed by hand; then end, group, recipe, and nothing at all.
 pub fn number_of(f: Form) -> u32 {
     let forms =
         b":link##########=#:admit###=##:offer###=##:refusedtick=#:tick=##:ticks#=##:gone######:notice##=##:gonenotice###:link##########silence#=#\
-        :tick=##silent#:ticks#=##silent#:admit###=##short##:admit#####=##:admit#####=##short##:more######:clockis#:rowsare#:noticesare#:silentis#\
-        :fresh:undo:lengths##:connectionsall#:placesall#:noticesall#:clock#:serving#:units#:silent#:levels#:largest#:bound##\
-        :level##:size##:gap##:window##:average##:known##:connection##:length##:tag##:arrival##:eligibility##\
-        :noticeconnection##:noticelength##:noticetag##:noticearrival##:noticeeligibility##:noticeslent#:silence#:past###:end:group:recipe::";
+        :tick=##silent#:ticks#=##silent#:admit###=##short##:admit#####=##:admit#####=##short##:close#=#:more######\
+        :clockis#:rowsare#:noticesare#:silentis#:usedis#:firstis#:fresh:undo:lengths##:connectionsall#:placesall#:noticesall#:frees#:frees##\
+        :clock#:serving#:units#:silent#:levels#:largest#:bound##:level##:size##:gap##:window##:average##:mark##:known##\
+        :connection##:length##:tag##:arrival##:eligibility##:noticeconnection##:noticelength##:noticetag##:noticearrival##:noticeeligibility##\
+        :noticeslent#:silence#:used#:first#:past###:end:group:recipe::";
     let text = f.text;
     wrapping_sub_u32(count(forms, find(forms, text, f.bytes), b':'), 2)
 }
@@ -72,14 +75,15 @@ pub fn fresh(w: &mut World) {
 // Where the number stands that a form changes by hand, in the row n where there are rows; m the second number of the form.
 pub fn changed(k: u32, n: u32, m: u32) -> usize {
     match k {
-        26..=31 => CLOCK + (k - 26) as usize,
-        32 => bound(n),
-        33..=38 => connection(n) + (k - 33) as usize,
-        39..=43 => place(n) + (k - 39) as usize,
-        44..=48 => notice(n) + (k - 44) as usize,
-        49 => LENT_NOTICES,
-        50 => SILENCE,
-        51 => past(n, m),
+        31..=36 => CLOCK + (k - 31) as usize,
+        37 => bound(n),
+        38..=44 => connection(n) + (k - 38) as usize,
+        45..=49 => place(n) + (k - 45) as usize,
+        50..=54 => notice(n) + (k - 50) as usize,
+        55 => LENT_NOTICES,
+        56 => SILENCE,
+        57..=58 => USED + (k - 57) as usize,
+        59 => past(n, m),
         _ => NOWHERE,
     }
 }
@@ -100,10 +104,16 @@ fn fill(w: &mut World, from: usize, n: usize, v: u32) {
 pub fn acted(w: &mut World, k: u32) {
     let v = get(w, VALUE);
     match k {
-        22 => copy(w, LENT, READ, 2),
-        23 => fill(w, 0, hub::CONNECTIONS, v),
-        25 => fill(w, NOTICES, hub::NOTICES, v),
-        _ => fill(w, PLACES, hub::PLACES, v),
+        25 => copy(w, LENT, READ, 2),
+        26 => fill(w, 0, hub::CONNECTIONS, v),
+        27 => fill(w, PLACES, hub::PLACES, v),
+        28 => fill(w, NOTICES, hub::NOTICES, v),
+        _ => {
+            let c = get(w, READ);
+            copy(w, FREES + 2, FREES, 2);
+            copy(w, FREES, READ, 2);
+            put(w, FREES, wrapping_add_u32(c, 1));
+        }
     }
 }
 

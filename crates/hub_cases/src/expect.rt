@@ -3,11 +3,13 @@ use crate::world::ASKED;
 use crate::world::AVERAGE;
 use crate::world::CALL;
 use crate::world::CLOCK;
+use crate::world::FREES;
 use crate::world::GONE;
 use crate::world::LEVELS;
 use crate::world::NONE;
 use crate::world::NOTICE_ROWS;
 use crate::world::NOTICES;
+use crate::world::NOWHERE;
 use crate::world::NUMBER;
 use crate::world::PACKET;
 use crate::world::PLACE_ROWS;
@@ -16,6 +18,7 @@ use crate::world::SERVING;
 use crate::world::SHORT;
 use crate::world::SILENCE;
 use crate::world::SILENT;
+use crate::world::USED;
 use crate::world::VERDICT;
 use crate::world::World;
 use crate::world::connection;
@@ -28,9 +31,11 @@ use crate::world::put;
 use crate::world::put_all;
 use crate::world::take;
 use limits::MAX_REMEMBERED;
+use limits::MEMBER_WIDTH;
 use limits::PACKET_WIDTH;
 use std::num::wrapping_add_u32;
 use std::num::wrapping_add_usize;
+use std::num::wrapping_sub_u32;
 
 // The first row that is not used, of so many whose lengths stand from a place on: its length is 0.
 fn used(w: &World, lengths: usize, most: u32) -> u32 {
@@ -61,6 +66,38 @@ fn admitted(w: &mut World) {
     copy(w, at + 1, ASKED + 2, 1);
     copy(w, at + 2, ASKED + 1, 1);
     copy(w, at + 3, AVERAGE, 2);
+}
+
+// The numbers that the script says are freed: everything of them is zero.
+fn freed(w: &mut World, at: usize) {
+    let c = wrapping_sub_u32(get(w, at), 1);
+    let behind = get(w, wrapping_add_usize(at, 1));
+    copy(
+        w,
+        connection(c),
+        NOWHERE,
+        MEMBER_WIDTH * (behind as usize + 1),
+    );
+}
+
+// The two numbers behind the rows of connections: rows up to the last owner's, and one more than the earliest last eligibility of those that are closed.
+fn summed(w: &mut World) {
+    let mut owners: u32 = 0;
+    let mut earliest: u32 = 4294967295;
+    let mut i: u32 = 0;
+    while i < 200 {
+        let at = connection(i);
+        let last = get(w, at + 7);
+        i += 1;
+        if get(w, at) != 0 {
+            owners = i;
+        }
+        if (get(w, at + 5) != 0) & (last < earliest) {
+            earliest = last;
+        }
+    }
+    put(w, USED, owners);
+    put(w, USED + 1, wrapping_add_u32(earliest, 1));
 }
 
 // One more is remembered of a connection: the newest first, and of one too many the oldest is forgotten.
@@ -134,6 +171,7 @@ fn answered(w: &mut World, call: u32) {
         9 => ASKED + 11,
         1 | 2 | 12 => ASKED + 3,
         3 => ASKED,
+        15 => ASKED + 1,
         7 => ASKED + 2,
         _ => NONE,
     };
@@ -166,6 +204,10 @@ pub fn expect(w: &mut World) {
         5 | 11 => quiet(w, n, ASKED + 1),
         6 => gone(w),
         7 => noted(w),
+        15 => put(w, connection(n) + 5, 1),
         _ => notice_gone(w),
     }
+    freed(w, FREES);
+    freed(w, FREES + 2);
+    summed(w);
 }

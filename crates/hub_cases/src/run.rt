@@ -5,11 +5,14 @@ use crate::text;
 use crate::text::Form;
 use crate::world::CALL;
 use crate::world::CLOCK;
+use crate::world::FREES;
 use crate::world::NOWHERE;
 use crate::world::READ;
 use crate::world::SILENT;
+use crate::world::USED;
 use crate::world::VALUE;
 use crate::world::World;
+use crate::world::copy;
 use crate::world::get;
 use crate::world::put;
 use crate::world::put_all;
@@ -133,6 +136,7 @@ fn case(s: State, now: &mut World, kept: &mut World) -> State {
     expect::expect(&mut expected);
     act::called(now);
     let agreed = same(&expected, now);
+    copy(now, FREES, NOWHERE, 4);
     counted(s, now, kept, agreed)
 }
 
@@ -167,10 +171,12 @@ fn made(s: State, now: &mut World, kept: &mut World, k: u32) -> State {
 // A look at a number of the world.
 fn looked(s: State, now: &World, kept: &mut World, k: u32) -> State {
     let v = match k {
-        16 => get(now, CLOCK),
-        17 => expect::rows(now),
-        18 => expect::notices(now),
-        _ => get(now, SILENT),
+        17 => get(now, CLOCK),
+        18 => expect::rows(now),
+        19 => expect::notices(now),
+        20 => get(now, SILENT),
+        21 => get(now, USED),
+        _ => get(now, USED + 1),
     };
     counted(s, now, kept, v == get(now, READ))
 }
@@ -190,34 +196,34 @@ fn changed(text: &[u8], s: State, now: &mut World, k: u32) {
 fn obey(text: &[u8], f: Form, s: State, now: &mut World, kept: &mut World, k: u32) -> State {
     let mut x = s;
     match k {
-        0..=14 => made(s, now, kept, k),
-        15 => repeated(s, now, kept),
-        16..=19 => looked(s, now, kept, k),
-        20 => {
+        0..=15 => made(s, now, kept, k),
+        16 => repeated(s, now, kept),
+        17..=22 => looked(s, now, kept, k),
+        23 => {
             act::fresh(now);
             put_all(kept, 0, now);
             s
         }
-        21 => {
+        24 => {
             put_all(now, 0, kept);
             s
         }
-        22..=25 => {
+        25..=30 => {
             act::acted(now, k);
             s
         }
-        26..=51 => {
+        31..=59 => {
             changed(text, s, now, k);
             s
         }
-        52 => ended(text, s, now, kept),
-        53 => opened(text, s),
+        60 => ended(text, s, now, kept),
+        61 => opened(text, s),
         // the script ends where the recipes begin
-        54 => {
+        62 => {
             x.next = text.len();
             x
         }
-        55 => s,
+        63 => s,
         _ => called(text, f, s),
     }
 }

@@ -1,7 +1,9 @@
 // The hub with its three tables and its last answer as numbers at places, and the calls on it.
 ghost use Prim.Native.Nat.{_≤_};
+use limits::MAX_CONNECTIONS;
 use limits::MAX_REMEMBERED;
 use limits::MEMBER_HEAD;
+use limits::MEMBER_ROWS;
 use limits::MEMBER_WIDTH;
 use limits::PACKET_WIDTH;
 use rules::Connection;
@@ -15,7 +17,9 @@ pub type World = [u32; NOWHERE];
 // Each table has room for 16 rows more than its length: it is lent too long as well.
 const MORE: usize = 16;
 
-// Rows of connections stand from 0 on, then those of notices.
+// Rows of connections stand from 0 on, behind them the two numbers that sum them up, then the rows of notices.
+pub const USED: usize = MEMBER_ROWS;
+
 pub const NOTICES: usize = hub::CONNECTIONS + MORE * MEMBER_WIDTH;
 
 // The last answer: verdict, number, 1 if a packet has gone, the packet.
@@ -62,14 +66,15 @@ pub const CALL: usize = ASKED + 15;
 // Of the last answer: the level that was short, and its units, low half first.
 pub const SHORT: usize = CALL + 1;
 
-pub const PLACES: usize = SHORT + 3;
+// The numbers that the next call frees, twice: one more than the first of them, 0 for none, and how many stand behind it.
+pub const FREES: usize = SHORT + 3;
+
+pub const PLACES: usize = FREES + 4;
 
 // No place: what is put there is lost, and what is read there is 0.
 pub const NOWHERE: usize = PLACES + hub::PLACES + MORE * PACKET_WIDTH;
 
 // How many rows have room.
-const MEMBER_ROWS: u32 = (NOTICES / MEMBER_WIDTH) as u32;
-
 pub const NOTICE_ROWS: u32 = ((VERDICT - NOTICES) / PACKET_WIDTH) as u32;
 
 pub const PLACE_ROWS: u32 = ((NOWHERE - PLACES) / PACKET_WIDTH) as u32;
@@ -149,7 +154,7 @@ pub fn same(a: &World, b: &World) -> bool {
 pub fn connection(k: u32) -> usize
     ensures { λ r. ⌜ r ≤ 1_000_000 ⌝ }
 {
-    if MEMBER_ROWS <= k {
+    if MAX_CONNECTIONS as u32 <= k {
         return NOWHERE;
     }
     MEMBER_WIDTH * (k as usize)
@@ -157,7 +162,7 @@ pub fn connection(k: u32) -> usize
 
 // Where the count of what is remembered of a connection stands; what is remembered stands behind it.
 pub fn known(c: u32) -> usize
-    ensures { λ r. ⌜ r ≤ 1_000_005 ⌝ }
+    ensures { λ r. ⌜ r ≤ 1_000_006 ⌝ }
 {
     connection(c) + MEMBER_HEAD - 1
 }
@@ -284,6 +289,7 @@ fn ask(w: &World, members: &mut [u32], places: &mut [u32], notices: &mut [u32]) 
         }
         2 => hub::offer(h, members, places, notices, a, b, c),
         7 => hub::notice(h, members, places, notices, a, b),
+        15 => hub::close(h, members, places, notices, a),
         _ => hub::tick(h, members, places, notices),
     }
 }

@@ -50,11 +50,6 @@ zeros-parts (suc k) (x ∷ l) h =
     let b = zeros-parts k l (a .1) in
     (and-intro (eqb x 0) (zeros (take k l)) (a .0) (b .0), b .1)
 
-pub zeros-join : (k : ℕ) (l : List ℕ) → zeros (take k l) ≡ true → zeros (drop k l) ≡ true → zeros l ≡ true
-zeros-join zero l h i = i
-zeros-join (suc k) [] h i = refl
-zeros-join (suc k) (x ∷ l) h i = let a = and-true (eqb x 0) (zeros (take k l)) h in and-intro (eqb x 0) (zeros l) (a .0) (zeros-join k l (a .1) i)
-
 -- ---- one by one, from the i-th on
 
 pub zeros-stop : (t : List ℕ) (i : ℕ) → i < length t → (getD t i 0 ≡ 0 → ⊥) → false ≡ zeros (drop i t)

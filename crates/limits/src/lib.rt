@@ -10,7 +10,7 @@ ghost use Rattle.limits.specs.Zeros.{zeros};
 use rules::Connection;
 use rules::Link;
 
-// ---- the limits of document 01, "Link, connections, places", and of document 02, R-1, R-4, R-6 and R-7
+// ---- the limits of document 01, "Link, connections, places", and of document 02, R-1, R-4, R-6, R-7 and R-8
 
 // Levels of a link.
 pub const MAX_LEVELS: u32 = 8;
@@ -54,12 +54,15 @@ pub const CLOCK_END: u32 = 4000000000;
 
 // ---- the tables
 
-// The numbers of a row of the table of connections, six before the remembered eligibilities, and of all its rows.
-pub const MEMBER_HEAD: usize = 6;
+// The numbers of a row of the table of connections, seven before the remembered eligibilities; where the rows end; and the numbers of the table, which has two
+// behind its rows.
+pub const MEMBER_HEAD: usize = 7;
 
 pub const MEMBER_WIDTH: usize = MEMBER_HEAD + MAX_REMEMBERED;
 
-pub const MEMBERS: usize = MEMBER_WIDTH * MAX_CONNECTIONS;
+pub const MEMBER_ROWS: usize = MEMBER_WIDTH * MAX_CONNECTIONS;
+
+pub const MEMBERS: usize = MEMBER_ROWS + 2;
 
 // The numbers of a row of the places table and of the table of notices, and of all their rows.
 pub const PACKET_WIDTH: usize = 5;

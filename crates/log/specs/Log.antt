@@ -1,5 +1,5 @@
 -- THE ANSWER LOG of a trace, from bytes to bytes, by the rules alone: no hub value, no table, no window. Document 01, "Trace and answer records" and
--- "One tick"; document 02, R-1, R-2, R-4 and R-6.
+-- "One tick"; document 02, R-1, R-2, R-4, R-6 and R-8.
 use Prim.Native.Nat.{ℕ, zero, suc, _+_, _-_}
 use mathlib.Core.Bool.{cond, not}
 use mathlib.Core.List.{List, [], _∷_, _++_}
@@ -8,14 +8,14 @@ use lib.Dec.{ltb, eqb}
 use lib.ListN.{length, drop}
 use Rattle.rules.specs.declared.Packet.{Packet}
 use Rattle.rules.specs.Words.{first-number}
-use Rattle.rules.specs.Model.{State, Call, link, admit, offer, notice, tick, Answer, fresh}
+use Rattle.rules.specs.Model.{State, Call, link, admit, offer, notice, close, tick, Answer, fresh}
 use Rattle.rules.specs.SoundTest.{sound}
 use Rattle.rules.specs.Calls.{answer}
 use Rattle.traces.specs.declared.Record.{Record}
-use Rattle.traces.specs.declared.Record.the-variants.{Link as LinkRecord, Admit, Offer, Notice, Ticks, Malformed}
+use Rattle.traces.specs.declared.Record.the-variants.{Link as LinkRecord, Admit, Close, Offer, Notice, Ticks, Malformed}
 use Rattle.traces.specs.declared.Found.{Found}
 use Rattle.traces.specs.Trace.{found, read-trace}
-use Rattle.answers.specs.declared.Reply.the-variants.{Linked, Admitted, Offered, Noticed, Departed, Ticked, Broken}
+use Rattle.answers.specs.declared.Reply.the-variants.{Linked, Admitted, Closed, Offered, Noticed, Departed, Ticked, Broken}
 use Rattle.answers.specs.Answers.{answer-bytes}
 use Rattle.named.specs.Named.{link-named, connection-named}
 
@@ -66,6 +66,7 @@ pub data Asked : Type 0 where
 abbrev pub asks : Record → Asked
 asks (LinkRecord n m silence d1 d2 d3 d4 d5 d6 d7 d8) = one-call (link (link-named (n ∷ m ∷ silence ∷ d1 ∷ d2 ∷ d3 ∷ d4 ∷ d5 ∷ d6 ∷ d7 ∷ d8 ∷ [])))
 asks (Admit level gap size window average) = one-call (admit (connection-named (level ∷ gap ∷ size ∷ window ∷ average ∷ [])))
+asks (Close c) = one-call (close c)
 asks (Offer c len tag) = one-call (offer c len tag)
 asks (Notice len tag) = one-call (notice len tag)
 asks (Ticks n) = some-ticks n
@@ -77,6 +78,7 @@ call-log (link l) a = answer-bytes (Linked (a .verdict))
 call-log (admit x) a = answer-bytes (Admitted (a .verdict) (a .number) (a .short .level) (a .short .units))
 call-log (offer c len tag) a = answer-bytes (Offered (a .verdict) (a .number))
 call-log (notice len tag) a = answer-bytes (Noticed (a .verdict) (a .number))
+call-log (close c) a = answer-bytes (Closed (a .verdict))
 call-log tick a = tick-log a
 
 -- what the records of bs ask, which starts at offset `at` of the trace, each with its offset: at most f of them. Behind a malformed record nothing counts

@@ -8,6 +8,8 @@ const LK: u64 = 230;
 
 const CN: u64 = 143;
 
+const CL: u64 = 141;
+
 const PK: u64 = 270;
 
 const NQ: u64 = 256;
@@ -17,6 +19,8 @@ const TK: u64 = 310;
 const LA: u64 = 220;
 
 const CA: u64 = 130;
+
+const CD: u64 = 133;
 
 const PA: u64 = 260;
 
@@ -73,6 +77,21 @@ fn trace_numbers(taken: u64, r: Record) -> [u64; 13] {
             size as u64,
             window as u64,
             average as u64,
+            0,
+            0,
+            0,
+            0,
+            0,
+            0,
+        ],
+        Record::Close { connection } => [
+            taken,
+            CL,
+            connection as u64,
+            0,
+            0,
+            0,
+            0,
             0,
             0,
             0,
@@ -142,6 +161,7 @@ fn answer_numbers(taken: u64, r: Reply) -> [u64; 13] {
             0,
             0,
         ],
+        Reply::Closed { verdict } => [taken, CD, verdict as u64, 0, 0, 0, 0, 0, 0, 0, 0, 0, 0],
         Reply::Offered {
             verdict,
             eligibility,

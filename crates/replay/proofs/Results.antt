@@ -13,7 +13,7 @@ use Rattle.rules.specs.SoundState.{Sound}
 use Rattle.rules.proofs.Tests.{never}
 use Rattle.rules.proofs.Every.{fresh-invariant}
 use Rattle.tables.specs.Places.{written-places, table-of}
-use Rattle.connections.specs.Members.{written-members}
+use Rattle.connections.specs.Members.{written-rows}
 use Rattle.state.specs.View.{Tables, tables, zero-tables, sound-hub}
 use Rattle.steps.specs.declared.Phase.{Phase}
 use Rattle.steps.specs.declared.Phase.the-variants.{Finished}
@@ -44,7 +44,7 @@ record Holds (trace wrote : List ℕ) (c : Cursor) (t : Tables) (w unread : List
   told : Malformed-in (bad-at trace) here w unread
 
 start-holds : (trace : List ℕ) → Holds trace [] (cursor-of beginning) zero-tables [] trace
-unfolding log bad-at written-members written-places table-of
+unfolding log bad-at written-rows written-places table-of
 start-holds trace =
     record {
       here = beginning;

@@ -1,6 +1,5 @@
 -- Document 02, R-3: what a connection that keeps its word is told is decided by its own figures and its own offer.
 use Prim.Native.Nat.{ℕ}
-use native.Mathlib.Omega.{arith}
 use mathlib.Core.Path.{_≡_, refl, sym, ap, _∙_, subst}
 use mathlib.Core.Bool.{Bool, true, false, cond, _&&_}
 use mathlib.Core.List.{List, [], _∷_, _++_, map}
@@ -9,20 +8,20 @@ use lib.Dec.{leb, eqb}
 use borrow.Author.Tests.{eqb-true}
 use Rattle.rules.specs.Words.{within, push}
 use Rattle.rules.specs.Limits.{clock-end, notice-number}
-use Rattle.rules.specs.Model.{Connection, State, Call, link, admit, offer, notice, tick, figures}
-use Rattle.rules.specs.Admission.{stands}
+use Rattle.rules.specs.Model.{Connection, State, Call, link, admit, offer, notice, close, tick, figures}
+use Rattle.rules.specs.Admission.{owned, stands}
 use Rattle.rules.specs.Service.{Spaced}
 use Rattle.rules.specs.Calls.{verdict, eligibility-now, settle, answer}
-use Rattle.rules.specs.Runs.{History, after, run-from, allowed, offer-tick, offer-ticks-from, Asked, Exchange, exchange, exchanges-from, own-answer}
+use Rattle.rules.specs.Runs.{History, while-owned, after, run-from, nothing-yet, run, allowed, offer-tick, offer-ticks, Keeps-its-word, Asked, Exchange, exchange, exchanges-from, exchanges, own-answer}
 use Rattle.rules.proofs.Lists.{All, all-snoc}
 use Rattle.rules.proofs.Sums.{cond-is}
 use Rattle.rules.proofs.Tests.{and-true, and-intro}
 use Rattle.rules.proofs.Rows.{map-append}
-use Rattle.rules.proofs.Standing.{stands-below}
-use Rattle.rules.proofs.Invariant.{Invariant, connections-few}
-use Rattle.rules.proofs.Every.{keeps}
+use Rattle.rules.proofs.Standing.{stands-owned}
+use Rattle.rules.proofs.Invariant.{Invariant}
+use Rattle.rules.proofs.Every.{invariant}
 use Rattle.rules.proofs.Room.{decided}
-use Rattle.rules.proofs.Keeper.{stays, All-taken, any-call, word-now, on-arrival, has-room}
+use Rattle.rules.proofs.Keeper.{from-end, run-last, ticks-last, owner-stays, All-taken, on-arrival, has-room, no-ticks, word-before, all-taken}
 
 -- ---- an offer of a connection that keeps its word
 
@@ -39,13 +38,13 @@ abbrev pub Own : Connection → Exchange → Type 0
 Own x e = e ≡ own-answer x (e .asked)
 
 module _ (c : ℕ) (level : c ≡ notice-number → ⊥) where
-  module _ (h : History) (I : Invariant h) (ts : List ℕ) (A : All-taken c level h ts) where
+  module _ (h : History) (I : Invariant h) (ts : List ℕ) (A : All-taken c level (h .now) (h .present) ts) where
     open History h using (now as s)
 
-    module _ (len tag : ℕ) (standing : stands (s .connections) c ≡ true)
+    module _ (len tag : ℕ) (standing : stands s c ≡ true)
         (word : within 1 (figures s c .size) len ≡ true → Spaced (figures s c) (ts ++ s .clock ∷ [])) where
       ok : within 1 (figures s c .size) len ≡ true → allowed s c len ≡ true
-      ok w = and-intro (stands (s .connections) c) (within 1 (figures s c .size) len) standing w
+      ok w = and-intro (stands s c) (within 1 (figures s c .size) len) standing w
 
       own-told : Own (figures s c) (told s c len tag (verdict (offer c len tag) s))
       own-told =
@@ -65,39 +64,79 @@ module _ (c : ℕ) (level : c ≡ notice-number → ⊥) where
 
     -- ---- any call
 
-    own-call : (x : Connection) → (stands (s .connections) c ≡ true → figures s c ≡ x) → (k : Call)
+    own-call : (x : Connection) → (stands s c ≡ true → figures s c ≡ x) → (k : Call)
         → ((t : ℕ) → offer-tick c s k ≡ some t → Spaced (figures s c) (ts ++ t ∷ []))
         → (es : List Exchange) → All (Own x) es → All (Own x) (push es (exchange c s k))
     own-call x alike (link l) word es E = E
     own-call x alike (admit y) word es E = E
     own-call x alike (notice len tag) word es E = E
+    own-call x alike (close d) word es E = E
     own-call x alike tick word es E = E
-    own-call x alike (offer d len tag) word es E = go (eqb d c && stands (s .connections) c) refl
+    own-call x alike (offer d len tag) word es E = go (eqb d c && stands s c) refl
       where
-        go : (b : Bool) → (eqb d c && stands (s .connections) c) ≡ b → All (Own x) (push es (cond b (some (told s d len tag (verdict (offer d len tag) s))) none))
+        go : (b : Bool) → (eqb d c && stands s c) ≡ b → All (Own x) (push es (cond b (some (told s d len tag (verdict (offer d len tag) s))) none))
         go false q = E
         go true q =
-            let p = and-true (eqb d c) (stands (s .connections) c) q in
+            let p = and-true (eqb d c) (stands s c) q in
             all-snoc (Own x) es (told s d len tag (verdict (offer d len tag) s)) E
             (subst (λ (j : ℕ). Own x (told s j len tag (verdict (offer j len tag) s))) (sym (eqb-true d c (p .0)))
             (subst (λ (y : Connection). Own y (told s c len tag (verdict (offer c len tag) s))) (alike (p .1))
             (own-told len tag (p .1)
             (λ w. word (s .clock)
             (cond-is (some (s .clock)) none
-            (and-intro (eqb d c) (allowed s c len) (p .0) (and-intro (stands (s .connections) c) (within 1 (figures s c .size) len) (p .1) w)))))))
+            (and-intro (eqb d c) (allowed s c len) (p .0) (and-intro (stands s c) (within 1 (figures s c .size) len) (p .1) w)))))))
 
-  -- ---- over a run
+-- ---- over a run
 
-  pub told-by-own : (ks : List Call) (h : History) (ts : List ℕ) (es : List Exchange) → Invariant h → All-taken c level h ts
-      → Spaced (figures (run-from h ks .now) c) (offer-ticks-from c h ts ks)
-      → All (Own (figures (run-from h ks .now) c)) es
-      → All (Own (figures (run-from h ks .now) c)) (exchanges-from c h es ks)
-  told-by-own [] h ts es I A word E = E
-  told-by-own (k ∷ ks) h ts es I A word E =
-      told-by-own ks (after h k) (push ts (offer-tick c (h .now) k)) (push es (exchange c (h .now) k)) (keeps h k I)
-      (any-call c level h I ts A k (word-now c level k ks h ts I word)) word
-      (own-call h I ts A (figures (run-from h (k ∷ ks) .now) c)
-      (λ standing. sym (stays c (k ∷ ks) h I (stands-below (h .now .connections) c standing) .alike)) k (word-now c level k ks h ts I word) es E)
+exchanges-append : (c : ℕ) (pre ks : List Call) (h : History) (es : List Exchange) → exchanges-from c h es (pre ++ ks) ≡ exchanges-from c (run-from h pre) (exchanges-from c h es pre) ks
+exchanges-append c [] ks h es = refl
+exchanges-append c (k ∷ pre) ks h es = exchanges-append c pre ks (after h k) (while-owned (after h k .now) c (push es (exchange c (h .now) k)))
+
+exchanges-last : (c : ℕ) (ks : List Call) (k : Call) → exchanges c (ks ++ k ∷ []) ≡ while-owned (after (run ks) k .now) c (push (exchanges c ks) (exchange c (run ks .now) k))
+exchanges-last c ks k = exchanges-append c ks (k ∷ []) nothing-yet []
+
+module _ (c : ℕ) where
+  -- a number without an owner is told nothing
+  pub no-exchanges : (ks : List Call) → owned (run ks .now .connections) c ≡ false → exchanges c ks ≡ []
+  no-exchanges = from-end (λ ks. owned (run ks .now .connections) c ≡ false → exchanges c ks ≡ []) (λ _. refl) one
+    where
+      one : (ks : List Call) (k : Call) → (owned (run ks .now .connections) c ≡ false → exchanges c ks ≡ []) → owned (run (ks ++ k ∷ []) .now .connections) c ≡ false → exchanges c (ks ++ k ∷ []) ≡ []
+      one ks k ih o =
+          exchanges-last c ks k
+          ∙ cond-is (push (exchanges c ks) (exchange c (run ks .now) k)) [] (subst (λ (h : History). owned (h .now .connections) c ≡ false) (run-last ks k) o)
+
+  -- the owner, if it has its number afterwards, had the same figures before, or nothing was told
+  module _ (ks : List Call) (k : Call) (o : owned (after (run ks) k .now .connections) c ≡ true) where
+    alike : owned (run ks .now .connections) c ≡ true → figures (run ks .now) c ≡ figures (after (run ks) k .now) c
+    alike b = sym (owner-stays c (run ks .now) (invariant ks .sound) b k o)
+
+    alike-standing : stands (run ks .now) c ≡ true → figures (run ks .now) c ≡ figures (after (run ks) k .now) c
+    alike-standing b = alike (stands-owned (run ks .now) c b)
+
+    same-owner : (P : Connection → List Exchange → Type 0) → ((x : Connection) → P x []) → P (figures (run ks .now) c) (exchanges c ks) → P (figures (after (run ks) k .now) c) (exchanges c ks)
+    same-owner P z p = go (owned (run ks .now .connections) c) refl
+      where
+        go : (b : Bool) → owned (run ks .now .connections) c ≡ b → P (figures (after (run ks) k .now) c) (exchanges c ks)
+        go true b = subst (λ (x : Connection). P x (exchanges c ks)) (alike b) p
+        go false b = subst (P (figures (after (run ks) k .now) c)) (sym (no-exchanges ks b)) (z (figures (after (run ks) k .now) c))
+
+module _ (c : ℕ) (level : c ≡ notice-number → ⊥) where
+  pub told-by-own : (ks : List Call) → Keeps-its-word c ks → All (Own (figures (run ks .now) c)) (exchanges c ks)
+  told-by-own = from-end (λ ks. Keeps-its-word c ks → All (Own (figures (run ks .now) c)) (exchanges c ks)) (λ _. tt) one
+    where
+      one : (ks : List Call) (k : Call) → (Keeps-its-word c ks → All (Own (figures (run ks .now) c)) (exchanges c ks))
+          → Keeps-its-word c (ks ++ k ∷ []) → All (Own (figures (run (ks ++ k ∷ []) .now) c)) (exchanges c (ks ++ k ∷ []))
+      one ks k ih word =
+          subst (λ (h : History). All (Own (figures (h .now) c)) (exchanges c (ks ++ k ∷ []))) (sym (run-last ks k))
+          (subst (All (Own (figures (after (run ks) k .now) c))) (sym (exchanges-last c ks k)) (go (owned (after (run ks) k .now .connections) c) refl))
+        where
+          go : (b : Bool) → owned (after (run ks) k .now .connections) c ≡ b
+              → All (Own (figures (after (run ks) k .now) c)) (cond b (push (exchanges c ks) (exchange c (run ks .now) k)) [])
+          go false o = tt
+          go true o =
+              let W = word-before c level ks k o word in
+              own-call c level (run ks) (invariant ks) (offer-ticks c ks) (all-taken c level ks (W .so-far)) (figures (after (run ks) k .now) c) (alike-standing c ks k o) k (W .this-one)
+              (exchanges c ks) (same-owner c ks k o (λ x es. All (Own x) es) (λ x. tt) (ih (W .so-far)))
 
 -- ---- the offers whose ticks count are those among all that have an allowed length
 
@@ -125,15 +164,16 @@ abbrev pub asks : List Exchange → List Asked
 asks es = map (λ (e : Exchange). e .asked) es
 
 module _ (c : ℕ) where
-  ticks-call : (s : State) (x : Connection) → (stands (s .connections) c ≡ true → figures s c ≡ x) → (k : Call) (es : List Exchange)
+  ticks-call : (s : State) (x : Connection) → (stands s c ≡ true → figures s c ≡ x) → (k : Call) (es : List Exchange)
       → push (own-ticks x (asks es)) (offer-tick c s k) ≡ own-ticks x (asks (push es (exchange c s k)))
   ticks-call s x alike (link l) es = refl
   ticks-call s x alike (admit y) es = refl
   ticks-call s x alike (notice len tag) es = refl
+  ticks-call s x alike (close d) es = refl
   ticks-call s x alike tick es = refl
-  ticks-call s x alike (offer d len tag) es = go (eqb d c) (stands (s .connections) c) refl
+  ticks-call s x alike (offer d len tag) es = go (eqb d c) (stands s c) refl
     where
-      go : (b : Bool) (standing : Bool) → stands (s .connections) c ≡ standing
+      go : (b : Bool) (standing : Bool) → stands s c ≡ standing
           → push (own-ticks x (asks es)) (cond (b && (standing && within 1 (figures s c .size) len)) (some (s .clock)) none)
           ≡ own-ticks x (asks (push es (cond (b && standing) (some (told s d len tag (verdict (offer d len tag) s))) none)))
       go false standing i = refl
@@ -143,32 +183,30 @@ module _ (c : ℕ) where
           ∙ sym (own-ticks-snoc x (asks es) (record { at = s .clock; len = len; tag = tag }))
           ∙ ap (own-ticks x) (sym (map-append (λ (e : Exchange). e .asked) es (told s d len tag (verdict (offer d len tag) s) ∷ [])))
 
-  pub ticks-are-own : (ks : List Call) (h : History) (es : List Exchange) → Invariant h
-      → offer-ticks-from c h (own-ticks (figures (run-from h ks .now) c) (asks es)) ks ≡ own-ticks (figures (run-from h ks .now) c) (asks (exchanges-from c h es ks))
-  ticks-are-own [] h es I = refl
-  ticks-are-own (k ∷ ks) h es I =
-      ap (λ (ts : List ℕ). offer-ticks-from c (after h k) ts ks)
-      (ticks-call (h .now) (figures (run-from h (k ∷ ks) .now) c) (λ standing. sym (stays c (k ∷ ks) h I (stands-below (h .now .connections) c standing) .alike)) k es)
-      ∙ ticks-are-own ks (after h k) (push es (exchange c (h .now) k)) (keeps h k I)
-
-  -- the number of the notices is no connection's
-  pub no-connection-asks : c ≡ notice-number → (ks : List Call) (h : History) (es : List Exchange) → Invariant h → exchanges-from c h es ks ≡ es
-  no-connection-asks n [] h es I = refl
-  no-connection-asks n (k ∷ ks) h es I =
-      no-connection-asks n ks (after h k) (push es (exchange c (h .now) k)) (keeps h k I) ∙ ap (push es) (silent k)
+  pub ticks-are-own : (ks : List Call) → offer-ticks c ks ≡ own-ticks (figures (run ks .now) c) (asks (exchanges c ks))
+  ticks-are-own = from-end (λ ks. offer-ticks c ks ≡ own-ticks (figures (run ks .now) c) (asks (exchanges c ks))) refl one
     where
-      silent : (k : Call) → exchange c (h .now) k ≡ none
-      silent (link l) = refl
-      silent (admit x) = refl
-      silent (offer d len tag) = go (eqb d c) (stands (h .now .connections) c) refl
+      one : (ks : List Call) (k : Call) → offer-ticks c ks ≡ own-ticks (figures (run ks .now) c) (asks (exchanges c ks))
+          → offer-ticks c (ks ++ k ∷ []) ≡ own-ticks (figures (run (ks ++ k ∷ []) .now) c) (asks (exchanges c (ks ++ k ∷ [])))
+      one ks k ih =
+          subst (λ (h : History). offer-ticks c (ks ++ k ∷ []) ≡ own-ticks (figures (h .now) c) (asks (exchanges c (ks ++ k ∷ [])))) (sym (run-last ks k))
+          (subst (λ (es : List Exchange). offer-ticks c (ks ++ k ∷ []) ≡ own-ticks (figures (after (run ks) k .now) c) (asks es)) (sym (exchanges-last c ks k))
+          (ticks-last c ks k ∙ go (owned (after (run ks) k .now .connections) c) refl))
         where
-          go : (b standing : Bool) → stands (h .now .connections) c ≡ standing
-              → cond (b && standing) (some (told (h .now) d len tag (verdict (offer d len tag) (h .now)))) none ≡ none
-          go false standing i = refl
-          go true false i = refl
-          go true true i = absurd (omega (arith, stands-below (h .now .connections) c i, connections-few (h .now) (I .sound)))
-      silent (notice len tag) = refl
-      silent tick = refl
+          before : owned (after (run ks) k .now .connections) c ≡ true → offer-ticks c ks ≡ own-ticks (figures (after (run ks) k .now) c) (asks (exchanges c ks))
+          before o = was (owned (run ks .now .connections) c) refl
+            where
+              was : (b : Bool) → owned (run ks .now .connections) c ≡ b → offer-ticks c ks ≡ own-ticks (figures (after (run ks) k .now) c) (asks (exchanges c ks))
+              was true b = subst (λ (x : Connection). offer-ticks c ks ≡ own-ticks x (asks (exchanges c ks))) (alike c ks k o b) ih
+              was false b = no-ticks c ks b ∙ ap (λ (es : List Exchange). own-ticks (figures (after (run ks) k .now) c) (asks es)) (sym (no-exchanges c ks b))
+
+          go : (b : Bool) → owned (after (run ks) k .now .connections) c ≡ b
+              → cond b (push (offer-ticks c ks) (offer-tick c (run ks .now) k)) []
+              ≡ own-ticks (figures (after (run ks) k .now) c) (asks (cond b (push (exchanges c ks) (exchange c (run ks .now) k)) []))
+          go false o = refl
+          go true o =
+              ap (λ (ts : List ℕ). push ts (offer-tick c (run ks .now) k)) (before o)
+              ∙ ticks-call (run ks .now) (figures (after (run ks) k .now) c) (alike-standing c ks k o) k (exchanges c ks)
 
 -- ---- so two lines that ask the same are told the same
 

@@ -1,24 +1,27 @@
 -- Of every sound state: the packets held are no more than the places, and every eligibility fits 32 bits.
 use Prim.Native.Nat.{ℕ, _+_, _*_, _≤_, _<_, max}
 use native.Mathlib.Omega.{arith}
-use native.Mathlib.Nat.{mul-le-mul-right}
-use mathlib.Core.Path.{_≡_, refl, sym, ap, subst}
-use mathlib.Core.Bool.{Bool, true, false, cond}
+use native.Mathlib.Nat.{mul-le-mul-right, le-refl}
+use mathlib.Core.Path.{_≡_, refl, sym, ap, _∙_, subst}
+use mathlib.Core.Bool.{Bool, true, false, cond, true≢false}
 use mathlib.Core.Logic.{⊎-elim}
 use mathlib.Core.List.{List, [], _∷_}
 use lib.Dec.{eqb}
 use lib.ListN.{length, List·getD-eq-default}
 use borrow.Author.Tests.{eqb-true, eqb-false}
-use Rattle.rules.specs.Limits.{max-gap, max-window, max-reserved, clock-end, beyond-32-bits, max-notices}
-use Rattle.rules.specs.Model.{Connection, Packet, State, no-connection, no-past, past, figures}
-use Rattle.rules.specs.Admission.{reservation}
+use Rattle.rules.specs.Limits.{max-connections, max-gap, max-window, max-reserved, clock-end, beyond-32-bits, max-notices}
+use Rattle.rules.specs.Model.{Connection, Past, Packet, State, no-connection, no-past, fresh, past, figures}
+use Rattle.rules.specs.Admission.{owned, largest-bound, reservation}
 use Rattle.rules.specs.Service.{of, eligibilities}
-use Rattle.rules.specs.SoundState.{Sound-with-link, Sound}
+use Rattle.rules.specs.SoundState.{Orderly, Sound}
 use Rattle.rules.specs.Calls.{eligibility-now}
 use Rattle.rules.proofs.Lists.{All, all-map, total}
 use Rattle.rules.proofs.Sums.{split, same, sum-le, only, only-at, only-off, total-by}
 use Rattle.rules.proofs.Rows.{all-by-connection, length-map}
-use Rattle.rules.proofs.Standing.{stands-below}
+use Rattle.rules.proofs.Standing.{owned-below}
+use Rattle.rules.proofs.Notices.{of-none}
+use Rattle.rules.proofs.Figures.{link-facts}
+use Rattle.rules.proofs.SoundKept.{fresh-figures, fresh-past}
 use Rattle.rules.proofs.SoundTick.{facts, regulated}
 use Rattle.rules.proofs.Queue.{queue-chained, chained-far, next-near}
 
@@ -37,9 +40,18 @@ length-total : {A : Type 0} (xs : List A) → length xs ≡ total (λ _. 1) xs
 length-total [] = refl
 length-total (x ∷ xs) = omega (arith, length-total xs)
 
-module _ (s : State) (S : Sound-with-link s) where
+module _ (s : State) (S : Orderly s) where
   below : All (λ p. p .connection < length (s .connections)) (s .held)
-  below = all-map (λ p f. stands-below (s .connections) (p .connection) (f .standing)) (s .held) (S .fit)
+  below = all-map (λ p f. owned-below (s .connections) (p .connection) (f .owner)) (s .held) (S .fit)
+
+  few : (c : ℕ) (o : Bool) → owned (s .connections) c ≡ o → total (λ p. only (p .connection) 1 c) (s .held) ≤ reservation (s .link) (figures s c)
+  few c true o = omega (arith, count-of c (s .held), S .room c o)
+  few c false o =
+      omega (
+        arith,
+        count-of c (s .held),
+        ap length (of-none c (s .held) (all-map (λ p f e. true≢false (sym (f .owner) ∙ ap (owned (s .connections)) e ∙ o)) (s .held) (S .fit))),
+      )
 
   -- each connection holds at most its reservation, and all reservations together are within their limit
   held-le : length (s .held) ≤ max-reserved
@@ -50,7 +62,7 @@ module _ (s : State) (S : Sound-with-link s) where
         length-total (s .held),
         total-by (λ p. p .connection) (λ _. 1) (length (s .connections)) (s .held) below,
         sum-le (length (s .connections)) {f = λ c. total (λ p. only (p .connection) 1 c) (s .held)} {g = λ c. reservation (s .link) (figures s c)}
-            (λ c l. omega (arith, count-of c (s .held), S .room c l)),
+            (λ c l. few c (owned (s .connections) c) refl),
       )
 
   -- one connection's rows are no more than all
@@ -79,27 +91,34 @@ module _ (s : State) (S : Sound-with-link s) where
             (omega (arith, length-map (λ (p : Packet). p .eligibility) (of c (s .held)), of-le c (s .held), held-le)),
       )
 
-  -- a number that does not stand has no gap and no window
+  -- a number that has no owner has no gap and no window, and nothing remembered
+  blank-or : (P : Connection → Past → Type 0) → P no-connection no-past → ((c : ℕ) → owned (s .connections) c ≡ true → P (figures s c) (past s c)) → (c : ℕ) → P (figures s c) (past s c)
+  blank-or P z f c = go (owned (s .connections) c) refl
+    where
+      gone : figures s c ≡ no-connection → past s c ≡ no-past → P (figures s c) (past s c)
+      gone i j = rw (i, j) z
+
+      go : (o : Bool) → owned (s .connections) c ≡ o → P (figures s c) (past s c)
+      go true o = f c o
+      go false o =
+          ⊎-elim
+          (λ l. gone (List·getD-eq-default (s .connections) no-connection {n = c} (omega (arith, S .numbers))) (List·getD-eq-default (s .pasts) no-past {n = c} (omega (arith, S .one-past-each))))
+          (λ l. let k = S .free-blank c l o in gone (k .no-figures) (k .no-memory))
+          (split max-connections c)
+
   figures-le-longest : (c : ℕ) → (figures s c .gap ≤ longest) × (figures s c .window ≤ longest)
   unfolding longest
   figures-le-longest c =
-      ⊎-elim
-      (λ l. subst (λ (x : Connection). (x .gap ≤ max max-gap max-window) × (x .window ≤ max max-gap max-window)) (sym (List·getD-eq-default (s .connections) no-connection {n = c} l)) (omega arith, omega arith))
-      (λ l. (omega (arith, facts s S c l .gap-le), omega (arith, facts s S c l .window-le)))
-      (split (length (s .connections)) c)
+      blank-or (λ x h. (x .gap ≤ max max-gap max-window) × (x .window ≤ max max-gap max-window)) (omega arith, omega arith)
+      (λ c o. (omega (arith, facts s S c o .gap-le), omega (arith, facts s S c o .window-le))) c
 
-  queue-far : (c : ℕ) → c < length (s .connections) → All (λ e. e ≤ far) (eligibilities c (s .held)) × All (λ e. e ≤ far) (past s c)
+  queue-far : (c : ℕ) → owned (s .connections) c ≡ true → All (λ e. e ≤ far) (eligibilities c (s .held)) × All (λ e. e ≤ far) (past s c)
   queue-far c l =
       let k = chained-far (figures s c) longest (s .clock) (figures-le-longest c .0) (figures-le-longest c .1) (past s c) (eligibilities c (s .held)) (queue-chained (figures s c) (regulated s S c l) (s .clock) (past s c) (eligibilities c (s .held)) (S .queue c l)) in
       (all-map (λ e h. omega (arith, reach c)) (eligibilities c (s .held)) (k .0), all-map (λ e h. omega (arith, reach c)) (past s c) (k .1))
 
-  -- a number that does not stand has nothing remembered
   past-far : (c : ℕ) → All (λ e. e ≤ far) (past s c)
-  past-far c =
-      ⊎-elim
-      (λ l. subst (All (λ e. e ≤ far)) (sym (List·getD-eq-default (s .pasts) no-past {n = c} (omega (arith, S .one-past-each)))) tt)
-      (λ l. queue-far c l .1)
-      (split (length (s .connections)) c)
+  past-far c = blank-or (λ x h. All (λ e. e ≤ far) h) tt (λ c o. queue-far c o .1) c
 
   next-far : (c : ℕ) → eligibility-now s c ≤ far + longest
   unfolding far
@@ -109,10 +128,16 @@ module _ (s : State) (S : Sound-with-link s) where
   linked-fit : All (λ p. p .eligibility < beyond-32-bits) (s .held) × ((c : ℕ) → All (λ e. e < beyond-32-bits) (past s c) × (eligibility-now s c < beyond-32-bits))
   unfolding far longest
   linked-fit = (
-    all-by-connection (length (s .connections)) (λ e. e < beyond-32-bits) (s .held) below
+    all-by-connection (λ c. owned (s .connections) c ≡ true) (λ e. e < beyond-32-bits) (s .held) (all-map (λ p f. f .owner) (s .held) (S .fit))
         (λ c l. all-map (λ e k. omega arith) (eligibilities c (s .held)) (queue-far c l .0)),
     λ c. (all-map (λ e k. omega arith) (past s c) (past-far c), omega (arith, next-far c)),
   )
+
+  linked-charges : (c : ℕ) → All (λ e. e + largest-bound (s .link) < beyond-32-bits) (past s c)
+  unfolding far longest
+  linked-charges c =
+      let F = link-facts (s .link) (S .link-in) in
+      all-map (λ e k. omega (arith, F .bound-le (s .link .levels) (F .some-level) (le-refl (s .link .levels)))) (past s c) (past-far c)
 
 -- ---- with or without a link
 
@@ -120,14 +145,14 @@ pub rows-fit-places : (s : State) → Sound s → length (s .held) ≤ max-reser
 rows-fit-places s S =
     ⊎-elim
     (λ z. omega (arith, ap (λ (r : State). length (r .held)) (S .with-no-link z)))
-    (λ n. held-le s (S .with-one n))
+    (λ n. held-le s (S .with-one n .orderly))
     (same (s .link .levels) 0)
 
 pub notices-fit-places : (s : State) → Sound s → length (s .notices) ≤ max-notices
 notices-fit-places s S =
     ⊎-elim
     (λ z. omega (arith, ap (λ (r : State). length (r .notices)) (S .with-no-link z)))
-    (λ n. S .with-one n .few-notices)
+    (λ n. S .with-one n .orderly .few-notices)
     (same (s .link .levels) 0)
 
 pub eligibilities-fit-32 : (s : State) → Sound s
@@ -138,6 +163,18 @@ eligibilities-fit-32 s S =
     subst
     (λ (r : State). All (λ p. p .eligibility < beyond-32-bits) (r .held) × ((c : ℕ) → All (λ e. e < beyond-32-bits) (past r c) × (eligibility-now r c < beyond-32-bits)))
     (sym (S .with-no-link z))
-    (tt, λ c. (tt, omega (arith, next-near no-connection 0 0 (omega arith) (omega arith) 0 no-past (omega arith) tt))))
-    (λ n. linked-fit s (S .with-one n))
+    (tt, λ c. fresh-fit c (fresh-figures c) (fresh-past c)))
+    (λ n. linked-fit s (S .with-one n .orderly))
+    (same (s .link .levels) 0)
+  where
+    fresh-fit : (c : ℕ) → figures fresh c ≡ no-connection → past fresh c ≡ no-past → All (λ e. e < beyond-32-bits) (past fresh c) × (eligibility-now fresh c < beyond-32-bits)
+    fresh-fit c i j = rw (i, j) (tt, omega (arith, next-near no-connection 0 0 (omega arith) (omega arith) 0 no-past (omega arith) tt))
+
+pub charges-fit-32 : (s : State) → Sound s → (c : ℕ) → All (λ e. e + largest-bound (s .link) < beyond-32-bits) (past s c)
+charges-fit-32 s S c =
+    ⊎-elim
+    (λ z.
+    subst (λ (r : State). All (λ e. e + largest-bound (r .link) < beyond-32-bits) (past r c)) (sym (S .with-no-link z))
+    (subst (All (λ e. e + largest-bound (fresh .link) < beyond-32-bits)) (sym (fresh-past c)) tt))
+    (λ n. linked-charges s (S .with-one n .orderly) c)
     (same (s .link .levels) 0)

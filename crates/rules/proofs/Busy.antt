@@ -3,12 +3,13 @@ use Prim.Native.Nat.{ℕ, _+_, _≤_, _<_}
 use native.Mathlib.Omega.{arith}
 use mathlib.Core.Path.{_≡_, sym, ap, _∙_}
 use mathlib.Core.Logic.{_⊎_, inl, inr}
+use mathlib.Core.Bool.{true}
 use mathlib.Core.List.{List}
 use mathlib.Core.Option.{Option, none, some}
-use lib.ListN.{length, getD}
+use lib.ListN.{getD}
 use Rattle.rules.specs.Words.{upto}
 use Rattle.rules.specs.Model.{Link, Connection, Past, no-past, Packet, State, nth}
-use Rattle.rules.specs.Admission.{bound, cost, load}
+use Rattle.rules.specs.Admission.{owned, bound, cost, load}
 use Rattle.rules.specs.Service.{Spaced, eligibilities, first, level-of, line-left}
 use Rattle.rules.specs.SoundState.{Fits, In-service, Notice-in-service}
 use Rattle.rules.proofs.Lists.{All, all-zip, all-sub, Sub, total, total-each}
@@ -55,15 +56,15 @@ Line s = Free s ⊎ (In-service s ⊎ Notice-on-line s)
 
 -- of the link and the connections
 pub record Facts (l : Link) (cs : List Connection) : Type 0 where
-  pub each : (c : ℕ) → c < length cs → Connection-facts l (nth cs c)
+  pub each : (c : ℕ) → owned cs c ≡ true → Connection-facts l (nth cs c)
   pub some-largest : 1 ≤ l .levels → l .silence < cost l (l .largest)
   pub tested : (m : ℕ) → 1 ≤ m → m ≤ l .levels → load l cs m (bound l m) + cost l (l .largest) ≤ bound l m
 
 -- of the packets accepted so far, of which the held ones are a part in the same order
 pub record Regular-of (cs : List Connection) (hs : List Past) (held acc : List Packet) : Type 0 where
   pub fit : All (Fits cs) acc
-  pub spaced : (c : ℕ) → c < length cs → Spaced (nth cs c) (eligibilities c acc)
-  pub remembered : (c : ℕ) → c < length cs → getD hs c no-past ≡ memory (eligibilities c acc)
+  pub spaced : (c : ℕ) → owned cs c ≡ true → Spaced (nth cs c) (eligibilities c acc)
+  pub remembered : (c : ℕ) → owned cs c ≡ true → getD hs c no-past ≡ memory (eligibilities c acc)
   pub part : Sub held acc
 
 abbrev pub Regular : State → List Packet → Type 0

@@ -2,7 +2,7 @@
 -- `count`.
 use Prim.Native.Nat.{ℕ, zero, suc, _+_, _*_, _-_, _/_, _%_, _≤_, _<_, min}
 use native.Mathlib.Omega.{arith}
-use native.Mathlib.Nat.{le-div-iff-mul-le, mul-le-mul-right, div-lt-iff-lt-mul, div-mul-le-self, div-add-mod', mod-lt, pos-of-div-pos, mul-le-mul-left}
+use native.Mathlib.Nat.{le-div-iff-mul-le, mul-le-mul-right, div-lt-iff-lt-mul, div-mul-le-self, div-add-mod', mod-lt, pos-of-div-pos, mul-le-mul-left, div-zero}
 use mathlib.Core.Path.{_≡_, refl, ap, _∙_}
 use mathlib.Core.Bool.{Bool, true, false, cond}
 use mathlib.Core.Logic.{_⊎_, inl, inr}
@@ -11,11 +11,12 @@ use lib.Dec.{eqb}
 use lib.ListN.{length, take, drop, take-append-drop, length-take}
 use borrow.Author.Tests.{eq-eqb, ne-eqb}
 use Rattle.rules.specs.Words.{upto}
-use Rattle.rules.specs.Model.{Connection}
+use Rattle.rules.specs.Model.{Connection, no-connection}
 use Rattle.rules.specs.Admission.{burst, rounded-up, average-count, count}
 use Rattle.rules.specs.Service.{Spaced}
 use Rattle.rules.proofs.Lists.{All, Pairs, all-map, all-every, total, total-le, total-add, total-none}
 use Rattle.rules.proofs.Sums.{split, cond-is, upto-yes, upto-no, upto-le}
+use Rattle.rules.proofs.Figures.{burst-none}
 use Rattle.rules.proofs.Spacing.{Windows, spaced-pairs, spaced-windows}
 
 -- ---- the ticks of a window
@@ -291,3 +292,7 @@ count-le x w g = go (eqb (burst x) 0)
     go : (t : Bool) → cond t (rounded-up w (x .gap)) (min (rounded-up w (x .gap)) (average-count x w)) ≤ w
     go true = rounded-up-le w (x .gap) g
     go false = omega (arith, rounded-up-le w (x .gap) g)
+
+-- a free number counts nothing
+pub count-none : (w : ℕ) → count no-connection w ≡ 0
+count-none w = count-plain no-connection w (burst-none no-connection refl) ∙ div-zero (w + (0 - 1))

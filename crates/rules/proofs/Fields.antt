@@ -3,22 +3,22 @@ use Prim.Native.Nat.{ℕ, zero, suc, _+_, _*_, _≤_, _<_}
 use native.Mathlib.Omega.{arith}
 use mathlib.Core.Path.{_≡_, refl, ap, _∙_, subst}
 use mathlib.Core.Bool.{Bool, true, false, cond}
-use mathlib.Core.List.{List, [], _∷_, _++_}
+use mathlib.Core.List.{List, [], _∷_}
 use mathlib.Core.Option.{none, some}
 use mathlib.Core.Logic.{_⊎_, inl, inr, ⊎-elim}
 use lib.Dec.{eqb}
 use Rattle.rules.specs.Words.{first-number}
 use Rattle.rules.specs.Limits.{max-largest, max-silence, max-bound, clock-end, beyond-32-bits, notice-number}
-use Rattle.rules.specs.Model.{Connection, Packet, Notice, State, Call, link, admit, offer, notice, tick, Short, no-short, Answer, notice-packet, first-notice}
-use Rattle.rules.specs.Admission.{level-test}
+use Rattle.rules.specs.Model.{Connection, Packet, Notice, State, Call, link, admit, offer, notice, close, tick, Short, no-short, Answer, notice-packet, first-notice}
+use Rattle.rules.specs.Admission.{joining, level-test}
 use Rattle.rules.specs.Service.{first, started, tick-answer, packet-departs, notice-departs, after-unit, ticked}
-use Rattle.rules.specs.SoundState.{Fits, Dated, Notice-fits, Sound-with-link, Sound}
+use Rattle.rules.specs.SoundState.{Fits, Dated, Notice-fits, Orderly, Sound}
 use Rattle.rules.specs.Calls.{causes, verdicts, verdict, done, refused-number, refused-short, refused, settle, answer}
 use Rattle.rules.specs.Promises.{Names-the-lowest, own-term, Packet-fits, Answer-fits, number-limit}
 use Rattle.rules.proofs.Lists.{All, all-map, all-zip}
 use Rattle.rules.proofs.Rows.{none-some, some-inj, first-all}
 use Rattle.rules.proofs.Notices.{first-notice-is}
-use Rattle.rules.proofs.Standing.{stands-below}
+use Rattle.rules.proofs.Standing.{owned-below}
 use Rattle.rules.proofs.Verdicts.{causes-from-2, admit-done, Short-refused, short-refused, tick-done}
 use Rattle.rules.proofs.Line.{tick-leaves}
 use Rattle.rules.proofs.Invariant.{clock-le-end}
@@ -67,37 +67,37 @@ pub unit-short : (s : State) (u : ℕ) → after-unit s u .short ≡ no-short
 unit-short s u = unit-says s u .nothing-short
 
 -- the units of an admission that is refused with 8 are no more than the newcomer's term, since without it every level holds
-pub short-fits : (x : Connection) (s : State) → Short-refused s x → (t : Short) → Names-the-lowest (s .link) (s .connections ++ x ∷ []) t
+pub short-fits : (x : Connection) (s : State) → Short-refused s x → (t : Short) → Names-the-lowest (s .link) (joining (s .connections) x) t
     → (t .units ≤ own-term (s .link) x (t .level)) × (t .units ≤ max-bound * (max-largest + max-silence))
 short-fits x s R t N =
-    let S = exact s .0 (R .sound-state) .with-one (R .set) in
+    let S = exact s .0 (R .sound-state) .with-one (R .set) .orderly in
     let a = N .is-level in
-    let k = excess-le (s .link) (s .connections) x (t .level) (S .tested (t .level) (a .0) (a .1)) in
+    let k = excess-le (s .link) (s .connections) x (omega (arith, S .numbers, R .free)) (t .level) (S .tested (t .level) (a .0) (a .1)) in
     let b = term-le (s .link) x (t .level) (S .link-in) (R .figures-in) (a .0) (a .1) in
     (omega (arith, N .units-are), omega (arith, N .units-are))
 
-verdict-le : (k : Call) (s : State) → verdict k s ≤ 15
+verdict-le : (k : Call) (s : State) → verdict k s ≤ 16
 unfolding verdicts
-verdict-le k s = number-le 15 (verdicts k s) (omega arith, all-map {P = λ r. (2 ≤ r .0) × (r .0 ≤ 15)} {Q = λ r. r .0 ≤ 15} (λ r n. n .1) (causes k s) (causes-from-2 k s))
+verdict-le k s = number-le 16 (verdicts k s) (omega arith, all-map {P = λ r. (2 ≤ r .0) × (r .0 ≤ 16)} {Q = λ r. r .0 ≤ 16} (λ r n. n .1) (causes k s) (causes-from-2 k s))
 
 -- a held packet's numbers
-held-fit : (s : State) (S : Sound s) (T : Sound-with-link s) → All Packet-fits (s .held)
+held-fit : (s : State) (S : Sound s) (T : Orderly s) → All Packet-fits (s .held)
 held-fit s S T = all-zip (λ p f e. e f) (s .held) (T .fit) (all-zip one (s .held) (T .dated) (eligibilities-fit-32 s S .0))
   where
     one : (p : Packet) → Dated (s .clock) p → p .eligibility < beyond-32-bits → Fits (s .connections) p → Packet-fits p
     one p d e f = record {
-      connection = omega (arith, stands-below (s .connections) (p .connection) (f .standing), T .few);
+      connection = omega (arith, owned-below (s .connections) (p .connection) (f .owner), T .numbers);
       arrival = omega (arith, d .arrived, T .clock-le);
       eligibility = e;
     }
 
-notice-fits : (s : State) (T : Sound-with-link s) (n : Notice) → first-notice (s .notices) ≡ some n → Packet-fits (notice-packet n)
+notice-fits : (s : State) (T : Orderly s) (n : Notice) → first-notice (s .notices) ≡ some n → Packet-fits (notice-packet n)
 notice-fits s T n e =
     let k = first-notice-is (s .notices) n e in
     let f = subst (All (Notice-fits (s .link) (s .clock))) (k .1) (T .notices-fit) .0 in
     record { connection = omega arith; arrival = omega (arith, f .arrived, T .clock-le); eligibility = omega (arith, f .arrived, T .clock-le) }
 
-ticked-fits : (s : State) → Sound s → Sound-with-link s → s .clock < clock-end → Answer-fits tick (done tick s)
+ticked-fits : (s : State) → Sound s → Orderly s → s .clock < clock-end → Answer-fits tick (done tick s)
 ticked-fits s S T r = record {
   verdict = omega (arith, says .no-refusal);
   number = omega (arith, says .no-number);
@@ -116,12 +116,14 @@ ticked-fits s S T r = record {
 
 done-fits : (k : Call) (s : State) → Sound s → verdict k s ≡ 0 → Answer-fits k (done k s)
 done-fits (link l) s S e = record { verdict = omega arith; number = omega arith; level = omega arith; units = omega arith; departed = λ p i. absurd (none-some i); finish = omega (arith, clock-le-end s S) }
-done-fits (admit x) s S e = record { verdict = omega arith; number = omega (arith, admit-done s x e .few); level = omega arith; units = omega arith; departed = λ p i. absurd (none-some i); finish = omega (arith, clock-le-end s S) }
+done-fits (admit x) s S e = record { verdict = omega arith; number = omega (arith, admit-done s x e .free); level = omega arith; units = omega arith; departed = λ p i. absurd (none-some i); finish = omega (arith, clock-le-end s S) }
 done-fits (offer c len tag) s S e =
     record { verdict = omega arith; number = eligibilities-fit-32 s S .1 c .1; level = omega arith; units = omega arith; departed = λ p i. absurd (none-some i); finish = omega (arith, clock-le-end s S) }
 done-fits (notice len tag) s S e =
     record { verdict = omega arith; number = omega (arith, clock-le-end s S); level = omega arith; units = omega arith; departed = λ p i. absurd (none-some i); finish = omega (arith, clock-le-end s S) }
-done-fits tick s S e = let d = tick-done s e in ticked-fits s S (S .with-one (d .set)) (d .running)
+done-fits (close c) s S e =
+    record { verdict = omega arith; number = omega arith; level = omega arith; units = omega arith; departed = λ p i. absurd (none-some i); finish = omega (arith, clock-le-end s S) }
+done-fits tick s S e = let d = tick-done s e in ticked-fits s S (S .with-one (d .set) .orderly) (d .running)
 
 -- level and units in their fields
 abbrev Small-short : Short → Type 0
@@ -131,14 +133,15 @@ refused-small : (k : Call) (s : State) (v : ℕ) → verdict k s ≡ v → Small
 refused-small (link l) s v e = (omega arith, omega arith)
 refused-small (admit x) s v e = cond-ind Small-short (eqb v 8) (λ i. eight (e ∙ eqb-true v 8 i)) (λ _. (omega arith, omega arith))
   where
-    eight : verdict (admit x) s ≡ 8 → Small-short (level-test (s .link) (s .connections ++ x ∷ []))
+    eight : verdict (admit x) s ≡ 8 → Small-short (level-test (s .link) (joining (s .connections) x))
     eight i =
         let R = short-refused s x i in
-        let N = names (s .link) (s .connections ++ x ∷ []) (eqb-false _ 0 (R .fails)) in
-        let S = exact s .0 (R .sound-state) .with-one (R .set) in
+        let N = names (s .link) (joining (s .connections) x) (eqb-false _ 0 (R .fails)) in
+        let S = exact s .0 (R .sound-state) .with-one (R .set) .orderly in
         (omega (arith, N .is-level .1, link-facts (s .link) (S .link-in) .few-levels), omega (arith, short-fits x s R _ N .1))
 refused-small (offer c len tag) s v e = (omega arith, omega arith)
 refused-small (notice len tag) s v e = (omega arith, omega arith)
+refused-small (close c) s v e = (omega arith, omega arith)
 refused-small tick s v e = (omega arith, omega arith)
 
 refused-fits : (k : Call) (s : State) (v : ℕ) → Sound s → v < 256 → Small-short (refused-short k s v) → Answer-fits k (refused k s v)
@@ -149,6 +152,7 @@ refused-fits k s v S l t = record { verdict = l; number = small k; level = t .0;
     small (admit x) = omega arith
     small (offer c len tag) = omega arith
     small (notice len tag) = omega arith
+    small (close c) = omega arith
     small tick = omega arith
 
 pub answer-fits : (k : Call) (s : State) → Sound s → Answer-fits k (answer k s)

@@ -11,7 +11,7 @@ use borrow.Author.Tests.{leb-true, eqb-true, eq-eqb, ne-eqb}
 use Rattle.rules.specs.Words.{within}
 use Rattle.rules.specs.Limits.{max-levels, max-largest, max-silence, max-bound, max-gap, max-window, max-burst}
 use Rattle.rules.specs.Model.{Link, Connection}
-use Rattle.rules.specs.Admission.{rising, link-within, level-within, burst, average-within, figures-within, bound, count, reservation, cost, load, level-sum}
+use Rattle.rules.specs.Admission.{rising, link-within, level-within, burst, average-within, figures-within, bound, largest-bound, count, reservation, cost, load, level-sum}
 use Rattle.rules.specs.SoundState.{reach}
 use Rattle.rules.proofs.Sums.{cond-is}
 use Rattle.rules.proofs.Tests.{never, and-true, or-cases, within-true}
@@ -35,6 +35,17 @@ rising-high low (suc n) (d ∷ ds) e zero l =
 rising-high low (suc n) (d ∷ ds) e (suc k) l =
     rising-high (suc d) n ds (and-true (leb d max-bound) (rising (suc d) n ds) (and-true (leb low d) (leb d max-bound && rising (suc d) n ds) e .1) .1) k (omega arith)
 
+rising-le : (low n : ℕ) (ds : List ℕ) → rising low n ds ≡ true → (k j : ℕ) → k ≤ j → j < n → getD ds k 0 ≤ getD ds j 0
+rising-le low zero ds e k j h l = absurd (omega arith)
+rising-le low (suc n) [] e k j h l = never e
+rising-le low (suc n) (d ∷ ds) e zero zero h l = omega arith
+rising-le low (suc n) (d ∷ ds) e zero (suc j) h l =
+    let r = and-true (leb d max-bound) (rising (suc d) n ds) (and-true (leb low d) (leb d max-bound && rising (suc d) n ds) e .1) .1 in
+    omega (arith, rising-low (suc d) n ds r j (omega arith))
+rising-le low (suc n) (d ∷ ds) e (suc k) zero h l = absurd (omega arith)
+rising-le low (suc n) (d ∷ ds) e (suc k) (suc j) h l =
+    rising-le (suc d) n ds (and-true (leb d max-bound) (rising (suc d) n ds) (and-true (leb low d) (leb d max-bound && rising (suc d) n ds) e .1) .1) k j (omega arith) (omega arith)
+
 pub record Link-facts (l : Link) : Type 0 where
   pub some-level : 1 ≤ l .levels
   pub few-levels : l .levels ≤ max-levels
@@ -42,6 +53,7 @@ pub record Link-facts (l : Link) : Type 0 where
   pub largest-max : l .largest ≤ max-largest
   pub silence-max : l .silence ≤ max-silence
   pub bound-le : (m : ℕ) → 1 ≤ m → m ≤ l .levels → bound l m ≤ max-bound
+  pub bound-rises : (m : ℕ) → 1 ≤ m → m ≤ l .levels → bound l m ≤ largest-bound l
   pub largest-le : (m : ℕ) → 1 ≤ m → m ≤ l .levels → cost l (l .largest) ≤ bound l m
 
 pub link-facts : (l : Link) → link-within l ≡ true → Link-facts l
@@ -58,9 +70,18 @@ link-facts l e =
       largest-max = within-true 1 max-largest (l .largest) (b .0) .1;
       silence-max = leb-true (l .silence) max-silence (c .0);
       bound-le = high (c .1);
+      bound-rises = rises-to (c .1);
       largest-le = low (c .1);
     }
   where
+    rises-to : rising (cost l (l .largest)) (l .levels) (l .bounds) ≡ true → (m : ℕ) → 1 ≤ m → m ≤ l .levels → bound l m ≤ largest-bound l
+    rises-to r zero p q = absurd (omega arith)
+    rises-to r (suc m) p q = last (l .levels) refl
+      where
+        last : (n : ℕ) → l .levels ≡ n → getD (l .bounds) m 0 ≤ bound l n
+        last zero e = absurd (omega arith)
+        last (suc n) e = rising-le (cost l (l .largest)) (l .levels) (l .bounds) r m n (omega arith) (omega arith)
+
     high : rising (cost l (l .largest)) (l .levels) (l .bounds) ≡ true → (m : ℕ) → 1 ≤ m → m ≤ l .levels → bound l m ≤ max-bound
     high r zero p q = absurd (omega arith)
     high r (suc m) p q = rising-high (cost l (l .largest)) (l .levels) (l .bounds) r m q

@@ -1,63 +1,56 @@
 -- THE INVARIANT of every history from fresh: what it says. That each call keeps it is proved in KeptByTick, KeptByAdmit, KeptByOffer and Every.
-use Prim.Native.Nat.{ℕ, _+_, _≤_, _<_}
+use Prim.Native.Nat.{ℕ, _≤_, _<_}
 use native.Mathlib.Omega.{arith}
-use mathlib.Core.Path.{_≡_, sym, ap, subst}
+use mathlib.Core.Path.{_≡_, sym, ap, _∙_, subst}
 use mathlib.Core.Logic.{inl, inr, ⊎-elim}
 use mathlib.Core.List.{List, _++_, map}
-use lib.ListN.{length}
-use Rattle.rules.specs.Limits.{max-connections, clock-end, notice-number}
-use Rattle.rules.specs.Model.{Packet, State, fresh}
+use lib.ListN.{length, length-replicate}
+use Rattle.rules.specs.Limits.{max-connections, clock-end}
+use Rattle.rules.specs.Model.{no-connection, Packet, State, fresh}
 use Rattle.rules.specs.Admission.{bound, cost}
 use Rattle.rules.specs.Service.{of, line-left}
 use Rattle.rules.specs.SoundState.{Fits, Sound-with-link, Sound}
-use Rattle.rules.specs.Runs.{Departure, History, in-hub, bound-of}
-use Rattle.rules.proofs.Lists.{All}
+use Rattle.rules.specs.Runs.{Departure, History, in-hub}
 use Rattle.rules.proofs.Sums.{same}
 use Rattle.rules.proofs.Rows.{first-all}
-use Rattle.rules.proofs.Notices.{level-packets}
-use Rattle.rules.proofs.Standing.{stands-below}
+use Rattle.rules.proofs.Tests.{never}
+use Rattle.rules.proofs.SoundKept.{fresh-free}
 use Rattle.rules.proofs.Figures.{link-facts, silence-below, cost-mono, sum-is}
 use Rattle.rules.proofs.SoundTick.{facts}
 use Rattle.rules.proofs.Line.{left-silent, left-below, left-below-notice}
 use Rattle.rules.proofs.Busy.{Free, Line, Facts, Regular, fit-held, Busy}
 
--- a departure is of a connection that was admitted, and in time
-pub record On-time (s : State) (d : Departure) : Type 0 where
-  pub admitted : d .what .connection < length (s .connections)
-  pub in-time : d .finish ≤ d .what .eligibility + bound-of s (d .what .connection)
-
-abbrev pub Level-on-time : State → Departure → Type 0
-Level-on-time s d = (d .what .connection ≡ notice-number → ⊥) → On-time s d
-
 abbrev pub whats : List Departure → List Packet
 whats ds = map (λ d. d .what) ds
+
+-- what a history from fresh keeps, apart from the clause that `swept` sees to: all accepted packets, the departures, and the accepted packets of the present owners
+pub record Steady (all : List Packet) (gone : List Departure) (acc : List Packet) (s : State) : Type 0 where
+  -- the accepted packets of the present owners are spaced, what is remembered follows from them, and the held ones are a part of them
+  pub regular : Regular s acc
+  -- what is on the line
+  pub line : Line s
+  -- no level is further behind than its level test allows
+  pub busy : (m : ℕ) → 1 ≤ m → m ≤ s .link .levels → Busy s acc m (s .clock)
+  -- for each number accepted = departed followed by what waits
+  pub conserved : (c : ℕ) → of c all ≡ of c (whats gone) ++ of c (in-hub s)
 
 pub record Invariant (h : History) : Type 0 where
   -- the state is sound
   pub sound : Sound (h .now)
-  -- the accepted packets of levels are spaced, what is remembered follows from them, and the held ones are a part of them
-  pub regular : Regular (h .now) (level-packets (h .accepted))
-  -- what is on the line
-  pub line : Line (h .now)
-  -- no level is further behind than its level test allows
-  pub busy : (m : ℕ) → 1 ≤ m → m ≤ h .now .link .levels → Busy (h .now) (level-packets (h .accepted)) m (h .now .clock)
-  -- for each number accepted = departed followed by what waits
-  pub conserved : (c : ℕ) → of c (h .accepted) ≡ of c (whats (h .departed)) ++ of c (in-hub (h .now))
-  -- every departure of a packet of a level was in time
-  pub on-time : All (Level-on-time (h .now)) (h .departed)
+  pub steady : Steady (h .accepted) (h .departed) (h .present) (h .now)
 
 -- ---- what a sound state says of link and connections
 
 linked-facts : (s : State) → Sound-with-link s → Facts (s .link) (s .connections)
 linked-facts s S = record {
-  each = facts s S;
-  some-largest = λ n. silence-below (s .link) (s .link .largest) (link-facts (s .link) (S .link-in) .some-largest);
-  tested = λ m low high. omega (arith, S .tested m low high, sum-is (s .link) (s .connections) m);
+  each = facts s (S .orderly);
+  some-largest = λ n. silence-below (s .link) (s .link .largest) (link-facts (s .link) (S .orderly .link-in) .some-largest);
+  tested = λ m low high. omega (arith, S .orderly .tested m low high, sum-is (s .link) (s .connections) m);
 }
 
 fresh-facts : Facts (fresh .link) (fresh .connections)
 fresh-facts = record {
-  each = λ c l. absurd (omega arith);
+  each = λ c o. never (sym (fresh-free c) ∙ o);
   some-largest = λ n. absurd (omega arith);
   tested = λ m low high. absurd (omega arith);
 }
@@ -71,11 +64,11 @@ facts-of s S =
 
 pub clock-le-end : (s : State) → Sound s → s .clock ≤ clock-end
 clock-le-end s S =
-    ⊎-elim (λ z. omega (arith, ap (λ (r : State). r .clock) (S .with-no-link z))) (λ n. S .with-one n .clock-le) (same (s .link .levels) 0)
+    ⊎-elim (λ z. omega (arith, ap (λ (r : State). r .clock) (S .with-no-link z))) (λ n. S .with-one n .orderly .clock-le) (same (s .link .levels) 0)
 
 pub connections-few : (s : State) → Sound s → length (s .connections) ≤ max-connections
 connections-few s S =
-    ⊎-elim (λ z. omega (arith, ap (λ (r : State). length (r .connections)) (S .with-no-link z))) (λ n. S .with-one n .few) (same (s .link .levels) 0)
+    ⊎-elim (λ z. omega (arith, ap (λ (r : State). length (r .connections)) (S .with-no-link z), length-replicate max-connections no-connection)) (λ n. omega (arith, S .with-one n .orderly .numbers)) (same (s .link .levels) 0)
 
 -- every bound leaves room for the largest packet
 pub some-bound : (s : State) → Sound s → (m : ℕ) → 1 ≤ m → m ≤ s .link .levels → 0 < bound (s .link) m
@@ -97,5 +90,5 @@ left-le-largest s acc F R (inr (inl r)) n =
       arith,
       left-below s r,
       cost-mono (s .link) (f .len-le),
-      cost-mono (s .link) (F .each (r .it .connection) (stands-below (s .connections) (r .it .connection) (f .standing)) .size-le),
+      cost-mono (s .link) (F .each (r .it .connection) (f .owner) .size-le),
     )

@@ -1,20 +1,18 @@
 -- An accepted notice keeps the invariant: no packet of a level moves, and what is on the line stays.
 use Prim.Native.Nat.{ℕ}
 use native.Mathlib.Omega.{arith}
-use mathlib.Core.Path.{_≡_, refl, sym, ap, _∙_, subst}
+use mathlib.Core.Path.{_≡_, refl, sym, ap, _∙_}
 use mathlib.Core.Logic.{inl, inr}
 use mathlib.Core.List.{List, [], _∷_, _++_, map, append-assoc}
 use Rattle.rules.specs.Model.{Packet, Notice, State, notice-packet, first-notice}
 use Rattle.rules.specs.Service.{of}
-use Rattle.rules.specs.SoundState.{Sound}
 use Rattle.rules.specs.Calls.{noted}
 use Rattle.rules.specs.Runs.{History, in-hub}
-use Rattle.rules.proofs.Lists.{all-map}
 use Rattle.rules.proofs.Rows.{of-append, map-append}
-use Rattle.rules.proofs.Notices.{first-notice-is, level-packets, levels-and-notice}
+use Rattle.rules.proofs.Notices.{first-notice-is}
 use Rattle.rules.proofs.Line.{left-same}
-use Rattle.rules.proofs.Busy.{Notice-on-line, Line, Regular, Busy}
-use Rattle.rules.proofs.Invariant.{whats, Invariant}
+use Rattle.rules.proofs.Busy.{Notice-on-line, Line, Busy}
+use Rattle.rules.proofs.Invariant.{whats, Steady, Invariant}
 
 module _ (s : State) (len tag : ℕ) where
   abbrev new : Notice
@@ -52,28 +50,22 @@ module _ (s : State) (len tag : ℕ) where
   }
 
 module _ (h : History) (I : Invariant h) where
-  open History h using (now as s, accepted as all, departed as gone)
+  open History h using (now as s, accepted as all, departed as gone, present as acc)
 
-  pub noted-keeps : (len tag : ℕ) → Sound (noted s len tag)
-      → Invariant (record { accepted = all ++ notice-packet (new s len tag) ∷ []; departed = gone; now = noted s len tag })
-  noted-keeps len tag T = record {
-    sound = T;
-    regular = subst (Regular (noted s len tag)) (sym own) (record { fit = I .regular .fit; spaced = I .regular .spaced; remembered = I .regular .remembered; part = I .regular .part });
-    line = noted-line s len tag (I .line);
-    busy = λ m low high. subst (λ (acc : List Packet). Busy (noted s len tag) acc m (s .clock)) (sym own) (noted-busy s len tag (level-packets all) m (I .busy m low high));
+  pub noted-keeps : (len tag : ℕ) → Steady (all ++ notice-packet (new s len tag) ∷ []) gone acc (noted s len tag)
+  noted-keeps len tag = record {
+    regular = record { fit = I .steady .regular .fit; spaced = I .steady .regular .spaced; remembered = I .steady .regular .remembered; part = I .steady .regular .part };
+    line = noted-line s len tag (I .steady .line);
+    busy = λ m low high. noted-busy s len tag acc m (I .steady .busy m low high);
     conserved = λ d.
         of-append d all (p ∷ [])
-        ∙ ap (λ (l : List Packet). l ++ of d (p ∷ [])) (I .conserved d)
+        ∙ ap (λ (l : List Packet). l ++ of d (p ∷ [])) (I .steady .conserved d)
         ∙ append-assoc (of d (whats gone)) (of d (in-hub s)) (of d (p ∷ []))
         ∙ ap (λ (l : List Packet). of d (whats gone) ++ l) (sym (of-append d (in-hub s) (p ∷ [])) ∙ ap (of d) waits);
-    on-time = all-map (λ d k n. record { admitted = k n .admitted; in-time = k n .in-time }) gone (I .on-time);
   }
     where
       p : Packet
       p = notice-packet (new s len tag)
-
-      own : level-packets (all ++ notice-packet (new s len tag) ∷ []) ≡ level-packets all
-      own = levels-and-notice all (notice-packet (new s len tag)) refl
 
       waits : in-hub s ++ notice-packet (new s len tag) ∷ [] ≡ in-hub (noted s len tag)
       waits =

@@ -2,6 +2,7 @@
 use Prim.Native.Nat.{ℕ, _≤_, _<_}
 use native.Mathlib.Omega.{arith}
 use mathlib.Core.Path.{_≡_, refl, sym, ap, _∙_, subst}
+use mathlib.Core.Bool.{true}
 use mathlib.Core.Logic.{_⊎_, inl, inr}
 use mathlib.Core.List.{List, [], _∷_, _++_, map, append-assoc}
 use mathlib.Core.Option.{none, some}
@@ -9,25 +10,25 @@ use lib.ListN.{length, getD, set}
 use lib.Seq.{getD-set-same, getD-set-other}
 use borrow.Author.Tests.{ne-eqb}
 use Rattle.rules.specs.Words.{upto}
-use Rattle.rules.specs.Limits.{max-connections, notice-number, max-remembered}
+use Rattle.rules.specs.Limits.{notice-number, max-remembered}
 use Rattle.rules.specs.Model.{Past, no-past, Packet, State, past, figures, notice-packet, with-connections, with-held}
-use Rattle.rules.specs.Admission.{burst, cost}
+use Rattle.rules.specs.Admission.{owned, burst, cost}
 use Rattle.rules.specs.Service.{next-eligibility, remember, Spaced, of, eligibilities, first, level-of}
-use Rattle.rules.specs.SoundState.{Fits, In-service, Sound}
+use Rattle.rules.specs.SoundState.{Fits, In-service}
 use Rattle.rules.specs.Calls.{eligibility-now, packet, placed}
 use Rattle.rules.specs.Runs.{History, in-hub}
-use Rattle.rules.proofs.Lists.{all-map, all-snoc, sub-snoc, total-snoc}
+use Rattle.rules.proofs.Lists.{all-snoc, sub-snoc, total-snoc}
 use Rattle.rules.proofs.Sums.{same, cond-is, upto-yes}
 use Rattle.rules.proofs.Rows.{first-append, of-append, eligibilities-snoc-same, eligibilities-snoc-other}
-use Rattle.rules.proofs.Notices.{level-packets, levels-and-packet, first-behind, either-order}
+use Rattle.rules.proofs.Notices.{first-behind, either-order}
 use Rattle.rules.proofs.Memory.{memory, memory-snoc}
 use Rattle.rules.proofs.Spacing.{not-before, next-spaced}
-use Rattle.rules.proofs.Standing.{stands-below}
+use Rattle.rules.proofs.Standing.{stands-owned, stands-below}
 use Rattle.rules.proofs.Line.{left-same}
 use Rattle.rules.proofs.Verdicts.{Offer-done}
 use Rattle.rules.proofs.Window.{weight}
 use Rattle.rules.proofs.Busy.{due, served, Line, Regular, Busy, served-idle, served-is, served-notice}
-use Rattle.rules.proofs.Invariant.{whats, Invariant, facts-of}
+use Rattle.rules.proofs.Invariant.{whats, Steady, Invariant, facts-of, connections-few}
 
 -- ---- the line and the levels: a packet that is not eligible before now is added behind
 
@@ -84,7 +85,7 @@ module _ (s : State) (acc : List Packet) (p : Packet) (hs : List Past) (level : 
 
 -- ---- the packets accepted
 
-module _ (s : State) (acc : List Packet) (c len tag : ℕ) (one-past-each : length (s .pasts) ≡ length (s .connections)) (R : Regular s acc) (D : Offer-done s c len)
+module _ (s : State) (acc : List Packet) (c len tag : ℕ) (entry : c < length (s .pasts)) (R : Regular s acc) (D : Offer-done s c len)
     (few : burst (figures s c) ≤ max-remembered) where
   p : Packet
   p = packet s c len tag
@@ -92,10 +93,10 @@ module _ (s : State) (acc : List Packet) (c len tag : ℕ) (one-past-each : leng
   new : Past
   new = remember (past s c) (eligibility-now s c)
 
-  below : c < length (s .connections)
-  below = stands-below (s .connections) c (D .standing)
+  below : owned (s .connections) c ≡ true
+  below = stands-owned s c (D .standing)
 
-  spaced-placed : (d : ℕ) → d < length (s .connections) → (c ≡ d) ⊎ (c ≡ d → ⊥) → Spaced (figures s d) (eligibilities d (acc ++ p ∷ []))
+  spaced-placed : (d : ℕ) → owned (s .connections) d ≡ true → (c ≡ d) ⊎ (c ≡ d → ⊥) → Spaced (figures s d) (eligibilities d (acc ++ p ∷ []))
   unfolding p
   spaced-placed d l (inl e) =
       subst (λ (j : ℕ). Spaced (figures s j) (eligibilities j (acc ++ p ∷ []))) e
@@ -104,11 +105,11 @@ module _ (s : State) (acc : List Packet) (c len tag : ℕ) (one-past-each : leng
       (next-spaced (figures s c) few (eligibilities c acc) (s .clock) (R .spaced c below))))
   spaced-placed d l (inr e) = rw (eligibilities-snoc-other d acc p e) (R .spaced d l)
 
-  remembered-placed : (d : ℕ) → d < length (s .connections) → (c ≡ d) ⊎ (c ≡ d → ⊥) → getD (set (s .pasts) c new) d no-past ≡ memory (eligibilities d (acc ++ p ∷ []))
+  remembered-placed : (d : ℕ) → owned (s .connections) d ≡ true → (c ≡ d) ⊎ (c ≡ d → ⊥) → getD (set (s .pasts) c new) d no-past ≡ memory (eligibilities d (acc ++ p ∷ []))
   unfolding p new
   remembered-placed d l (inl e) =
       subst (λ (j : ℕ). getD (set (s .pasts) c new) j no-past ≡ memory (eligibilities j (acc ++ p ∷ []))) e
-      (getD-set-same (s .pasts) c new no-past (omega (arith, one-past-each, below))
+      (getD-set-same (s .pasts) c new no-past entry
       ∙ ap (λ (h : Past). remember h (eligibility-now s c)) (R .remembered c below)
       ∙ sym (memory-snoc (eligibilities c acc) (eligibility-now s c))
       ∙ ap memory (sym (eligibilities-snoc-same c acc p refl)))
@@ -120,30 +121,26 @@ module _ (s : State) (acc : List Packet) (c len tag : ℕ) (one-past-each : leng
   placed-regular : Regular (placed s c len tag) (acc ++ packet s c len tag ∷ [])
   unfolding p new
   placed-regular = record {
-    fit = all-snoc (Fits (s .connections)) acc p (R .fit) (record { standing = D .standing; some-len = D .some-len; len-le = D .len-le });
+    fit = all-snoc (Fits (s .connections)) acc p (R .fit) (record { owner = below; some-len = D .some-len; len-le = D .len-le });
     spaced = λ d l. spaced-placed d l (same c d);
     remembered = λ d l. remembered-placed d l (same c d);
     part = sub-snoc p (R .part);
   }
 
 module _ (h : History) (I : Invariant h) where
-  open History h using (now as s, accepted as all, departed as gone)
+  open History h using (now as s, accepted as all, departed as gone, present as acc)
 
-  pub placed-keeps : (c len tag : ℕ) → length (s .pasts) ≡ length (s .connections) → length (s .connections) ≤ max-connections → Offer-done s c len → Sound (placed s c len tag)
-      → Invariant (record { accepted = all ++ packet s c len tag ∷ []; departed = gone; now = placed s c len tag })
-  placed-keeps c len tag e few D T = record {
-    sound = T;
-    regular = subst (Regular (placed s c len tag)) (sym own) (placed-regular s (level-packets all) c len tag e (I .regular) D few-burst);
-    line = behind-line s (level-packets all) p hs level (I .line);
-    busy = λ m low high.
-        subst (λ (acc : List Packet). Busy (placed s c len tag) acc m (s .clock)) (sym own)
-        (behind-busy s (level-packets all) p hs level m (not-before (figures s c) (past s c) (s .clock)) (I .line) (I .busy m low high));
+  pub placed-keeps : (c len tag : ℕ) → c < length (s .pasts) → Offer-done s c len
+      → Steady (all ++ packet s c len tag ∷ []) gone (acc ++ packet s c len tag ∷ []) (placed s c len tag)
+  placed-keeps c len tag e D = record {
+    regular = placed-regular s acc c len tag e (I .steady .regular) D few-burst;
+    line = behind-line s acc p hs level (I .steady .line);
+    busy = λ m low high. behind-busy s acc p hs level m (not-before (figures s c) (past s c) (s .clock)) (I .steady .line) (I .steady .busy m low high);
     conserved = λ d.
         of-append d all (p ∷ [])
-        ∙ ap (λ (l : List Packet). l ++ of d (p ∷ [])) (I .conserved d)
+        ∙ ap (λ (l : List Packet). l ++ of d (p ∷ [])) (I .steady .conserved d)
         ∙ append-assoc (of d (whats gone)) (of d (in-hub s)) (of d (p ∷ []))
         ∙ ap (λ (l : List Packet). of d (whats gone) ++ l) (waits d);
-    on-time = all-map (λ d k n. record { admitted = k n .admitted; in-time = k n .in-time }) gone (I .on-time);
   }
     where
       p : Packet
@@ -153,13 +150,10 @@ module _ (h : History) (I : Invariant h) where
       hs = set (s .pasts) c (remember (past s c) (eligibility-now s c))
 
       level : c ≡ notice-number → ⊥
-      level i = omega (arith, stands-below (s .connections) c (D .standing))
+      level i = omega (arith, stands-below s c (D .standing), connections-few s (I .sound))
 
       few-burst : burst (figures s c) ≤ max-remembered
-      few-burst = facts-of s (I .sound) .each c (stands-below (s .connections) c (D .standing)) .burst-le
-
-      own : level-packets (all ++ packet s c len tag ∷ []) ≡ level-packets all ++ packet s c len tag ∷ []
-      own = levels-and-packet all (packet s c len tag) level
+      few-burst = facts-of s (I .sound) .each c (stands-owned s c (D .standing)) .burst-le
 
       -- the new packet stands before the notices, which bear another number
       waits : (d : ℕ) → of d (in-hub s) ++ of d (packet s c len tag ∷ []) ≡ of d (in-hub (placed s c len tag))

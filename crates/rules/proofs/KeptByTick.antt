@@ -6,41 +6,42 @@ use mathlib.Core.Path.{_≡_, refl, sym, ap, _∙_, subst}
 use mathlib.Core.Logic.{_⊎_, inl, inr, ⊎-elim}
 use mathlib.Core.List.{List, [], _∷_, _++_, map}
 use mathlib.Core.Option.{Option, none, some}
-use lib.ListN.{length}
 use Rattle.rules.specs.Words.{push}
 use Rattle.rules.specs.Limits.{notice-number}
 use Rattle.rules.specs.Model.{Packet, Notice, State, Answer, notice-packet, with-line}
 use Rattle.rules.specs.Admission.{bound, cost}
 use Rattle.rules.specs.Service.{of, first, without, level-of, chosen, later, line-after-start, packet-departs, after-unit, ticked, line-left}
-use Rattle.rules.specs.SoundState.{Fits, In-service, Sound-with-link, Sound}
-use Rattle.rules.specs.Runs.{Departure, History, leaving, in-hub}
-use Rattle.rules.proofs.Lists.{All, all-map, all-snoc, Sub, sub-refl, total-sub, total-zero}
+use Rattle.rules.specs.SoundState.{Fits, In-service, Orderly}
+use Rattle.rules.specs.Runs.{Departure, History, leaving, in-hub, bound-of}
+use Rattle.rules.proofs.Lists.{All, all-map, Sub, sub-refl, total-sub, total-zero}
 use Rattle.rules.proofs.Rows.{first-all, first-append, sub-without, moved, map-append}
-use Rattle.rules.proofs.Notices.{first-notice-is, level-packets, without-append, first-behind, without-behind}
-use Rattle.rules.proofs.Standing.{stands-below}
+use Rattle.rules.proofs.Notices.{first-notice-is, without-append, first-behind, without-behind}
+use Rattle.rules.proofs.Standing.{owned-below}
 use Rattle.rules.proofs.Line.{last-of-packet, last-of-notice, left-silent, left-some, left-unit}
 use Rattle.rules.proofs.SoundTick.{no-notice, choice-holds}
 use Rattle.rules.proofs.Busy.{due, demand, Notice-on-line, Line, Facts, Regular, fit-held, Busy, due-none, spare, held-spare}
 use Rattle.rules.proofs.BusyTick.{taken-line, taken-busy, unit-busy, restart, advance}
-use Rattle.rules.proofs.Invariant.{On-time, Level-on-time, whats, Invariant, facts-of, some-bound, free-below-largest, left-le-largest}
+use Rattle.rules.proofs.Invariant.{whats, Steady, Invariant, facts-of, some-bound, free-below-largest, left-le-largest}
 
 -- after step 1: a level with something due is busy, and something is on the line
 record Midway (s : State) (acc : List Packet) : Type 0 where
   mid-line : Line s
   mid-busy : (m : ℕ) → 1 ≤ m → m ≤ s .link .levels → (demand s m (s .clock) ≡ 0) ⊎ (Busy s acc m (s .clock) × (0 < line-left s) × (0 < demand s m (s .clock)))
 
-module _ (h : History) (I : Invariant h) (S : Sound-with-link (h .now)) where
-  open History h using (now as s, accepted as all, departed as gone)
+-- what departs, if anything does: a notice, or it is in time
+abbrev pub In-time : State → Option Packet → Type 0
+In-time s none = Unit {0}
+In-time s (some p) = (p .connection ≡ notice-number) ⊎ (s .clock + 1 ≤ p .eligibility + bound-of s (p .connection))
 
-  abbrev acc : List Packet
-  acc = level-packets all
+module _ (h : History) (I : Invariant h) (S : Orderly (h .now)) where
+  open History h using (now as s, accepted as all, departed as gone, present as acc)
 
   F : Facts (s .link) (s .connections)
   F = facts-of s (I .sound)
 
   -- no held packet bears the notices' number
   no-notices : All (λ p. p .connection ≡ notice-number → ⊥) (s .held)
-  no-notices = all-map (λ p f e. omega (arith, S .few, stands-below (s .connections) (p .connection) (f .standing))) (s .held) (S .fit)
+  no-notices = all-map (λ p f e. omega (arith, S .numbers, owned-below (s .connections) (p .connection) (f .owner))) (s .held) (S .fit)
 
   -- ---- step 1
 
@@ -52,11 +53,11 @@ module _ (h : History) (I : Invariant h) (S : Sound-with-link (h .now)) where
   midway zero zero e y =
       let k = choice-holds s S in
       record {
-        mid-line = taken-line s acc (I .regular) (chosen s) k (s .notices) refl (S .notices-fit) no-notices (S .silent-le);
+        mid-line = taken-line s acc (I .steady .regular) (chosen s) k (s .notices) refl (S .notices-fit) no-notices (S .silent-le);
         mid-busy = λ m low high.
             ⊎-elim (λ z. inl z)
             (λ pos.
-            let b = taken-busy s acc (I .regular) m (chosen s) (s .notices) k e y (I .busy m low high) pos in
+            let b = taken-busy s acc (I .steady .regular) m (chosen s) (s .notices) k e y (I .steady .busy m low high) pos in
             inr (b .0, b .1, pos))
             (eq-zero-or-pos (demand s m (s .clock)));
       }
@@ -64,7 +65,7 @@ module _ (h : History) (I : Invariant h) (S : Sound-with-link (h .now)) where
     mid-line = inl (refl, S .silent-le);
     mid-busy = λ m low high.
         ⊎-elim (λ z. inl z)
-        (λ pos. inr (same-line e m (I .busy m low high), omega (arith, left-silent (with-line s (s .serving) 0 (s .silent)) refl), pos))
+        (λ pos. inr (same-line e m (I .steady .busy m low high), omega (arith, left-silent (with-line s (s .serving) 0 (s .silent)) refl), pos))
         (eq-zero-or-pos (demand s m (s .clock)));
   }
   midway (suc u) q e y = record {
@@ -83,10 +84,10 @@ module _ (h : History) (I : Invariant h) (S : Sound-with-link (h .now)) where
           alone = n .alone;
         }))
         l))
-        (I .line);
+        (I .steady .line);
     mid-busy = λ m low high.
         ⊎-elim (λ z. inl z)
-        (λ pos. inr (same-line e m (I .busy m low high), left-some (with-line s (s .serving) (suc u) (s .silent)) (omega arith), pos))
+        (λ pos. inr (same-line e m (I .steady .busy m low high), left-some (with-line s (s .serving) (suc u) (s .silent)) (omega arith), pos))
         (eq-zero-or-pos (demand s m (s .clock)));
   }
 
@@ -94,20 +95,17 @@ module _ (h : History) (I : Invariant h) (S : Sound-with-link (h .now)) where
 
   -- the packets `held`, a part of those before, the notices and the line as given, a tick later
   next : (held : List Packet) (ns : List Notice) (serving to-go silent : ℕ) (ds : List Departure)
-      → Sound (later s held ns serving to-go silent)
       → Sub held (s .held)
       → Sub held acc
       → Line (later s held ns serving to-go silent)
       → (1 ≤ s .link .levels → line-left (later s held ns serving to-go silent) < cost (s .link) (s .link .largest))
       → ((m : ℕ) → 1 ≤ m → m ≤ s .link .levels → (demand s m (s .clock) ≡ 0) ⊎ Busy (later s held ns serving to-go silent) acc m (s .clock))
       → ((c : ℕ) → of c all ≡ of c (whats ds) ++ of c (held ++ map notice-packet ns))
-      → All (Level-on-time s) ds
-      → Invariant (record { accepted = all; departed = ds; now = later s held ns serving to-go silent })
-  next held ns serving to-go silent ds sound sub part line below busy cons time =
+      → Steady all ds acc (later s held ns serving to-go silent)
+  next held ns serving to-go silent ds sub part line below busy cons =
       let R : Regular (later s held ns serving to-go silent) acc
-      = record { fit = I .regular .fit; spaced = I .regular .spaced; remembered = I .regular .remembered; part = part } in
+      = record { fit = I .steady .regular .fit; spaced = I .steady .regular .spaced; remembered = I .steady .regular .remembered; part = part } in
       record {
-        sound = sound;
         regular = R;
         line = line;
         busy = λ m low high.
@@ -121,7 +119,6 @@ module _ (h : History) (I : Invariant h) (S : Sound-with-link (h .now)) where
             (λ B. B)
             (busy m low high));
         conserved = cons;
-        on-time = all-map (λ d k n. record { admitted = k n .admitted; in-time = k n .in-time }) ds time;
       }
 
   below-free : (held : List Packet) (ns : List Notice) (q : ℕ) → q ≤ s .link .silence → 1 ≤ s .link .levels
@@ -137,49 +134,43 @@ module _ (h : History) (I : Invariant h) (S : Sound-with-link (h .now)) where
         (λ B.
         inr
         (unit-busy (with-line s w u (s .silent)) acc m u refl (B .1) (M .mid-line) (no-notice s S w u (s .silent)) (B .0)
-        (spare (with-line s w u (s .silent)) acc m low high F (I .regular) (M .mid-line) (B .0) (B .2))))
+        (spare (with-line s w u (s .silent)) acc m low high F (I .steady .regular) (M .mid-line) (B .0) (B .2))))
         (M .mid-busy m low high)
 
     -- the packet in service is in time if it leaves now
-    leaves : (r : In-service (with-line s w u (s .silent))) → On-time s (record { what = r .it; finish = s .clock + 1 })
-    leaves r = record {
-      admitted = below;
-      in-time =
-          ⊎-elim
-          (λ z.
-          absurd
-          (due-none (s .link) (s .connections) m (s .clock) (r .it) f
-          (first-all w (λ p. due (s .link) (s .connections) m (s .clock) p ≡ 0) (s .held) (r .it) (r .is-first)
-          (total-zero (due (s .link) (s .connections) m (s .clock)) (s .held) z))
-          (le-refl m) (r .eligible)))
-          (λ B.
-          omega (
-            arith,
-            first-all w (λ p. level-of s (p .connection) ≤ m → p .eligibility ≤ s .clock → s .clock + 2 ≤ p .eligibility + bound (s .link) m) (s .held) (r .it) (r .is-first)
-                (held-spare (with-line s w u (s .silent)) acc m low high F (I .regular) (M .mid-line) (B .0))
-                (le-refl m) (r .eligible),
-          ))
-          (M .mid-busy m low high);
-    }
+    leaves : (r : In-service (with-line s w u (s .silent))) → s .clock + 1 ≤ r .it .eligibility + bound-of s (r .it .connection)
+    leaves r =
+        ⊎-elim
+        (λ z.
+        absurd
+        (due-none (s .link) (s .connections) m (s .clock) (r .it) f
+        (first-all w (λ p. due (s .link) (s .connections) m (s .clock) p ≡ 0) (s .held) (r .it) (r .is-first)
+        (total-zero (due (s .link) (s .connections) m (s .clock)) (s .held) z))
+        (le-refl m) (r .eligible)))
+        (λ B.
+        omega (
+          arith,
+          first-all w (λ p. level-of s (p .connection) ≤ m → p .eligibility ≤ s .clock → s .clock + 2 ≤ p .eligibility + bound (s .link) m) (s .held) (r .it) (r .is-first)
+              (held-spare (with-line s w u (s .silent)) acc m low high F (I .steady .regular) (M .mid-line) (B .0))
+              (le-refl m) (r .eligible),
+        ))
+        (M .mid-busy m low high)
       where
         f : Fits (s .connections) (r .it)
-        f = first-all w (Fits (s .connections)) (s .held) (r .it) (r .is-first) (fit-held s acc (I .regular))
-
-        below : r .it .connection < length (s .connections)
-        below = stands-below (s .connections) (r .it .connection) (f .standing)
+        f = first-all w (Fits (s .connections)) (s .held) (r .it) (r .is-first) (fit-held s acc (I .steady .regular))
 
         m : ℕ
         m = level-of s (r .it .connection)
 
         low : 1 ≤ m
-        low = F .each (r .it .connection) below .low-level
+        low = F .each (r .it .connection) (f .owner) .low-level
 
         high : m ≤ s .link .levels
-        high = F .each (r .it .connection) below .high-level
+        high = F .each (r .it .connection) (f .owner) .high-level
 
   -- the history a tick later, by the answer to the tick
   abbrev Kept-with : Answer → Type 0
-  Kept-with a = Invariant (record { accepted = all; departed = push gone (leaving s (a .departed)); now = a .next })
+  Kept-with a = Steady all (push gone (leaving s (a .departed))) acc (a .next)
 
   abbrev left : Packet → Departure
   left p = record { what = p; finish = s .clock + 1 }
@@ -187,41 +178,39 @@ module _ (h : History) (I : Invariant h) (S : Sound-with-link (h .now)) where
   -- what departs moves from what waits to what has gone
   goes : (c w : ℕ) (p : Packet) → first w (in-hub s) ≡ some p → of c all ≡ of c (whats (gone ++ left p ∷ [])) ++ of c (without w (in-hub s))
   goes c w p e =
-      I .conserved c
+      I .steady .conserved c
       ∙ moved c w (whats gone) (in-hub s) p e
       ∙ ap (λ (l : List Packet). of c l ++ of c (without w (in-hub s))) (sym (map-append (λ (d : Departure). d .what) gone (left p ∷ [])))
 
-  packet-keeps : (w : ℕ) → Midway (with-line s w 1 (s .silent)) acc → (r : In-service (with-line s w 1 (s .silent))) → Sound (after-unit (with-line s w 1 (s .silent)) 1 .next)
+  packet-keeps : (w : ℕ) → Midway (with-line s w 1 (s .silent)) acc → (r : In-service (with-line s w 1 (s .silent)))
       → Kept-with (after-unit (with-line s w 1 (s .silent)) 1)
-  packet-keeps w M r T =
+  packet-keeps w M r =
       subst Kept-with (sym is) (
-      subst (λ (o : Option Packet). Invariant (record { accepted = all; departed = push gone (leaving s o); now = later s (without w (s .held)) (s .notices) 0 0 (s .link .silence) })) (sym (r .is-first))
-      (next (without w (s .held)) (s .notices) 0 0 (s .link .silence) (gone ++ left (r .it) ∷ []) (subst (λ (a : Answer). Sound (a .next)) is T)
-      (sub-without w (sub-refl (s .held))) (sub-without w (I .regular .part)) (inl (refl, le-refl (s .link .silence)))
+      subst (λ (o : Option Packet). Steady all (push gone (leaving s o)) acc (later s (without w (s .held)) (s .notices) 0 0 (s .link .silence))) (sym (r .is-first))
+      (next (without w (s .held)) (s .notices) 0 0 (s .link .silence) (gone ++ left (r .it) ∷ [])
+      (sub-without w (sub-refl (s .held))) (sub-without w (I .steady .regular .part)) (inl (refl, le-refl (s .link .silence)))
       (below-free (without w (s .held)) (s .notices) (s .link .silence) (le-refl (s .link .silence)))
       (λ m low high. subst (λ (a : Answer). (demand s m (s .clock) ≡ 0) ⊎ Busy (a .next) acc m (s .clock)) is (unit-level w 1 M m low high))
       (λ c.
       goes c w (r .it) (first-append w (s .held) (map notice-packet (s .notices)) (r .it) (r .is-first))
-      ∙ ap (λ (l : List Packet). of c (whats (gone ++ left (r .it) ∷ [])) ++ of c l) (without-append w (s .held) (map notice-packet (s .notices)) (r .it) (r .is-first)))
-      (all-snoc (Level-on-time s) gone (left (r .it)) (I .on-time) (λ _. leaves w 1 M r)))
+      ∙ ap (λ (l : List Packet). of c (whats (gone ++ left (r .it) ∷ [])) ++ of c l) (without-append w (s .held) (map notice-packet (s .notices)) (r .it) (r .is-first))))
       )
     where
       is : after-unit (with-line s w 1 (s .silent)) 1 ≡ packet-departs (with-line s w 1 (s .silent))
       is = last-of-packet (with-line s w 1 (s .silent)) (no-notice s S w 1 (s .silent) r)
 
-  notice-keeps : (w : ℕ) → Midway (with-line s w 1 (s .silent)) acc → Notice-on-line (with-line s w 1 (s .silent)) → Sound (after-unit (with-line s w 1 (s .silent)) 1 .next)
+  notice-keeps : (w : ℕ) → Midway (with-line s w 1 (s .silent)) acc → Notice-on-line (with-line s w 1 (s .silent))
       → Kept-with (after-unit (with-line s w 1 (s .silent)) 1)
-  notice-keeps w M n T =
+  notice-keeps w M n =
       let r = n .in-service in
       let k = first-notice-is (s .notices) (r .it) (r .is-first) in
       let is = last-of-notice (with-line s w 1 (s .silent)) (r .it) (k .0) (r .is-notice) (k .1) in
       subst Kept-with (sym is)
-      (next (s .held) (k .0) 0 0 (s .link .silence) (gone ++ left (notice-packet (r .it)) ∷ []) (subst (λ (a : Answer). Sound (a .next)) is T)
-      (sub-refl (s .held)) (I .regular .part) (inl (refl, le-refl (s .link .silence)))
+      (next (s .held) (k .0) 0 0 (s .link .silence) (gone ++ left (notice-packet (r .it)) ∷ [])
+      (sub-refl (s .held)) (I .steady .regular .part) (inl (refl, le-refl (s .link .silence)))
       (below-free (s .held) (k .0) (s .link .silence) (le-refl (s .link .silence)))
       (λ m low high. subst (λ (a : Answer). (demand s m (s .clock) ≡ 0) ⊎ Busy (a .next) acc m (s .clock)) is (unit-level w 1 M m low high))
-      (λ c. first-goes c (r .it) (k .0) (k .1) (subst (λ (v : ℕ). first v (s .held) ≡ none) (r .is-notice) (n .alone)))
-      (all-snoc (Level-on-time s) gone (left (notice-packet (r .it))) (I .on-time) (λ away. absurd (away refl))))
+      (λ c. first-goes c (r .it) (k .0) (k .1) (subst (λ (v : ℕ). first v (s .held) ≡ none) (r .is-notice) (n .alone))))
     where
       first-goes : (c : ℕ) (n : Notice) (ns : List Notice) → s .notices ≡ n ∷ ns → first notice-number (s .held) ≡ none
           → of c all ≡ of c (whats (gone ++ left (notice-packet n) ∷ [])) ++ of c (s .held ++ map notice-packet ns)
@@ -234,14 +223,14 @@ module _ (h : History) (I : Invariant h) (S : Sound-with-link (h .now)) where
           here : first notice-number (in-hub s) ≡ first notice-number (map notice-packet (s .notices)) → first notice-number (in-hub s) ≡ some (notice-packet n)
           here i = i ∙ ap (λ (l : List Notice). first notice-number (map notice-packet l)) e
 
-  unit-keeps : (w u : ℕ) → Midway (with-line s w u (s .silent)) acc → Sound (after-unit (with-line s w u (s .silent)) u .next) → Kept-with (after-unit (with-line s w u (s .silent)) u)
-  unit-keeps w zero M T =
-      next (s .held) (s .notices) 0 0 (s .silent - 1) gone T (sub-refl (s .held)) (I .regular .part) (inl (refl, omega (arith, S .silent-le)))
-      (below-free (s .held) (s .notices) (s .silent - 1) (omega (arith, S .silent-le))) (unit-level w zero M) (I .conserved) (I .on-time)
-  unit-keeps w (suc zero) M T =
-      ⊎-elim (λ z. absurd (omega (arith, z .0))) (λ l. ⊎-elim (λ r. packet-keeps w M r T) (λ n. notice-keeps w M n T) l) (M .mid-line)
-  unit-keeps w (suc (suc u)) M T =
-      next (s .held) (s .notices) w (suc u) (s .silent) gone T (sub-refl (s .held)) (I .regular .part)
+  unit-keeps : (w u : ℕ) → Midway (with-line s w u (s .silent)) acc → Kept-with (after-unit (with-line s w u (s .silent)) u)
+  unit-keeps w zero M =
+      next (s .held) (s .notices) 0 0 (s .silent - 1) gone (sub-refl (s .held)) (I .steady .regular .part) (inl (refl, omega (arith, S .silent-le)))
+      (below-free (s .held) (s .notices) (s .silent - 1) (omega (arith, S .silent-le))) (unit-level w zero M) (I .steady .conserved)
+  unit-keeps w (suc zero) M =
+      ⊎-elim (λ z. absurd (omega (arith, z .0))) (λ l. ⊎-elim (λ r. packet-keeps w M r) (λ n. notice-keeps w M n) l) (M .mid-line)
+  unit-keeps w (suc (suc u)) M =
+      next (s .held) (s .notices) w (suc u) (s .silent) gone (sub-refl (s .held)) (I .steady .regular .part)
       (⊎-elim
       (λ z. absurd (omega (arith, z .0)))
       (λ l.
@@ -258,8 +247,29 @@ module _ (h : History) (I : Invariant h) (S : Sound-with-link (h .now)) where
       }))
       l))
       (M .mid-line))
-      (λ n. omega (arith, left-unit s (s .held) (s .notices) w u (s .silent), left-le-largest (with-line s w (suc (suc u)) (s .silent)) acc F (I .regular) (M .mid-line) n))
-      (unit-level w (suc (suc u)) M) (I .conserved) (I .on-time)
+      (λ n. omega (arith, left-unit s (s .held) (s .notices) w u (s .silent), left-le-largest (with-line s w (suc (suc u)) (s .silent)) acc F (I .steady .regular) (M .mid-line) n))
+      (unit-level w (suc (suc u)) M) (I .steady .conserved)
 
-  pub ticked-keeps : Sound (ticked s .next) → Kept-with (ticked s)
-  ticked-keeps T = unit-keeps (line-after-start s (s .to-go) (s .silent) .0) (line-after-start s (s .to-go) (s .silent) .1) (midway (s .to-go) (s .silent) refl refl) T
+  pub ticked-keeps : Kept-with (ticked s)
+  ticked-keeps = unit-keeps (line-after-start s (s .to-go) (s .silent) .0) (line-after-start s (s .to-go) (s .silent) .1) (midway (s .to-go) (s .silent) refl refl)
+
+  -- what departs is a notice, or in time
+
+  unit-in-time : (w u : ℕ) → Midway (with-line s w u (s .silent)) acc → In-time s (after-unit (with-line s w u (s .silent)) u .departed)
+  unit-in-time w zero M = tt
+  unit-in-time w (suc zero) M =
+      ⊎-elim (λ z. absurd (omega (arith, z .0)))
+      (λ l.
+      ⊎-elim
+      (λ r.
+      subst (λ (a : Answer). In-time s (a .departed)) (sym (last-of-packet (with-line s w 1 (s .silent)) (no-notice s S w 1 (s .silent) r)))
+      (subst (In-time s) (sym (r .is-first)) (inr (leaves w 1 M r))))
+      (λ n.
+      let k = first-notice-is (s .notices) (n .in-service .it) (n .in-service .is-first) in
+      subst (λ (a : Answer). In-time s (a .departed)) (sym (last-of-notice (with-line s w 1 (s .silent)) (n .in-service .it) (k .0) (n .in-service .is-notice) (k .1))) (inl refl))
+      l)
+      (M .mid-line)
+  unit-in-time w (suc (suc u)) M = tt
+
+  pub ticked-in-time : In-time s (ticked s .departed)
+  ticked-in-time = unit-in-time (line-after-start s (s .to-go) (s .silent) .0) (line-after-start s (s .to-go) (s .silent) .1) (midway (s .to-go) (s .silent) refl refl)

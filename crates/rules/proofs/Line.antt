@@ -47,22 +47,23 @@ pub record Leaves (s r : State) : Type 0 where
   pub link : r .link ≡ s .link
   pub connections : r .connections ≡ s .connections
   pub pasts : r .pasts ≡ s .pasts
+  pub closed : r .closed ≡ s .closed
   pub clock : r .clock ≡ s .clock + 1
 
 unit-leaves : (s : State) (u : ℕ) → Leaves s (after-unit s u .next)
-unit-leaves s zero = subst (λ (a : Answer). Leaves s (a .next)) (sym (nothing-goes s)) (record { link = refl; connections = refl; pasts = refl; clock = refl })
+unit-leaves s zero = subst (λ (a : Answer). Leaves s (a .next)) (sym (nothing-goes s)) (record { link = refl; connections = refl; pasts = refl; closed = refl; clock = refl })
 unit-leaves s (suc zero) = go (eqb (s .serving) notice-number) (s .notices)
   where
     go : (b : Bool) (ns : List Notice) → Leaves s (cond b (notice-departs s ns) (packet-departs s) .next)
-    go true [] = record { link = refl; connections = refl; pasts = refl; clock = refl }
-    go true (n ∷ ns) = record { link = refl; connections = refl; pasts = refl; clock = refl }
-    go false ns = record { link = refl; connections = refl; pasts = refl; clock = refl }
-unit-leaves s (suc (suc u)) = subst (λ (a : Answer). Leaves s (a .next)) (sym (unit-goes s u)) (record { link = refl; connections = refl; pasts = refl; clock = refl })
+    go true [] = record { link = refl; connections = refl; pasts = refl; closed = refl; clock = refl }
+    go true (n ∷ ns) = record { link = refl; connections = refl; pasts = refl; closed = refl; clock = refl }
+    go false ns = record { link = refl; connections = refl; pasts = refl; closed = refl; clock = refl }
+unit-leaves s (suc (suc u)) = subst (λ (a : Answer). Leaves s (a .next)) (sym (unit-goes s u)) (record { link = refl; connections = refl; pasts = refl; closed = refl; clock = refl })
 
 pub tick-leaves : (s : State) → Leaves s (ticked s .next)
 tick-leaves s =
     let l = unit-leaves (started s) (started s .to-go) in
-    record { link = l .link; connections = l .connections; pasts = l .pasts; clock = l .clock }
+    record { link = l .link; connections = l .connections; pasts = l .pasts; closed = l .closed; clock = l .clock }
 
 -- ---- what is still on the line
 

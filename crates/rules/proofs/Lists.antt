@@ -1,7 +1,9 @@
 -- Lists: a property of every element, a relation of every earlier to every later element, sublists, and sums of weights.
 use Prim.Native.Nat.{ℕ, zero, suc, _+_, _*_, _≤_, _<_}
 use native.Mathlib.Omega.{arith}
-use mathlib.Core.Path.{_≡_, refl}
+use mathlib.Core.Path.{_≡_, refl, sym, ap}
+use mathlib.Core.Bool.{Bool, true, false, cond, true≢false}
+use Rattle.rules.specs.Words.{filter}
 use mathlib.Core.List.{List, [], _∷_, _++_}
 use lib.ListN.{length, getD, set}
 pub use Rattle.rules.specs.Words.{All, Pairs}
@@ -124,7 +126,57 @@ module _ {A : Type 0} where
   all-from P [] d f = tt
   all-from P (x ∷ xs) d f = (f 0 (omega arith), all-from P xs d (λ i l. f (suc i) (omega arith)))
 
+  -- two lists with the same elements
+  pub list-eq : (xs ys : List A) (d : A) → length xs ≡ length ys → ((i : ℕ) → i < length xs → getD xs i d ≡ getD ys i d) → xs ≡ ys
+  list-eq [] [] d e h = refl
+  list-eq [] (y ∷ ys) d e h = absurd (omega arith)
+  list-eq (x ∷ xs) [] d e h = absurd (omega arith)
+  list-eq (x ∷ xs) (y ∷ ys) d e h = rw (h 0 (omega arith), list-eq xs ys d (omega arith) (λ i l. h (suc i) (omega arith)))
+
   pub all-set : (P : A → Type 0) (xs : List A) (i : ℕ) (y : A) → All P xs → P y → All P (set xs i y)
   all-set P [] i y h k = tt
   all-set P (x ∷ xs) zero y h k = (k, h .1)
   all-set P (x ∷ xs) (suc i) y h k = (h .0, all-set P xs i y (h .1) k)
+
+  -- ---- those for which a test holds
+  pub filter-all : (f : A → Bool) (xs : List A) → All (λ x. f x ≡ true) xs → filter f xs ≡ xs
+  filter-all f [] h = refl
+  filter-all f (x ∷ xs) h = go (f x) (h .0) (filter-all f xs (h .1))
+    where
+      go : (b : Bool) → b ≡ true → filter f xs ≡ xs → cond b (x ∷ filter f xs) (filter f xs) ≡ x ∷ xs
+      go true e k = ap (λ (l : List A). x ∷ l) k
+      go false e k = absurd (true≢false (sym e))
+
+  pub filter-snoc-off : (f : A → Bool) (xs : List A) (y : A) → f y ≡ false → filter f (xs ++ y ∷ []) ≡ filter f xs
+  filter-snoc-off f [] y e = ap (λ (b : Bool). cond b (y ∷ []) []) e
+  filter-snoc-off f (x ∷ xs) y e = ap (λ (l : List A). cond (f x) (x ∷ l) l) (filter-snoc-off f xs y e)
+
+  pub all-filter : (P : A → Type 0) (f : A → Bool) (xs : List A) → All P xs → All (λ x. (f x ≡ true) × P x) (filter f xs)
+  all-filter P f [] h = tt
+  all-filter P f (x ∷ xs) h = go (f x) refl (all-filter P f xs (h .1))
+    where
+      go : (b : Bool) → f x ≡ b → All (λ x. (f x ≡ true) × P x) (filter f xs) → All (λ x. (f x ≡ true) × P x) (cond b (x ∷ filter f xs) (filter f xs))
+      go true e k = ((e, h .0), k)
+      go false e k = k
+
+  pub sub-filter : (f : A → Bool) {xs ys : List A} → Sub xs ys → All (λ x. f x ≡ true) xs → Sub xs (filter f ys)
+  sub-filter f nil h = nil
+  sub-filter f (skip {xs = xs} {ys = ys} y s) h = go (f y) (sub-filter f s h)
+    where
+      go : (b : Bool) → Sub xs (filter f ys) → Sub xs (cond b (y ∷ filter f ys) (filter f ys))
+      go true k = skip y k
+      go false k = k
+  sub-filter f (keep {xs = xs} {ys = ys} x s) h = go (f x) (h .0) (sub-filter f s (h .1))
+    where
+      go : (b : Bool) → b ≡ true → Sub xs (filter f ys) → Sub (x ∷ xs) (cond b (x ∷ filter f ys) (filter f ys))
+      go true e k = keep x k
+      go false e k = absurd (true≢false (sym e))
+
+  -- a weight that the others do not have
+  pub total-filter : (w v : A → ℕ) (f : A → Bool) (xs : List A) → All (λ x. (f x ≡ true → w x ≤ v x) × (f x ≡ false → w x ≡ 0)) xs → total w xs ≤ total v (filter f xs)
+  total-filter w v f [] h = omega arith
+  total-filter w v f (x ∷ xs) h = go (f x) refl (total-filter w v f xs (h .1))
+    where
+      go : (b : Bool) → f x ≡ b → total w xs ≤ total v (filter f xs) → w x + total w xs ≤ total v (cond b (x ∷ filter f xs) (filter f xs))
+      go true e k = omega (arith, h .0 .0 e)
+      go false e k = omega (arith, h .0 .1 e)

@@ -1,4 +1,4 @@
--- Notices among packets: the packets of levels by themselves, and what waits in the hub by its numbers.
+-- Notices among packets: what waits in the hub, by its numbers.
 use Prim.Native.Nat.{ℕ}
 use mathlib.Core.Path.{_≡_, refl, sym, ap, _∙_}
 use mathlib.Core.Bool.{Bool, true, false, cond}
@@ -6,7 +6,7 @@ use mathlib.Core.Logic.{_⊎_, inl, inr}
 use mathlib.Core.List.{List, [], _∷_, _++_, map, append-nil}
 use mathlib.Core.Option.{none, some}
 use lib.Dec.{eqb}
-use borrow.Author.Tests.{eqb-true, eq-eqb, ne-eqb}
+use borrow.Author.Tests.{ne-eqb}
 use Rattle.rules.specs.Limits.{notice-number}
 use Rattle.rules.specs.Model.{Packet, Notice, notice-packet, first-notice}
 use Rattle.rules.specs.Service.{of, first, without}
@@ -18,36 +18,6 @@ use Rattle.rules.proofs.Rows.{none-some, some-inj}
 pub first-notice-is : (ns : List Notice) (n : Notice) → first-notice ns ≡ some n → (ms : List Notice) × (ns ≡ n ∷ ms)
 first-notice-is [] n e = absurd (none-some e)
 first-notice-is (m ∷ ms) n e = (ms, ap (λ (k : Notice). k ∷ ms) (some-inj e))
-
--- ---- the packets of levels among all
-
-abbrev pub level-packets : List Packet → List Packet
-level-packets [] = []
-level-packets (p ∷ ps) = cond (eqb (p .connection) notice-number) (level-packets ps) (p ∷ level-packets ps)
-
-pub levels-and-packet : (ps : List Packet) (p : Packet) → (p .connection ≡ notice-number → ⊥) → level-packets (ps ++ p ∷ []) ≡ level-packets ps ++ p ∷ []
-levels-and-packet [] p n = cond-is [] (p ∷ []) (ne-eqb (p .connection) notice-number n)
-levels-and-packet (q ∷ ps) p n = go (eqb (q .connection) notice-number) (levels-and-packet ps p n)
-  where
-    go : (b : Bool) → level-packets (ps ++ p ∷ []) ≡ level-packets ps ++ p ∷ []
-        → cond b (level-packets (ps ++ p ∷ [])) (q ∷ level-packets (ps ++ p ∷ [])) ≡ cond b (level-packets ps) (q ∷ level-packets ps) ++ p ∷ []
-    go true k = k
-    go false k = ap (λ (l : List Packet). q ∷ l) k
-
-pub levels-and-notice : (ps : List Packet) (p : Packet) → p .connection ≡ notice-number → level-packets (ps ++ p ∷ []) ≡ level-packets ps
-levels-and-notice [] p e = cond-is [] (p ∷ []) (eq-eqb (p .connection) notice-number e)
-levels-and-notice (q ∷ ps) p e = ap (λ (l : List Packet). cond (eqb (q .connection) notice-number) l (q ∷ l)) (levels-and-notice ps p e)
-
--- no packet of a connection is left out
-pub of-levels : (c : ℕ) (ps : List Packet) → (c ≡ notice-number → ⊥) → of c (level-packets ps) ≡ of c ps
-of-levels c [] n = refl
-of-levels c (p ∷ ps) n = go (eqb (p .connection) notice-number) refl (eqb (p .connection) c) refl (of-levels c ps n)
-  where
-    go : (b : Bool) → eqb (p .connection) notice-number ≡ b → (t : Bool) → eqb (p .connection) c ≡ t → of c (level-packets ps) ≡ of c ps
-        → of c (cond b (level-packets ps) (p ∷ level-packets ps)) ≡ cond t (p ∷ of c ps) (of c ps)
-    go true e true f k = absurd (n (sym (eqb-true (p .connection) c f) ∙ eqb-true (p .connection) notice-number e))
-    go true e false f k = k
-    go false e t f k = cond-is (p ∷ of c (level-packets ps)) (of c (level-packets ps)) f ∙ ap (λ (l : List Packet). cond t (p ∷ l) l) k
 
 -- ---- what waits: rows of levels, and the notices behind them
 

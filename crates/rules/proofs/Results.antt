@@ -4,44 +4,47 @@ use native.Mathlib.Omega.{arith}
 use mathlib.Core.Path.{_≡_, refl, sym, ap, _∙_, subst}
 use mathlib.Core.Bool.{Bool, true, false, cond, not}
 use mathlib.Core.Logic.{_⊎_, inl, inr}
-use mathlib.Core.List.{List, [], _∷_, _++_, map, append-assoc, append-nil}
-use mathlib.Core.Option.{Option, none, some}
+use mathlib.Core.List.{List, [], _∷_, _++_, map}
+use mathlib.Core.Option.{none, some}
 use lib.Dec.{leb, eqb}
 use lib.ListN.{length, getElem?, length-append}
 use borrow.Author.Tests.{eq-eqb, ne-eqb, eqb-false, leb-false}
-use Rattle.rules.specs.Words.{push, within}
+use Rattle.rules.specs.Words.{within}
 use Rattle.rules.specs.Limits.{clock-end, max-notices, notice-number}
-use Rattle.rules.specs.Model.{Link, Connection, Packet, State, Call, link, admit, offer, notice, tick, no-short, figures}
-use Rattle.rules.specs.Admission.{stands, bound, reservation, level-test}
+use Rattle.rules.specs.Model.{Connection, Packet, State, Call, link, admit, offer, notice, close, tick, no-short, figures}
+use Rattle.rules.specs.Admission.{owned, joining, stands, reservation, level-test}
 use Rattle.rules.specs.Service.{Spaced, of, started}
 use Rattle.rules.specs.SoundState.{Sound}
 use Rattle.rules.specs.SoundTest.{sound}
-use Rattle.rules.specs.Calls.{causes, verdicts, verdict, eligibility-now, done, refused-number, settle, answer}
-use Rattle.rules.specs.Runs.{Departure, History, taken, logged, after, run-from, nothing-yet, run, departures, in-hub, bound-of, allowed, offer-tick, offer-ticks-from, offer-ticks, Keeps-its-word, Exchange, exchanges, own-answer}
-use Rattle.rules.specs.Promises.{Demand-1-refusals, Test-is-exact, Verdict-1-exactly, No-link-means-zero, Sound-is-kept, Runs-are-sound, Rows-fit, Notices-fit, Notices-come-last, Fifteen-after-thirteen, Names-the-lowest, Level-test-tells, Short-is-told, Units-are-missing, Units-fit, Sums-fit, Eligibilities-fit, Answers-fit, Conservation, Left-by, Demand-3-first, Demand-3-second, Told-by-its-own, Bed-nine-and-bed-ten, Counted, Spacing-says, No-window-holds-more, The-count-is-reached, The-count-never-falls, Without-average, Without-silence}
+use Rattle.rules.specs.Calls.{causes, verdicts, verdict, eligibility-now, packet, done, refused-number, settle, answer}
+use Rattle.rules.specs.Runs.{Departure, History, logged, after, run-from, nothing-yet, run, departures, in-hub, bound-of, allowed, offer-ticks, Keeps-its-word, Exchange, exchanges, own-answer}
+use Rattle.rules.specs.Promises.{Demand-1-refusals, Test-is-exact, Verdict-1-exactly, No-link-means-zero, Sound-is-kept, Runs-are-sound, Rows-fit, Notices-fit, Notices-come-last, Fifteen-after-thirteen, Names-the-lowest, Level-test-tells, Short-is-told, Units-are-missing, Units-fit, Sums-fit, Eligibilities-fit, Charges-fit, Answers-fit, Conservation, Conservation-since, Conservation-by-owner, Left-by, Demand-3-first, Demand-3-in-the-log, Each-has-a-bound, Demand-3-second, Told-by-its-own, Bed-nine-and-bed-ten, Counted, Spacing-says, No-window-holds-more, The-count-is-reached, The-count-never-falls, Without-average, Without-silence, Close-is-refused, Closed-gets-10, Closed-or-freed, Freed-by-the-tick, Charge-lasts, Lowest-number-is-given}
 use Rattle.rules.proofs.Sums.{same, cond-is}
 use Rattle.rules.proofs.Tests.{and-true, and-intro, not-true-false, never-number}
 use Rattle.rules.proofs.Lists.{All, all-map}
 use Rattle.rules.proofs.Rows.{of-append, length-map}
-use Rattle.rules.proofs.Spacing.{spaced-front}
-use Rattle.rules.proofs.Standing.{stands-below}
-use Rattle.rules.proofs.Verdicts.{causes-from-2, settled, refused-leaves, short-refused}
+use Rattle.rules.proofs.Standing.{stands-owned, stands-below}
+use Rattle.rules.proofs.Verdicts.{causes-from-2, settled, refused-leaves, short-refused, offer-done}
 use Rattle.rules.proofs.SoundExact.{exact}
 use Rattle.rules.proofs.SoundKept.{kept}
 use Rattle.rules.proofs.Invariant.{connections-few}
-use Rattle.rules.proofs.Every.{fresh-invariant, invariant}
+use Rattle.rules.proofs.Every.{no-owner, keeps, fresh-invariant, invariant}
 use Rattle.rules.proofs.WithoutSilence.{as-in-the-base, no-silence-runs}
 use Rattle.rules.proofs.WithoutAverage.{says, hits-are, as-before}
 use Rattle.rules.proofs.Count.{no-window-more, count-mono}
 use Rattle.rules.proofs.Reached.{count-reached}
-use Rattle.rules.proofs.InTime.{conserved-lists, left-in-time}
-use Rattle.rules.proofs.Bounds.{rows-fit-places, notices-fit-places, eligibilities-fit-32}
+use Rattle.rules.proofs.InTime.{conserved-lists, Waits, Either}
+use Rattle.rules.proofs.Through.{either-through}
+use Rattle.rules.proofs.InTheLog.{in-the-log, over-left}
+use Rattle.rules.proofs.ByOwner.{since, by-owner}
+use Rattle.rules.proofs.Closing.{refusals, tens, closes, tick-frees, lasts, lowest-given}
+use Rattle.rules.proofs.Bounds.{rows-fit-places, notices-fit-places, eligibilities-fit-32, charges-fit-32}
 use Rattle.rules.proofs.NoticesLast.{none-eligible}
 use Rattle.rules.proofs.Fields.{unit-done, unit-short, short-fits, answer-fits}
 use Rattle.rules.proofs.Shortage.{tells, names, sums-le, reserved-most}
 use Rattle.rules.proofs.Room.{not-for-room, welcome}
-use Rattle.rules.proofs.Keeper.{stays, All-taken, all-taken, on-arrival, has-room}
-use Rattle.rules.proofs.Alone.{Own, own-ticks, told-by-own, ticks-are-own, no-connection-asks, own-answers}
+use Rattle.rules.proofs.Keeper.{run-append, All-taken, all-taken, Word-before, word-before, on-arrival, has-room}
+use Rattle.rules.proofs.Alone.{Own, own-ticks, told-by-own, ticks-are-own, no-exchanges, own-answers}
 
 -- ---- demand 1
 
@@ -50,6 +53,7 @@ done-verdict (link l) s = refl
 done-verdict (admit x) s = refl
 done-verdict (offer c len tag) s = refl
 done-verdict (notice len tag) s = refl
+done-verdict (close c) s = refl
 done-verdict tick s = unit-done (started s) (started s .to-go)
 
 pub answer-verdict : (k : Call) (s : State) → answer k s .verdict ≡ verdict k s
@@ -77,7 +81,7 @@ verdict-1-exactly k s = (to, from)
     to : answer k s .verdict ≡ 1 → Sound s → ⊥
     to e S =
         never-number 1 (verdicts k s)
-        (λ _. ap not (exact s .1 S), all-map {P = λ r. (2 ≤ r .0) × (r .0 ≤ 15)} {Q = λ r. r .0 ≡ 1 → r .1 ≡ false} (λ r n i. absurd (omega arith)) (causes k s) (causes-from-2 k s))
+        (λ _. ap not (exact s .1 S), all-map {P = λ r. (2 ≤ r .0) × (r .0 ≤ 16)} {Q = λ r. r .0 ≡ 1 → r .1 ≡ false} (λ r n i. absurd (omega arith)) (causes k s) (causes-from-2 k s))
         (omega arith) (sym (answer-verdict k s) ∙ e)
 
     from : (Sound s → ⊥) → answer k s .verdict ≡ 1
@@ -117,6 +121,9 @@ fifteen-after-thirteen len tag s e =
 pub eligibilities-fit : Eligibilities-fit
 eligibilities-fit s S = eligibilities-fit-32 s S
 
+pub charges-fit : Charges-fit
+charges-fit s S c = charges-fit-32 s S c
+
 -- ---- which level was short
 
 pub level-test-tells : Level-test-tells
@@ -127,13 +134,13 @@ module _ (x : Connection) (s : State) (e : answer (admit x) s .verdict ≡ 8) wh
   eight : verdict (admit x) s ≡ 8
   eight = sym (answer-verdict (admit x) s) ∙ e
 
-  told-short : answer (admit x) s .short ≡ level-test (s .link) (s .connections ++ x ∷ [])
+  told-short : answer (admit x) s .short ≡ level-test (s .link) (joining (s .connections) x)
   told-short = ap (λ (v : ℕ). settle (admit x) s v .short) eight
 
-  short-named : Names-the-lowest (s .link) (s .connections ++ x ∷ []) (answer (admit x) s .short)
+  short-named : Names-the-lowest (s .link) (joining (s .connections) x) (answer (admit x) s .short)
   short-named =
-      subst (Names-the-lowest (s .link) (s .connections ++ x ∷ [])) (sym told-short)
-      (names (s .link) (s .connections ++ x ∷ []) (eqb-false _ 0 (short-refused s x eight .fails)))
+      subst (Names-the-lowest (s .link) (joining (s .connections) x)) (sym told-short)
+      (names (s .link) (joining (s .connections) x) (eqb-false _ 0 (short-refused s x eight .fails)))
 
 pub short-is-told : Short-is-told
 short-is-told k s = (λ n. go k (verdict k s) (λ e. n (answer-verdict k s ∙ e)), eight-told)
@@ -143,19 +150,21 @@ short-is-told k s = (λ n. go k (verdict k s) (λ e. n (answer-verdict k s ∙ e
     go (admit x) zero n = refl
     go (offer c len tag) zero n = refl
     go (notice len tag) zero n = refl
+    go (close c) zero n = refl
     go tick zero n = unit-short (started s) (started s .to-go)
     go (link l) (suc v) n = refl
-    go (admit x) (suc v) n = cond-is (level-test (s .link) (s .connections ++ x ∷ [])) no-short (ne-eqb (suc v) 8 n)
+    go (admit x) (suc v) n = cond-is (level-test (s .link) (joining (s .connections) x)) no-short (ne-eqb (suc v) 8 n)
     go (offer c len tag) (suc v) n = refl
     go (notice len tag) (suc v) n = refl
+    go (close c) (suc v) n = refl
     go tick (suc v) n = refl
 
     eight-told : (x : Connection) → k ≡ admit x → answer k s .verdict ≡ 8
-        → (answer k s .short ≡ level-test (s .link) (s .connections ++ x ∷ [])) × Names-the-lowest (s .link) (s .connections ++ x ∷ []) (answer k s .short)
+        → (answer k s .short ≡ level-test (s .link) (joining (s .connections) x)) × Names-the-lowest (s .link) (joining (s .connections) x) (answer k s .short)
     eight-told x i =
         subst
         (λ (j : Call). answer j s .verdict ≡ 8
-        → (answer j s .short ≡ level-test (s .link) (s .connections ++ x ∷ [])) × Names-the-lowest (s .link) (s .connections ++ x ∷ []) (answer j s .short))
+        → (answer j s .short ≡ level-test (s .link) (joining (s .connections) x)) × Names-the-lowest (s .link) (joining (s .connections) x) (answer j s .short))
         (sym i) (λ e. (told-short x s e, short-named x s e))
 
 pub units-are-missing : Units-are-missing
@@ -175,114 +184,119 @@ answers-fit k s S = answer-fits k s S
 pub conservation : Conservation
 conservation ks c = conserved-lists (run ks) (invariant ks) c
 
-pub demand-3-first : Demand-3-first
-demand-3-first ks c i p level is over = left-in-time (run ks) (invariant ks) c i p level is over
+pub conservation-since : Conservation-since
+conservation-since earlier later c none-waits = since earlier later c none-waits
 
--- ---- the second sentence
-
-run-append : (pre ks : List Call) (h : History) → run-from h (pre ++ ks) ≡ run-from (run-from h pre) ks
-run-append [] ks h = refl
-run-append (k ∷ pre) ks h = run-append pre ks (after h k)
-
-ticks-append : (c : ℕ) (pre ks : List Call) (h : History) (ts : List ℕ)
-    → offer-ticks-from c h ts (pre ++ ks) ≡ offer-ticks-from c (run-from h pre) (offer-ticks-from c h ts pre) ks
-ticks-append c [] ks h ts = refl
-ticks-append c (k ∷ pre) ks h ts = ticks-append c pre ks (after h k) (push ts (offer-tick c (h .now) k))
-
-push-grows : {A : Type 0} (xs : List A) (o : Option A) → (ys : List A) × (push xs o ≡ xs ++ ys)
-push-grows xs none = ([], sym (append-nil xs))
-push-grows xs (some x) = (x ∷ [], refl)
-
-accepted-grows : (ks : List Call) (h : History) → (more : List Packet) × (run-from h ks .accepted ≡ h .accepted ++ more)
-accepted-grows [] h = ([], sym (append-nil (h .accepted)))
-accepted-grows (k ∷ ks) h =
-    let a = push-grows (h .accepted) (taken k (h .now) (answer k (h .now))) in
-    let b = accepted-grows ks (after h k) in
-    (a .0 ++ b .0, b .1 ∙ ap (λ (l : List Packet). l ++ b .0) (a .1) ∙ append-assoc (h .accepted) (a .0) (b .0))
+pub conservation-by-owner : Conservation-by-owner
+conservation-by-owner earlier later x e = by-owner earlier later x (sym (answer-verdict (admit x) (run earlier .now)) ∙ e)
 
 find-here : {A : Type 0} (xs : List A) (y : A) (ys : List A) → getElem? (xs ++ y ∷ ys) (length xs) ≡ some y
 find-here [] y ys = refl
 find-here (x ∷ xs) y ys = find-here xs y ys
 
-module _ (earlier : List Call) (c len tag : ℕ) (word : Keeps-its-word c (earlier ++ offer c len tag ∷ [])) (ok : allowed (run earlier .now) c len ≡ true) where
-  open History (run earlier) using (now as s, accepted as acc)
+-- an accepted offer and any calls after it
+module _ (earlier : List Call) (c len tag : ℕ) (yes : verdict (offer c len tag) (run earlier .now) ≡ 0) where
+  open History (run earlier) using (now as s, accepted as acc, departed as gone)
 
   abbrev it : Call
   it = offer c len tag
 
-  below : c < length (s .connections)
-  below = stands-below (s .connections) c (and-true (stands (s .connections) c) (within 1 (figures s c .size) len) ok .0)
-
   level : c ≡ notice-number → ⊥
-  level e = omega (arith, below, connections-few s (invariant earlier .sound))
+  level e = omega (arith, stands-below s c (offer-done s c len tag yes .standing), connections-few s (invariant earlier .sound))
 
-  ts : List ℕ
-  ts = offer-ticks c earlier
+  then : History
+  then = after (run earlier) it
+
+  then-is : after (run earlier) it ≡ logged (run earlier) it (done it s)
+  then-is = ap (λ (v : ℕ). logged (run earlier) it (settle it s v)) yes
+
+  -- it waits, behind all of its number that were accepted before
+  waits-first : Waits c (length (of c acc)) (packet s c len tag) level (bound-of s c) (logged (run earlier) it (done it s))
+  waits-first = record {
+    later-on =
+        omega (
+          arith,
+          ap length (conserved-lists (run earlier) (invariant earlier) c),
+          length-append (map (λ (d : Departure). d .what) (departures c gone)) (of c (in-hub s)),
+          length-map (λ (d : Departure). d .what) (departures c gone),
+        );
+    is-there =
+        ap (λ (l : List Packet). getElem? l (length (of c acc))) (of-append c acc (packet s c len tag ∷ []))
+        ∙ ap (λ (l : List Packet). getElem? (of c acc ++ l) (length (of c acc))) (cond-is (packet s c len tag ∷ []) [] (eq-eqb c c refl))
+        ∙ find-here (of c acc) (packet s c len tag) [];
+    still-bound = refl;
+  }
+
+  module _ (later : List Call) where
+    end : run (earlier ++ it ∷ later) ≡ run-from (after (run earlier) it) later
+    end = run-append earlier (it ∷ later) nothing-yet
+
+    all-through : Either c (length (of c acc)) (packet s c len tag) level (bound-of s c) (run (earlier ++ it ∷ later))
+    all-through =
+        subst (Either c (length (of c acc)) (packet s c len tag) level (bound-of s c)) (sym end)
+        (either-through c (length (of c acc)) (packet s c len tag) level (bound-of s c) later (after (run earlier) it) (keeps (run earlier) it (invariant earlier))
+        (subst (Either c (length (of c acc)) (packet s c len tag) level (bound-of s c)) (sym then-is) (inr waits-first)))
+
+    left-in-time : eligibility-now s c + bound-of s c ≤ run (earlier ++ it ∷ later) .now .clock
+        → Left-by (run (earlier ++ it ∷ later)) c (length (of c acc)) (packet s c len tag) (eligibility-now s c + bound-of s c)
+    left-in-time over =
+        let G = over-left c (length (of c acc)) (packet s c len tag) level (bound-of s c) (run (earlier ++ it ∷ later)) (invariant (earlier ++ it ∷ later)) all-through over in
+        record { finish = G .0; is-departure = G .1; in-time = G .2 }
+
+pub demand-3-first : Demand-3-first
+demand-3-first earlier later c len tag e over =
+    left-in-time earlier c len tag (sym (answer-verdict (offer c len tag) (run earlier .now)) ∙ e) later over
+
+pub demand-3-in-the-log : Demand-3-in-the-log
+demand-3-in-the-log ks c i p d level e f over =
+    let G = over-left c i p level d (run ks) (invariant ks) (in-the-log c level ks .each i p d e f) over in
+    record { finish = G .0; is-departure = G .1; in-time = G .2 }
+
+pub each-has-a-bound : Each-has-a-bound
+each-has-a-bound ks c level = in-the-log c level ks .as-many
+
+-- ---- the second sentence
+
+module _ (earlier : List Call) (c len tag : ℕ) (word : Keeps-its-word c (earlier ++ offer c len tag ∷ [])) (ok : allowed (run earlier .now) c len ≡ true) where
+  open History (run earlier) using (now as s, accepted as acc)
+
+  standing : stands s c ≡ true
+  standing = and-true (stands s c) (within 1 (figures s c .size) len) ok .0
+
+  no-notice : c ≡ notice-number → ⊥
+  no-notice e = omega (arith, stands-below s c standing, connections-few s (invariant earlier .sound))
+
+  -- an offer frees nobody
+  owner-after : owned (answer (offer c len tag) s .next .connections) c ≡ true
+  owner-after = settled (λ a. owned (a .next .connections) c ≡ true) (offer c len tag) s (verdict (offer c len tag) s) (λ _. stands-owned s c standing) (λ _. stands-owned s c standing)
 
   -- the offers before this one and this one keep the spacing of c
-  spaced : Spaced (figures s c) (ts ++ s .clock ∷ [])
-  unfolding ts
-  spaced =
-      subst (λ (b : Bool). Spaced (figures s c) (push ts (cond b (some (s .clock)) none))) (and-intro (eqb c c) (allowed s c len) (eq-eqb c c refl) ok)
-      (subst (λ (x : Connection). Spaced x (push ts (offer-tick c s it))) (stays c (it ∷ []) (run earlier) (invariant earlier) below .alike)
-      (subst (λ (h : History). Spaced (figures (h .now) c) (push ts (offer-tick c s it))) (run-append earlier (it ∷ []) nothing-yet)
-      (subst (Spaced (figures (run (earlier ++ it ∷ []) .now) c)) (ticks-append c earlier (it ∷ []) nothing-yet []) word)))
+  kept-so-far : Word-before c no-notice earlier (offer c len tag)
+  kept-so-far = word-before c no-notice earlier (offer c len tag) owner-after word
 
-  taken-so-far : All-taken c level (run earlier) ts
-  unfolding ts
-  taken-so-far = all-taken c level earlier nothing-yet [] fresh-invariant (inl refl) (spaced-front (figures s c) ts (s .clock ∷ []) spaced)
+  spaced : Spaced (figures s c) (offer-ticks c earlier ++ s .clock ∷ [])
+  spaced = kept-so-far .this-one (s .clock) (cond-is (some (s .clock)) none (and-intro (eqb c c) (allowed s c len) (eq-eqb c c refl) ok))
+
+  taken-so-far : All-taken c no-notice s (run earlier .present) (offer-ticks c earlier)
+  taken-so-far = all-taken c no-notice earlier (kept-so-far .so-far)
 
   arrival : eligibility-now s c ≡ s .clock
-  arrival = on-arrival c level (run earlier) (invariant earlier) ts taken-so-far len tag ok spaced
+  arrival = on-arrival c no-notice (run earlier) (invariant earlier) (offer-ticks c earlier) taken-so-far len tag ok spaced
 
   free-place : length (of c (s .held)) < reservation (s .link) (figures s c)
-  free-place = has-room c level (run earlier) (invariant earlier) ts taken-so-far len tag ok spaced
+  free-place = has-room c no-notice (run earlier) (invariant earlier) (offer-ticks c earlier) taken-so-far len tag ok spaced
 
-  module _ (running : s .clock < clock-end) where
-    welcomed : verdict it s ≡ 0
-    welcomed = welcome (run earlier) (invariant earlier) c len tag ok free-place running
+  welcomed : s .clock < clock-end → verdict (offer c len tag) s ≡ 0
+  welcomed running = welcome (run earlier) (invariant earlier) c len tag ok free-place running
 
-    packet-now : Packet
-    packet-now = record { connection = c; len = len; tag = tag; arrival = s .clock; eligibility = s .clock }
-
-    logged-it : after (run earlier) it .accepted ≡ acc ++ packet-now ∷ []
-    unfolding packet-now
-    logged-it =
-        ap (λ (v : ℕ). logged (run earlier) it (settle it s v) .accepted) welcomed
-        ∙ ap (λ (e : ℕ). acc ++ record { connection = c; len = len; tag = tag; arrival = s .clock; eligibility = e } ∷ []) arrival
-
-    module _ (later : List Call) where
-      -- it is the next accepted packet of c, whatever follows
-      found : getElem? (of c (run (earlier ++ it ∷ later) .accepted)) (length (of c acc)) ≡ some packet-now
-      unfolding packet-now
-      found =
-          let g = accepted-grows later (after (run earlier) it) in
-          ap (λ (l : List Packet). getElem? (of c l) (length (of c acc)))
-          (ap (λ (h : History). h .accepted) (run-append earlier (it ∷ later) nothing-yet)
-          ∙ g .1
-          ∙ ap (λ (l : List Packet). l ++ g .0) logged-it
-          ∙ append-assoc acc (packet-now ∷ []) (g .0))
-          ∙ ap (λ (l : List Packet). getElem? l (length (of c acc))) (of-append c acc (packet-now ∷ g .0))
-          ∙ ap (λ (l : List Packet). getElem? (of c acc ++ l) (length (of c acc)))
-          (cond-is (packet-now ∷ of c (g .0)) (of c (g .0)) (eq-eqb c c refl))
-          ∙ find-here (of c acc) packet-now (of c (g .0))
-
-      same-bound : bound-of (run (earlier ++ it ∷ later) .now) c ≡ bound-of s c
-      same-bound =
-          let k = stays c (it ∷ later) (run earlier) (invariant earlier) below in
-          ap (λ (h : History). bound-of (h .now) c) (run-append earlier (it ∷ later) nothing-yet)
-          ∙ ap (λ (l : Link). bound l (figures (run-from (run earlier) (it ∷ later) .now) c .level)) (k .same-link)
-          ∙ ap (λ (x : Connection). bound (s .link) (x .level)) (k .alike)
-
-      leaves : s .clock + bound-of s c ≤ run (earlier ++ it ∷ later) .now .clock
-          → Left-by (run (earlier ++ it ∷ later)) c (length (of c acc)) packet-now (s .clock + bound-of s c)
-      unfolding packet-now
-      leaves over =
-          subst (λ (d : ℕ). Left-by (run (earlier ++ it ∷ later)) c (length (of c acc)) packet-now (s .clock + d)) same-bound
-          (demand-3-first (earlier ++ it ∷ later) c (length (of c acc)) packet-now level found (omega (arith, same-bound)))
+  leaves : s .clock < clock-end → (later : List Call) → s .clock + bound-of s c ≤ run (earlier ++ offer c len tag ∷ later) .now .clock
+      → Left-by (run (earlier ++ offer c len tag ∷ later)) c (length (of c acc)) (record { connection = c; len = len; tag = tag; arrival = s .clock; eligibility = s .clock }) (s .clock + bound-of s c)
+  leaves running later over =
+      subst
+      (λ (e : ℕ). Left-by (run (earlier ++ offer c len tag ∷ later)) c (length (of c acc)) (record { connection = c; len = len; tag = tag; arrival = s .clock; eligibility = e }) (e + bound-of s c))
+      arrival (left-in-time earlier c len tag (welcomed running) later (omega (arith, arrival)))
 
 pub demand-3-second : Demand-3-second
-unfolding packet-now
 demand-3-second earlier later c len tag word ok = record {
   never-for-room = λ e. not-for-room (run earlier) (invariant earlier) c len tag ok (free-place earlier c len tag word ok) (sym (answer-verdict (offer c len tag) (run earlier .now)) ∙ e);
   accepted = λ running. answer-verdict (offer c len tag) (run earlier .now) ∙ welcomed earlier c len tag word ok running;
@@ -297,8 +311,8 @@ pub told-by-its-own : Told-by-its-own
 told-by-its-own ks c word = go (same c notice-number)
   where
     go : (c ≡ notice-number) ⊎ (c ≡ notice-number → ⊥) → All (Own (figures (run ks .now) c)) (exchanges c ks)
-    go (inl n) = subst (All (Own (figures (run ks .now) c))) (sym (no-connection-asks c n ks nothing-yet [] fresh-invariant)) tt
-    go (inr level) = told-by-own c level ks nothing-yet [] [] fresh-invariant (inl refl) word tt
+    go (inl n) = subst (All (Own (figures (run ks .now) c))) (sym (no-exchanges c ks (subst (λ (j : ℕ). owned (run ks .now .connections) j ≡ false) (sym n) (no-owner (run ks .now) (invariant ks .sound))))) tt
+    go (inr level) = told-by-own c level ks word
 
 pub bed-nine-and-bed-ten : Bed-nine-and-bed-ten
 bed-nine-and-bed-ten ks ms c d alike asked word =
@@ -313,10 +327,10 @@ bed-nine-and-bed-ten ks ms c d alike asked word =
     -- it keeps its word there because it asks the same
     word-there : Keeps-its-word d ms
     word-there =
-        subst (Spaced (figures (run ms .now) d)) (sym (ticks-are-own d ms nothing-yet [] fresh-invariant))
+        subst (Spaced (figures (run ms .now) d)) (sym (ticks-are-own d ms))
         (subst (λ (y : Connection). Spaced y (own-ticks y (map (λ (e : Exchange). e .asked) (exchanges d ms)))) alike
         (subst (λ qs. Spaced x (own-ticks x qs)) asked
-        (subst (Spaced x) (ticks-are-own c ks nothing-yet [] fresh-invariant) word)))
+        (subst (Spaced x) (ticks-are-own c ks) word)))
 
 pub counted : Counted
 counted ks c =
@@ -345,3 +359,23 @@ the-count-never-falls c g w v l = count-mono c g w v l
 
 pub without-average : Without-average
 without-average c P = as-before c P
+
+-- ---- closing
+
+pub close-is-refused : Close-is-refused
+close-is-refused c s S linked = refusals c s S linked
+
+pub closed-gets-10 : Closed-gets-10
+closed-gets-10 s c len tag S e = tens s S c e len tag
+
+pub closed-or-freed : Closed-or-freed
+closed-or-freed c s v = closes c s v
+
+pub freed-by-the-tick : Freed-by-the-tick
+freed-by-the-tick c s v k = tick-frees c s v k
+
+pub charge-lasts : Charge-lasts
+charge-lasts k s c S e = lasts s S c e k
+
+pub lowest-number-is-given : Lowest-number-is-given
+lowest-number-is-given x s v = lowest-given x s v

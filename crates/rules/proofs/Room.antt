@@ -1,30 +1,31 @@
 -- Room for a connection that keeps its word: its packets held and the new one lie within one bound, so they are no more than its reservation.
 use Prim.Native.Nat.{ℕ, _+_, _-_, _≤_, _<_}
 use native.Mathlib.Omega.{arith}
-use mathlib.Core.Path.{_≡_, refl, sym, ap, _∙_, subst}
+use mathlib.Core.Path.{_≡_, refl, sym, ap, _∙_}
 use mathlib.Core.Bool.{Bool, true, false, cond, not}
-use mathlib.Core.List.{List, [], _∷_, _++_, map, append-assoc}
+use mathlib.Core.List.{List, [], _∷_, _++_}
 use lib.Dec.{leb, eqb}
 use lib.ListN.{length}
 use borrow.Author.Tests.{ne-eqb, lt-leb}
 use Rattle.rules.specs.Words.{within, upto}
 use Rattle.rules.specs.Limits.{clock-end, notice-number}
 use Rattle.rules.specs.Model.{Packet, offer, figures}
-use Rattle.rules.specs.Admission.{stands, reservation}
+use Rattle.rules.specs.Admission.{owned, stands, reservation}
 use Rattle.rules.specs.Service.{Spaced, of, eligibilities, level-of}
 use Rattle.rules.specs.SoundTest.{sound}
 use Rattle.rules.specs.Calls.{verdicts, verdict}
 use Rattle.rules.specs.Runs.{History, bound-of, allowed}
-use Rattle.rules.proofs.Lists.{All, all-map, all-zip, total-snoc}
+use Rattle.rules.proofs.Lists.{All, all-map, all-zip, sub-snoc, total-snoc}
 use Rattle.rules.proofs.Sums.{upto-yes, cond-is}
 use Rattle.rules.proofs.Tests.{never, and-true}
-use Rattle.rules.proofs.Rows.{to-of, map-append, length-map, all-map-of}
-use Rattle.rules.proofs.Spacing.{spaced-back, spaced-before}
+use Rattle.rules.proofs.Rows.{to-of, sub-of, sub-map, length-map, all-map-of}
+use Rattle.rules.proofs.Spacing.{spaced-before}
+use Rattle.rules.proofs.WithoutAverage.{spaced-sub}
 use Rattle.rules.proofs.Count.{among, inside, window-law}
-use Rattle.rules.proofs.Standing.{stands-below}
+use Rattle.rules.proofs.Standing.{stands-owned, stands-below}
 use Rattle.rules.proofs.Figures.{Connection-facts, reservation-is}
-use Rattle.rules.proofs.Invariant.{whats, Invariant, facts-of, connections-few, some-bound}
-use Rattle.rules.proofs.InTime.{held-waits, held-in-time}
+use Rattle.rules.proofs.Invariant.{Invariant, facts-of, connections-few, some-bound}
+use Rattle.rules.proofs.InTime.{held-in-time}
 use Rattle.rules.proofs.SoundExact.{exact}
 
 -- all of these lie within b .. t
@@ -32,15 +33,15 @@ all-among : (b t : ℕ) (es : List ℕ) → All (λ e. (b ≤ e) × (e ≤ t)) e
 all-among b t [] h = omega arith
 all-among b t (e ∷ es) h = omega (arith, all-among b t es (h .1), upto-yes e t 1 (h .0 .1), upto-yes b e (upto e t 1) (h .0 .0))
 
-module _ (h : History) (I : Invariant h) (c : ℕ) (standing : stands (h .now .connections) c ≡ true)
-    (keeps : Spaced (figures (h .now) c) (eligibilities c (h .accepted) ++ h .now .clock ∷ [])) where
-  open History h using (now as s, accepted as acc, departed as gone)
+module _ (h : History) (I : Invariant h) (c : ℕ) (standing : stands (h .now) c ≡ true)
+    (keeps : Spaced (figures (h .now) c) (eligibilities c (h .present) ++ h .now .clock ∷ [])) where
+  open History h using (now as s, present as acc)
 
-  below : c < length (s .connections)
-  below = stands-below (s .connections) c standing
+  below : owned (s .connections) c ≡ true
+  below = stands-owned s c standing
 
   level : c ≡ notice-number → ⊥
-  level e = omega (arith, below, connections-few s (I .sound))
+  level e = omega (arith, stands-below s c standing, connections-few s (I .sound))
 
   es : List ℕ
   es = eligibilities c (s .held)
@@ -48,13 +49,7 @@ module _ (h : History) (I : Invariant h) (c : ℕ) (standing : stands (h .now .c
   -- the packets held and the new one keep the spacing
   held-spaced : Spaced (figures s c) (es ++ s .clock ∷ [])
   unfolding es
-  held-spaced =
-      spaced-back (figures s c) (eligibilities c (whats gone)) (eligibilities c (s .held) ++ s .clock ∷ [])
-      (subst (Spaced (figures s c))
-      (ap (λ (l : List ℕ). l ++ s .clock ∷ [])
-      (ap (λ (ps : List Packet). map (λ p. p .eligibility) ps) (I .conserved c ∙ ap (λ (l : List Packet). of c (whats gone) ++ l) (held-waits h c level)) ∙ map-append (λ (p : Packet). p .eligibility) (of c (whats gone)) (of c (s .held)))
-      ∙ append-assoc (eligibilities c (whats gone)) (eligibilities c (s .held)) (s .clock ∷ []))
-      keeps)
+  held-spaced = spaced-sub (figures s c) (sub-snoc (s .clock) (sub-map (λ (p : Packet). p .eligibility) (sub-of c (I .steady .regular .part)))) keeps
 
   some-d : 0 < bound-of s c
   some-d = let F = facts-of s (I .sound) in some-bound s (I .sound) (level-of s c) (F .each c below .low-level) (F .each c below .high-level)
@@ -85,18 +80,18 @@ module _ (h : History) (I : Invariant h) (c : ℕ) (standing : stands (h .now .c
 
 -- ---- an offer to a connection that stands and has room
 
-module _ (h : History) (I : Invariant h) (c len tag : ℕ) (standing : stands (h .now .connections) c ≡ true) where
+module _ (h : History) (I : Invariant h) (c len tag : ℕ) (standing : stands (h .now) c ≡ true) where
   open History h using (now as s)
 
   F : Connection-facts (s .link) (figures s c)
-  F = facts-of s (I .sound) .each c (stands-below (s .connections) c standing)
+  F = facts-of s (I .sound) .each c (stands-owned s c standing)
 
   -- its verdict is 11, 13 or 0
   pub decided : (within 1 (figures s c .size) len ≡ true → length (of c (s .held)) < reservation (s .link) (figures s c))
       → verdict (offer c len tag) s ≡ cond (within 1 (figures s c .size) len) (cond (leb clock-end (s .clock)) 13 0) 11
   unfolding verdicts
   decided room =
-      go (not (sound s)) (eqb (s .link .levels) 0) (not (stands (s .connections) c)) (within 1 (figures s c .size) len)
+      go (not (sound s)) (eqb (s .link .levels) 0) (not (stands s c)) (within 1 (figures s c .size) len)
       (leb (reservation (s .link) (figures s c)) (length (of c (s .held)))) (leb clock-end (s .clock))
       (ap not (exact s .1 (I .sound))) (ne-eqb (s .link .levels) 0 (λ z. omega (arith, F .low-level, F .high-level))) (ap not standing) (λ w. lt-leb _ _ (room w))
     where
@@ -116,7 +111,7 @@ module _ (h : History) (I : Invariant h) (c len tag : ℕ) (ok : allowed (h .now
 
   by-clock : verdict (offer c len tag) s ≡ cond (leb clock-end (s .clock)) 13 0
   by-clock =
-      let p = and-true (stands (s .connections) c) (within 1 (figures s c .size) len) ok in
+      let p = and-true (stands s c) (within 1 (figures s c .size) len) ok in
       decided h I c len tag (p .0) (λ _. room) ∙ cond-is (cond (leb clock-end (s .clock)) 13 0) 11 (p .1)
 
   pub not-for-room : verdict (offer c len tag) s ≡ 12 → ⊥

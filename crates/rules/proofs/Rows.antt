@@ -1,5 +1,5 @@
 -- The packets of a connection, the first of them, and the rows without it.
-use Prim.Native.Nat.{ℕ, suc, _+_, _<_}
+use Prim.Native.Nat.{ℕ, suc, _+_}
 use native.Mathlib.Omega.{arith}
 use mathlib.Core.Path.{_≡_, refl, sym, ap, _∙_, subst}
 use mathlib.Core.Bool.{Bool, true, false, cond, true≢false}
@@ -113,6 +113,10 @@ moved c w gone rs p e = go (same w c)
         rw
         (of-append c gone (p ∷ []), cond-is (p ∷ []) [] (ne-eqb (p .connection) c (λ j. i (sym here ∙ j))), append-nil, of-other w c rs i)
 
+pub nil-of : {A : Type 0} (xs : List A) → length xs ≡ 0 → xs ≡ []
+nil-of [] e = refl
+nil-of (x ∷ xs) e = absurd (omega arith)
+
 -- ---- a property of the packets of c, said of all packets
 
 module _ (c : ℕ) where
@@ -133,16 +137,30 @@ module _ (c : ℕ) where
       go true e k = let i = eqb-true (r .connection) c e in ((i, h .0 i), k)
       go false e k = k
 
-  pub none-of : (rs : List Packet) → All (λ p. p .connection < c) rs → of c rs ≡ []
-  none-of [] h = refl
-  none-of (r ∷ rs) h = cond-is (r ∷ of c rs) (of c rs) (ne-eqb (r .connection) c (λ e. omega arith)) ∙ none-of rs (h .1)
-
   pub of-snoc-same : (rs : List Packet) (p : Packet) → p .connection ≡ c → of c (rs ++ p ∷ []) ≡ of c rs ++ p ∷ []
   of-snoc-same rs p e = of-append c rs (p ∷ []) ∙ ap (λ (l : List Packet). of c rs ++ l) (cond-is (p ∷ []) [] (eq-eqb (p .connection) c e))
 
   pub of-snoc-other : (rs : List Packet) (p : Packet) → (p .connection ≡ c → ⊥) → of c (rs ++ p ∷ []) ≡ of c rs
   of-snoc-other rs p e =
       of-append c rs (p ∷ []) ∙ ap (λ (l : List Packet). of c rs ++ l) (cond-is (p ∷ []) [] (ne-eqb (p .connection) c e)) ∙ append-nil (of c rs)
+
+  pub sub-of : {rs ps : List Packet} → Sub rs ps → Sub (of c rs) (of c ps)
+  sub-of nil = nil
+  sub-of (skip {xs = xs} {ys = ys} y s) = go (eqb (y .connection) c) (sub-of s)
+    where
+      go : (b : Bool) → Sub (of c xs) (of c ys) → Sub (of c xs) (cond b (y ∷ of c ys) (of c ys))
+      go true k = skip y k
+      go false k = k
+  sub-of (keep {xs = xs} {ys = ys} x s) = go (eqb (x .connection) c) (sub-of s)
+    where
+      go : (b : Bool) → Sub (of c xs) (of c ys) → Sub (cond b (x ∷ of c xs) (of c xs)) (cond b (x ∷ of c ys) (of c ys))
+      go true k = keep x k
+      go false k = k
+
+pub sub-map : {A B : Type 0} (f : A → B) {xs ys : List A} → Sub xs ys → Sub (map f xs) (map f ys)
+sub-map f nil = nil
+sub-map f (skip y s) = skip (f y) (sub-map f s)
+sub-map f (keep x s) = keep (f x) (sub-map f s)
 
 -- ---- eligibilities
 
@@ -173,26 +191,26 @@ module _ (c : ℕ) (r : Packet) (rs : List Packet) where
   pub eligibilities-other : (r .connection ≡ c → ⊥) → eligibilities c (r ∷ rs) ≡ eligibilities c rs
   eligibilities-other e = ap (λ (ps : List Packet). map (λ q. q .eligibility) ps) (cond-is (r ∷ of c rs) (of c rs) (ne-eqb (r .connection) c e))
 
-module _ (n : ℕ) where
+module _ (N : ℕ → Type 0) where
   -- what holds of each connection's eligibilities, and of those behind the first packet
   behind-first : (Q : List ℕ → Type 0) → ((e : ℕ) (es : List ℕ) → Q (e ∷ es) → Q es) → (r : Packet) (rs : List Packet)
-      → ((c : ℕ) → c < n → Q (eligibilities c (r ∷ rs))) → (c : ℕ) → c < n → Q (eligibilities c rs)
+      → ((c : ℕ) → N c → Q (eligibilities c (r ∷ rs))) → (c : ℕ) → N c → Q (eligibilities c rs)
   behind-first Q tail r rs h c l = go (same (r .connection) c)
     where
       go : (r .connection ≡ c) ⊎ (r .connection ≡ c → ⊥) → Q (eligibilities c rs)
       go (inl e) = tail (r .eligibility) (eligibilities c rs) (subst Q (eligibilities-same c r rs e) (h c l))
       go (inr e) = subst Q (eligibilities-other c r rs e) (h c l)
 
-  pub all-by-connection : (P : ℕ → Type 0) (rs : List Packet) → All (λ p. p .connection < n) rs
-      → ((c : ℕ) → c < n → All P (eligibilities c rs)) → All (λ p. P (p .eligibility)) rs
+  pub all-by-connection : (P : ℕ → Type 0) (rs : List Packet) → All (λ p. N (p .connection)) rs
+      → ((c : ℕ) → N c → All P (eligibilities c rs)) → All (λ p. P (p .eligibility)) rs
   all-by-connection P [] l h = tt
   all-by-connection P (r ∷ rs) l h = (
     subst (All P) (eligibilities-same (r .connection) r rs refl) (h (r .connection) (l .0)) .0,
     all-by-connection P rs (l .1) (behind-first (All P) (λ e es k. k .1) r rs h),
   )
 
-  pub pairs-by-connection : (R : ℕ → ℕ → Type 0) (rs : List Packet) → All (λ p. p .connection < n) rs
-      → ((c : ℕ) → c < n → Pairs R (eligibilities c rs))
+  pub pairs-by-connection : (R : ℕ → ℕ → Type 0) (rs : List Packet) → All (λ p. N (p .connection)) rs
+      → ((c : ℕ) → N c → Pairs R (eligibilities c rs))
       → Pairs (λ p q. p .connection ≡ q .connection → R (p .eligibility) (q .eligibility)) rs
   pairs-by-connection R [] l h = tt
   pairs-by-connection R (r ∷ rs) l h = (

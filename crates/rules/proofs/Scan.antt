@@ -1,13 +1,13 @@
 -- One pass over the rows (`paced`) says of every connection what `Chain` says of its own rows, and the other way round.
-use Prim.Native.Nat.{ℕ, _<_, max}
+use Prim.Native.Nat.{ℕ, max}
 use mathlib.Core.Path.{_≡_, refl, sym, ap, _∙_, subst}
 use mathlib.Core.Bool.{true}
 use mathlib.Core.Logic.{_⊎_, inl, inr}
 use mathlib.Core.List.{List, [], _∷_, _++_}
 use lib.Dec.{leb}
-use lib.ListN.{length}
 use borrow.Author.Tests.{leb-true, le-leb}
 use Rattle.rules.specs.Model.{Connection, Past, Packet, nth}
+use Rattle.rules.specs.Admission.{owned}
 use Rattle.rules.specs.Service.{earliest, remember, remember-all, eligibilities}
 use Rattle.rules.specs.SoundTest.{latest, in-pace, paced}
 use Rattle.rules.proofs.Lists.{All}
@@ -57,7 +57,7 @@ module _ (cs : List Connection) (t : ℕ) (old : ℕ → Past) where
       go k (inr e) ih =
           rw (eligibilities-other c p ps e) (subst (λ (m : Past). Chain (nth cs c) t m (eligibilities c ps)) (known-other c before p e) (ih (k .1) c))
 
-  pub chain-paced : (before rows : List Packet) → All (λ p. p .connection < length cs) rows → ((c : ℕ) → c < length cs → Chain-of c before rows) → paced cs t old before rows ≡ true
+  pub chain-paced : (before rows : List Packet) → All (λ p. owned cs (p .connection) ≡ true) rows → ((c : ℕ) → owned cs c ≡ true → Chain-of c before rows) → paced cs t old before rows ≡ true
   chain-paced before [] l h = refl
   chain-paced before (p ∷ ps) l h =
       and-intro _ _
@@ -68,7 +68,7 @@ module _ (cs : List Connection) (t : ℕ) (old : ℕ → Past) where
           × Chain (nth cs (p .connection)) t (remember (known (p .connection) before) (p .eligibility)) (eligibilities (p .connection) ps)
       own = rw (eligibilities-same (p .connection) p ps refl) at (h (p .connection) (l .0))
 
-      rest : (c : ℕ) → c < length cs → (p .connection ≡ c) ⊎ (p .connection ≡ c → ⊥) → Chain-of c (before ++ p ∷ []) ps
+      rest : (c : ℕ) → owned cs c ≡ true → (p .connection ≡ c) ⊎ (p .connection ≡ c → ⊥) → Chain-of c (before ++ p ∷ []) ps
       rest c k (inl e) =
           subst (λ (m : Past). Chain (nth cs c) t m (eligibilities c ps)) (sym (known-same c before p e))
           (subst (λ (d : ℕ). Chain (nth cs d) t (remember (known d before) (p .eligibility)) (eligibilities d ps)) e (own .1))

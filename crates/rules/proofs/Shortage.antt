@@ -2,21 +2,20 @@
 use Prim.Native.Nat.{ℕ, zero, suc, _+_, _*_, _-_, _≤_, _<_}
 use native.Mathlib.Omega.{arith}
 use native.Mathlib.Nat.{le-trans, mul-le-mul-left, mul-le-mul-right}
-use mathlib.Core.Path.{_≡_, refl, ap, _∙_}
+use mathlib.Core.Path.{_≡_, refl, sym, ap, _∙_}
 use mathlib.Core.Bool.{true}
-use mathlib.Core.Logic.{_↔_, ⊎-elim}
-use mathlib.Core.List.{List, [], _∷_, _++_}
+use mathlib.Core.Logic.{_⊎_, inl, inr, _↔_, ⊎-elim}
+use mathlib.Core.List.{List}
 use lib.Dec.{leb}
 use lib.ListN.{length}
-use lib.Seq.{getD-append-seam}
 use borrow.Author.Tests.{eqb-true, eq-eqb}
 use Rattle.rules.specs.Words.{upto, sum}
 use Rattle.rules.specs.Limits.{max-largest, max-silence, max-bound, max-connections}
-use Rattle.rules.specs.Model.{Link, Connection, Short, no-connection, nth}
-use Rattle.rules.specs.Admission.{link-within, level-within, figures-within, bound, count, cost, load, reservation, reserved, level-sum, short-from, level-test}
+use Rattle.rules.specs.Model.{Link, Connection, Short, nth}
+use Rattle.rules.specs.Admission.{link-within, level-within, figures-within, free-number, joining, bound, count, cost, load, reservation, reserved, level-sum, short-from, level-test}
 use Rattle.rules.specs.Promises.{Names-the-lowest, No-level-fails, own-term}
-use Rattle.rules.proofs.Sums.{same, cond-ind, sum-eq, upto-le}
-use Rattle.rules.proofs.Standing.{nth-old, length-snoc}
+use Rattle.rules.proofs.Sums.{same, cond-ind, sum-le, sum-add, only, only-at, sum-only, upto-le}
+use Rattle.rules.proofs.Standing.{length-joining, nth-new, nth-other}
 use Rattle.rules.proofs.LevelTest.{test-holds, holds-test, names-lowest}
 use Rattle.rules.proofs.Count.{count-le}
 use Rattle.rules.proofs.Figures.{link-facts, figures-facts, connection-facts, reservation-is, sum-is}
@@ -58,28 +57,38 @@ module _ (l : Link) (cs : List Connection) where
 
 -- ---- what a newcomer adds
 
-module _ (l : Link) (cs : List Connection) (x : Connection) where
+module _ (l : Link) (cs : List Connection) (x : Connection) (room : free-number cs < length cs) where
   -- what a connection adds to the sum of level m, with the bound d
   share : ℕ → ℕ → Connection → ℕ
   share m d c = upto (c .level) m (count c d * cost l (c .size))
 
-  pub load-newcomer : (m d : ℕ) → load l (cs ++ x ∷ []) m d ≡ load l cs m d + upto (x .level) m (count x d * cost l (x .size))
+  pub load-newcomer : (m d : ℕ) → load l (joining cs x) m d ≤ load l cs m d + upto (x .level) m (count x d * cost l (x .size))
   unfolding share
-  load-newcomer m d = ap (λ (n : ℕ). sum n (λ c. share m d (nth (cs ++ x ∷ []) c))) (length-snoc cs x ∙ more) ∙ split
+  load-newcomer m d =
+      omega (
+        arith,
+        ap (λ (n : ℕ). sum n (λ c. share m d (nth (joining cs x) c))) (length-joining cs x room),
+        sum-le (length cs) {f = λ c. share m d (nth (joining cs x) c)} {g = λ c. share m d (nth cs c) + only (free-number cs) (share m d x) c} (λ c k. one c (same c (free-number cs))),
+        sum-add (length cs) (λ c. share m d (nth cs c)) (only (free-number cs) (share m d x)),
+        sum-only (free-number cs) (share m d x) (length cs) room,
+      )
     where
-      more : length cs + 1 ≡ suc (length cs)
-      more = omega arith
-
-      split : sum (suc (length cs)) (λ c. share m d (nth (cs ++ x ∷ []) c)) ≡ sum (length cs) (λ c. share m d (nth cs c)) + share m d x
-      split = omega (arith, sum-eq (length cs) (λ c k. ap (share m d) (nth-old cs x c k)), ap (share m d) (getD-append-seam cs x [] no-connection))
+      one : (c : ℕ) → (c ≡ free-number cs) ⊎ (c ≡ free-number cs → ⊥) → share m d (nth (joining cs x) c) ≤ share m d (nth cs c) + only (free-number cs) (share m d x) c
+      one c (inl e) =
+          omega (
+            arith,
+            ap (share m d) (ap (λ (j : ℕ). nth (joining cs x) j) e ∙ nth-new cs x room),
+            only-at (free-number cs) (share m d x) (sym e),
+          )
+      one c (inr e) = omega (arith, ap (share m d) (nth-other cs x room c e))
 
   -- where the others hold, the excess is no more than the newcomer's own term
-  pub excess-le : (m : ℕ) → level-sum l cs m ≤ bound l m → level-sum l (cs ++ x ∷ []) m - bound l m ≤ own-term l x m
+  pub excess-le : (m : ℕ) → level-sum l cs m ≤ bound l m → level-sum l (joining cs x) m - bound l m ≤ own-term l x m
   excess-le m h =
       omega (
         arith,
         sum-is l cs m,
-        sum-is l (cs ++ x ∷ []) m,
+        sum-is l (joining cs x) m,
         load-newcomer m (bound l m),
         upto-le (x .level) m (count x (bound l m) * cost l (x .size)),
       )

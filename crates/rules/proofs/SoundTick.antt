@@ -2,19 +2,21 @@
 use Prim.Native.Nat.{ℕ, zero, suc, _+_, _-_, _≤_, _<_}
 use native.Mathlib.Omega.{arith}
 use mathlib.Core.Path.{_≡_, refl, sym, ap, _∙_, subst}
+use mathlib.Core.Bool.{true}
 use mathlib.Core.Logic.{_⊎_, inl, inr, ⊎-elim}
 use mathlib.Core.List.{List, [], _∷_, map}
 use mathlib.Core.Option.{Option, none, some}
 use lib.ListN.{length}
 use Rattle.rules.specs.Limits.{clock-end, max-notices, notice-number}
 use Rattle.rules.specs.Model.{Packet, Notice, State, Answer, past, figures, first-notice, with-line}
+use Rattle.rules.specs.Admission.{owned}
 use Rattle.rules.specs.Service.{of, eligibilities, first, without, level-of, chosen, later, takes, line-after-start, after-unit, ticked}
-use Rattle.rules.specs.SoundState.{Fits, Dated, Queue, Notice-fits, Idle, In-service, Notice-in-service, Serves, Sound-with-link}
+use Rattle.rules.specs.SoundState.{Fits, Dated, Queue, Notice-fits, Idle, In-service, Notice-in-service, Serves, Orderly}
 use Rattle.rules.proofs.Lists.{All, all-map, all-sub, Pairs, Sub, sub-refl}
 use Rattle.rules.proofs.Sums.{same}
-use Rattle.rules.proofs.Rows.{first-all, first-of, sub-without, of-first, of-other, pairs-by-connection}
+use Rattle.rules.proofs.Rows.{nil-of, first-all, first-of, sub-without, of-first, of-other, pairs-by-connection}
 use Rattle.rules.proofs.Notices.{first-notice-is}
-use Rattle.rules.proofs.Standing.{stands-below}
+use Rattle.rules.proofs.Standing.{owned-below}
 use Rattle.rules.proofs.Figures.{Connection-facts, connection-facts}
 use Rattle.rules.proofs.Line.{start-idle, start-silent, start-busy, last-of-packet, last-of-notice}
 use Rattle.rules.proofs.Queue.{Regulated, regulated-of, queue-rises, queue-chained, chained-queue, chained-later, chained-tail}
@@ -32,27 +34,27 @@ unfoldable pub notice-serves : (s : State) (n : Notice) (ns : List Notice) → s
     → Notice-in-service (with-line s notice-number (n .len) (s .silent))
 notice-serves s n ns e f = record { it = n; is-first = ap first-notice e; is-notice = refl; some-to-go = f .0 .some-len; to-go-le = omega arith }
 
-module _ (s : State) (S : Sound-with-link s) where
+module _ (s : State) (S : Orderly s) where
   -- a packet in service bears no notice's number
   pub no-notice : (w u q : ℕ) → In-service (with-line s w u q) → w ≡ notice-number → ⊥
   no-notice w u q r e =
       omega (
         arith,
-        S .few,
+        S .numbers,
         first-of w (s .held) (r .it) (r .is-first),
-        stands-below (s .connections) (r .it .connection) (first-all w (Fits (s .connections)) (s .held) (r .it) (r .is-first) (S .fit) .standing),
+        owned-below (s .connections) (r .it .connection) (first-all w (Fits (s .connections)) (s .held) (r .it) (r .is-first) (S .fit) .owner),
       )
 
-  pub facts : (c : ℕ) → c < length (s .connections) → Connection-facts (s .link) (figures s c)
+  pub facts : (c : ℕ) → owned (s .connections) c ≡ true → Connection-facts (s .link) (figures s c)
   facts c l = connection-facts (s .link) (figures s c) (S .levels-in c l) (S .figures-in c l)
 
-  pub regulated : (c : ℕ) → c < length (s .connections) → Regulated (figures s c)
+  pub regulated : (c : ℕ) → owned (s .connections) c ≡ true → Regulated (figures s c)
   regulated c l = regulated-of (s .link) (figures s c) (facts c l)
 
   -- each connection's rows rise, so no row overtakes one of its own connection
   pub rows-rise : Pairs Rising (s .held)
   rows-rise =
-      pairs-by-connection (length (s .connections)) (λ a b. a < b) (s .held) (all-map (λ p f. stands-below (s .connections) (p .connection) (f .standing)) (s .held) (S .fit))
+      pairs-by-connection (λ c. owned (s .connections) c ≡ true) (λ a b. a < b) (s .held) (all-map (λ p f. f .owner) (s .held) (S .fit))
       (λ c l. queue-rises (figures s c) (s .clock) (past s c) (eligibilities c (s .held)) (facts c l .some-gap) (S .queue c l))
 
   pub choice-holds : Chosen (level-of s) (s .clock) (s .held) (chosen s)
@@ -63,19 +65,21 @@ module _ (s : State) (S : Sound-with-link s) where
     sound-later : (held : List Packet) (ns : List Notice) (serving to-go silent : ℕ)
         → Sub held (s .held)
         → ((c : ℕ) → length (of c held) ≤ length (of c (s .held)))
-        → ((c : ℕ) → c < length (s .connections) → Queue (figures s c) (s .clock) (past s c) (eligibilities c held))
+        → ((c : ℕ) → owned (s .connections) c ≡ true → Queue (figures s c) (s .clock) (past s c) (eligibilities c held))
         → length ns ≤ max-notices
         → All (Notice-fits (s .link) (s .clock)) ns
         → Idle (later s held ns serving to-go silent) ⊎ Serves (later s held ns serving to-go silent)
         → silent ≤ s .link .silence
         → (1 ≤ to-go → silent ≡ 0)
-        → Sound-with-link (later s held ns serving to-go silent)
+        → Orderly (later s held ns serving to-go silent)
     sound-later held ns serving to-go silent sub fewer queue few fit line quiet alone = record {
       link-in = S .link-in;
       levels-in = S .levels-in;
       figures-in = S .figures-in;
-      few = S .few;
+      numbers = S .numbers;
       one-past-each = S .one-past-each;
+      one-mark-each = S .one-mark-each;
+      free-blank = λ c l o. let f = S .free-blank c l o in record { no-figures = f .no-figures; no-memory = f .no-memory; not-closed = f .not-closed };
       tested = S .tested;
       reserved-le = S .reserved-le;
       clock-le = omega (arith, running);
@@ -90,15 +94,16 @@ module _ (s : State) (S : Sound-with-link s) where
       line = line;
       silent-le = quiet;
       silent-alone = alone;
+      closed-empty = λ c k. nil-of (of c held) (omega (arith, fewer c, ap length (S .closed-empty c k)));
     }
 
     -- the packet in service has sent its last unit
-    sound-departed : (w : ℕ) → In-service (with-line s w 1 (s .silent)) → Sound-with-link (later s (without w (s .held)) (s .notices) 0 0 (s .link .silence))
+    sound-departed : (w : ℕ) → In-service (with-line s w 1 (s .silent)) → Orderly (later s (without w (s .held)) (s .notices) 0 0 (s .link .silence))
     sound-departed w r =
         sound-later (without w (s .held)) (s .notices) 0 0 (s .link .silence) (sub-without w (sub-refl (s .held))) (λ c. fewer c (same w c)) (λ c l. shorter c l (same w c))
         (S .few-notices) (S .notices-fit) (inl (refl, refl)) (omega arith) (λ n. absurd (omega arith))
       where
-        shorter : (c : ℕ) → c < length (s .connections) → (w ≡ c) ⊎ (w ≡ c → ⊥) → Queue (figures s c) (s .clock) (past s c) (eligibilities c (without w (s .held)))
+        shorter : (c : ℕ) → owned (s .connections) c ≡ true → (w ≡ c) ⊎ (w ≡ c → ⊥) → Queue (figures s c) (s .clock) (past s c) (eligibilities c (without w (s .held)))
         shorter c l (inl e) =
             subst (λ (d : ℕ). Queue (figures s c) (s .clock) (past s c) (eligibilities c (without d (s .held)))) (sym e)
             (chained-queue (figures s c) (regulated c l) (s .clock) (past s c) (eligibilities c (without c (s .held)))
@@ -115,7 +120,7 @@ module _ (s : State) (S : Sound-with-link s) where
         fewer c (inr e) = omega (arith, ap length (of-other w c (s .held) e))
 
     -- the first notice has
-    sound-notice-gone : (n : Notice) (ns : List Notice) → s .notices ≡ n ∷ ns → Sound-with-link (later s (s .held) ns 0 0 (s .link .silence))
+    sound-notice-gone : (n : Notice) (ns : List Notice) → s .notices ≡ n ∷ ns → Orderly (later s (s .held) ns 0 0 (s .link .silence))
     sound-notice-gone n ns e =
         sound-later (s .held) ns 0 0 (s .link .silence) (sub-refl (s .held)) (λ c. omega arith) (S .queue)
         (omega (arith, S .few-notices, ap length e))
@@ -125,21 +130,21 @@ module _ (s : State) (S : Sound-with-link s) where
     -- something else than a last unit goes, or nothing
     sound-on : (w u q : ℕ) → Idle (later s (s .held) (s .notices) w u q) ⊎ Serves (later s (s .held) (s .notices) w u q)
         → q ≤ s .link .silence → (1 ≤ u → q ≡ 0)
-        → Sound-with-link (later s (s .held) (s .notices) w u q)
+        → Orderly (later s (s .held) (s .notices) w u q)
     sound-on w u q line quiet alone = sound-later (s .held) (s .notices) w u q (sub-refl (s .held)) (λ c. omega arith) (S .queue) (S .few-notices) (S .notices-fit) line quiet alone
 
     -- the line after step 1: idle or serving, and silent only where nothing is in service
     abbrev Line-ready : ℕ → ℕ → Type 0
     Line-ready w u = (Idle (with-line s w u (s .silent)) ⊎ Serves (with-line s w u (s .silent))) × (1 ≤ u → s .silent ≡ 0)
 
-    sound-unit : (w u : ℕ) → Line-ready w u → Sound-with-link (after-unit (with-line s w u (s .silent)) u .next)
+    sound-unit : (w u : ℕ) → Line-ready w u → Orderly (after-unit (with-line s w u (s .silent)) u .next)
     sound-unit w zero k = sound-on 0 0 (s .silent - 1) (inl (refl, refl)) (omega (arith, S .silent-le)) (λ n. absurd (omega arith))
     sound-unit w (suc zero) (inl z, a) = absurd (omega (arith, z .0))
     sound-unit w (suc zero) (inr (inl r), a) =
-        subst (λ (a : Answer). Sound-with-link (a .next)) (sym (last-of-packet (with-line s w 1 (s .silent)) (no-notice w 1 (s .silent) r))) (sound-departed w r)
+        subst (λ (a : Answer). Orderly (a .next)) (sym (last-of-packet (with-line s w 1 (s .silent)) (no-notice w 1 (s .silent) r))) (sound-departed w r)
     sound-unit w (suc zero) (inr (inr r), a) =
         let k = first-notice-is (s .notices) (r .it) (r .is-first) in
-        subst (λ (a : Answer). Sound-with-link (a .next)) (sym (last-of-notice (with-line s w 1 (s .silent)) (r .it) (k .0) (r .is-notice) (k .1)))
+        subst (λ (a : Answer). Orderly (a .next)) (sym (last-of-notice (with-line s w 1 (s .silent)) (r .it) (k .0) (r .is-notice) (k .1)))
         (sound-notice-gone (r .it) (k .0) (k .1))
     sound-unit w (suc (suc u)) (inl z, a) = absurd (omega (arith, z .0))
     sound-unit w (suc (suc u)) (inr (inl r), a) =
@@ -175,5 +180,5 @@ module _ (s : State) (S : Sound-with-link s) where
           λ _. S .silent-alone (omega arith),
         )
 
-    pub sound-ticked : Sound-with-link (ticked s .next)
+    pub sound-ticked : Orderly (ticked s .next)
     sound-ticked = sound-unit (line-after-start s (s .to-go) (s .silent) .0) (line-after-start s (s .to-go) (s .silent) .1) (sound-start (s .to-go) (s .silent) refl refl)

@@ -85,10 +85,6 @@ module _ (c : Connection) where
   behind-fewer P m k [] F s = tt
   behind-fewer P m k (e ∷ es) F s = (omega (arith, earliest-fewer P c m k F, s .0), behind-fewer P (e ∷ m) (e ∷ k) es (refl, F) (s .1))
 
-  behind-back : (h xs ys : List ℕ) → Spaced-behind c h (xs ++ ys) → Spaced-behind c [] ys
-  behind-back h [] ys s = behind-fewer (λ _. Unit {0}) h [] ys (all-every (λ _. tt) h) s
-  behind-back h (x ∷ xs) ys s = behind-back (x ∷ h) xs ys (s .1)
-
   -- every one behind e is a gap after it
   pub behind-gap : (e : ℕ) (h es : List ℕ) → Spaced-behind c (e ∷ h) es → All (λ f. e + c .gap ≤ f) es
   behind-gap e h [] s = tt
@@ -139,10 +135,6 @@ module _ (c : Connection) where
 
   pub spaced-rises : 1 ≤ c .gap → (es : List ℕ) → Spaced c es → Pairs (λ a b. a < b) es
   spaced-rises g es s = pairs-map (λ _. Unit {0}) (λ a b _ k. omega arith) es (all-every (λ _. tt) es) (spaced-pairs es s)
-
-  pub spaced-back : (xs ys : List ℕ) → Spaced c (xs ++ ys) → Spaced c ys
-  unfolding Spaced
-  spaced-back xs ys s = behind-back [] xs ys s
 
   pub spaced-front : (xs ys : List ℕ) → Spaced c (xs ++ ys) → Spaced c xs
   unfolding Spaced

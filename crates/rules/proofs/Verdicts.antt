@@ -3,13 +3,13 @@ use Prim.Native.Nat.{ℕ, zero, suc, _≤_, _<_}
 use native.Mathlib.Omega.{arith}
 use mathlib.Core.Path.{_≡_, refl}
 use mathlib.Core.Bool.{Bool, true, false, cond, not}
-use mathlib.Core.List.{List, [], _∷_, _++_}
+use mathlib.Core.List.{List, [], _∷_}
 use lib.Dec.{leb, ltb, eqb}
 use lib.ListN.{length}
 use borrow.Author.Tests.{eqb-true, eqb-false, leb-false, ltb-false, not-false, not-true}
 use Rattle.rules.specs.Limits.{max-connections, max-reserved, clock-end, max-notices}
-use Rattle.rules.specs.Model.{Link, Connection, State, Call, link, admit, offer, notice, tick, Answer, figures}
-use Rattle.rules.specs.Admission.{link-within, level-within, figures-within, stands, reservation, reserved, passes}
+use Rattle.rules.specs.Model.{Link, Connection, State, Call, link, admit, offer, notice, close, tick, Answer, figures}
+use Rattle.rules.specs.Admission.{link-within, level-within, figures-within, free-number, joining, stands, reservation, reserved, passes}
 use Rattle.rules.specs.Service.{of}
 use Rattle.rules.specs.SoundTest.{sound}
 use Rattle.rules.specs.Calls.{causes, verdicts, verdict, done, refused, settle}
@@ -39,17 +39,23 @@ none-holds v (r ∷ rs) h = go (eqb (r .0) v) (none-holds v rs (h .1))
     go false k = k
 
 -- the numbers of the causes
-pub causes-from-2 : (k : Call) (s : State) → All (λ r. (2 ≤ r .0) × (r .0 ≤ 15)) (causes k s)
+pub causes-from-2 : (k : Call) (s : State) → All (λ r. (2 ≤ r .0) × (r .0 ≤ 16)) (causes k s)
 causes-from-2 (link l) s = omega arith
 causes-from-2 (admit x) s = omega arith
 causes-from-2 (offer c len tag) s = omega arith
 causes-from-2 (notice len tag) s = omega arith
+causes-from-2 (close c) s = omega arith
 causes-from-2 tick s = omega arith
 
 -- at verdict 0 the test of no row holds
 not-given : (k : Call) (s : State) → verdict k s ≡ 0 → (v : ℕ) → test-of v (verdicts k s) ≡ false
 unfolding verdicts
-not-given k s e v = none-holds v (verdicts k s) (passed (verdicts k s) (omega arith, all-map {P = λ r. (2 ≤ r .0) × (r .0 ≤ 15)} {Q = λ r. 0 < r .0} (λ r n. omega arith) (causes k s) (causes-from-2 k s)) e)
+not-given k s e v = none-holds v (verdicts k s) (passed (verdicts k s) (omega arith, all-map {P = λ r. (2 ≤ r .0) × (r .0 ≤ 16)} {Q = λ r. 0 < r .0} (λ r n. omega arith) (causes k s) (causes-from-2 k s)) e)
+
+-- the state is sound
+pub given-sound : (k : Call) (s : State) → verdict k s ≡ 0 → sound s ≡ true
+unfolding verdicts
+given-sound k s e = not-false _ (not-given k s e 1)
 
 -- ---- each call done
 
@@ -68,9 +74,9 @@ pub record Admit-done (s : State) (x : Connection) : Type 0 where
   pub set : s .link .levels ≡ 0 → ⊥
   pub level-in : level-within (s .link) x ≡ true
   pub figures-in : figures-within (s .link) x ≡ true
-  pub few : length (s .connections) < max-connections
-  pub tests-hold : passes (s .link) (s .connections ++ x ∷ []) ≡ true
-  pub reserved-le : reserved (s .link) (s .connections ++ x ∷ []) ≤ max-reserved
+  pub free : free-number (s .connections) < max-connections
+  pub tests-hold : passes (s .link) (joining (s .connections) x) ≡ true
+  pub reserved-le : reserved (s .link) (joining (s .connections) x) ≤ max-reserved
 
 pub admit-done : (s : State) (x : Connection) → verdict (admit x) s ≡ 0 → Admit-done s x
 unfolding verdicts
@@ -78,7 +84,7 @@ admit-done s x e = record {
   set = eqb-false _ _ (not-given (admit x) s e 2);
   level-in = not-false _ (not-given (admit x) s e 5);
   figures-in = not-false _ (not-given (admit x) s e 6);
-  few = leb-false _ _ (not-given (admit x) s e 7);
+  free = leb-false _ _ (not-given (admit x) s e 7);
   tests-hold = not-false _ (not-given (admit x) s e 8);
   reserved-le = ltb-false _ _ (not-given (admit x) s e 9);
 }
@@ -88,30 +94,31 @@ pub record Short-refused (s : State) (x : Connection) : Type 0 where
   pub sound-state : sound s ≡ true
   pub set : s .link .levels ≡ 0 → ⊥
   pub figures-in : figures-within (s .link) x ≡ true
-  pub fails : passes (s .link) (s .connections ++ x ∷ []) ≡ false
+  pub free : free-number (s .connections) < max-connections
+  pub fails : passes (s .link) (joining (s .connections) x) ≡ false
 
 pub short-refused : (s : State) (x : Connection) → verdict (admit x) s ≡ 8 → Short-refused s x
 unfolding verdicts
 short-refused s x e =
     let k =
-    go (not (sound s)) (eqb (s .link .levels) 0) (not (level-within (s .link) x)) (not (figures-within (s .link) x)) (leb max-connections (length (s .connections)))
-    (not (passes (s .link) (s .connections ++ x ∷ []))) (ltb max-reserved (reserved (s .link) (s .connections ++ x ∷ []))) e in
-    record { sound-state = not-false _ (k .0); set = eqb-false _ _ (k .1); figures-in = not-false _ (k .2); fails = not-true _ (k .3) }
+    go (not (sound s)) (eqb (s .link .levels) 0) (not (level-within (s .link) x)) (not (figures-within (s .link) x)) (leb max-connections (free-number (s .connections)))
+    (not (passes (s .link) (joining (s .connections) x))) (ltb max-reserved (reserved (s .link) (joining (s .connections) x))) e in
+    record { sound-state = not-false _ (k .0); set = eqb-false _ _ (k .1); figures-in = not-false _ (k .2); free = leb-false _ _ (k .3); fails = not-true _ (k .4) }
   where
     go : (a b c d f g h : Bool) → _≡_ {A = ℕ} (cond a 1 (cond b 2 (cond c 5 (cond d 6 (cond f 7 (cond g 8 (cond h 9 0))))))) 8
-        → (a ≡ false) × (b ≡ false) × (d ≡ false) × (g ≡ true)
+        → (a ≡ false) × (b ≡ false) × (d ≡ false) × (f ≡ false) × (g ≡ true)
     go true b c d f g h e = absurd (omega arith)
     go false true c d f g h e = absurd (omega arith)
     go false false true d f g h e = absurd (omega arith)
     go false false false true f g h e = absurd (omega arith)
     go false false false false true g h e = absurd (omega arith)
-    go false false false false false true h e = (refl, refl, refl, refl)
+    go false false false false false true h e = (refl, refl, refl, refl, refl)
     go false false false false false false true e = absurd (omega arith)
     go false false false false false false false e = absurd (omega arith)
 
 pub record Offer-done (s : State) (c len : ℕ) : Type 0 where
   pub set : s .link .levels ≡ 0 → ⊥
-  pub standing : stands (s .connections) c ≡ true
+  pub standing : stands s c ≡ true
   pub some-len : 1 ≤ len
   pub len-le : len ≤ figures s c .size
   pub room : length (of c (s .held)) < reservation (s .link) (figures s c)
@@ -149,6 +156,19 @@ notice-done s len tag e =
       running = leb-false _ _ (not-given (notice len tag) s e 13);
       room = leb-false _ _ (not-given (notice len tag) s e 15);
     }
+
+pub record Close-done (s : State) (c : ℕ) : Type 0 where
+  pub set : s .link .levels ≡ 0 → ⊥
+  pub standing : stands s c ≡ true
+  pub empty : length (of c (s .held)) < 1
+
+pub close-done : (s : State) (c : ℕ) → verdict (close c) s ≡ 0 → Close-done s c
+unfolding verdicts
+close-done s c e = record {
+  set = eqb-false _ _ (not-given (close c) s e 2);
+  standing = not-false _ (not-given (close c) s e 10);
+  empty = leb-false _ _ (not-given (close c) s e 16);
+}
 
 pub record Tick-done (s : State) : Type 0 where
   pub set : s .link .levels ≡ 0 → ⊥

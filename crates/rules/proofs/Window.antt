@@ -2,8 +2,8 @@
 use Prim.Native.Nat.{ℕ, _+_, _*_, _≤_, _<_}
 use native.Mathlib.Omega.{arith}
 use native.Mathlib.Nat.{mul-le-mul-right}
-use mathlib.Core.Path.{_≡_, refl, ap, _∙_}
-use mathlib.Core.Bool.{Bool, true, false, cond}
+use mathlib.Core.Path.{_≡_, refl, sym, ap, _∙_}
+use mathlib.Core.Bool.{Bool, true, false, cond, true≢false}
 use mathlib.Core.Logic.{_⊎_, inl, inr}
 use mathlib.Core.List.{List, [], _∷_, map}
 use lib.Dec.{eqb}
@@ -11,13 +11,14 @@ use lib.ListN.{length}
 use borrow.Author.Tests.{eqb-true, eqb-false}
 use Rattle.rules.specs.Words.{upto}
 use Rattle.rules.specs.Model.{Link, Connection, Packet, nth}
-use Rattle.rules.specs.Admission.{count, cost, load}
+use Rattle.rules.specs.Admission.{owned, count, cost, load}
 use Rattle.rules.specs.Service.{Spaced, of, eligibilities}
 use Rattle.rules.specs.SoundState.{Fits}
 use Rattle.rules.proofs.Lists.{All, all-map, total, total-le, total-mul}
 use Rattle.rules.proofs.Sums.{split, same, upto-yes, upto-no, upto-mono, upto-mul, only, only-at, only-off, sum-le, total-by}
 use Rattle.rules.proofs.Count.{inside, among, window-law}
-use Rattle.rules.proofs.Standing.{stands-below}
+use Rattle.rules.proofs.Notices.{of-none}
+use Rattle.rules.proofs.Standing.{owned-below}
 use Rattle.rules.proofs.Figures.{cost-mono}
 
 -- x if p is eligible within b .. t
@@ -81,14 +82,14 @@ module _ (l : Link) (cs : List Connection) (m b t d : ℕ) (lt : t < b + d) wher
 
   -- within d ticks no more becomes eligible than the level test counts
   pub arrived-le : (ps : List Packet)
-      → ((c : ℕ) → c < length cs → 1 ≤ nth cs c .gap)
+      → ((c : ℕ) → owned cs c ≡ true → 1 ≤ nth cs c .gap)
       → All (Fits cs) ps
-      → ((c : ℕ) → c < length cs → Spaced (nth cs c) (eligibilities c ps))
+      → ((c : ℕ) → owned cs c ≡ true → Spaced (nth cs c) (eligibilities c ps))
       → arrived l cs m b t ps ≤ load l cs m d
   arrived-le ps g f h =
       omega (
         arith,
-        total-by (λ p. p .connection) (weight l cs m b t) (length cs) ps (all-map (λ p k. stands-below cs (p .connection) (k .standing)) ps f),
+        total-by (λ p. p .connection) (weight l cs m b t) (length cs) ps (all-map (λ p k. owned-below cs (p .connection) (k .owner)) ps f),
         sum-le (length cs)
             {f = λ c. total (λ p. only (p .connection) (weight l cs m b t p) c) ps}
             {g = λ c. upto (nth cs c .level) m (count (nth cs c) d * cost l (nth cs c .size))}
@@ -97,10 +98,20 @@ module _ (l : Link) (cs : List Connection) (m b t d : ℕ) (lt : t < b + d) wher
               arith,
               total-le (λ p. only (p .connection) (weight l cs m b t p) c) (λ p. hit c b t p * upto (nth cs c .level) m (cost l (nth cs c .size))) ps (all-map (λ p k. piece c p k) ps f),
               total-mul (hit c b t) (upto (nth cs c .level) m (cost l (nth cs c .size))) ps,
-              mul-le-mul-right (upto (nth cs c .level) m (cost l (nth cs c .size))) (few c i),
+              mul-le-mul-right (upto (nth cs c .level) m (cost l (nth cs c .size))) (few c),
               upto-mul (nth cs c .level) m (count (nth cs c) d) (cost l (nth cs c .size)),
             )),
       )
     where
-      few : (c : ℕ) → c < length cs → total (hit c b t) ps ≤ count (nth cs c) d
-      few c i = omega (arith, hits-among c b t ps, window-law (nth cs c) t (eligibilities c ps) b d (g c i) (h c i) lt)
+      few : (c : ℕ) → total (hit c b t) ps ≤ count (nth cs c) d
+      few c = go (owned cs c) refl
+        where
+          go : (o : Bool) → owned cs c ≡ o → total (hit c b t) ps ≤ count (nth cs c) d
+          go true i = omega (arith, hits-among c b t ps, window-law (nth cs c) t (eligibilities c ps) b d (g c i) (h c i) lt)
+          -- a free number has no packet
+          go false i =
+              omega (
+                arith,
+                hits-among c b t ps,
+                ap (λ (qs : List Packet). among b t (map (λ q. q .eligibility) qs)) (of-none c ps (all-map (λ p k e. true≢false (sym (k .owner) ∙ ap (owned cs) e ∙ i)) ps f)),
+              )

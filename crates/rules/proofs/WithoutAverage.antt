@@ -17,7 +17,7 @@ use Rattle.rules.specs.Service.{nth-before, ticks-after, earliest, next-
 use Rattle.rules.specs.SoundState.{departed-of, reach, Near-by, Beyond, Queue}
 use Rattle.rules.specs.SoundTest.{latest}
 use Rattle.rules.specs.WithoutAverage.{Plain, Apart, in-ticks, base-figures-within, base-count, base-eligibility, Base-spaced, last-of, Ends-at, First-near, In-steps, Later-exact, Base-queue, Memory-kept}
-use Rattle.rules.proofs.Lists.{All, Pairs, all-map, all-every}
+use Rattle.rules.proofs.Lists.{All, Pairs, all-map, all-sub, all-every, Sub, nil, skip, keep}
 use Rattle.rules.proofs.Sums.{split, cond-is}
 use Rattle.rules.proofs.Tests.{and-intro}
 use Rattle.rules.proofs.Memory.{all-remember}
@@ -81,6 +81,40 @@ module _ (c : Connection) where
     λ s. (spaced-pairs c es s, spaced-apart es s (burst c) refl),
     λ k. spaced-made c es (made-behind [] es (all-every (λ f. omega arith) es) (ahead-none (burst c) es) (k .0) (k .1)),
   )
+
+-- ---- a part of spaced eligibilities, in order, is spaced
+
+sub-tail : {A : Type 0} (x : A) (xs : List A) {ys : List A} → Sub (x ∷ xs) ys → Sub xs ys
+sub-tail x xs (skip y s) = skip y (sub-tail x xs s)
+sub-tail x xs (keep y s) = skip y s
+
+sub-less : {A : Type 0} (k : ℕ) (xs : List A) {ys : List A} → Sub (drop k xs) ys → Sub (drop (suc k) xs) ys
+sub-less zero [] s = s
+sub-less zero (x ∷ xs) s = sub-tail x xs s
+sub-less (suc k) [] s = s
+sub-less (suc k) (x ∷ xs) s = sub-less k xs s
+
+sub-drop : {A : Type 0} (k : ℕ) {xs ys : List A} → Sub xs ys → Sub (drop k xs) (drop k ys)
+sub-drop zero s = s
+sub-drop (suc k) nil = nil
+sub-drop (suc k) (skip {xs = xs} {ys = ys} y s) = sub-less k xs (sub-drop k s)
+sub-drop (suc k) (keep x s) = sub-drop k s
+
+pairs-sub : {A : Type 0} (R : A → A → Type 0) {xs ys : List A} → Sub xs ys → Pairs R ys → Pairs R xs
+pairs-sub R nil h = tt
+pairs-sub R (skip y s) h = pairs-sub R s (h .1)
+pairs-sub R (keep x s) h = (all-sub (R x) s (h .0), pairs-sub R s (h .1))
+
+apart-sub : (n x : ℕ) {es fs : List ℕ} → Sub es fs → Apart n x fs → Apart n x es
+apart-sub zero x s h = tt
+apart-sub (suc k) x nil h = tt
+apart-sub (suc k) x (skip y s) h = apart-sub (suc k) x s (h .1)
+apart-sub (suc k) x (keep e s) h = (all-sub (λ f. e + x ≤ f) (sub-drop k s) (h .0), apart-sub (suc k) x s (h .1))
+
+pub spaced-sub : (c : Connection) {es fs : List ℕ} → Sub es fs → Spaced c fs → Spaced c es
+spaced-sub c {es} {fs} s h =
+    let k = says c fs .0 h in
+    says c es .1 (pairs-sub (λ a b. a + c .gap ≤ b) s (k .0), apart-sub (burst c) (c .window) s (k .1))
 
 pub hits-are : (b w : ℕ) (es : List ℕ) → in-ticks b w es ≡ hits b w es
 hits-are b w [] = refl

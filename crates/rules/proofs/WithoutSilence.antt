@@ -11,7 +11,7 @@ use lib.ListN.{length}
 use borrow.Author.Tests.{le-leb}
 use Rattle.rules.specs.Words.{upto}
 use Rattle.rules.specs.Limits.{max-silence, notice-number}
-use Rattle.rules.specs.Model.{Link, Connection, Notice, State, Call, link, admit, offer, notice, tick, nth}
+use Rattle.rules.specs.Model.{Link, Connection, Notice, State, Call, link, admit, offer, notice, close, tick, nth}
 use Rattle.rules.specs.Admission.{link-within, bound, count, cost, level-sum, short-from, level-test}
 use Rattle.rules.specs.Service.{started, packet-departs, notice-departs, after-unit, ticked}
 use Rattle.rules.specs.SoundState.{Sound}
@@ -73,13 +73,14 @@ module _ (s : State) (z : s .link .silence ≡ 0) where
     where
       go : (s .link .levels ≡ 0) ⊎ (s .link .levels ≡ 0 → ⊥) → s .silent ≡ 0
       go (inl e) = ap (λ (r : State). r .silent) (S .with-no-link e)
-      go (inr n) = omega (arith, S .with-one n .silent-le)
+      go (inr n) = omega (arith, S .with-one n .orderly .silent-le)
 
   done-silent : Sound s → (k : Call) → done k s .next .silent ≡ 0
   done-silent S (link l) = now-silent S
   done-silent S (admit x) = now-silent S
   done-silent S (offer c len tag) = now-silent S
   done-silent S (notice len tag) = now-silent S
+  done-silent S (close c) = now-silent S
   done-silent S tick = omega (arith, tick-silent, now-silent S)
 
   pub no-silence-runs : No-silence-runs s

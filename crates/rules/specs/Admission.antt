@@ -1,13 +1,13 @@
 -- Who may come in: the limits, the window count, the reservation and the level test.
--- Document 01, "Link, connections, places" and "The level test"; document 02, R-2, R-4 and R-6.
+-- Document 01, "Link, connections, places" and "The level test"; document 02, R-2, R-4, R-6 and R-8.
 use Prim.Native.Nat.{ℕ, zero, suc, _+_, _*_, _-_, _/_, _%_, min}
-use mathlib.Core.Bool.{Bool, true, false, cond, _&&_, _||_}
+use mathlib.Core.Bool.{Bool, true, false, cond, not, _&&_, _||_}
 use mathlib.Core.List.{List, [], _∷_}
-use lib.Dec.{leb, ltb, eqb}
-use lib.ListN.{length, getD}
+use lib.Dec.{leb, eqb}
+use lib.ListN.{length, getD, set}
 use Rattle.rules.specs.Words.{within, upto, sum}
 use Rattle.rules.specs.Limits.{max-levels, max-largest, max-silence, max-bound, max-gap, max-window, max-burst}
-use Rattle.rules.specs.Model.{Link, Connection, Short, no-short, nth}
+use Rattle.rules.specs.Model.{Link, Connection, State, Short, no-short, nth, closed-at}
 
 -- ---- "Link, connections, places"
 
@@ -46,17 +46,31 @@ average-within c =
 unfoldable pub figures-within : Link → Connection → Bool
 figures-within l c = within 1 max-gap (c .gap) && (within 1 (l .largest) (c .size) && average-within c)
 
--- numbered from 0 in order of acceptance: the number that comes next, and whether number c stands
-abbrev pub next-number : List Connection → ℕ
-next-number cs = length cs
+-- whether number c has an owner, one that stands or one that is closed and still charged; a free number has no level
+unfoldable pub owned : List Connection → ℕ → Bool
+owned cs c = not (eqb (nth cs c .level) 0)
 
-unfoldable pub stands : List Connection → ℕ → Bool
-stands cs c = ltb c (length cs)
+-- it stands: it has an owner that is not closed (document 02, R-8)
+unfoldable pub stands : State → ℕ → Bool
+stands s c = owned (s .connections) c && not (closed-at s c)
+
+-- "the lowest free number is given next"; where none is free, the number behind the last
+abbrev pub free-number : List Connection → ℕ
+free-number [] = 0
+free-number (x ∷ cs) = cond (eqb (x .level) 0) 0 (suc (free-number cs))
+
+-- the connections with a newcomer at that number
+abbrev pub joining : List Connection → Connection → List Connection
+joining cs x = set cs (free-number cs) x
 
 -- the delay bound d of level m
 abbrev pub bound : Link → ℕ → ℕ
 bound l zero = 0
 bound l (suc m) = getD (l .bounds) m 0
+
+-- the largest bound: the last one
+abbrev pub largest-bound : Link → ℕ
+largest-bound l = bound l (l .levels)
 
 -- w divided by x, rounded up
 abbrev pub rounded-up : ℕ → ℕ → ℕ

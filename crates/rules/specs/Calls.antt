@@ -1,22 +1,25 @@
--- The five calls: their verdicts as one table, and what each does where the verdict is 0. Document 01, "Verdict numbers"; document 02, R-1.
+-- The six calls: their verdicts as one table, and what each does where the verdict is 0. Document 01, "Verdict numbers"; document 02, R-1 and R-8.
 use Prim.Native.Nat.{ℕ, zero, suc}
-use mathlib.Core.Bool.{Bool, cond, not}
+use mathlib.Core.Bool.{Bool, true, cond, not}
 use mathlib.Core.List.{List, [], _∷_, _++_}
 use mathlib.Core.Option.{none}
 use lib.Dec.{leb, ltb, eqb}
 use lib.ListN.{length, set}
 use Rattle.rules.specs.Words.{within, first-number}
 use Rattle.rules.specs.Limits.{max-connections, max-reserved, clock-end, max-notices, no-connection-number}
-use Rattle.rules.specs.Model.{Link, Connection, Packet, State, Call, link, admit, offer, notice, tick, Short, no-short, Answer, no-past, past, figures, with-link, with-connections, with-held, with-notices}
-use Rattle.rules.specs.Admission.{link-within, level-within, figures-within, next-number, stands, reservation, reserved, level-test, passes}
-use Rattle.rules.specs.Service.{next-eligibility, remember, of, ticked}
+use Rattle.rules.specs.Model.{Link, Connection, Packet, State, Call, link, admit, offer, notice, close, tick, Short, no-short, Answer, past, figures, with-link, with-connections, with-closed, with-held, with-notices}
+use Rattle.rules.specs.Admission.{link-within, level-within, figures-within, free-number, joining, stands, reservation, reserved, level-test, passes}
+use Rattle.rules.specs.Service.{next-eligibility, remember, of, ticked, swept, sweeping}
 use Rattle.rules.specs.SoundTest.{sound}
 
 -- ---- the table "Verdict numbers", call by call, each in the document's order: number, given exactly when
 
--- no link set; the clock has ended
+-- no link set; no such connection; the clock has ended
 abbrev pub no-link-set : State → ℕ × Bool
 no-link-set s = (2, eqb (s .link .levels) 0)
+
+abbrev pub no-such-connection : State → ℕ → ℕ × Bool
+no-such-connection s c = (10, not (stands s c))
 
 abbrev pub clock-ended : State → ℕ × Bool
 clock-ended s = (13, leb clock-end (s .clock))
@@ -33,16 +36,15 @@ causes (admit x) s =
     ∷ (5, not (level-within (s .link) x))
     -- gap or size outside its limits
     ∷ (6, not (figures-within (s .link) x))
-    -- all connections stand
-    ∷ (7, leb max-connections (length (s .connections)))
+    -- no number is free
+    ∷ (7, leb max-connections (free-number (s .connections)))
     -- a level test fails, with the new one counted
-    ∷ (8, not (passes (s .link) (s .connections ++ x ∷ [])))
+    ∷ (8, not (passes (s .link) (joining (s .connections) x)))
     -- reservations would pass their limit
-    ∷ (9, ltb max-reserved (reserved (s .link) (s .connections ++ x ∷ []))) ∷ []
+    ∷ (9, ltb max-reserved (reserved (s .link) (joining (s .connections) x))) ∷ []
 causes (offer c len tag) s =
     no-link-set s
-    -- no such connection
-    ∷ (10, not (stands (s .connections) c))
+    ∷ no-such-connection s c
     -- length 0 or above the connection's size
     ∷ (11, not (within 1 (figures s c .size) len))
     -- it holds as many packets as its reservation
@@ -55,6 +57,11 @@ causes (notice len tag) s =
     ∷ clock-ended s
     -- the places of the notices are full
     ∷ (15, leb max-notices (length (s .notices))) ∷ []
+causes (close c) s =
+    no-link-set s
+    ∷ no-such-connection s c
+    -- it still holds packets
+    ∷ (16, leb 1 (length (of c (s .held)))) ∷ []
 causes tick s = no-link-set s ∷ clock-ended s ∷ []
 
 unfoldable pub verdicts : Call → State → List (ℕ × Bool)
@@ -69,8 +76,9 @@ verdict k s = first-number (verdicts k s)
 abbrev pub linked : State → Link → State
 linked s l = with-link s l
 
+-- the newcomer at the lowest free number: nothing is remembered there, and there is no mark (`Free-number`, SoundState)
 abbrev pub joined : State → Connection → State
-joined s x = with-connections s (s .connections ++ x ∷ []) (s .pasts ++ no-past ∷ [])
+joined s x = with-connections s (joining (s .connections) x) (s .pasts)
 
 -- the eligibility of an offer to connection c now
 abbrev pub eligibility-now : State → ℕ → ℕ
@@ -89,16 +97,21 @@ placed s c len tag =
 abbrev pub noted : State → ℕ → ℕ → State
 noted s len tag = with-notices s (s .notices ++ record { len = len; tag = tag; arrival = s .clock } ∷ [])
 
+-- connection c is closed; it is freed at once if its charge is over (`swept`)
+abbrev pub marked : State → ℕ → State
+marked s c = with-closed s (set (s .closed) c true)
+
 -- no packet leaves but in a tick
 abbrev pub accepted : ℕ → State → Answer
 accepted n s = record { verdict = 0; number = n; short = no-short; departed = none; next = s }
 
 abbrev pub done : Call → State → Answer
 done (link l) s = accepted 0 (linked s l)
-done (admit x) s = accepted (next-number (s .connections)) (joined s x)
+done (admit x) s = accepted (free-number (s .connections)) (joined s x)
 done (offer c len tag) s = accepted (eligibility-now s c) (placed s c len tag)
 done (notice len tag) s = accepted (s .clock) (noted s len tag)
-done tick s = ticked s
+done (close c) s = accepted 0 (swept (marked s c))
+done tick s = sweeping (ticked s)
 
 -- a refused admission gives connection 255, a refused offer or notice eligibility 0
 abbrev pub refused-number : Call → ℕ
@@ -106,14 +119,16 @@ refused-number (link l) = 0
 refused-number (admit x) = no-connection-number
 refused-number (offer c len tag) = 0
 refused-number (notice len tag) = 0
+refused-number (close c) = 0
 refused-number tick = 0
 
 -- document 02, R-2: which level was short and by how many units, with the new one counted; nothing unless the verdict is 8
 abbrev pub refused-short : Call → State → ℕ → Short
 refused-short (link l) s v = no-short
-refused-short (admit x) s v = cond (eqb v 8) (level-test (s .link) (s .connections ++ x ∷ [])) no-short
+refused-short (admit x) s v = cond (eqb v 8) (level-test (s .link) (joining (s .connections) x)) no-short
 refused-short (offer c len tag) s v = no-short
 refused-short (notice len tag) s v = no-short
+refused-short (close c) s v = no-short
 refused-short tick s v = no-short
 
 -- a verdict other than 0 changes nothing, and no packet leaves

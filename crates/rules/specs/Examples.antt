@@ -1,16 +1,17 @@
 -- Document 01, "Table of proved examples", P1 to P10, as one table under one statement.
 use Prim.Native.Nat.{ℕ, zero, suc, _+_, _≤_}
 use mathlib.Core.Path.{_≡_}
+use mathlib.Core.Bool.{false}
 use mathlib.Core.List.{List, [], _∷_, _++_, map}
-use lib.ListN.{length, replicate}
+use lib.ListN.{length, replicate, set}
 use Rattle.rules.specs.Words.{first-number}
 use Rattle.rules.specs.Limits.{max-remembered}
-use Rattle.rules.specs.Model.{Connection, Past, State, Call, link, admit, offer, notice, tick, Short, no-short, fresh, past, figures, with-link, with-connections, with-held}
-use Rattle.rules.specs.Admission.{reservation, level-sum}
+use Rattle.rules.specs.Model.{Connection, Past, State, Call, link, admit, offer, notice, close, tick, Short, no-short, no-connection, no-past, fresh, past, figures, with-link, with-connections, with-closed, with-held}
+use Rattle.rules.specs.Admission.{joining, reservation, level-sum}
 use Rattle.rules.specs.Service.{remember-all, Spaced, eligibilities}
 use Rattle.rules.specs.SoundState.{in-order, departed-of, Beyond}
 use Rattle.rules.specs.Calls.{causes, placed, answer}
-use Rattle.rules.specs.Runs.{Departure, run, Exchange, exchanges}
+use Rattle.rules.specs.Runs.{Departure, History, run-from, run, Exchange, exchanges}
 
 -- what is seen of a call: its verdict, its number, which level was short and by how many units, and for an admission the level sums with the newcomer counted and its reservation;
 -- and the finishes once so many ticks have followed
@@ -31,9 +32,10 @@ pub record Case : Type 0 where
 
 abbrev pub sums-at : State → Call → List ℕ
 sums-at s (link l) = []
-sums-at s (admit x) = level-sum (s .link) (s .connections ++ x ∷ []) 1 ∷ level-sum (s .link) (s .connections ++ x ∷ []) 2 ∷ []
+sums-at s (admit x) = level-sum (s .link) (joining (s .connections) x) 1 ∷ level-sum (s .link) (joining (s .connections) x) 2 ∷ []
 sums-at s (offer c len tag) = []
 sums-at s (notice len tag) = []
+sums-at s (close c) = []
 sums-at s tick = []
 
 abbrev pub reservations-at : State → Call → List ℕ
@@ -41,6 +43,7 @@ reservations-at s (link l) = []
 reservations-at s (admit x) = reservation (s .link) x ∷ []
 reservations-at s (offer c len tag) = []
 reservations-at s (notice len tag) = []
+reservations-at s (close c) = []
 reservations-at s tick = []
 
 unfoldable pub seen : Case → Seen
@@ -243,8 +246,8 @@ left-too-early =
     with-held
     (with-connections
     (with-link fresh (record { levels = 1; largest = 1; silence = 0; bounds = 72 ∷ replicate 7 0 }))
-    (record { level = 1; gap = 2; size = 1; window = 4; average = 4 } ∷ [])
-    ((160 ∷ 156 ∷ 152 ∷ 148 ∷ 144 ∷ 140 ∷ 136 ∷ 132 ∷ 128 ∷ 124 ∷ 120 ∷ 116 ∷ 112 ∷ 108 ∷ 104 ∷ 100 ∷ []) ∷ []))
+    (set (fresh .connections) 0 (record { level = 1; gap = 2; size = 1; window = 4; average = 4 }))
+    (set (fresh .pasts) 0 (160 ∷ 156 ∷ 152 ∷ 148 ∷ 144 ∷ 140 ∷ 136 ∷ 132 ∷ 128 ∷ 124 ∷ 120 ∷ 116 ∷ 112 ∷ 108 ∷ 104 ∷ 100 ∷ [])))
     (record { connection = 0; len = 1; tag = 71; arrival = 0; eligibility = 160 } ∷ [])
 
 -- n offers, one after the other: the state behind them, and for each the lowest verdict that applies, 1 left out
@@ -260,10 +263,84 @@ told (suc n) s = first-number (causes (offer 0 1 72) s) ∷ told n (placed s 0 1
 abbrev pub Left-must-be-eligible : Type 0
 Left-must-be-eligible = But-left left-too-early × (told 15 left-too-early ≡ replicate 15 0) × (But-left (offered 15 left-too-early) → ⊥)
 
+-- document 02, R-8: a link with one level, S 1 and bound 4, and three lines of gap 4 and size 1; a fourth would be one unit too many
+abbrev pub three-lines : List Call
+three-lines = one-level 4 ∷ line 1 4 1 ∷ line 1 4 1 ∷ line 1 4 1 ∷ []
+
+abbrev pub late-admission : List Call → Call → ℕ → ℕ → Short → List ℕ → ℕ → Case
+late-admission before call verdict number short sums reserve = record {
+  before = before;
+  call = call;
+  ticks = 0;
+  expected = record { verdict = verdict; number = number; short = short; sums = sums; reservations = reserve ∷ []; finishes = 1 ∷ [] };
+}
+
+-- line 0 has sent at 0, and is closed once that has left, at 1
+abbrev pub sent-and-closed : List Call
+sent-and-closed = three-lines ++ offer 0 1 71 ∷ tick ∷ close 0 ∷ []
+
+abbrev pub closings : List Case
+closings =
+    -- a number that does not stand; one that holds a packet; one that never sent, which is free at once and given next
+    service three-lines (close 3) 0 10 0 []
+    ∷ service (three-lines ++ offer 0 1 71 ∷ []) (close 0) 1 16 0 (1 ∷ [])
+    ∷ service three-lines (close 1) 0 0 0 []
+    ∷ admission (three-lines ++ close 1 ∷ []) (line 1 4 1) 0 1 no-short (4 ∷ 1 ∷ []) 1
+    -- one that has sent: offers and a second close get 10; at 3 it is still charged, 1 unit over; at 4 its number is given again
+    ∷ service sent-and-closed (offer 0 1 72) 0 10 0 (1 ∷ [])
+    ∷ service sent-and-closed (close 0) 0 10 0 (1 ∷ [])
+    ∷ late-admission (sent-and-closed ++ tick ∷ tick ∷ []) (line 1 4 1) 8 255 (over 1 1) (5 ∷ 1 ∷ []) 1
+    ∷ late-admission (sent-and-closed ++ tick ∷ tick ∷ tick ∷ []) (line 1 4 1) 0 0 no-short (4 ∷ 1 ∷ []) 1
+    -- closed at 4 it is freed at once; of two free numbers the lower is given
+    ∷ late-admission (three-lines ++ offer 0 1 71 ∷ replicate 4 tick ++ close 0 ∷ []) (line 1 4 1) 0 0 no-short (4 ∷ 1 ∷ []) 1
+    ∷ admission (three-lines ++ close 2 ∷ close 1 ∷ []) (line 1 4 1) 0 1 no-short (3 ∷ 1 ∷ []) 1
+    -- its new owner starts fresh: eligible on arrival
+    ∷ service (sent-and-closed ++ tick ∷ tick ∷ tick ∷ line 1 4 1 ∷ []) (offer 0 1 73) 1 0 4 (1 ∷ 5 ∷ [])
+    ∷ []
+
+abbrev pub Worked-closings : Type 0
+Worked-closings = map seen closings ≡ map (λ (x : Case). x .expected) closings
+
+-- a charge that ended two ticks earlier would be too short. S 2, bounds 4 and 5. A notice of two units starts at 0; at 1 a line of level 1 and gap 6 is admitted and sends
+-- two units, and one of level 2 sends one unit; at 4 the first is closed: by the rules it is charged until 1 + 5. Were it freed at 4 = 1 + 3, the same line could
+-- come again and send at once, and the packet of level 2, eligible at 1, would still be held at 6 = 1 + 5. By the rules it gets 8 and its offer 10, and that
+-- packet has left at 5
+abbrev pub before-early : List Call
+before-early =
+    link (record { levels = 2; largest = 2; silence = 0; bounds = 4 ∷ 5 ∷ 0 ∷ 0 ∷ 0 ∷ 0 ∷ 0 ∷ 0 ∷ [] })
+    ∷ notice 2 70 ∷ tick ∷ line 1 6 2 ∷ offer 0 2 71 ∷ line 2 9 1 ∷ offer 1 1 72 ∷ tick ∷ tick ∷ tick ∷ close 0 ∷ []
+
+-- number 0 is freed, whatever the clock
+abbrev pub freed-early : History → History
+freed-early h =
+    let s = h .now in
+    record {
+      accepted = h .accepted;
+      departed = h .departed;
+      present = h .present;
+      now = with-closed (with-connections s (set (s .connections) 0 no-connection) (set (s .pasts) 0 no-past)) (set (s .closed) 0 false);
+    }
+
+abbrev pub behind-early : List Call
+behind-early = line 1 6 2 ∷ offer 0 2 73 ∷ tick ∷ tick ∷ []
+
+abbrev pub too-early : History
+too-early = run-from (freed-early (run before-early)) behind-early
+
+abbrev pub Freed-too-early-is-late : Type 0
+Freed-too-early-is-late =
+    (map (λ (d : Departure). d .finish) (run before-early .departed) ≡ 2 ∷ 4 ∷ [])
+    × (too-early .now .clock ≡ 6)
+    × (too-early .now .held ≡ record { connection = 1; len = 1; tag = 72; arrival = 1; eligibility = 1 } ∷ [])
+    × (map (λ (d : Departure). d .finish) (run (before-early ++ behind-early) .departed) ≡ 2 ∷ 4 ∷ 5 ∷ [])
+
 -- document 02, R-3, speaks of lines that keep their gap; of others it is false. A line of gap 10 offers at 1 and at 2, one unit each: alone on the wire it is
 -- accepted twice; beside a connection that sent four units at 0 its first packet still waits at 2, and the second is refused for room
+abbrev pub gap-broken-calls : List Call → List Call
+gap-broken-calls others = after-p2 ++ others ++ tick ∷ offer 0 1 72 ∷ tick ∷ offer 0 1 73 ∷ []
+
 abbrev pub gap-broken : List Call → List Exchange
-gap-broken others = exchanges 0 (after-p2 ++ others ++ tick ∷ offer 0 1 72 ∷ tick ∷ offer 0 1 73 ∷ [])
+gap-broken others = exchanges 0 (gap-broken-calls others)
 
 abbrev pub said : ℕ → ℕ → ℕ → ℕ → Exchange
 said at tag verdict eligibility = record { asked = record { at = at; len = 1; tag = tag }; verdict = verdict; eligibility = eligibility }

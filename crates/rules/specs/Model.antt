@@ -1,10 +1,11 @@
 -- What the rules speak of: the state of a hub, the calls on it and their answers. Document 01, "Link, connections, places"; document 02, R-1,
--- R-2, R-4 and R-6.
+-- R-2, R-4, R-6 and R-8.
 use Prim.Native.Nat.{ℕ}
+use mathlib.Core.Bool.{Bool, false}
 use mathlib.Core.List.{List, [], _∷_}
 use mathlib.Core.Option.{Option, none, some}
 use lib.ListN.{getD, replicate}
-use Rattle.rules.specs.Limits.{max-levels, notice-number}
+use Rattle.rules.specs.Limits.{max-levels, max-connections, notice-number}
 pub use Rattle.rules.specs.declared.Link.{Link}
 pub use Rattle.rules.specs.declared.Connection.{Connection}
 pub use Rattle.rules.specs.declared.Packet.{Packet}
@@ -15,13 +16,15 @@ pub use Rattle.rules.specs.declared.Short.{Short}
 abbrev pub Past : Type 0
 Past = List ℕ
 
--- `link` has 0 levels while none is set. `connections` by number, `pasts` beside them. `held` in the order offered. The packet in service is the first
--- held one of connection `serving`, with `to-go` units to go; `to-go` is 0 while the line is idle. `notices` are the housekeeping packets that wait, in the
--- order offered; the first of them is in service where `serving` is their number. `silent` is the silence still to run, in ticks
+-- `link` has 0 levels while none is set. `connections` by number, one entry for each number, `no-connection` where it is free; `pasts` beside them, and
+-- `closed`, whether the owner is closed and still charged (document 02, R-8). `held` in the order offered. The packet in service is the first held one of
+-- connection `serving`, with `to-go` units to go; `to-go` is 0 while the line is idle. `notices` are the housekeeping packets that wait, in the order
+-- offered; the first of them is in service where `serving` is their number. `silent` is the silence still to run, in ticks
 pub record State : Type 0 where
   pub link : Link
   pub connections : List Connection
   pub pasts : List Past
+  pub closed : List Bool
   pub clock : ℕ
   pub held : List Packet
   pub notices : List Notice
@@ -29,12 +32,13 @@ pub record State : Type 0 where
   pub to-go : ℕ
   pub silent : ℕ
 
--- the five calls; an offer names its connection, its length and its tag, a notice its length and its tag
+-- the six calls; an offer names its connection, its length and its tag, a notice its length and its tag, a close its connection
 pub data Call : Type 0 where
   link : Link → Call
   admit : Connection → Call
   offer : ℕ → ℕ → ℕ → Call
   notice : ℕ → ℕ → Call
+  close : ℕ → Call
   tick : Call
 
 -- no level is short
@@ -59,9 +63,9 @@ no-connection = record { level = 0; gap = 0; size = 0; window = 0; average = 0 }
 abbrev pub no-past : Past
 no-past = []
 
--- the fresh hub: everything is zero
+-- the fresh hub: everything is zero, every number is free
 abbrev pub fresh : State
-fresh = record { link = no-link; connections = []; pasts = []; clock = 0; held = []; notices = []; serving = 0; to-go = 0; silent = 0 }
+fresh = record { link = no-link; connections = replicate max-connections no-connection; pasts = replicate max-connections no-past; closed = replicate max-connections false; clock = 0; held = []; notices = []; serving = 0; to-go = 0; silent = 0 }
 
 -- connection c, and what is remembered of it
 abbrev pub nth : List Connection → ℕ → Connection
@@ -69,6 +73,9 @@ nth cs c = getD cs c no-connection
 
 abbrev pub past : State → ℕ → Past
 past s c = getD (s .pasts) c no-past
+
+abbrev pub closed-at : State → ℕ → Bool
+closed-at s c = getD (s .closed) c false
 
 abbrev pub figures : State → ℕ → Connection
 figures s c = nth (s .connections) c
@@ -84,19 +91,22 @@ first-notice (n ∷ ns) = some n
 
 -- the state with one part given anew: no other text writes a whole state out
 abbrev pub with-link : State → Link → State
-with-link s l = record { link = l; connections = s .connections; pasts = s .pasts; clock = s .clock; held = s .held; notices = s .notices; serving = s .serving; to-go = s .to-go; silent = s .silent }
+with-link s l = record { link = l; connections = s .connections; pasts = s .pasts; closed = s .closed; clock = s .clock; held = s .held; notices = s .notices; serving = s .serving; to-go = s .to-go; silent = s .silent }
 
 abbrev pub with-connections : State → List Connection → List Past → State
-with-connections s cs hs = record { link = s .link; connections = cs; pasts = hs; clock = s .clock; held = s .held; notices = s .notices; serving = s .serving; to-go = s .to-go; silent = s .silent }
+with-connections s cs hs = record { link = s .link; connections = cs; pasts = hs; closed = s .closed; clock = s .clock; held = s .held; notices = s .notices; serving = s .serving; to-go = s .to-go; silent = s .silent }
+
+abbrev pub with-closed : State → List Bool → State
+with-closed s bs = record { link = s .link; connections = s .connections; pasts = s .pasts; closed = bs; clock = s .clock; held = s .held; notices = s .notices; serving = s .serving; to-go = s .to-go; silent = s .silent }
 
 abbrev pub with-clock : State → ℕ → State
-with-clock s t = record { link = s .link; connections = s .connections; pasts = s .pasts; clock = t; held = s .held; notices = s .notices; serving = s .serving; to-go = s .to-go; silent = s .silent }
+with-clock s t = record { link = s .link; connections = s .connections; pasts = s .pasts; closed = s .closed; clock = t; held = s .held; notices = s .notices; serving = s .serving; to-go = s .to-go; silent = s .silent }
 
 abbrev pub with-held : State → List Packet → State
-with-held s ps = record { link = s .link; connections = s .connections; pasts = s .pasts; clock = s .clock; held = ps; notices = s .notices; serving = s .serving; to-go = s .to-go; silent = s .silent }
+with-held s ps = record { link = s .link; connections = s .connections; pasts = s .pasts; closed = s .closed; clock = s .clock; held = ps; notices = s .notices; serving = s .serving; to-go = s .to-go; silent = s .silent }
 
 abbrev pub with-notices : State → List Notice → State
-with-notices s ns = record { link = s .link; connections = s .connections; pasts = s .pasts; clock = s .clock; held = s .held; notices = ns; serving = s .serving; to-go = s .to-go; silent = s .silent }
+with-notices s ns = record { link = s .link; connections = s .connections; pasts = s .pasts; closed = s .closed; clock = s .clock; held = s .held; notices = ns; serving = s .serving; to-go = s .to-go; silent = s .silent }
 
 abbrev pub with-line : State → ℕ → ℕ → ℕ → State
-with-line s serving to-go silent = record { link = s .link; connections = s .connections; pasts = s .pasts; clock = s .clock; held = s .held; notices = s .notices; serving = serving; to-go = to-go; silent = silent }
+with-line s serving to-go silent = record { link = s .link; connections = s .connections; pasts = s .pasts; closed = s .closed; clock = s .clock; held = s .held; notices = s .notices; serving = serving; to-go = to-go; silent = silent }

@@ -1,22 +1,22 @@
 -- THE STATEMENTS, apart from their proofs: each is proved in proofs/Results under the same name in small letters.
 use Prim.Native.Nat.{ℕ, zero, suc, _+_, _*_, _-_, _≤_, _<_}
 use mathlib.Core.Path.{_≡_}
-use mathlib.Core.Bool.{Bool, true, cond, _&&_}
+use mathlib.Core.Bool.{Bool, true, false, cond, _&&_}
 use mathlib.Core.Logic.{_↔_}
 use mathlib.Core.List.{List, [], _∷_, _++_, map}
 use mathlib.Core.Option.{none, some}
 use lib.Dec.{leb}
-use lib.ListN.{length, getElem?}
+use lib.ListN.{length, getElem?, drop}
 use Rattle.rules.specs.Words.{within, upto, sum, All}
 use Rattle.rules.specs.Limits.{max-levels, max-largest, max-silence, max-bound, max-connections, max-reserved, clock-end, beyond-32-bits, max-notices, notice-number}
-use Rattle.rules.specs.Model.{Link, Connection, Past, Packet, State, Call, link, admit, offer, notice, tick, Short, no-short, Answer, fresh, nth, past, figures}
-use Rattle.rules.specs.Admission.{rising, cost, link-within, level-within, burst, figures-within, bound, count, reserved, level-sum, level-test}
-use Rattle.rules.specs.Service.{next-eligibility, Spaced, of, started, ticked}
+use Rattle.rules.specs.Model.{Link, Connection, Past, Packet, State, Call, link, admit, offer, notice, close, tick, Short, no-short, Answer, fresh, no-past, nth, past, figures, closed-at}
+use Rattle.rules.specs.Admission.{rising, cost, link-within, level-within, burst, figures-within, owned, stands, joining, bound, largest-bound, count, reserved, level-sum, level-test}
+use Rattle.rules.specs.Service.{next-eligibility, Spaced, of, started, ticked, charge-over}
 use Rattle.rules.specs.SoundState.{Queue, Sound}
 use Rattle.rules.specs.SoundTest.{sound}
-use Rattle.rules.specs.Calls.{answer, refused-number, eligibility-now}
+use Rattle.rules.specs.Calls.{answer, refused-number, eligibility-now, packet}
 use Rattle.rules.specs.WithoutAverage.{Plain, Apart, in-ticks, base-figures-within, base-count, base-eligibility, Base-spaced, Base-queue, Memory-kept}
-use Rattle.rules.specs.Runs.{History, run, departures, in-hub, bound-of, allowed, Keeps-its-word, Exchange, exchanges, own-answer}
+use Rattle.rules.specs.Runs.{History, run, departures, in-hub, bound-of, sender-bounds, allowed, Keeps-its-word, Exchange, exchanges, own-answer}
 
 -- ---- demand 1: any call on any state ends with an answer or a numbered refusal (`answer` is a function); a refused call changes nothing
 
@@ -71,6 +71,10 @@ Eligibilities-fit =
     → All (λ p. p .eligibility < beyond-32-bits) (s .held)
     × ((c : ℕ) → All (λ e. e < beyond-32-bits) (past s c) × (eligibility-now s c < beyond-32-bits))
 
+-- .. and so does each time at which a charge can end (document 02, R-8)
+abbrev pub Charges-fit : Type 0
+Charges-fit = (s : State) → Sound s → (c : ℕ) → All (λ e. e + largest-bound (s .link) < beyond-32-bits) (past s c)
+
 -- ---- which level was short (document 02, R-2)
 
 -- level t .level of link l fails with connections cs, every lower-numbered one holds, and the units are exactly sum plus S less d there
@@ -98,7 +102,7 @@ Short-is-told =
     (k : Call) (s : State)
     → ((answer k s .verdict ≡ 8 → ⊥) → answer k s .short ≡ no-short)
     × ((x : Connection) → k ≡ admit x → answer k s .verdict ≡ 8
-    → (answer k s .short ≡ level-test (s .link) (s .connections ++ x ∷ [])) × Names-the-lowest (s .link) (s .connections ++ x ∷ []) (answer k s .short))
+    → (answer k s .short ≡ level-test (s .link) (joining (s .connections) x)) × Names-the-lowest (s .link) (joining (s .connections) x) (answer k s .short))
 
 -- the units are what the technician is short of: that level's sum stays within its bound and v units more exactly if v is at least the units.
 -- (A larger bound would lengthen the window too: `Examples`, `longer-bound`)
@@ -106,7 +110,7 @@ abbrev pub Units-are-missing : Type 0
 Units-are-missing =
     (x : Connection) (s : State) (v : ℕ)
     → answer (admit x) s .verdict ≡ 8
-    → level-sum (s .link) (s .connections ++ x ∷ []) (answer (admit x) s .short .level) ≤ bound (s .link) (answer (admit x) s .short .level) + v
+    → level-sum (s .link) (joining (s .connections) x) (answer (admit x) s .short .level) ≤ bound (s .link) (answer (admit x) s .short .level) + v
     ↔ answer (admit x) s .short .units ≤ v
 
 -- the units are at most the newcomer's own term in that level's sum, and so at most 69,206,016: four bytes hold them
@@ -138,6 +142,7 @@ number-limit (link l) = beyond-32-bits
 number-limit (admit x) = 256
 number-limit (offer c len tag) = beyond-32-bits
 number-limit (notice len tag) = beyond-32-bits
+number-limit (close c) = beyond-32-bits
 number-limit tick = beyond-32-bits
 
 pub record Packet-fits (p : Packet) : Type 0 where
@@ -156,12 +161,31 @@ pub record Answer-fits (k : Call) (a : Answer) : Type 0 where
 abbrev pub Answers-fit : Type 0
 Answers-fit = (k : Call) (s : State) → Sound s → Answer-fits k (answer k s)
 
--- ---- conservation: for each connection, and for the notices under their number, accepted = departed followed by what waits, as lists
+-- ---- conservation: for each connection, and for the notices under their number, accepted = departed followed by what waits, as lists. Over all time, so
+-- through every owner of a number
 
 abbrev pub Conservation : Type 0
 Conservation =
     (ks : List Call) (c : ℕ)
     → of c (run ks .accepted) ≡ map (λ d. d .what) (departures c (run ks .departed)) ++ of c (in-hub (run ks .now))
+
+-- from one moment on: what was accepted of number c since = what departed since, followed by what waits
+abbrev pub Conserved-since : List Call → List Call → ℕ → Type 0
+Conserved-since earlier later c =
+    drop (length (of c (run earlier .accepted))) (of c (run (earlier ++ later) .accepted))
+    ≡ map (λ d. d .what) (drop (length (departures c (run earlier .departed))) (departures c (run (earlier ++ later) .departed)))
+    ++ of c (in-hub (run (earlier ++ later) .now))
+
+-- it holds from any moment on at which nothing of number c waits
+abbrev pub Conservation-since : Type 0
+Conservation-since = (earlier later : List Call) (c : ℕ) → of c (in-hub (run earlier .now)) ≡ [] → Conserved-since earlier later c
+
+-- .. so from each admission on, for the owner that it gives the number to (document 02, R-8)
+abbrev pub Conservation-by-owner : Type 0
+Conservation-by-owner =
+    (earlier later : List Call) (x : Connection)
+    → answer (admit x) (run earlier .now) .verdict ≡ 0
+    → Conserved-since earlier (admit x ∷ later) (answer (admit x) (run earlier .now) .number)
 
 -- ---- demand 3, first sentence: from a fresh hub, through any calls, each accepted packet has left by its eligibility plus its level's bound,
 -- whatever the other connections and the notices do. The i-th accepted packet of c is the i-th departure of c once the clock is there, with a finish no later.
@@ -172,13 +196,29 @@ pub record Left-by (h : History) (c i : ℕ) (p : Packet) (deadline : ℕ) : Typ
   pub is-departure : getElem? (departures c (h .departed)) i ≡ some (record { what = p; finish = finish })
   pub in-time : finish ≤ deadline
 
+-- through any opens and closes (document 02, R-8): any calls `earlier`, an offer of c that is accepted, any calls `later`. The bound is the one of c's owner when
+-- the packet was accepted; a later owner of the number does not count
 abbrev pub Demand-3-first : Type 0
 Demand-3-first =
-    (ks : List Call) (c i : ℕ) (p : Packet)
+    (earlier later : List Call) (c len tag : ℕ)
+    → answer (offer c len tag) (run earlier .now) .verdict ≡ 0
+    → eligibility-now (run earlier .now) c + bound-of (run earlier .now) c ≤ run (earlier ++ offer c len tag ∷ later) .now .clock
+    → Left-by (run (earlier ++ offer c len tag ∷ later)) c (length (of c (run earlier .accepted))) (packet (run earlier .now) c len tag)
+    (eligibility-now (run earlier .now) c + bound-of (run earlier .now) c)
+
+-- .. and the same in the form of the log: the i-th accepted packet of number c, and the bound of the connection that sent it
+abbrev pub Demand-3-in-the-log : Type 0
+Demand-3-in-the-log =
+    (ks : List Call) (c i : ℕ) (p : Packet) (d : ℕ)
     → (c ≡ notice-number → ⊥)
     → getElem? (of c (run ks .accepted)) i ≡ some p
-    → p .eligibility + bound-of (run ks .now) c ≤ run ks .now .clock
-    → Left-by (run ks) c i p (p .eligibility + bound-of (run ks .now) c)
+    → getElem? (sender-bounds c ks) i ≡ some d
+    → p .eligibility + d ≤ run ks .now .clock
+    → Left-by (run ks) c i p (p .eligibility + d)
+
+-- .. for each there is one
+abbrev pub Each-has-a-bound : Type 0
+Each-has-a-bound = (ks : List Call) (c : ℕ) → (c ≡ notice-number → ⊥) → length (sender-bounds c ks) ≡ length (of c (run ks .accepted))
 
 -- ---- demand 3, second sentence: a connection that keeps its word is never refused for room and leaves within the bound of its arrival.
 -- Any calls `earlier`, an offer of c of allowed length, any calls `later`; c has kept its word up to this offer
@@ -202,7 +242,8 @@ Demand-3-second =
 
 -- ---- bed nine and bed ten (document 02, R-3): nothing that another connection does changes what a connection that keeps its word is told
 
--- in any run, each answer to a connection that keeps its word is the one that its own figures and its own offer decide
+-- in any run, each answer to a connection that keeps its word is the one that its own figures and its own offer decide. It speaks of the present owner of a
+-- number, standing or charged: of a freed number nothing is noted (document 02, R-8)
 abbrev pub Told-by-its-own : Type 0
 Told-by-its-own =
     (ks : List Call) (c : ℕ)
@@ -285,3 +326,55 @@ Without-average =
     × ((h : Past) (now : ℕ) → next-eligibility c h now ≡ base-eligibility c h now)
     × ((es : List ℕ) → Spaced c es ↔ Base-spaced c es)
     × ((t : ℕ) (h : Past) (es : List ℕ) → Queue c t h es ↔ (Base-queue c t h es × Memory-kept c t h es))
+
+-- ---- closing (document 02, R-8)
+
+-- verdicts 10 and 16 of a close, on a sound state with a link: 10 exactly for a number that does not stand, 16 exactly for one that does and holds packets
+abbrev pub Close-is-refused : Type 0
+Close-is-refused =
+    (c : ℕ) (s : State) → Sound s → (s .link .levels ≡ 0 → ⊥)
+    → (answer (close c) s .verdict ≡ 10 ↔ stands s c ≡ false) × (answer (close c) s .verdict ≡ 16 ↔ ((stands s c ≡ true) × (1 ≤ length (of c (s .held)))))
+
+-- an offer to a closed number, and another close of it, get 10
+abbrev pub Closed-gets-10 : Type 0
+Closed-gets-10 =
+    (s : State) (c len tag : ℕ) → Sound s → closed-at s c ≡ true → (answer (offer c len tag) s .verdict ≡ 10) × (answer (close c) s .verdict ≡ 10)
+
+-- closed in r and still charged: it counts in the tests, the reservations and the numbers with the figures that it had in s
+pub record Still-charged (s : State) (c : ℕ) (r : State) : Type 0 where
+  pub is-marked : closed-at r c ≡ true
+  pub same-figures : figures r c ≡ figures s c
+  pub same-memory : past r c ≡ past s c
+
+-- a connection that is closed is freed at once where it never sent or the clock has reached its last eligibility plus the largest bound; else it is charged
+abbrev pub Closed-or-freed : Type 0
+Closed-or-freed =
+    (c : ℕ) (s : State) → answer (close c) s .verdict ≡ 0
+    → (charge-over (largest-bound (s .link)) (s .clock) (past s c) ≡ true → owned (answer (close c) s .next .connections) c ≡ false)
+    × (charge-over (largest-bound (s .link)) (s .clock) (past s c) ≡ false → Still-charged s c (answer (close c) s .next))
+
+-- a charged connection is freed by the tick that reaches its time, and by no other
+abbrev pub Freed-by-the-tick : Type 0
+Freed-by-the-tick =
+    (c : ℕ) (s : State) → answer tick s .verdict ≡ 0 → closed-at s c ≡ true
+    → (charge-over (largest-bound (s .link)) (s .clock + 1) (past s c) ≡ true → owned (answer tick s .next .connections) c ≡ false)
+    × (charge-over (largest-bound (s .link)) (s .clock + 1) (past s c) ≡ false → Still-charged s c (answer tick s .next))
+
+-- so from the close on, whatever the call: a number is charged as long as the clock has not reached its time, and free once it has
+abbrev pub Charge-lasts : Type 0
+Charge-lasts =
+    (k : Call) (s : State) (c : ℕ) → Sound s → closed-at s c ≡ true
+    → (charge-over (largest-bound (s .link)) (answer k s .next .clock) (past s c) ≡ false → Still-charged s c (answer k s .next))
+    × (charge-over (largest-bound (s .link)) (answer k s .next .clock) (past s c) ≡ true → owned (answer k s .next .connections) c ≡ false)
+
+-- an admission gives the lowest number n that has no owner, and its new owner starts fresh
+pub record Lowest-free (s : State) (x : Connection) (n : ℕ) (r : State) : Type 0 where
+  pub is-number : n < max-connections
+  pub was-free : owned (s .connections) n ≡ false
+  pub lower-owned : (c : ℕ) → c < n → owned (s .connections) c ≡ true
+  pub new-owner : figures r n ≡ x
+  pub starts-fresh : (past r n ≡ no-past) × (stands r n ≡ true)
+
+abbrev pub Lowest-number-is-given : Type 0
+Lowest-number-is-given =
+    (x : Connection) (s : State) → answer (admit x) s .verdict ≡ 0 → Lowest-free s x (answer (admit x) s .number) (answer (admit x) s .next)

@@ -4,10 +4,10 @@ use mathlib.Core.Bool.{Bool, cond, _&&_}
 use mathlib.Core.List.{List, [], _∷_, _++_, map}
 use mathlib.Core.Option.{Option, none, some}
 use lib.Dec.{leb, eqb}
-use Rattle.rules.specs.Words.{within, push}
+use Rattle.rules.specs.Words.{within, filter, push}
 use Rattle.rules.specs.Limits.{clock-end, notice-number}
-use Rattle.rules.specs.Model.{Connection, Packet, State, Call, link, admit, offer, notice, tick, Answer, fresh, figures, notice-packet}
-use Rattle.rules.specs.Admission.{stands, bound}
+use Rattle.rules.specs.Model.{Connection, Packet, State, Call, link, admit, offer, notice, close, tick, Answer, fresh, figures, notice-packet}
+use Rattle.rules.specs.Admission.{owned, stands, bound}
 use Rattle.rules.specs.Service.{Spaced}
 use Rattle.rules.specs.Calls.{answer}
 
@@ -15,11 +15,17 @@ pub record Departure : Type 0 where
   pub what : Packet
   pub finish : ℕ
 
--- the accepted packets, notices among them, and the departures, each in order, and the state
+-- the accepted packets, notices among them, and the departures, each in order, and the state. `present`: those accepted packets whose connection still has its
+-- number, standing or charged; a number that is freed takes its former owner's out of it (document 02, R-8)
 pub record History : Type 0 where
   pub accepted : List Packet
   pub departed : List Departure
+  pub present : List Packet
   pub now : State
+
+-- what is told of the owner of number c, as long as it has one
+abbrev pub while-owned : {A : Type 0} → State → ℕ → List A → List A
+while-owned s c xs = cond (owned (s .connections) c) xs []
 
 -- the packet that an answer says was accepted: an offer's or a notice's, at verdict 0, with the eligibility that the answer gives
 abbrev pub if-done : {A : Type 0} → ℕ → A → Option A
@@ -32,6 +38,7 @@ taken (admit x) s a = none
 taken (offer c len tag) s a = if-done (a .verdict) (record { connection = c; len = len; tag = tag; arrival = s .clock; eligibility = a .number })
 taken (notice len tag) s a =
     if-done (a .verdict) (record { connection = notice-number; len = len; tag = tag; arrival = s .clock; eligibility = a .number })
+taken (close c) s a = none
 taken tick s a = none
 
 -- "One tick": a packet departs with finish t + 1
@@ -44,6 +51,7 @@ abbrev pub logged : History → Call → Answer → History
 logged h k a = record {
   accepted = push (h .accepted) (taken k (h .now) a);
   departed = push (h .departed) (leaving (h .now) (a .departed));
+  present = filter (λ p. owned (a .next .connections) (p .connection)) (push (h .present) (taken k (h .now) a));
   now = a .next;
 }
 
@@ -55,7 +63,7 @@ run-from h [] = h
 run-from h (k ∷ ks) = run-from (after h k) ks
 
 abbrev pub nothing-yet : History
-nothing-yet = record { accepted = []; departed = []; now = fresh }
+nothing-yet = record { accepted = []; departed = []; present = []; now = fresh }
 
 abbrev pub run : List Call → History
 run ks = run-from nothing-yet ks
@@ -73,11 +81,28 @@ in-hub s = s .held ++ map notice-packet (s .notices)
 abbrev pub bound-of : State → ℕ → ℕ
 bound-of s c = bound (s .link) (figures s c .level)
 
+-- of an offer of c that is accepted, the bound of the connection that sends it
+abbrev pub sender-bound : ℕ → Call → State → Answer → Option ℕ
+sender-bound c (link l) s a = none
+sender-bound c (admit x) s a = none
+sender-bound c (offer d len tag) s a = cond (eqb d c) (if-done (a .verdict) (bound-of s c)) none
+sender-bound c (notice len tag) s a = none
+sender-bound c (close d) s a = none
+sender-bound c tick s a = none
+
+abbrev pub sender-bounds-from : ℕ → History → List ℕ → List Call → List ℕ
+sender-bounds-from c h bs [] = bs
+sender-bounds-from c h bs (k ∷ ks) = sender-bounds-from c (after h k) (push bs (sender-bound c k (h .now) (answer k (h .now)))) ks
+
+-- for each accepted packet of number c, in order, the bound of the connection that sent it
+abbrev pub sender-bounds : ℕ → List Call → List ℕ
+sender-bounds c ks = sender-bounds-from c nothing-yet [] ks
+
 -- ---- a connection that keeps its word
 
 -- an offer to c of allowed length; one given 10 is no connection's offer ("Verdict numbers")
 abbrev pub allowed : State → ℕ → ℕ → Bool
-allowed s c len = stands (s .connections) c && within 1 (figures s c .size) len
+allowed s c len = stands s c && within 1 (figures s c .size) len
 
 -- the tick of such an offer
 abbrev pub offer-tick : ℕ → State → Call → Option ℕ
@@ -85,13 +110,14 @@ offer-tick c s (link l) = none
 offer-tick c s (admit x) = none
 offer-tick c s (offer d len tag) = cond (eqb d c && allowed s c len) (some (s .clock)) none
 offer-tick c s (notice len tag) = none
+offer-tick c s (close d) = none
 offer-tick c s tick = none
 
 abbrev pub offer-ticks-from : ℕ → History → List ℕ → List Call → List ℕ
 offer-ticks-from c h ts [] = ts
-offer-ticks-from c h ts (k ∷ ks) = offer-ticks-from c (after h k) (push ts (offer-tick c (h .now) k)) ks
+offer-ticks-from c h ts (k ∷ ks) = offer-ticks-from c (after h k) (while-owned (after h k .now) c (push ts (offer-tick c (h .now) k))) ks
 
--- the ticks of all of them in a run, in order
+-- the ticks of all of them in a run, in order, to the present owner of c
 abbrev pub offer-ticks : ℕ → List Call → List ℕ
 offer-ticks c ks = offer-ticks-from c nothing-yet [] ks
 
@@ -117,7 +143,7 @@ abbrev pub exchange : ℕ → State → Call → Option Exchange
 exchange c s (link l) = none
 exchange c s (admit x) = none
 exchange c s (offer d len tag) =
-    cond (eqb d c && stands (s .connections) c)
+    cond (eqb d c && stands s c)
     (some (record {
       asked = record { at = s .clock; len = len; tag = tag };
       verdict = answer (offer d len tag) s .verdict;
@@ -125,13 +151,14 @@ exchange c s (offer d len tag) =
     }))
     none
 exchange c s (notice len tag) = none
+exchange c s (close d) = none
 exchange c s tick = none
 
 abbrev pub exchanges-from : ℕ → History → List Exchange → List Call → List Exchange
 exchanges-from c h es [] = es
-exchanges-from c h es (k ∷ ks) = exchanges-from c (after h k) (push es (exchange c (h .now) k)) ks
+exchanges-from c h es (k ∷ ks) = exchanges-from c (after h k) (while-owned (after h k .now) c (push es (exchange c (h .now) k))) ks
 
--- all of them in a run, in order
+-- all of them in a run, in order, with the present owner of c
 abbrev pub exchanges : ℕ → List Call → List Exchange
 exchanges c ks = exchanges-from c nothing-yet [] ks
 

@@ -1,13 +1,14 @@
--- When a packet may go, which goes next, and one tick of the line. Document 01, "Eligibility" and "One tick"; document 02, R-1, R-4 and R-6.
+-- When a packet may go, which goes next, and one tick of the line. Document 01, "Eligibility" and "One tick"; document 02, R-1, R-4, R-6 and R-8.
 use Prim.Native.Nat.{ℕ, zero, suc, _+_, _-_, _≤_, max}
-use mathlib.Core.Bool.{Bool, true, cond, _&&_, _||_}
+use mathlib.Core.Bool.{Bool, true, false, cond, _&&_, _||_}
 use mathlib.Core.List.{List, [], _∷_, map}
 use mathlib.Core.Option.{Option, none, some}
 use lib.Dec.{leb, ltb, eqb}
 use lib.ListN.{getElem?, take}
-use Rattle.rules.specs.Limits.{notice-number, max-remembered}
-use Rattle.rules.specs.Model.{Connection, Past, Packet, Notice, State, Answer, no-short, figures, notice-packet, with-clock, with-held, with-notices, with-line}
-use Rattle.rules.specs.Admission.{cost, burst}
+use Rattle.rules.specs.Words.{tabulate}
+use Rattle.rules.specs.Limits.{max-connections, notice-number, max-remembered}
+use Rattle.rules.specs.Model.{Connection, Past, Packet, Notice, State, Answer, no-short, no-connection, no-past, past, figures, closed-at, notice-packet, with-connections, with-closed, with-clock, with-held, with-notices, with-line}
+use Rattle.rules.specs.Admission.{cost, burst, largest-bound}
 
 -- ---- "Eligibility"
 
@@ -138,3 +139,31 @@ ticked s = after-unit (started s) (started s .to-go)
 -- the ticks for which the line is still taken: by what is in service and the silence after it, or by the rest of a silence
 unfoldable pub line-left : State → ℕ
 line-left s = cond (eqb (s .to-go) 0) (s .silent) (cost (s .link) (s .to-go))
+
+-- ---- closed connections (document 02, R-8)
+
+-- the charge is over: nothing was ever sent, or the clock t has reached the last eligibility plus the largest bound
+abbrev pub charge-over : ℕ → ℕ → Past → Bool
+charge-over bound t [] = true
+charge-over bound t (e ∷ h) = leb (e + bound) t
+
+-- number c is closed and its charge is over
+unfoldable pub expired : State → ℕ → Bool
+expired s c = closed-at s c && charge-over (largest-bound (s .link)) (s .clock) (past s c)
+
+-- every such number is freed: nothing is left of its owner
+unfoldable pub swept-connections : State → List Connection
+swept-connections s = tabulate max-connections (λ c. cond (expired s c) no-connection (figures s c))
+
+unfoldable pub swept-pasts : State → List Past
+swept-pasts s = tabulate max-connections (λ c. cond (expired s c) no-past (past s c))
+
+unfoldable pub swept-marks : State → List Bool
+swept-marks s = tabulate max-connections (λ c. cond (expired s c) false (closed-at s c))
+
+abbrev pub swept : State → State
+swept s = with-closed (with-connections s (swept-connections s) (swept-pasts s)) (swept-marks s)
+
+-- the answer with them freed
+abbrev pub sweeping : Answer → Answer
+sweeping a = record { verdict = a .verdict; number = a .number; short = a .short; departed = a .departed; next = swept (a .next) }

@@ -1,8 +1,8 @@
 -- A sound state, clause by clause. Document 01, "A sound state"; its first clause, the length of the places table, is the table's own and stands with
--- the code. The clauses on notices and on the silence: docs/RULES-AFTER-BASE.md, R-1, R-4 and R-6.
+-- the code. The clauses on notices, on the silence, on what is remembered and on closed numbers: docs/RULES-AFTER-BASE.md, R-1, R-4, R-6 and R-8.
 use Prim.Native.Nat.{ℕ, _+_, _≤_, _<_, max}
 use mathlib.Core.Path.{_≡_}
-use mathlib.Core.Bool.{true, cond}
+use mathlib.Core.Bool.{true, false, cond}
 use mathlib.Core.Logic.{_⊎_}
 use mathlib.Core.List.{List, [], _∷_}
 use mathlib.Core.Option.{Option, none, some}
@@ -10,15 +10,15 @@ use lib.Dec.{eqb}
 use lib.ListN.{length, drop}
 use Rattle.rules.specs.Words.{All}
 use Rattle.rules.specs.Limits.{max-connections, max-reserved, clock-end, max-notices, notice-number, max-remembered}
-use Rattle.rules.specs.Model.{Link, Connection, Past, Packet, Notice, State, fresh, nth, past, figures, first-notice}
-use Rattle.rules.specs.Admission.{link-within, level-within, figures-within, stands, bound, burst, reservation, reserved, level-sum}
-use Rattle.rules.specs.Service.{nth-before, ticks-after, earliest, remember-all, Spaced, of, eligibilities, first}
+use Rattle.rules.specs.Model.{Link, Connection, Past, Packet, Notice, State, no-connection, no-past, fresh, nth, past, figures, closed-at, first-notice}
+use Rattle.rules.specs.Admission.{link-within, level-within, figures-within, owned, bound, burst, reservation, reserved, level-sum}
+use Rattle.rules.specs.Service.{nth-before, ticks-after, earliest, remember-all, Spaced, of, eligibilities, first, expired}
 
 -- ---- the held rows, each by itself
 
--- it names a standing connection and has a length from 1 to its size
+-- it names a connection that has an owner and has a length from 1 to its size
 pub record Fits (cs : List Connection) (p : Packet) : Type 0 where
-  pub standing : stands cs (p .connection) ≡ true
+  pub owner : owned cs (p .connection) ≡ true
   pub some-len : 1 ≤ p .len
   pub len-le : p .len ≤ nth cs (p .connection) .size
 
@@ -105,13 +105,23 @@ Idle s = (s .to-go ≡ 0) × (s .serving ≡ 0)
 
 -- ---- the state
 
-pub record Sound-with-link (s : State) : Type 0 where
+-- a free number: everything unused is zero
+pub record Free-number (s : State) (c : ℕ) : Type 0 where
+  pub no-figures : figures s c ≡ no-connection
+  pub no-memory : past s c ≡ no-past
+  pub not-closed : closed-at s c ≡ false
+
+-- all but the last clause, which a tick and a close see to (`swept`)
+pub record Orderly (s : State) : Type 0 where
   -- link, connections, tests and reservations are within the rules
   pub link-in : link-within (s .link) ≡ true
-  pub levels-in : (c : ℕ) → c < length (s .connections) → level-within (s .link) (figures s c) ≡ true
-  pub figures-in : (c : ℕ) → c < length (s .connections) → figures-within (s .link) (figures s c) ≡ true
-  pub few : length (s .connections) ≤ max-connections
-  pub one-past-each : length (s .pasts) ≡ length (s .connections)
+  pub levels-in : (c : ℕ) → owned (s .connections) c ≡ true → level-within (s .link) (figures s c) ≡ true
+  pub figures-in : (c : ℕ) → owned (s .connections) c ≡ true → figures-within (s .link) (figures s c) ≡ true
+  -- one entry for each number; a free one is blank
+  pub numbers : length (s .connections) ≡ max-connections
+  pub one-past-each : length (s .pasts) ≡ max-connections
+  pub one-mark-each : length (s .closed) ≡ max-connections
+  pub free-blank : (c : ℕ) → c < max-connections → owned (s .connections) c ≡ false → Free-number s c
   pub tested : (m : ℕ) → 1 ≤ m → m ≤ s .link .levels → level-sum (s .link) (s .connections) m ≤ bound (s .link) m
   pub reserved-le : reserved (s .link) (s .connections) ≤ max-reserved
   -- the clock is at most its end
@@ -120,8 +130,8 @@ pub record Sound-with-link (s : State) : Type 0 where
   pub fit : All (Fits (s .connections)) (s .held)
   pub dated : All (Dated (s .clock)) (s .held)
   -- no connection holds more than its reservation, and its rows are in order
-  pub room : (c : ℕ) → c < length (s .connections) → length (of c (s .held)) ≤ reservation (s .link) (figures s c)
-  pub queue : (c : ℕ) → c < length (s .connections) → Queue (figures s c) (s .clock) (past s c) (eligibilities c (s .held))
+  pub room : (c : ℕ) → owned (s .connections) c ≡ true → length (of c (s .held)) ≤ reservation (s .link) (figures s c)
+  pub queue : (c : ℕ) → owned (s .connections) c ≡ true → Queue (figures s c) (s .clock) (past s c) (eligibilities c (s .held))
   -- the notices fill no more than their places
   pub few-notices : length (s .notices) ≤ max-notices
   pub notices-fit : All (Notice-fits (s .link) (s .clock)) (s .notices)
@@ -130,6 +140,13 @@ pub record Sound-with-link (s : State) : Type 0 where
   -- the silence still to run: at most the link's, and none while something is in service
   pub silent-le : s .silent ≤ s .link .silence
   pub silent-alone : 1 ≤ s .to-go → s .silent ≡ 0
+  -- a closed connection holds no packet
+  pub closed-empty : (c : ℕ) → closed-at s c ≡ true → of c (s .held) ≡ []
+
+pub record Sound-with-link (s : State) : Type 0 where
+  pub orderly : Orderly s
+  -- a closed connection has sent something, and its charge is not over
+  pub charged : (c : ℕ) → c < max-connections → expired s c ≡ false
 
 pub record Sound (s : State) : Type 0 where
   pub with-no-link : s .link .levels ≡ 0 → s ≡ fresh

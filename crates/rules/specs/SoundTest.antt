@@ -1,16 +1,16 @@
 -- The sound state as a test that computes, in the passes that the code makes. It need not be believed: `Test-is-exact` (Promises) says that it is true
 -- exactly of a sound state. Document 01, "A sound state".
 use Prim.Native.Nat.{ℕ, _+_, max}
-use mathlib.Core.Bool.{Bool, true, false, cond, _&&_}
+use mathlib.Core.Bool.{Bool, true, false, cond, not, _&&_, _||_}
 use mathlib.Core.List.{List, [], _∷_, _++_}
 use mathlib.Core.Option.{Option, none, some}
 use lib.Dec.{leb, eqb}
 use lib.ListN.{length}
 use Rattle.rules.specs.Words.{within, every, each}
 use Rattle.rules.specs.Limits.{max-levels, max-connections, max-reserved, clock-end, max-notices, notice-number, max-remembered}
-use Rattle.rules.specs.Model.{Link, Connection, Past, Packet, Notice, State, nth, past, figures, first-notice}
-use Rattle.rules.specs.Admission.{link-within, level-within, figures-within, stands, burst, reservation, reserved, passes}
-use Rattle.rules.specs.Service.{nth-before, ticks-after, earliest, remember-all, of, eligibilities, first}
+use Rattle.rules.specs.Model.{Link, Connection, Past, Packet, Notice, State, nth, past, figures, closed-at, first-notice}
+use Rattle.rules.specs.Admission.{link-within, level-within, figures-within, owned, largest-bound, burst, reservation, reserved, passes}
+use Rattle.rules.specs.Service.{nth-before, ticks-after, earliest, remember-all, of, eligibilities, first, charge-over}
 use Rattle.rules.specs.SoundState.{departed-of, reach}
 
 -- ---- with no link set
@@ -18,11 +18,21 @@ use Rattle.rules.specs.SoundState.{departed-of, reach}
 abbrev pub all-zero : Link → Bool
 all-zero l = eqb (l .largest) 0 && (eqb (l .silence) 0 && (eqb (length (l .bounds)) max-levels && each (λ d. eqb d 0) (l .bounds)))
 
+-- a free number: everything unused is zero
+abbrev pub blank : Connection → Bool
+blank c = eqb (c .level) 0 && (eqb (c .gap) 0 && (eqb (c .size) 0 && (eqb (c .window) 0 && eqb (c .average) 0)))
+
+abbrev pub free-sound : State → ℕ → Bool
+free-sound s c = blank (figures s c) && (eqb (length (past s c)) 0 && not (closed-at s c))
+
+abbrev pub one-each : State → Bool
+one-each s = eqb (length (s .connections)) max-connections && (eqb (length (s .pasts)) max-connections && eqb (length (s .closed)) max-connections)
+
 unfoldable pub nothing-used : State → Bool
 nothing-used s =
     all-zero (s .link)
-    && (eqb (length (s .connections)) 0
-    && (eqb (length (s .pasts)) 0
+    && (one-each s
+    && (every max-connections (free-sound s)
     && (eqb (s .clock) 0
     && (eqb (length (s .held)) 0 && (eqb (length (s .notices)) 0 && (eqb (s .serving) 0 && (eqb (s .to-go) 0 && eqb (s .silent) 0)))))))
 
@@ -31,19 +41,20 @@ nothing-used s =
 abbrev pub connection-sound : Link → Connection → Bool
 connection-sound l c = level-within l c && figures-within l c
 
+abbrev pub number-sound : State → ℕ → Bool
+number-sound s c = cond (owned (s .connections) c) (connection-sound (s .link) (figures s c)) (free-sound s c)
+
 unfoldable pub admissions-sound : State → Bool
 admissions-sound s =
     link-within (s .link)
-    && (leb (length (s .connections)) max-connections
-    && (eqb (length (s .pasts)) (length (s .connections))
-    && (every (length (s .connections)) (λ c. connection-sound (s .link) (figures s c))
-    && (passes (s .link) (s .connections) && leb (reserved (s .link) (s .connections)) max-reserved))))
+    && (one-each s
+    && (every max-connections (number-sound s) && (passes (s .link) (s .connections) && leb (reserved (s .link) (s .connections)) max-reserved)))
 
 -- ---- the rows
 
 abbrev pub row-sound : List Connection → ℕ → Packet → Bool
 row-sound cs t p =
-    stands cs (p .connection)
+    owned cs (p .connection)
     && (within 1 (nth cs (p .connection) .size) (p .len) && (leb (p .arrival) t && leb (p .arrival) (p .eligibility)))
 
 -- how late an eligibility may be behind those in h: as early as the rules allow if the n-th before is known, else the greater of X past the one before and of
@@ -89,23 +100,27 @@ same-numbers (a ∷ xs) (b ∷ bs) = eqb a b && same-numbers xs bs
 abbrev pub kept-sound : Past → Past → Bool
 kept-sound h new = leb (length h) max-remembered && same-numbers h new
 
--- connection c before the pass, and behind it
+-- connection c before the pass, and behind it; of a free number nothing is asked
 abbrev pub before-pass : State → ℕ → Bool
-before-pass s c = left-sound (s .link) (figures s c) (s .clock) (length (of c (s .held))) (departed-by s c)
+before-pass s c = not (owned (s .connections) c) || left-sound (s .link) (figures s c) (s .clock) (length (of c (s .held))) (departed-by s c)
 
 abbrev pub behind-pass : State → ℕ → Bool
-behind-pass s c = kept-sound (past s c) (remember-all (departed-by s c) (eligibilities c (s .held)))
+behind-pass s c = not (owned (s .connections) c) || kept-sound (past s c) (remember-all (departed-by s c) (eligibilities c (s .held)))
 
 -- all rows and all connections among themselves
 abbrev pub queues-sound : State → Bool
 queues-sound s =
-    every (length (s .connections)) (before-pass s)
-    && (paced (s .connections) (s .clock) (departed-by s) [] (s .held) && every (length (s .connections)) (behind-pass s))
+    every max-connections (before-pass s)
+    && (paced (s .connections) (s .clock) (departed-by s) [] (s .held) && every max-connections (behind-pass s))
+
+-- a closed connection holds nothing, and its charge is not over
+abbrev pub closed-sound : State → ℕ → Bool
+closed-sound s c = not (closed-at s c) || (eqb (length (of c (s .held))) 0 && not (charge-over (largest-bound (s .link)) (s .clock) (past s c)))
 
 unfoldable pub rows-sound : State → Bool
 rows-sound s =
     leb (s .clock) clock-end
-    && (each (row-sound (s .connections) (s .clock)) (s .held) && queues-sound s)
+    && (each (row-sound (s .connections) (s .clock)) (s .held) && (queues-sound s && every max-connections (closed-sound s)))
 
 -- ---- the notices
 

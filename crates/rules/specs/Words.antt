@@ -44,6 +44,16 @@ module _ {A : Type 0} where
   each f [] = true
   each f (x ∷ xs) = f x && each f xs
 
+  -- f 0, .., f (n - 1)
+  abbrev pub tabulate : ℕ → (ℕ → A) → List A
+  tabulate zero f = []
+  tabulate (suc n) f = f 0 ∷ tabulate n (λ i. f (suc i))
+
+  -- those for which the test f holds
+  abbrev pub filter : (A → Bool) → List A → List A
+  filter f [] = []
+  filter f (x ∷ xs) = cond (f x) (x ∷ filter f xs) (filter f xs)
+
   -- one more at the end, where there is one
   abbrev pub push : List A → Option A → List A
   push xs none = xs

@@ -2,11 +2,11 @@
 -- refused call gives, and what is given where two causes or two packets meet.
 use Prim.Native.Nat.{ℕ, _+_, _-_}
 use mathlib.Core.Path.{_≡_}
-use mathlib.Core.Bool.{true}
+use mathlib.Core.Bool.{true, false}
 use mathlib.Core.List.{List, [], _∷_, _++_, map}
 use lib.ListN.{length, getD, replicate}
-use Rattle.rules.specs.Limits.{max-levels}
-use Rattle.rules.specs.Model.{Link, Connection, Past, Packet, Notice, State, Call, link, offer, notice, tick, no-link, no-past, fresh}
+use Rattle.rules.specs.Limits.{max-levels, max-connections}
+use Rattle.rules.specs.Model.{Link, Connection, Past, Packet, Notice, State, Call, link, offer, notice, close, tick, no-link, no-connection, no-past, fresh, with-closed}
 use Rattle.rules.specs.Calls.{answer}
 use Rattle.rules.specs.Runs.{Departure, run-from}
 use Rattle.rules.specs.Examples.{line, average-line, gap-3}
@@ -29,7 +29,7 @@ outcome x = record {
   verdict = answer (x .call) (x .on) .verdict;
   number = answer (x .call) (x .on) .number;
   departed = map (λ (d : Departure). (d .what .connection, d .what .tag))
-      (run-from (record { accepted = []; departed = []; now = x .on }) (x .call ∷ replicate (x .ticks) tick) .departed);
+      (run-from (record { accepted = []; departed = []; present = []; now = x .on }) (x .call ∷ replicate (x .ticks) tick) .departed);
 }
 
 -- ---- states by hand
@@ -42,9 +42,23 @@ wire levels largest silence bounds = record { levels = levels; largest = largest
 abbrev pub connection : ℕ → ℕ → ℕ → Connection
 connection level gap size = record { level = level; gap = gap; size = size; window = 0; average = 0 }
 
--- an idle line at clock t
+-- an idle line at clock t; every number behind those given is free
+abbrev pub numbered : {A : Type 0} → List A → A → List A
+numbered xs x = xs ++ replicate (max-connections - length xs) x
+
 abbrev pub idle : ℕ → Link → List Connection → List Past → List Packet → List Notice → State
-idle t l cs hs ps ns = record { link = l; connections = cs; pasts = hs; clock = t; held = ps; notices = ns; serving = 0; to-go = 0; silent = 0 }
+idle t l cs hs ps ns = record {
+  link = l;
+  connections = numbered cs no-connection;
+  pasts = numbered hs no-past;
+  closed = replicate max-connections false;
+  clock = t;
+  held = ps;
+  notices = ns;
+  serving = 0;
+  to-go = 0;
+  silent = 0;
+}
 
 -- one unit of connection c
 abbrev pub unit : ℕ → ℕ → ℕ → ℕ → Packet
@@ -79,6 +93,19 @@ holds-one t = idle t wire-a (connection 1 5 3 ∷ []) (last-at t ∷ []) (unit 0
 
 abbrev pub holds-two : ℕ → State
 holds-two t = idle t wire-a (connection 1 5 3 ∷ []) (((t + 5) ∷ t ∷ []) ∷ []) (unit 0 71 t t ∷ unit 0 72 t (t + 5) ∷ []) []
+
+-- that line alone under number 1, number 0 free; and closed under number 0, its last eligibility 7, so charged until 7 + 20
+abbrev pub free-0 : State
+free-0 = idle 7 wire-a (no-connection ∷ connection 1 5 3 ∷ []) (no-past ∷ no-past ∷ []) [] []
+
+abbrev pub charged : ℕ → State
+charged t = with-closed (idle t wire-a (connection 1 5 3 ∷ []) (last-at 7 ∷ []) [] []) (true ∷ replicate (max-connections - 1) false)
+
+-- all numbers closed, each with a last eligibility of 7, so charged until 7 + 300
+abbrev pub all-charged : ℕ → State
+all-charged t =
+    with-closed (idle t (wire 1 1 0 (300 ∷ [])) (replicate max-connections (connection 1 300 1)) (replicate max-connections (last-at 7)) [] [])
+    (replicate max-connections true)
 
 -- link A and n notices of one unit, at clock t
 abbrev pub waits : ℕ → ℕ → State
@@ -186,7 +213,7 @@ service-limits =
     -- 64 notices
     ∷ gives (waits 7 63) (notice 1 73) 0 7
     ∷ gives (waits 7 64) (notice 1 73) 15 0
-    -- the clock's end, which admissions don't ask for; a tick beyond it the state is not sound
+    -- the clock's end, which admissions don't ask for
     ∷ gives (holds-none 3_999_999_999) (offer 0 1 73) 0 3_999_999_999
     ∷ gives (holds-none 3_999_999_999) (notice 1 73) 0 3_999_999_999
     ∷ gives (holds-none 3_999_999_999) tick 0 0
@@ -194,22 +221,52 @@ service-limits =
     ∷ gives (holds-none 4_000_000_000) (notice 1 73) 13 0
     ∷ gives (holds-none 4_000_000_000) tick 13 0
     ∷ gives (idle 4_000_000_000 wire-a [] [] [] []) (line 1 10 4) 0 0
-    ∷ gives (holds-none 4_000_000_001) tick 1 0
     ∷ []
 
--- "Verdict numbers": number 1 first, otherwise the lowest that applies. Calls with several causes
-abbrev pub causes : List Trial
-causes =
-    -- 1 before 2, at every call: with no link everything is zero
+-- document 02, R-8: closing, and the numbers
+abbrev pub close-limits : List Trial
+close-limits =
+    -- a number that stands and holds nothing; also at the clock's end
+    gives (holds-none 7) (close 0) 0 0
+    ∷ gives (holds-none 7) (close 1) 10 0
+    ∷ gives (holds-none 7) (close 200) 10 0
+    ∷ gives (holds-one 7) (close 0) 16 0
+    ∷ gives (holds-none 4_000_000_000) (close 0) 0 0
+    -- closed and charged until 27: at 26 it gets 10, and its number is not given
+    ∷ gives (charged 26) (offer 0 1 73) 10 0
+    ∷ gives (charged 26) (close 0) 10 0
+    ∷ gives (charged 26) (line 2 20 1) 0 1
+    ∷ gives (charged 26) tick 0 0
+    -- all numbers are charged: none is given
+    ∷ gives (all-charged 306) (line 1 300 1) 7 255
+    -- the lowest free number is given
+    ∷ gives free-0 (line 2 20 1) 0 0
+    ∷ []
+
+-- states that are not sound: number 1 first
+abbrev pub not-sound : List Trial
+not-sound =
+    -- with no link everything is zero; 1 before 2, at every call
     gives (idle 1 no-link [] [] [] []) (link (wire 1 1 0 (1 ∷ []))) 1 0
     ∷ gives (idle 1 no-link [] [] [] []) (line 1 10 4) 1 255
     ∷ gives (idle 1 no-link [] [] [] []) (offer 0 1 73) 1 0
     ∷ gives (idle 1 no-link [] [] [] []) (notice 1 73) 1 0
+    ∷ gives (idle 1 no-link [] [] [] []) (close 0) 1 0
     ∷ gives (idle 1 no-link [] [] [] []) tick 1 0
+    -- a tick beyond the clock's end
+    ∷ gives (holds-none 4_000_000_001) tick 1 0
+    -- a charge that is over (document 02, R-8)
+    ∷ gives (charged 27) tick 1 0
+    ∷ []
+
+-- "Verdict numbers": otherwise the lowest that applies. Calls with several causes
+abbrev pub causes : List Trial
+causes =
     -- 2 before 5, 10 and 11
-    ∷ gives fresh (line 0 0 0) 2 255
+    gives fresh (line 0 0 0) 2 255
     ∷ gives fresh (offer 0 0 73) 2 0
     ∷ gives fresh (notice 0 73) 2 0
+    ∷ gives fresh (close 0) 2 0
     ∷ gives fresh tick 2 0
     -- 3 before 4
     ∷ gives (bare wire-a) (link wire-a) 3 0
@@ -245,4 +302,4 @@ abbrev pub As-worked : List Trial → Type 0
 As-worked rows = map outcome rows ≡ map (λ (x : Trial). x .expected) rows
 
 abbrev pub Worked-limits : Type 0
-Worked-limits = As-worked link-limits × As-worked admission-limits × As-worked service-limits × As-worked causes × As-worked ties
+Worked-limits = As-worked link-limits × As-worked admission-limits × As-worked service-limits × As-worked close-limits × As-worked not-sound × As-worked causes × As-worked ties

@@ -12,12 +12,14 @@ use Rattle.rules.specs.Limits.{clock-end}
 use Rattle.rules.specs.declared.Packet.{Packet}
 use Rattle.rules.specs.declared.Notice.{Notice}
 use Rattle.rules.specs.Model.{State}
+use Rattle.rules.specs.Admission.{largest-bound}
 use Rattle.rules.specs.SoundTest.{sound}
 use Rattle.rules.proofs.Tests.{never}
 use Rattle.rules.proofs.SoundExact.{exact}
+use Rattle.connections.specs.Members.{first-closed}
 use Rattle.tables.specs.Places.{rows}
 use Rattle.tables.proofs.PlacesLaws.{rows-stop, rows-more, rows-from}
-use Rattle.service.specs.Quiet.{first-eligible, first-starts, quiet-for, quiet-ticks}
+use Rattle.service.specs.Quiet.{first-eligible, first-starts, quiet-for, charged-for, quiet-ticks}
 use Rattle.service.proofs.QuietLaws.{Quiets, quiets}
 
 -- ---- the first eligibility, row by row
@@ -113,12 +115,26 @@ module _ (s : State) (ok : sound s ≡ true) (left : ℕ) where
 
   module _ (n : s .link .levels ≡ 0 → ⊥) where
     pub clock-in-time : s .clock ≤ clock-end
-    clock-in-time = exact s .0 ok .with-one n .clock-le
+    clock-in-time = exact s .0 ok .with-one n .orderly .clock-le
 
-    pub some-quiet : (k : ℕ) → k ≡ min (min (quiet-for (s .to-go) (s .silent) (s .held) (s .notices) (s .clock)) (clock-end - s .clock)) left → k ≡ quiet-ticks left s
+    pub some-quiet : (k : ℕ) → k ≡ min (min (min (quiet-for (s .to-go) (s .silent) (s .held) (s .notices) (s .clock)) (clock-end - s .clock)) (charged-for (first-closed (s .pasts) (s .closed)) (largest-bound (s .link)) (s .clock))) left → k ≡ quiet-ticks left s
     unfolding quiet-ticks
     some-quiet k e = rw (ok, ne-eqb (s .link .levels) 0 n) e
 
 -- they are no more than are left, and the clock does not pass its end
 pub quiet-room : (left : ℕ) (s : State) {k : ℕ} → k ≡ quiet-ticks left s → (k ≡ 0 → ⊥) → Quiets left s k
 quiet-room left s e n = rw e (quiets left s (λ z. n (e ∙ z)))
+
+-- ---- the charges
+
+pub no-charge : (first bound clock : ℕ) → first ≡ 0 → clock-end ≡ charged-for first bound clock
+no-charge zero bound clock e = refl
+no-charge (suc f) bound clock e = absurd (omega arith)
+
+pub charge-ends : (first bound clock k : ℕ) → (first ≡ 0 → ⊥) → k ≡ first + bound - 2 - clock → k ≡ charged-for first bound clock
+charge-ends zero bound clock k n e = absurd (n refl)
+charge-ends (suc f) bound clock k n e = e
+
+-- the smallest of the line's quiet, the clock's rest and the charges', where the code has them as q, m, w and r
+pub quiet-parts : (line end charge q m w r left k : ℕ) → q ≡ line → m ≡ min q end → w ≡ charge → r ≡ min m w → k ≡ min r left → k ≡ min (min (min line end) charge) left
+quiet-parts line end charge q m w r left k a b d e f = omega arith

@@ -1,27 +1,32 @@
 -- Ticks in which nothing starts and nothing departs: what the rules answer to each, and the state after it.
 use Prim.Native.Nat.{ℕ, zero, suc, _+_, _-_, _≤_, _<_, min}
 use native.Mathlib.Omega.{arith}
-use mathlib.Core.Path.{_≡_, refl, ap, _∙_, subst}
+use mathlib.Core.Path.{_≡_, refl, sym, ap, _∙_, subst}
 use mathlib.Core.Bool.{Bool, true, false, not, cond, _&&_}
 use mathlib.Core.List.{List, [], _∷_}
 use mathlib.Core.Logic.{_⊎_, inl, inr}
 use mathlib.Core.Option.{none}
 use lib.Dec.{eqb}
+use lib.ListN.{length, getD}
 use borrow.Author.Tests.{ne-eqb, lt-leb, eqb-false, not-true}
 use Rattle.rules.specs.Words.{All}
-use Rattle.rules.specs.Limits.{clock-end}
+use Rattle.rules.specs.Limits.{max-connections, clock-end}
 use Rattle.rules.specs.declared.Packet.{Packet}
 use Rattle.rules.specs.declared.Notice.{Notice}
-use Rattle.rules.specs.Model.{State, tick, Answer}
-use Rattle.rules.specs.SoundState.{Sound, Idle, Serves}
+use Rattle.rules.specs.Model.{Past, State, tick, Answer, past, closed-at}
+use Rattle.rules.specs.Admission.{largest-bound}
+use Rattle.rules.specs.SoundState.{Sound-with-link, Sound, Idle, Serves}
 use Rattle.rules.specs.SoundTest.{sound}
-use Rattle.rules.specs.Service.{choice, level-of, tick-answer, ticked}
+use Rattle.rules.specs.Service.{choice, level-of, tick-answer, ticked, charge-over, expired, swept, sweeping}
 use Rattle.rules.specs.Calls.{verdicts, verdict, settle, answer}
-use Rattle.rules.proofs.Tests.{and-true}
+use Rattle.rules.proofs.Tests.{never, and-true}
+use Rattle.rules.proofs.Standing.{open-unexpired, charged-unexpired, unexpired-charged, nothing-swept}
 use Rattle.rules.proofs.Lists.{all-map}
 use Rattle.rules.proofs.SoundExact.{exact}
 use Rattle.rules.proofs.SoundKept.{kept}
-use Rattle.service.specs.Quiet.{passed, first-eligible, quiet-for, quiet-ticks}
+use Rattle.connections.specs.Members.{last-of, first-closed}
+use Rattle.connections.proofs.ClosingLaws.{first-before}
+use Rattle.service.specs.Quiet.{passed, first-eligible, quiet-for, charged-for, quiet-ticks}
 
 -- none of some packets is eligible before the tick t
 abbrev None-before : ℕ → List Packet → Type 0
@@ -31,12 +36,17 @@ None-before t ps = All (λ p. t ≤ p .eligibility) ps
 abbrev Still : State → ℕ → Type 0
 Still s k = ((s .to-go ≡ 0) × (s .silent ≡ 0) × None-before (s .clock + k) (s .held) × (s .notices ≡ [])) ⊎ (((s .to-go ≡ 0) × (k ≤ s .silent)) ⊎ (k < s .to-go))
 
+-- for k ticks no charge ends: each that is closed has sent, and its time lies behind them
+abbrev Charged : State → ℕ → Type 0
+Charged s k = (c : ℕ) → closed-at s c ≡ true → (1 ≤ length (past s c)) × (s .clock + k < last-of (past s c) + largest-bound (s .link))
+
 -- a sound hub with a link of which that holds, up to the clock's end
 pub record Quiet (s : State) (k : ℕ) : Type 0 where
   pub sound-state : Sound s
   pub set : s .link .levels ≡ 0 → ⊥
   pub in-time : s .clock + k ≤ clock-end
   pub still : Still s k
+  pub charged : Charged s k
 
 -- ---- one tick
 
@@ -56,7 +66,7 @@ module _ (s : State) (k : ℕ) (Q : Quiet s (suc k)) where
       rw (exact s .1 (Q .sound-state), ne-eqb (s .link .levels) 0 (Q .set), lt-leb clock-end (s .clock) (omega (arith, Q .in-time)))
 
   not-serving : s .to-go ≡ 0 → s .serving ≡ 0
-  not-serving z = go (Q .sound-state .with-one (Q .set) .line)
+  not-serving z = go (Q .sound-state .with-one (Q .set) .orderly .line)
     where
       go : Idle s ⊎ Serves s → s .serving ≡ 0
       go (inl i) = i .1
@@ -76,7 +86,7 @@ module _ (s : State) (k : ℕ) (Q : Quiet s (suc k)) where
   line-quiet (inr (inr l)) = go (s .to-go) refl
     where
       none-silent : s .silent ≡ 0
-      none-silent = Q .sound-state .with-one (Q .set) .silent-alone (omega arith)
+      none-silent = Q .sound-state .with-one (Q .set) .orderly .silent-alone (omega arith)
 
       go : (u : ℕ) → s .to-go ≡ u → ticked s ≡ quiet-answer s
       go zero e = absurd (omega arith)
@@ -86,8 +96,27 @@ module _ (s : State) (k : ℕ) (Q : Quiet s (suc k)) where
           let g : 0 - 1 ≡ 0 = omega arith in
           rw (e, f, none-silent, g)
 
+  -- nobody is freed in it
+  charge-left : (bound t : ℕ) (h : Past) → 1 ≤ length h → t < last-of h + bound → charge-over bound t h ≡ false
+  charge-left bound t [] l e = absurd (omega arith)
+  charge-left bound t (x ∷ h) l e = lt-leb (x + bound) t (omega arith)
+
+  none-freed : (c : ℕ) → c < max-connections → expired (passed s 1) c ≡ false
+  none-freed c l = go (closed-at s c) refl
+    where
+      go : (b : Bool) → closed-at s c ≡ b → expired (passed s 1) c ≡ false
+      go true e =
+          let q = Q .charged c e in
+          charged-unexpired (passed s 1) c (charge-left (largest-bound (s .link)) (s .clock + 1) (past s c) (q .0) (omega (arith, q .1)))
+      go false e = open-unexpired (passed s 1) c e
+
+  nobody-freed : swept (passed s 1) ≡ passed s 1
+  nobody-freed =
+      let O = Q .sound-state .with-one (Q .set) .orderly in
+      nothing-swept (passed s 1) (O .numbers) (O .one-past-each) (O .one-mark-each) none-freed
+
   pub one-quiet-tick : answer tick s ≡ quiet-answer s
-  one-quiet-tick = ap (settle tick s) tick-good ∙ line-quiet (Q .still)
+  one-quiet-tick = ap (settle tick s) tick-good ∙ ap sweeping (line-quiet (Q .still)) ∙ ap (tick-answer none) nobody-freed
 
   still-then : Still s (suc k) → Still (passed s 1) k
   still-then (inl (z, y, h, n)) = inl (omega arith, omega arith, all-map (λ p b. omega arith) (s .held) h, n)
@@ -100,6 +129,7 @@ module _ (s : State) (k : ℕ) (Q : Quiet s (suc k)) where
     set = Q .set;
     in-time = omega (arith, Q .in-time);
     still = still-then (Q .still);
+    charged = λ c e. let q = Q .charged c e in (q .0, omega (arith, q .1));
   }
 
 -- ---- many
@@ -134,6 +164,26 @@ still-for s k p h = go (s .to-go) refl (s .silent) refl (s .notices) refl h
     go zero e (suc q) f ns i l = inr (inl (e, omega arith))
     go (suc u) e q f ns i l = inr (inr (omega arith))
 
+-- .. and no charge ends in them
+charged-still : (s : State) (k : ℕ) → Sound-with-link s → 0 < k → k ≤ charged-for (first-closed (s .pasts) (s .closed)) (largest-bound (s .link)) (s .clock) → Charged s k
+charged-still s k S p h c e =
+    let l : c < length (s .closed) = marked-below (s .closed) c e in
+    let f = first-before (s .pasts) (s .closed) c (omega (arith, S .orderly .one-past-each, S .orderly .one-mark-each)) e in
+    (has-sent (past s c) (unexpired-charged s c (S .charged c (omega (arith, S .orderly .one-mark-each))) e), go (first-closed (s .pasts) (s .closed)) h (f .0) (f .1))
+  where
+    marked-below : (bs : List Bool) (i : ℕ) → getD bs i false ≡ true → i < length bs
+    marked-below [] i x = never x
+    marked-below (b ∷ bs) zero x = omega arith
+    marked-below (b ∷ bs) (suc i) x = omega (arith, marked-below bs i x)
+
+    has-sent : (q : Past) → charge-over (largest-bound (s .link)) (s .clock) q ≡ false → 1 ≤ length q
+    has-sent [] x = never (sym x)
+    has-sent (a ∷ q) x = omega arith
+
+    go : (f : ℕ) → k ≤ charged-for f (largest-bound (s .link)) (s .clock) → 0 < f → f ≤ suc (last-of (past s c)) → s .clock + k < last-of (past s c) + largest-bound (s .link)
+    go zero a b d = absurd (omega arith)
+    go (suc f) a b d = omega arith
+
 -- they are no more than are left, and nothing happens in them
 pub record Quiets (left : ℕ) (s : State) (k : ℕ) : Type 0 where
   pub few : k ≤ left
@@ -144,18 +194,20 @@ unfolding quiet-ticks
 quiets left s n = go (sound s && not (eqb (s .link .levels) 0)) refl n
   where
     k : ℕ
-    k = min (min (quiet-for (s .to-go) (s .silent) (s .held) (s .notices) (s .clock)) (clock-end - s .clock)) left
+    k = min (min (min (quiet-for (s .to-go) (s .silent) (s .held) (s .notices) (s .clock)) (clock-end - s .clock)) (charged-for (first-closed (s .pasts) (s .closed)) (largest-bound (s .link)) (s .clock))) left
 
     go : (b : Bool) → (sound s && not (eqb (s .link .levels) 0)) ≡ b → (cond b k 0 ≡ 0 → ⊥) → Quiets left s (cond b k 0)
     go true e z =
         let a = and-true (sound s) _ e in
+        let set = eqb-false _ _ (not-true _ (a .1)) in
         record {
           few = omega arith;
           quiet = record {
             sound-state = exact s .0 (a .0);
-            set = eqb-false _ _ (not-true _ (a .1));
+            set = set;
             in-time = omega arith;
             still = still-for s k (omega arith) (omega arith);
+            charged = charged-still s k (exact s .0 (a .0) .with-one set) (omega arith) (omega arith);
           };
         }
     go false e z = absurd (z refl)

@@ -1,5 +1,5 @@
--- QUIET TICKS: those in which nothing starts and nothing departs, so that many can be passed over at once. Document 01, "One tick"; document 02, R-1
--- and R-4.
+-- QUIET TICKS: those in which nothing starts, nothing departs and no charge ends, so that many can be passed over at once. Document 01, "One tick"; document 02,
+-- R-1, R-4 and R-8.
 use Prim.Native.Nat.{ℕ, zero, suc, _+_, _-_, min}
 use mathlib.Core.Bool.{Bool, false, not, cond, _&&_}
 use mathlib.Core.List.{List, [], _∷_}
@@ -8,7 +8,9 @@ use Rattle.rules.specs.declared.Packet.{Packet}
 use Rattle.rules.specs.declared.Notice.{Notice}
 use Rattle.rules.specs.Limits.{clock-end}
 use Rattle.rules.specs.Model.{State, with-clock, with-line}
+use Rattle.rules.specs.Admission.{largest-bound}
 use Rattle.rules.specs.SoundTest.{sound}
+use Rattle.connections.specs.Members.{first-closed}
 
 -- the state k ticks on, where nothing starts and nothing departs in them: what is in service, if anything is, has k units fewer to go, and a silence k ticks
 abbrev pub passed : State → ℕ → State
@@ -32,7 +34,15 @@ quiet-for zero zero held (n ∷ ns) clock = 0
 quiet-for zero (suc silent) held ns clock = suc silent
 quiet-for (suc to-go) silent held ns clock = to-go
 
+-- the ticks in which no charge ends: up to the one before the earliest end, which is the earliest last eligibility of those that are closed plus the largest bound;
+-- `first` is one more than that eligibility, and 0 where none is closed
+abbrev pub charged-for : ℕ → ℕ → ℕ → ℕ
+charged-for zero bound clock = clock-end
+charged-for (suc last) bound clock = suc last + bound - 2 - clock
+
 -- of `left` ticks those that are passed over at once: none without a link, and none beyond the clock's end
 unfoldable pub quiet-ticks : ℕ → State → ℕ
 quiet-ticks left s =
-    cond (sound s && not (eqb (s .link .levels) 0)) (min (min (quiet-for (s .to-go) (s .silent) (s .held) (s .notices) (s .clock)) (clock-end - s .clock)) left) 0
+    cond (sound s && not (eqb (s .link .levels) 0))
+    (min (min (min (quiet-for (s .to-go) (s .silent) (s .held) (s .notices) (s .clock)) (clock-end - s .clock)) (charged-for (first-closed (s .pasts) (s .closed)) (largest-bound (s .link)) (s .clock))) left)
+    0

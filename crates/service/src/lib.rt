@@ -11,6 +11,7 @@ ghost use Rattle.rules.specs.Model.{with-line};
 ghost use Rattle.rules.specs.Service.{choice, started, after-unit, ticked};
 ghost use lib.ListN.{length};
 ghost use Rattle.tables.specs.Places.{rows, written-places, places-length};
+ghost use Rattle.connections.specs.Members.{members-length};
 ghost use Rattle.service.specs.Candidates.{best-of, level-in, Leads, Leads-with};
 ghost use Rattle.state.specs.View.{Tables, tables, before, view, hub-of};
 ghost use Rattle.service.specs.Gives.{passed-on, Gives};
@@ -38,7 +39,7 @@ pub struct Lead {
 
 // The best so far, or row i, which was offered later: row i only if it is eligible and goes strictly before the best.
 fn lead_with(members: &[u32], places: &[u32], lead: Lead, i: usize, clock: u32) -> Lead
-    requires { ⌜ (5 * i + 5 ≤ length (now places)) × Leads (now members) (now places) lead ⌝ }
+    requires { ⌜ (5 * i + 5 ≤ length (now places)) × Leads (now members) (now places) lead × (length (now members) ≡ members-length) ⌝ }
     ensures { λ r. ⌜ Leads-with (now (members .entry)) (now (places .entry)) clock lead i r ⌝ }
 {
     let eligibility = places[PACKET_WIDTH * i + 4];
@@ -69,7 +70,7 @@ fn lead_with(members: &[u32], places: &[u32], lead: Lead, i: usize, clock: u32) 
 
 // The packet that the line takes next, if one is eligible. One pass upward over the held rows.
 pub fn choose(members: &[u32], places: &[u32], clock: u32) -> Best
-    requires { ⌜ (now places ≡ written-places (rows (now places))) × (length (now places) ≡ places-length) ⌝ }
+    requires { ⌜ (now places ≡ written-places (rows (now places))) × (length (now places) ≡ places-length) × (length (now members) ≡ members-length) ⌝ }
     ensures { λ r. ⌜ r ≡ best-of (choice (level-in (now (members .entry))) clock (rows (now (places .entry)))) ⌝ }
 {
     let n = tables::count(places);
@@ -120,7 +121,7 @@ pub fn without(a: u32, b: u32) -> u32
 // Step 1: an idle line takes the chosen packet, else the first notice. Nothing interrupts what is in service, and nothing starts before the silence has
 // run, so no row is looked at then.
 fn start(h: Hub, members: &[u32], places: &[u32], notices: &[u32]) -> Hub
-    requires { ⌜ (now places ≡ written-places (rows (now places))) × (length (now places) ≡ places-length) × (notices-formed (now notices) ≡ true) ⌝ }
+    requires { ⌜ (now places ≡ written-places (rows (now places))) × (length (now places) ≡ places-length) × (notices-formed (now notices) ≡ true) × (length (now members) ≡ members-length) ⌝ }
     ensures { λ r. ⌜ r ≡ hub-of (started (view h (before members places notices))) ⌝ }
 {
     if h.to_go != 0 {
@@ -199,9 +200,9 @@ fn send(g: Hub, places: &mut [u32], notices: &mut [u32]) -> Told
     pass(sent, false, tables::no_packet())
 }
 
-// One tick of a hub that is ready for it.
+// The three steps of a tick, on a hub that is ready for them.
 pub fn run_tick(h: Hub, members: &[u32], places: &mut [u32], notices: &mut [u32]) -> Told
-    requires { ⌜ Ready h (now places) (now notices) ⌝ }
+    requires { ⌜ Ready h (now places) (now notices) × (length (now members) ≡ members-length) ⌝ }
     ensures { λ r. ⌜ Gives (ticked (view h (before members places notices))) r (now (places .exit)) (now (notices .exit)) ⌝ }
 {
     let g = start(h, members, places, notices);

@@ -1,14 +1,16 @@
-// Quiet ticks: how many of those asked for can be passed over at once, and the hub after them.
+// Quiet ticks, in which no charge ends either: how many of those asked for can be passed over at once, and the hub after them.
 ghost use mathlib.Core.Path.{_≡_};
 ghost use mathlib.Core.Bool.{true};
 ghost use Prim.Native.Nat.{_+_, _-_, _≤_, min};
 ghost use lib.ListN.{length};
 ghost use Rattle.rules.specs.Limits.{clock-end};
+ghost use Rattle.rules.specs.Admission.{bound};
 ghost use Rattle.rules.specs.SoundTest.{sound};
 ghost use Rattle.tables.specs.Places.{rows, written-places, places-length};
 ghost use Rattle.tables.specs.Notices.{notices-in};
+ghost use Rattle.connections.specs.Members.{members-length, first-in, members-formed};
 ghost use Rattle.state.specs.View.{Tables, given, before, view, hub-of};
-ghost use Rattle.service.specs.Quiet.{passed, first-eligible, first-starts, quiet-for, quiet-ticks};
+ghost use Rattle.service.specs.Quiet.{passed, first-eligible, first-starts, quiet-for, charged-for, quiet-ticks};
 use super::without;
 use limits::CLOCK_END;
 use limits::PACKET_WIDTH;
@@ -78,15 +80,44 @@ fn quiet_for(h: Hub, places: &[u32], notices: &[u32]) -> u32
     wait(places, h.clock)
 }
 
+// The smaller of a number and one of 64 bits.
+fn least_wide(a: u32, b: u64) -> u32
+    ensures { λ r. ⌜ r ≡ min a b ⌝ }
+{
+    if b < a as u64 {
+        return b as u32;
+    }
+    a
+}
+
+// The ticks in which no charge ends: up to the one before the earliest end.
+fn charged_for(h: Hub, members: &[u32]) -> u64
+    requires { ⌜ length (now members) ≡ members-length ⌝ }
+    ensures { λ r. ⌜ r ≡ charged-for (first-in (now (members .entry))) (bound (h .link) (h .link .levels)) (h .clock) ⌝ }
+{
+    let first = connections::closing::first_charge(members);
+    if first == 0 {
+        return CLOCK_END as u64;
+    }
+    let bound = connections::bound_of(h.link, h.link.levels);
+    let end = first as u64 + bound as u64;
+    let reached = h.clock as u64 + 2;
+    if end < reached {
+        return 0;
+    }
+    end - reached
+}
+
 // Of `left` ticks those that can be passed over at once.
 pub fn quiet_ticks(h: Hub, members: &[u32], places: &[u32], notices: &[u32], left: u16) -> u16
-    requires { ⌜ (sound (view h (given members places notices)) ≡ true) × (now places ≡ written-places (rows (now places))) × (length (now places) ≡ places-length) ⌝ }
+    requires { ⌜ (sound (view h (given members places notices)) ≡ true) × (now places ≡ written-places (rows (now places))) × (length (now places) ≡ places-length) × (members-formed (now members) ≡ true) ⌝ }
     ensures { λ r. ⌜ r ≡ quiet-ticks left (view h (before members places notices)) ⌝ }
 {
     if h.link.levels == 0 {
         return 0;
     }
-    let rest = least(quiet_for(h, places, notices), CLOCK_END - h.clock);
+    let still = least(quiet_for(h, places, notices), CLOCK_END - h.clock);
+    let rest = least_wide(still, charged_for(h, members));
     if rest < left as u32 {
         return rest as u16;
     }

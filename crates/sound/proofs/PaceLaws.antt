@@ -3,13 +3,13 @@ use Prim.Native.Nat.{ℕ, zero, suc, _+_, _-_, _≤_, _<_, max}
 use native.Mathlib.Omega.{arith}
 use native.Mathlib.Numerals.{add-one}
 use mathlib.Core.Path.{_≡_, refl, sym, ap, _∙_, subst}
-use mathlib.Core.Bool.{Bool, true, false, cond, _&&_}
+use mathlib.Core.Bool.{Bool, true, false, cond, not, _&&_, _||_}
 use mathlib.Core.Logic.{_⊎_, inl, inr}
-use mathlib.Core.List.{List, [], _∷_, _++_}
-use mathlib.Core.Option.{Option, none, some}
+use mathlib.Core.List.{List, [], _∷_, _++_, map}
+use mathlib.Core.Option.{none, some}
 use lib.Dec.{leb, ltb, eqb}
 use lib.ListN.{length, getD, set, take, drop, replicate, length-set, length-map, length-append, length-take, length-drop, getD-replicate, drop-of-length-le}
-use lib.Seq.{sets, getD-set-same, getD-set-other, take-suc, take-length, drop-cons, drop-length, ext-getD}
+use lib.Seq.{sets, getD-set-same, getD-set-other, take-suc, take-length, drop-cons, ext-getD}
 use borrow.Author.Tests.{le-leb, lt-leb, eq-eqb, ne-eqb, lt-ltb, le-ltb}
 use Rattle.rules.specs.declared.Link.{Link}
 use Rattle.rules.specs.declared.Connection.{Connection}
@@ -17,30 +17,33 @@ use Rattle.rules.specs.declared.Packet.{Packet}
 use Rattle.rules.specs.Words.{All, every}
 use Rattle.rules.specs.Limits.{max-connections, max-reserved, max-remembered}
 use Rattle.rules.specs.Model.{Past, nth, no-past}
-use Rattle.rules.specs.Admission.{burst, reservation}
-use Rattle.rules.specs.Service.{earliest, nth-before, ticks-after, remember, remember-all, of, eligibilities}
-use Rattle.rules.specs.SoundState.{departed-of, reach}
-use Rattle.rules.specs.SoundTest.{far-as, latest, in-pace, departed-by, paced, left-in-time, left-sound, same-numbers, kept-sound, before-pass, behind-pass, queues-sound}
+use Rattle.rules.specs.Admission.{burst, owned, largest-bound, reservation}
+use Rattle.rules.specs.Service.{earliest, nth-before, ticks-after, remember, remember-all, of, eligibilities, charge-over}
+use Rattle.rules.specs.SoundState.{departed-of}
+use Rattle.rules.specs.SoundTest.{latest, in-pace, departed-by, paced, left-in-time, left-sound, same-numbers, before-pass, behind-pass, closed-sound}
 use Rattle.rules.proofs.Lists.{all-at, all-from, all-set}
-use Rattle.rules.proofs.Memory.{remember-few, remember-all-few, remember-all-snoc}
+use Rattle.rules.proofs.Memory.{remember-few, remember-all-snoc}
 use Rattle.rules.proofs.Rows.{of-snoc-same, of-snoc-other, eligibilities-snoc-same, eligibilities-snoc-other}
 use Rattle.rules.proofs.SoundExact.{same-true, same-intro}
+use Rattle.rules.proofs.Standing.{owned-below, level-owned, level-free}
 use Rattle.rules.proofs.Sums.{split, same, cond-is}
-use Rattle.rules.proofs.Tests.{never, and-true, and-intro, every-true, every-intro}
+use Rattle.rules.proofs.Tests.{never, and-true, and-intro, or-true, or-intro, every-true, every-intro}
 use Rattle.limits.proofs.ChainLaws.{fails, goes-on}
 use Rattle.limits.proofs.EveryLaws.{every-same}
+use Rattle.tables.specs.Table.{row-in}
 use Rattle.tables.specs.Places.{rows, row-at, no-packet}
 use Rattle.tables.proofs.PlacesLaws.{row-is, rows-from}
 use Rattle.connections.specs.declared.Member.{Member}
-use Rattle.connections.specs.Members.{members-length, members-in, member-in, connection-of, past-of, connections-in, pasts-in, written-members, member-formed, members-formed}
+use Rattle.connections.specs.Members.{member-width, members-length, connection-of, past-of, connections-in, pasts-in, closed-in, used-in, first-in, written-table, member-formed, rows-formed}
 use Rattle.connections.specs.Within.{Within}
 use Rattle.connections.proofs.FigureLaws.{figure-limits}
-use Rattle.connections.proofs.MemberLaws.{copied-over, connection-is, past-is, connections-length, pasts-length}
+use Rattle.connections.proofs.MemberLaws.{copied-over, closed-is, connections-length, pasts-length, closed-length}
 use Rattle.connections.proofs.RegulatorLaws.{at-some, at-none}
-use Rattle.connections.proofs.WrittenLaws.{Few, formed-parts, member-formed-at, pasts-few, members-long, members-written, connections-back, pasts-back, members-formed-back}
+use Rattle.connections.proofs.WrittenLaws.{Few, formed-parts, pasts-few, rows-length, table-written, connections-back, pasts-back, closed-back, used-back, first-back, table-formed}
 use Rattle.state.specs.declared.Hub.{Hub}
 use Rattle.state.specs.View.{Tables, view}
-use Rattle.sound.specs.Pace.{Counts, counted, Countable, past-in, Remembers, past-with, Names, left-at}
+use Rattle.sound.specs.Pace.{Counts, counted, Countable, past-in, with-past, Remembers, past-with, Names, left-with, closed-with}
+use Rattle.sound.proofs.PartLaws.{both-ways}
 
 -- ---- the rows of each connection, counted
 
@@ -99,60 +102,83 @@ counts-all seen places i e T = subst (λ (ps : List Packet). Counts seen ps) (ap
 
 -- ---- a table that remembers
 
-module _ (members t : List ℕ) (f : ℕ → Past) (R : Remembers members t f) where
-  pub remembers-count : length (members-in t) ≡ length (members-in members)
-  remembers-count = sym (connections-length t) ∙ ap length (R .same) ∙ connections-length members
+-- another past of one connection
+pub remembers-put : (members t : List ℕ) (f : ℕ → Past) → Remembers members t f → (c : ℕ) (h : Past) → c < max-connections → Few h → (u : List ℕ) → u ≡ with-past t c h
+    → (g : ℕ → Past) → g c ≡ h → ((k : ℕ) → (k ≡ c → ⊥) → g k ≡ f k) → Remembers members u g
+remembers-put members t f R c h l fh u e g own others = subst (λ (v : List ℕ). Remembers members v g) (sym e) (record {
+  shape = table-formed cs hs bs (used-in t) (first-in t) lc lh lb short;
+  same = connections-back cs hs bs (used-in t) (first-in t) lc lh lb short ∙ R .same;
+  marks = closed-back cs hs bs (used-in t) (first-in t) lc lh lb short ∙ R .marks;
+  used = used-back cs hs bs (used-in t) (first-in t) lc lh lb short ∙ R .used;
+  first = first-back cs hs bs (used-in t) (first-in t) lc lh lb short ∙ R .first;
+  pasts = one;
+})
+  where
+    cs : List Connection
+    cs = connections-in t
 
-  -- another past of one connection
-  pub remembers-put : (length (members-in members) ≤ max-connections) → ((c : ℕ) → c < length (members-in members) → 0 < nth (connections-in members) c .size)
-      → (c : ℕ) (h : Past) → c < length (members-in members) → Few h → (u : List ℕ) → u ≡ written-members (connections-in t) (set (pasts-in t) c h)
-      → (g : ℕ → Past) → g c ≡ h → ((k : ℕ) → (k ≡ c → ⊥) → g k ≡ f k) → Remembers members u g
-  remembers-put few used c h l fh u e g own others = subst (λ (v : List ℕ). Remembers members v g) (sym e) (record { shape = members-formed-back cs hs len used′ few′ short; same = connections-back cs hs len used′ few′ short ∙ R .same; pasts = one })
-    where
-      cs : List Connection
-      cs = connections-in t
+    hs : List Past
+    hs = set (pasts-in t) c h
 
-      hs : List Past
-      hs = set (pasts-in t) c h
+    bs : List Bool
+    bs = closed-in t
 
-      count : length cs ≡ length (members-in members)
-      count = connections-length t ∙ remembers-count
+    lc : length cs ≡ max-connections
+    lc = connections-length t
 
-      len : length hs ≡ length cs
-      len = length-set (pasts-in t) c h ∙ pasts-length t
+    lh : length hs ≡ max-connections
+    lh = length-set (pasts-in t) c h ∙ pasts-length t
 
-      used′ : (k : ℕ) → k < length cs → 0 < nth cs k .size
-      used′ k m = subst (λ (x : List Connection). 0 < nth x k .size) (sym (R .same)) (used k (omega (arith, count)))
+    lb : length bs ≡ max-connections
+    lb = closed-length t
 
-      few′ : length cs ≤ max-connections
-      few′ = omega (arith, count)
+    short : All Few hs
+    short = all-set Few (pasts-in t) c h (pasts-few t (R .shape)) fh
 
-      short : All Few hs
-      short = all-set Few (pasts-in t) c h (pasts-few t (R .shape)) fh
-
-      one : (k : ℕ) → k < length (members-in members) → past-in (written-members cs hs) k ≡ g k
-      one k m = ap (λ (x : List Past). getD x k no-past) (pasts-back cs hs len used′ few′ short) ∙ go (same k c)
-        where
-          go : (k ≡ c) ⊎ (k ≡ c → ⊥) → getD hs k no-past ≡ g k
-          go (inl i) = ap (λ (j : ℕ). getD hs j no-past) i ∙ getD-set-same (pasts-in t) c h no-past (omega (arith, pasts-length t, count)) ∙ sym own ∙ ap g (sym i)
-          go (inr n) = getD-set-other (pasts-in t) c k h no-past n ∙ R .pasts k m ∙ sym (others k n)
+    one : (k : ℕ) → k < max-connections → past-in (with-past t c h) k ≡ g k
+    one k m = ap (λ (x : List Past). getD x k no-past) (pasts-back cs hs bs (used-in t) (first-in t) lc lh lb short) ∙ go (same k c)
+      where
+        go : (k ≡ c) ⊎ (k ≡ c → ⊥) → getD hs k no-past ≡ g k
+        go (inl i) = ap (λ (j : ℕ). getD hs j no-past) i ∙ getD-set-same (pasts-in t) c h no-past (omega (arith, pasts-length t)) ∙ sym own ∙ ap g (sym i)
+        go (inr n) = getD-set-other (pasts-in t) c k h no-past n ∙ R .pasts k m ∙ sym (others k n)
 
 -- a table remembers what it does
-pub remembers-itself : (t : List ℕ) → members-formed t ≡ true → Remembers t t (past-in t)
-remembers-itself t f = record { shape = f; same = refl; pasts = λ c l. refl }
+pub remembers-itself : (t : List ℕ) → rows-formed t ≡ true → Remembers t t (past-in t)
+remembers-itself t f = record { shape = f; same = refl; marks = refl; used = refl; first = refl; pasts = λ c l. refl }
 
-pub remembers-as : (members t : List ℕ) (f g : ℕ → Past) → ((c : ℕ) → c < length (members-in members) → f c ≡ g c) → Remembers members t f → Remembers members t g
-remembers-as members t f g e R = record { shape = R .shape; same = R .same; pasts = λ c l. R .pasts c l ∙ e c l }
+pub remembers-as : (members t : List ℕ) (f g : ℕ → Past) → ((c : ℕ) → c < max-connections → f c ≡ g c) → Remembers members t f → Remembers members t g
+remembers-as members t f g e R = record { shape = R .shape; same = R .same; marks = R .marks; used = R .used; first = R .first; pasts = λ c l. R .pasts c l ∙ e c l }
 
 -- what a table remembers is never too much
-pub past-few : (t : List ℕ) (c : ℕ) → members-formed t ≡ true → c < length (members-in t) → Few (past-in t c)
-past-few t c f l = all-at Few (pasts-in t) c no-past (omega (arith, pasts-length t, connections-length t)) (pasts-few t f)
+pub past-few : (t : List ℕ) (c : ℕ) → rows-formed t ≡ true → c < max-connections → Few (past-in t c)
+past-few t c f l = all-at Few (pasts-in t) c no-past (omega (arith, pasts-length t)) (pasts-few t f)
+
+-- a table with the past that it has
+pub past-again : (t : List ℕ) (c : ℕ) → rows-formed t ≡ true → t ≡ with-past t c (past-in t c)
+past-again t c f =
+    table-written t f
+    ∙ ap (λ (hs : List Past). written-table (connections-in t) hs (closed-in t) (used-in t) (first-in t))
+    (ext-getD no-past (pasts-in t) (set (pasts-in t) c (past-in t c)) (sym (length-set (pasts-in t) c (past-in t c))) at)
+  where
+    at : (k : ℕ) → k < length (pasts-in t) → getD (pasts-in t) k no-past ≡ getD (set (pasts-in t) c (past-in t c)) k no-past
+    at k l = go (same k c)
+      where
+        go : (k ≡ c) ⊎ (k ≡ c → ⊥) → getD (pasts-in t) k no-past ≡ getD (set (pasts-in t) c (past-in t c)) k no-past
+        go (inl e) =
+            ap (λ (j : ℕ). getD (pasts-in t) j no-past) e
+            ∙ sym (getD-set-same (pasts-in t) c (past-in t c) no-past (omega arith))
+            ∙ ap (λ (j : ℕ). getD (set (pasts-in t) c (past-in t c)) j no-past) (sym e)
+        go (inr n) = sym (getD-set-other (pasts-in t) c k (past-in t c) no-past n)
+
+-- .. where nothing is forgotten
+pub forget-none : (t : List ℕ) (c n : ℕ) → rows-formed t ≡ true → n ≡ 0 → t ≡ with-past t c (drop n (past-in t c))
+forget-none t c n f z = past-again t c f ∙ ap (λ (k : ℕ). with-past t c (drop k (past-in t c))) (sym z)
 
 -- ---- a connection by value
 
 -- how many it remembers
 pub known-below : (m : Member) → member-formed m ≡ true → (k : ℕ) → k < m .known → length (m .ticks) ≡ max-remembered → k < length (past-of m)
-known-below m f k l n = omega (arith, length-take (m .known) (m .ticks), formed-parts m f .0)
+known-below m f k l n = omega (arith, length-take (m .known) (m .ticks), formed-parts m f .known-le)
 
 pub known-end : (m : Member) (k : ℕ) → m .known ≤ k → length (past-of m) ≤ k
 known-end m k l = omega (arith, length-take (m .known) (m .ticks))
@@ -167,15 +193,24 @@ is-known m (suc n) z l k =
     let e : suc n - 1 ≡ n = omega arith in
     at-some (past-of m) n (omega (arith, length-take (m .known) (m .ticks))) ∙ ap (λ (i : ℕ). some (getD (past-of m) i 0)) (sym e)
 
--- each size is something
-pub sizes : (l : Link) (t : List ℕ) → Within l (connections-in t) → (c : ℕ) → c < length (members-in t) → 0 < nth (connections-in t) c .size
-sizes l t W c k = figure-limits l (nth (connections-in t) c) (W .figures-in c (omega (arith, connections-length t))) .some-size
-
 pub within-same : (l : Link) (members t : List ℕ) (f : ℕ → Past) → Remembers members t f → Within l (connections-in members) → Within l (connections-in t)
 within-same l members t f R W = subst (λ (cs : List Connection). Within l cs) (sym (R .same)) W
 
-pub named : (t places : List ℕ) → Names t places → (i : ℕ) → i < length (rows places) → (p : Packet) → p ≡ row-at places i → p .connection < length (members-in t)
-named t places N i l p e = subst (λ (q : Packet). q .connection < length (members-in t)) (sym e) (N i l)
+-- an owner has a gap
+pub some-gap : (l : Link) (t : List ℕ) (c : ℕ) (x : Connection) → Within l (connections-in t) → x ≡ nth (connections-in t) c → (x .level ≡ 0 → ⊥) → 1 ≤ x .gap
+some-gap l t c x W e n =
+    let o = level-owned (connections-in t) c (λ z. n (ap (λ (y : Connection). y .level) e ∙ z)) in
+    omega (arith, ap (λ (y : Connection). y .gap) e, figure-limits l (nth (connections-in t) c) (W .figures-in c o) .some-gap)
+
+pub names-same : (members t places : List ℕ) (f : ℕ → Past) → Remembers members t f → Names members places → Names t places
+names-same members t places f R N = subst (λ (cs : List Connection). (k : ℕ) → k < length (rows places) → owned cs (row-at places k .connection) ≡ true) (sym (R .same)) N
+
+-- a row is of a number that has an owner, one of those that there are
+pub named : (t places : List ℕ) → Names t places → (i : ℕ) → i < length (rows places) → row-at places i .connection < max-connections
+named t places N i l = omega (arith, owned-below (connections-in t) (row-at places i .connection) (N i l), connections-length t)
+
+pub named-row : (t places : List ℕ) → Names t places → (i : ℕ) → i < length (rows places) → (p : Packet) → p ≡ row-at places i → p .connection < max-connections
+named-row t places N i l p e = subst (λ (q : Packet). q .connection < max-connections) (sym e) (named t places N i l)
 
 -- ---- before the pass
 
@@ -183,15 +218,13 @@ named t places N i l p e = subst (λ (q : Packet). q .connection < length (membe
 abbrev pub forgotten : List ℕ → List ℕ → ℕ → ℕ → Past
 forgotten t seen c k = cond (ltb k c) (drop (getD seen k 0) (past-in t k)) (past-in t k)
 
-pub forgotten-none : (t : List ℕ) (seen : List ℕ) → members-formed t ≡ true → Remembers t t (forgotten t seen 0)
+pub forgotten-none : (t : List ℕ) (seen : List ℕ) → rows-formed t ≡ true → Remembers t t (forgotten t seen 0)
 forgotten-none t seen f = remembers-as t t (past-in t) (forgotten t seen 0) (λ c l. sym (cond-is (drop (getD seen c 0) (past-in t c)) (past-in t c) (le-ltb c 0 (omega arith)))) (remembers-itself t f)
 
-pub forgotten-next : (t u v : List ℕ) (seen : List ℕ) (c n : ℕ) → Remembers t u (forgotten t seen c) → (length (members-in t) ≤ max-connections)
-    → ((k : ℕ) → k < length (members-in t) → 0 < nth (connections-in t) k .size) → c < length (members-in t) → n ≡ getD seen c 0
-    → v ≡ written-members (connections-in u) (set (pasts-in u) c (drop n (past-in u c))) → Remembers t v (forgotten t seen (c + 1))
-forgotten-next t u v seen c n R few used l e f =
-    remembers-put t u (forgotten t seen c) R few used c (drop n (past-in u c)) l (omega (arith, length-drop n (past-in u c), past-few u c (R .shape) (omega (arith, remembers-count t u (forgotten t seen c) R)))) v f
-    (forgotten t seen (c + 1)) own others
+pub forgotten-next : (t u v : List ℕ) (seen : List ℕ) (c n : ℕ) → Remembers t u (forgotten t seen c) → c < max-connections → n ≡ getD seen c 0
+    → v ≡ with-past u c (drop n (past-in u c)) → Remembers t v (forgotten t seen (c + 1))
+forgotten-next t u v seen c n R l e f =
+    remembers-put t u (forgotten t seen c) R c (drop n (past-in u c)) l (omega (arith, length-drop n (past-in u c), past-few u c (R .shape) l)) v f (forgotten t seen (c + 1)) own others
   where
     own : forgotten t seen (c + 1) c ≡ drop n (past-in u c)
     own =
@@ -210,12 +243,12 @@ forgotten-next t u v seen c n R few used l e f =
             cond-is (drop (getD seen k 0) (past-in t k)) (past-in t k) (lt-ltb k (c + 1) (omega arith))
             ∙ sym (cond-is (drop (getD seen k 0) (past-in t k)) (past-in t k) (lt-ltb k c i))
 
-pub forgotten-all : (t u : List ℕ) (seen : List ℕ) (c : ℕ) → c ≡ length (members-in t) → Remembers t u (forgotten t seen c) → Remembers t u (λ k. drop (getD seen k 0) (past-in t k))
+pub forgotten-all : (t u : List ℕ) (seen : List ℕ) (c : ℕ) → c ≡ max-connections → Remembers t u (forgotten t seen c) → Remembers t u (λ k. drop (getD seen k 0) (past-in t k))
 forgotten-all t u seen c e R = remembers-as t u (forgotten t seen c) (λ k. drop (getD seen k 0) (past-in t k)) (λ k l. cond-is (drop (getD seen k 0) (past-in t k)) (past-in t k) (lt-ltb k c (omega arith))) R
 
 -- the table that the pass begins with: a copy of the one that was handed in
-pub whole-copy : (t u : List ℕ) → members-formed t ≡ true → u ≡ sets (replicate members-length 0) 0 t → u ≡ t
-whole-copy t u f e = e ∙ copied-over t members-length (members-long t f)
+pub whole-copy : (t u : List ℕ) → rows-formed t ≡ true → u ≡ sets (replicate members-length 0) 0 t → u ≡ t
+whole-copy t u f e = e ∙ copied-over t members-length (rows-length t f)
 
 pub forgotten-of : (members t u seen : List ℕ) → t ≡ members → Remembers t u (λ c. drop (getD seen c 0) (past-in t c)) → Remembers members u (λ c. drop (getD seen c 0) (past-in members c))
 forgotten-of members t u seen e R = subst (λ (m : List ℕ). Remembers m u (λ c. drop (getD seen c 0) (past-in m c))) e R
@@ -239,15 +272,25 @@ module _ (c : Connection) (t : ℕ) (h : Past) (k : ℕ) (l : k < length h) wher
 pub left-end : (c : Connection) (t : ℕ) (h : Past) (k : ℕ) → length h ≤ k → true ≡ left-in-time c t (drop k h)
 left-end c t h k l = ap (left-in-time c t) (sym (drop-of-length-le h {i = k} l))
 
--- of connection c: too many rows, or what has left decides
-pub too-many : (h : Hub) (old : Past) (x y : Connection) (n r : ℕ) → y ≡ x → r ≡ reservation (h .link) y → r < n → false ≡ left-sound (h .link) x (h .clock) n old
-too-many h old x y n r i e l =
-    fails (leb n (reservation (h .link) x)) _ (lt-leb n (reservation (h .link) x) (omega (arith, ap (reservation (h .link)) i)))
+-- of number c: it is free, has too many rows, or what has left decides
+module _ (h : Hub) (t : List ℕ) (c n : ℕ) (x : Connection) (i : x ≡ nth (connections-in t) c) where
+  pub nothing-asked : x .level ≡ 0 → true ≡ left-with h t n c
+  nothing-asked z = sym (ap (λ (b : Bool). not b || left-sound (h .link) (nth (connections-in t) c) (h .clock) n (past-in t c)) (level-free (connections-in t) c (ap (λ (y : Connection). y .level) (sym i) ∙ z)))
 
-pub not-too-many : (h : Hub) (x y z : Connection) (n r : ℕ) (old new : Past) → y ≡ x → r ≡ reservation (h .link) y → n ≤ r → z ≡ x → new ≡ old → (b : Bool) → b ≡ left-in-time z (h .clock) new → b ≡ left-sound (h .link) x (h .clock) n old
-not-too-many h x y z n r old new i e l j k b f =
-    goes-on (leb n (reservation (h .link) x)) _ b (le-leb n (reservation (h .link) x) (omega (arith, ap (reservation (h .link)) i)))
-    (f ∙ ap (λ (c : Connection). left-in-time c (h .clock) new) j ∙ ap (left-in-time x (h .clock)) k)
+  module _ (own : x .level ≡ 0 → ⊥) (r : ℕ) (e : r ≡ reservation (h .link) x) where
+    asked : left-with h t n c ≡ left-sound (h .link) (nth (connections-in t) c) (h .clock) n (past-in t c)
+    asked = ap (λ (b : Bool). not b || left-sound (h .link) (nth (connections-in t) c) (h .clock) n (past-in t c)) (level-owned (connections-in t) c (λ z. own (ap (λ (y : Connection). y .level) i ∙ z)))
+
+    pub too-many : r < n → false ≡ left-with h t n c
+    too-many l =
+        fails (leb n (reservation (h .link) (nth (connections-in t) c))) _ (lt-leb n (reservation (h .link) (nth (connections-in t) c)) (omega (arith, ap (reservation (h .link)) i)))
+        ∙ sym asked
+
+    pub not-too-many : n ≤ r → (z : Connection) (new : Past) → z ≡ nth (connections-in t) c → new ≡ past-in t c → (b : Bool) → b ≡ left-in-time z (h .clock) new → b ≡ left-with h t n c
+    not-too-many l z new j k b f =
+        goes-on (leb n (reservation (h .link) (nth (connections-in t) c))) _ b (le-leb n (reservation (h .link) (nth (connections-in t) c)) (omega (arith, ap (reservation (h .link)) i)))
+        (f ∙ ap (λ (y : Connection). left-in-time y (h .clock) new) j ∙ ap (left-in-time (nth (connections-in t) c) (h .clock)) k)
+        ∙ sym asked
 
 -- ---- the pass
 
@@ -278,13 +321,11 @@ module _ (t places : List ℕ) (clock i : ℕ) (h : i < length (rows places)) wh
   row = row-at places i
 
   -- one more row remembered
-  pub pass-next : (u v : List ℕ) → Remembers t u (past-with t passed) → (length (members-in t) ≤ max-connections) → ((k : ℕ) → k < length (members-in t) → 0 < nth (connections-in t) k .size)
-      → (p : Packet) → p ≡ row → p .connection < length (members-in t)
-      → v ≡ written-members (connections-in u) (set (pasts-in u) (p .connection) (remember (past-in u (p .connection)) (p .eligibility)))
-      → Remembers t v (past-with t (take (i + 1) (rows places)))
-  pass-next u v R few used p e l f =
+  pub pass-next : (u v : List ℕ) → Remembers t u (past-with t passed) → (p : Packet) → p ≡ row → p .connection < max-connections
+      → v ≡ with-past u (p .connection) (remember (past-in u (p .connection)) (p .eligibility)) → Remembers t v (past-with t (take (i + 1) (rows places)))
+  pass-next u v R p e l f =
       subst (λ (ps : List Packet). Remembers t v (past-with t ps)) (sym (rows-next places i h ∙ ap (λ (q : Packet). passed ++ q ∷ []) (sym e)))
-      (remembers-put t u (past-with t passed) R few used c (remember (past-in u c) (p .eligibility)) l (remember-few (past-in u c) (p .eligibility)) v f (past-with t (passed ++ p ∷ [])) own others)
+      (remembers-put t u (past-with t passed) R c (remember (past-in u c) (p .eligibility)) l (remember-few (past-in u c) (p .eligibility)) v f (past-with t (passed ++ p ∷ [])) own others)
     where
       c : ℕ
       c = p .connection
@@ -299,7 +340,7 @@ module _ (t places : List ℕ) (clock i : ℕ) (h : i < length (rows places)) wh
       others k n = ap (remember-all (past-in t k)) (eligibilities-snoc-other k passed p (λ j. n (sym j)))
 
   -- and the test of it
-  module _ (u : List ℕ) (R : Remembers t u (past-with t passed)) (p : Packet) (e : p ≡ row) (l : p .connection < length (members-in t)) (r : Bool)
+  module _ (u : List ℕ) (R : Remembers t u (past-with t passed)) (p : Packet) (e : p ≡ row) (l : p .connection < max-connections) (r : Bool)
       (f : r ≡ in-pace (nth (connections-in u) (p .connection)) clock (past-in u (p .connection)) (p .eligibility)) where
     abbrev rest : ℕ → Bool
     rest j = paced (connections-in t) clock (past-in t) (take j (rows places)) (drop j (rows places))
@@ -329,75 +370,122 @@ pass-end t places clock i e = ap (paced (connections-in t) clock (past-in t) (ta
 pub remembers-all : (t u places : List ℕ) (i : ℕ) → i ≡ length (rows places) → Remembers t u (past-with t (take i (rows places))) → Remembers t u (past-with t (rows places))
 remembers-all t u places i e R = subst (λ (ps : List Packet). Remembers t u (past-with t ps)) (ap (λ (k : ℕ). take k (rows places)) e ∙ take-length (rows places)) R
 
--- ---- the whole
+-- ---- all numbers
 
 paced-agree : (cs : List Connection) (t : ℕ) (old new : ℕ → Past) (before ps : List Packet) → All (λ p. old (p .connection) ≡ new (p .connection)) ps → paced cs t old before ps ≡ paced cs t new before ps
 paced-agree cs t old new before [] h = refl
 paced-agree cs t old new before (p ∷ ps) h = rw (h .0, paced-agree cs t old new (before ++ p ∷ []) ps (h .1))
 
-both-ways : (a b : Bool) → (a ≡ true → b ≡ true) → (b ≡ true → a ≡ true) → a ≡ b
-both-ways true b f g = sym (f refl)
-both-ways false true f g = g refl
-both-ways false false f g = refl
+-- no row is of a free number
+free-rows : (cs : List Connection) (ps : List Packet) (c : ℕ) → All (λ p. owned cs (p .connection) ≡ true) ps → owned cs c ≡ false → of c ps ≡ []
+free-rows cs [] c N o = refl
+free-rows cs (p ∷ ps) c N o = cond-is (p ∷ of c ps) (of c ps) (ne-eqb (p .connection) c other) ∙ free-rows cs ps c (N .1) o
+  where
+    other : p .connection ≡ c → ⊥
+    other e = let z : false ≡ true = sym o ∙ ap (owned cs) (sym e) ∙ N .0 in never z
 
-module _ (h : Hub) (t : Tables) (formed : members-formed (t .members) ≡ true) (names : Names (t .members) (t .places)) (few : length (members-in (t .members)) ≤ max-connections)
-    (seen : List ℕ) (T : Counts seen (rows (t .places))) (u : List ℕ) (U : Remembers (t .members) u (λ c. drop (getD seen c 0) (past-in (t .members) c))) where
+module _ (h : Hub) (t : Tables) (names : Names (t .members) (t .places)) (seen : List ℕ) (T : Counts seen (rows (t .places))) where
   abbrev held : List Packet
   held = rows (t .places)
 
-  -- what has left of connection c
-  left : (c : ℕ) → c < length (members-in (t .members)) → past-in u c ≡ departed-by (view h t) c
-  left c l = U .pasts c l ∙ ap (λ (n : ℕ). drop n (past-in (t .members) c)) (T .counts c (omega arith) ∙ sym (length-map (of c held) (λ (p : Packet). p .eligibility)))
+  pub closed-all : every max-connections (λ c. closed-with h (t .members) (getD seen c 0) c) ≡ every max-connections (closed-sound (view h t))
+  closed-all =
+      every-same max-connections (λ c. closed-with h (t .members) (getD seen c 0) c) (closed-sound (view h t))
+      (λ c l. ap (λ (n : ℕ). closed-with h (t .members) n c) (T .counts c l))
 
-  pub before-all : {n : ℕ} → n ≡ length (members-in (t .members)) → every n (left-at h u seen) ≡ every (length (connections-in (t .members))) (before-pass (view h t))
-  before-all {n} e =
-      every-same n (left-at h u seen) (before-pass (view h t)) one
-      ∙ ap (λ (k : ℕ). every k (before-pass (view h t))) (e ∙ sym (connections-length (t .members)))
-    where
-      one : (c : ℕ) → c < n → left-at h u seen c ≡ before-pass (view h t) c
-      one c l =
-          ap (λ (cs : List Connection). left-sound (h .link) (nth cs c) (h .clock) (getD seen c 0) (past-in u c)) (U .same)
-          ∙ ap (λ (k : ℕ). left-sound (h .link) (nth (connections-in (t .members)) c) (h .clock) k (past-in u c)) (T .counts c (omega arith))
-          ∙ ap (left-sound (h .link) (nth (connections-in (t .members)) c) (h .clock) (length (of c held))) (left c (omega arith))
+  module _ (formed : rows-formed (t .members) ≡ true) (u : List ℕ) (U : Remembers (t .members) u (λ c. drop (getD seen c 0) (past-in (t .members) c))) where
+    -- what has left of connection c
+    left : (c : ℕ) → c < max-connections → past-in u c ≡ departed-by (view h t) c
+    left c l = U .pasts c l ∙ ap (λ (n : ℕ). drop n (past-in (t .members) c)) (T .counts c l ∙ sym (length-map (of c held) (λ (p : Packet). p .eligibility)))
 
-  pub paced-all : paced (connections-in u) (h .clock) (past-in u) [] held ≡ paced (connections-in (t .members)) (h .clock) (departed-by (view h t)) [] held
-  paced-all =
-      ap (λ (cs : List Connection). paced cs (h .clock) (past-in u) [] held) (U .same)
-      ∙ paced-agree (connections-in (t .members)) (h .clock) (past-in u) (departed-by (view h t)) [] held
-      (all-from (λ p. past-in u (p .connection) ≡ departed-by (view h t) (p .connection)) held no-packet
-      (λ k l. left (getD held k no-packet .connection) (subst (λ (p : Packet). p .connection < length (members-in (t .members))) (sym (row-is (t .places) k l)) (names k l))))
-
-  -- behind the pass the table is the one that was handed in exactly where each connection remembers what it should
-  module _ (v : List ℕ) (W : Remembers u v (past-with u held)) where
-    new : (c : ℕ) → c < length (members-in (t .members)) → past-in v c ≡ remember-all (departed-by (view h t) c) (eligibilities c held)
-    new c l = W .pasts c (omega (arith, remembers-count (t .members) u (λ c. drop (getD seen c 0) (past-in (t .members) c)) U)) ∙ ap (λ (m : Past). remember-all m (eligibilities c held)) (left c l)
-
-    kept-as : t .members ≡ v → (c : ℕ) → c < length (connections-in (t .members)) → behind-pass (view h t) c ≡ true
-    kept-as e c l =
-        let i : c < length (members-in (t .members)) = omega (arith, connections-length (t .members)) in
-        let g : past-in (t .members) c ≡ remember-all (departed-by (view h t) c) (eligibilities c held) = ap (λ (w : List ℕ). past-in w c) e ∙ new c i in
-        and-intro (leb (length (past-in (t .members) c)) max-remembered) _ (le-leb _ _ (past-few (t .members) c formed i)) (ap (same-numbers (past-in (t .members) c)) (sym g) ∙ same-intro (past-in (t .members) c))
-
-    kept-back : ((c : ℕ) → c < length (connections-in (t .members)) → behind-pass (view h t) c ≡ true) → t .members ≡ v
-    kept-back f =
-        members-written (t .members) formed
-        ∙ ap (written-members (connections-in (t .members))) pasts
-        ∙ ap (λ (cs : List Connection). written-members cs (pasts-in v)) (sym (W .same ∙ U .same))
-        ∙ sym (members-written v (W .shape))
+    pub before-all : every max-connections (λ c. left-with h u (getD seen c 0) c) ≡ every max-connections (before-pass (view h t))
+    before-all = every-same max-connections (λ c. left-with h u (getD seen c 0) c) (before-pass (view h t)) one
       where
-        count : length (connections-in v) ≡ length (connections-in (t .members))
-        count = ap length (W .same ∙ U .same)
+        one : (c : ℕ) → c < max-connections → left-with h u (getD seen c 0) c ≡ before-pass (view h t) c
+        one c l =
+            ap (λ (cs : List Connection). not (owned cs c) || left-sound (h .link) (nth cs c) (h .clock) (getD seen c 0) (past-in u c)) (U .same)
+            ∙ ap (λ (k : ℕ). not (owned (connections-in (t .members)) c) || left-sound (h .link) (nth (connections-in (t .members)) c) (h .clock) k (past-in u c)) (T .counts c l)
+            ∙ ap (λ (m : Past). not (owned (connections-in (t .members)) c) || left-sound (h .link) (nth (connections-in (t .members)) c) (h .clock) (length (of c held)) m) (left c l)
 
-        at : (c : ℕ) → c < length (pasts-in (t .members)) → past-in (t .members) c ≡ past-in v c
-        at c l =
-            same-true (past-in (t .members) c) _ (and-true (leb (length (past-in (t .members) c)) max-remembered) _ (f c (omega (arith, pasts-length (t .members)))) .1)
-            ∙ sym (new c (omega (arith, pasts-length (t .members), connections-length (t .members))))
+    pub paced-all : paced (connections-in u) (h .clock) (past-in u) [] held ≡ paced (connections-in (t .members)) (h .clock) (departed-by (view h t)) [] held
+    paced-all =
+        ap (λ (cs : List Connection). paced cs (h .clock) (past-in u) [] held) (U .same)
+        ∙ paced-agree (connections-in (t .members)) (h .clock) (past-in u) (departed-by (view h t)) [] held
+        (all-from (λ p. past-in u (p .connection) ≡ departed-by (view h t) (p .connection)) held no-packet
+        (λ k l. left (getD held k no-packet .connection) (subst (λ (p : Packet). p .connection < max-connections) (sym (row-is (t .places) k l)) (named (t .members) (t .places) names k l))))
 
-        pasts : pasts-in (t .members) ≡ pasts-in v
-        pasts = ext-getD no-past (pasts-in (t .members)) (pasts-in v) (pasts-length (t .members) ∙ sym count ∙ sym (pasts-length v)) at
+    -- behind the pass the table is the one that was handed in exactly where each connection remembers what it should
+    module _ (v : List ℕ) (W : Remembers u v (past-with u held)) where
+      new : (c : ℕ) → c < max-connections → past-in v c ≡ remember-all (departed-by (view h t) c) (eligibilities c held)
+      new c l = W .pasts c l ∙ ap (λ (m : Past). remember-all m (eligibilities c held)) (left c l)
 
-    pub behind-all : same-numbers (t .members) v ≡ every (length (connections-in (t .members))) (behind-pass (view h t))
-    behind-all =
-        both-ways (same-numbers (t .members) v) (every (length (connections-in (t .members))) (behind-pass (view h t)))
-        (λ e. every-intro (length (connections-in (t .members))) (behind-pass (view h t)) (kept-as (same-true (t .members) v e)))
-        (λ e. ap (same-numbers (t .members)) (sym (kept-back (every-true (length (connections-in (t .members))) (behind-pass (view h t)) e))) ∙ same-intro (t .members))
+      -- .. which a free one does, as it has no rows
+      new-free : (c : ℕ) → c < max-connections → owned (connections-in (t .members)) c ≡ false → past-in v c ≡ past-in (t .members) c
+      new-free c l o =
+          new c l
+          ∙ ap (λ (ps : List Packet). remember-all (departed-of (past-in (t .members) c) (map (λ p. p .eligibility) ps)) (map (λ p. p .eligibility) ps)) (free-rows (connections-in (t .members)) held c owners o)
+        where
+          owners : All (λ p. owned (connections-in (t .members)) (p .connection) ≡ true) held
+          owners =
+              all-from (λ p. owned (connections-in (t .members)) (p .connection) ≡ true) held no-packet
+              (λ k i. subst (λ (p : Packet). owned (connections-in (t .members)) (p .connection) ≡ true) (sym (row-is (t .places) k i)) (names k i))
+
+      kept-as : t .members ≡ v → (c : ℕ) → c < max-connections → behind-pass (view h t) c ≡ true
+      kept-as e c l =
+          let g : past-in (t .members) c ≡ remember-all (departed-by (view h t) c) (eligibilities c held) = ap (λ (w : List ℕ). past-in w c) e ∙ new c l in
+          or-intro (not (owned (connections-in (t .members)) c)) _
+          (λ o. and-intro (leb (length (past-in (t .members) c)) max-remembered) _ (le-leb _ _ (past-few (t .members) c formed l)) (ap (same-numbers (past-in (t .members) c)) (sym g) ∙ same-intro (past-in (t .members) c)))
+
+      kept-back : ((c : ℕ) → c < max-connections → behind-pass (view h t) c ≡ true) → t .members ≡ v
+      kept-back f =
+          table-written (t .members) formed
+          ∙ ap (λ (hs : List Past). written-table (connections-in (t .members)) hs (closed-in (t .members)) (used-in (t .members)) (first-in (t .members))) pasts
+          ∙ ap (λ (cs : List Connection). written-table cs (pasts-in v) (closed-in (t .members)) (used-in (t .members)) (first-in (t .members))) (sym (W .same ∙ U .same))
+          ∙ ap (λ (bs : List Bool). written-table (connections-in v) (pasts-in v) bs (used-in (t .members)) (first-in (t .members))) (sym (W .marks ∙ U .marks))
+          ∙ ap (λ (n : ℕ). written-table (connections-in v) (pasts-in v) (closed-in v) n (first-in (t .members))) (sym (W .used ∙ U .used))
+          ∙ ap (λ (n : ℕ). written-table (connections-in v) (pasts-in v) (closed-in v) (used-in v) n) (sym (W .first ∙ U .first))
+          ∙ sym (table-written v (W .shape))
+        where
+          at : (c : ℕ) → c < length (pasts-in (t .members)) → past-in (t .members) c ≡ past-in v c
+          at c i = go (owned (connections-in (t .members)) c) refl
+            where
+              l : c < max-connections
+              l = omega (arith, pasts-length (t .members))
+
+              go : (b : Bool) → owned (connections-in (t .members)) c ≡ b → past-in (t .members) c ≡ past-in v c
+              go true o =
+                  same-true (past-in (t .members) c) _
+                  (and-true (leb (length (past-in (t .members) c)) max-remembered) _ (or-true (not (owned (connections-in (t .members)) c)) _ (f c l) (ap not o)) .1)
+                  ∙ sym (new c l)
+              go false o = sym (new-free c l o)
+
+          pasts : pasts-in (t .members) ≡ pasts-in v
+          pasts = ext-getD no-past (pasts-in (t .members)) (pasts-in v) (pasts-length (t .members) ∙ sym (pasts-length v)) at
+
+      pub behind-all : same-numbers (t .members) v ≡ every max-connections (behind-pass (view h t))
+      behind-all =
+          both-ways (same-numbers (t .members) v) (every max-connections (behind-pass (view h t)))
+          (λ e. every-intro max-connections (behind-pass (view h t)) (kept-as (same-true (t .members) v e)))
+          (λ e. ap (same-numbers (t .members)) (sym (kept-back (every-true max-connections (behind-pass (view h t)) e))) ∙ same-intro (t .members))
+
+-- ---- those that are closed
+
+-- number c, by its mark
+module _ (h : Hub) (t : List ℕ) (c n : ℕ) (l : c < max-connections) (mark : ℕ) (e : mark ≡ getD (row-in member-width t c) 5 0) where
+  pub not-closed : mark ≡ 0 → true ≡ closed-with h t n c
+  not-closed z =
+      sym (ap (λ (b : Bool). not b || (eqb n 0 && not (charge-over (largest-bound (h .link)) (h .clock) (past-in t c)))) (closed-is t c l ∙ ap not (eq-eqb (getD (row-in member-width t c) 5 0) 0 (sym e ∙ z))))
+
+  module _ (m : mark ≡ 0 → ⊥) where
+    marked : closed-with h t n c ≡ (eqb n 0 && not (charge-over (largest-bound (h .link)) (h .clock) (past-in t c)))
+    marked =
+        ap (λ (b : Bool). not b || (eqb n 0 && not (charge-over (largest-bound (h .link)) (h .clock) (past-in t c)))) (closed-is t c l ∙ ap not (ne-eqb (getD (row-in member-width t c) 5 0) 0 (λ z. m (e ∙ z))))
+
+    pub holds-one : (n ≡ 0 → ⊥) → false ≡ closed-with h t n c
+    holds-one k = fails (eqb n 0) _ (ne-eqb n 0 k) ∙ sym marked
+
+    pub charged-by : n ≡ 0 → (bound : ℕ) → bound ≡ largest-bound (h .link) → (old : Past) → old ≡ past-in t c → (r : Bool) → r ≡ charge-over bound (h .clock) old → not r ≡ closed-with h t n c
+    charged-by z bound b old o r k =
+        goes-on (eqb n 0) _ _ (eq-eqb n 0 z)
+        (ap not (k ∙ ap (λ (d : ℕ). charge-over d (h .clock) old) b ∙ ap (charge-over (largest-bound (h .link)) (h .clock)) o))
+        ∙ sym marked

@@ -1,17 +1,19 @@
 -- What the pass over the rows keeps of each connection: how many rows it has, and a table of connections that remembers them one by one. Document 01, "A sound
--- state"; docs/RULES-AFTER-BASE.md, R-6.
+-- state"; docs/RULES-AFTER-BASE.md, R-6 and R-8.
 use Prim.Native.Nat.{ℕ, _+_, _<_, _≤_}
 use mathlib.Core.Path.{_≡_}
-use mathlib.Core.Bool.{Bool, true}
+use mathlib.Core.Bool.{Bool, true, false, not, _&&_, _||_}
 use mathlib.Core.List.{List}
+use lib.Dec.{eqb}
 use lib.ListN.{length, getD, set}
 use Rattle.rules.specs.declared.Packet.{Packet}
 use Rattle.rules.specs.Limits.{max-connections, max-reserved}
 use Rattle.rules.specs.Model.{Past, nth, no-past}
-use Rattle.rules.specs.Service.{of, remember-all, eligibilities}
+use Rattle.rules.specs.Admission.{owned, largest-bound}
+use Rattle.rules.specs.Service.{of, remember-all, eligibilities, charge-over}
 use Rattle.rules.specs.SoundTest.{left-sound}
 use Rattle.tables.specs.Places.{rows, row-at}
-use Rattle.connections.specs.Members.{members-in, connections-in, pasts-in, members-formed}
+use Rattle.connections.specs.Members.{connections-in, pasts-in, closed-in, used-in, first-in, written-table, rows-formed}
 use Rattle.state.specs.declared.Hub.{Hub}
 
 -- ---- the rows of each connection, counted
@@ -31,25 +33,36 @@ pub record Countable (places : List ℕ) : Type 0 where
 
 -- ---- a table of connections
 
--- what it remembers of connection c
+-- what it remembers of connection c, and the table with another past there
 abbrev pub past-in : List ℕ → ℕ → Past
 past-in t c = getD (pasts-in t) c no-past
 
--- it has the connections of another table, and remembers what f says
+abbrev pub with-past : List ℕ → ℕ → Past → List ℕ
+with-past t c h = written-table (connections-in t) (set (pasts-in t) c h) (closed-in t) (used-in t) (first-in t)
+
+-- it has the connections of another table, which of them are closed, the numbers behind the rows, and remembers what f says
 pub record Remembers (members t : List ℕ) (f : ℕ → Past) : Type 0 where
-  pub shape : members-formed t ≡ true
+  pub shape : rows-formed t ≡ true
   pub same : connections-in t ≡ connections-in members
-  pub pasts : (c : ℕ) → c < length (members-in members) → past-in t c ≡ f c
+  pub marks : closed-in t ≡ closed-in members
+  pub used : used-in t ≡ used-in members
+  pub first : first-in t ≡ first-in members
+  pub pasts : (c : ℕ) → c < max-connections → past-in t c ≡ f c
 
 -- .. what a table remembers once these packets are accepted
 abbrev pub past-with : List ℕ → List Packet → ℕ → Past
 past-with t ps c = remember-all (past-in t c) (eligibilities c ps)
 
--- each row names one of its connections
+-- each row names a number that has an owner
 abbrev pub Names : List ℕ → List ℕ → Type 0
-Names t places = (k : ℕ) → k < length (rows places) → row-at places k .connection < length (members-in t)
+Names t places = (k : ℕ) → k < length (rows places) → owned (connections-in t) (row-at places k .connection) ≡ true
 
--- ---- what is asked of connection c before the pass, by the two tables
+-- ---- what is asked of number c, of which n packets are held
 
-abbrev pub left-at : Hub → List ℕ → List ℕ → ℕ → Bool
-left-at h t seen c = left-sound (h .link) (nth (connections-in t) c) (h .clock) (getD seen c 0) (past-in t c)
+-- before the pass; of a free number nothing
+abbrev pub left-with : Hub → List ℕ → ℕ → ℕ → Bool
+left-with h t n c = not (owned (connections-in t) c) || left-sound (h .link) (nth (connections-in t) c) (h .clock) n (past-in t c)
+
+-- closed: it holds nothing, and its charge is not over
+abbrev pub closed-with : Hub → List ℕ → ℕ → ℕ → Bool
+closed-with h t n c = not (getD (closed-in t) c false) || (eqb n 0 && not (charge-over (largest-bound (h .link)) (h .clock) (past-in t c)))

@@ -1,23 +1,26 @@
 // Whether a hub and three lent tables are sound: exactly, for any numbers and tables of any length.
 mod pace; // pace.rt: the rows of each connection, compared with each other
+mod sums; // sums.rt: the two numbers behind the rows of the table of connections
 
 ghost use mathlib.Core.Path.{_≡_};
 ghost use mathlib.Core.Bool.{true};
 ghost use mathlib.Core.List.{List};
-ghost use Prim.Native.Nat.{ℕ};
+ghost use Prim.Native.Nat.{ℕ, _<_};
 ghost use lib.ListN.{length};
-ghost use Rattle.rules.specs.Words.{each};
+ghost use Rattle.rules.specs.Words.{every, each};
+ghost use Rattle.rules.specs.Limits.{max-connections};
 ghost use Rattle.rules.specs.Admission.{passes};
-ghost use Rattle.rules.specs.SoundTest.{all-zero, admissions-sound, row-sound, rows-sound, notice-sound, notices-sound, busy-sound, line-sound};
+ghost use Rattle.rules.specs.SoundTest.{all-zero, number-sound, admissions-sound, row-sound, rows-sound, notice-sound, notices-sound, busy-sound, line-sound};
 ghost use Rattle.tables.specs.Table.{formed};
 ghost use Rattle.tables.specs.Places.{packet-width, places-length, rows};
 ghost use Rattle.tables.specs.Notices.{notice-of, marked, notices-formed};
-ghost use Rattle.connections.specs.Members.{members-in, connections-in, member-formed, members-formed};
+ghost use Rattle.connections.specs.Members.{members-length, members-in, connections-in, member-formed, rows-formed, members-formed};
 ghost use Rattle.connections.specs.Within.{Within};
 ghost use Rattle.state.specs.View.{tables, before, view, tables-formed, sound-hub};
-ghost use Rattle.sound.specs.Parts.{Members, Held, Waiting, connections-sound, unused, linked-sound};
+ghost use Rattle.sound.specs.Parts.{Held, Waiting, unused, linked-sound};
 use connections::Member;
 use limits::CLOCK_END;
+use limits::MAX_CONNECTIONS;
 use limits::MAX_REMEMBERED;
 use limits::MAX_RESERVED;
 use limits::NOTICE_NUMBER;
@@ -27,9 +30,16 @@ use rules::Link;
 use rules::Packet;
 use state::Hub;
 
+// In 64 bits, where no sum of two is lost.
+fn wide(x: u32) -> u64
+    ensures { λ r. ⌜ r ≡ x ⌝ }
+{
+    x as u64
+}
+
 // ---- the shape of the tables
 
-// No more is remembered of a connection than there is room for, and zeros are behind it.
+// No more is remembered of a connection than there is room for, zeros are behind it, and the mark is 0 or 1.
 fn member_formed(m: Member) -> bool
     ensures { λ r. ⌜ r ≡ member-formed m ⌝ }
 {
@@ -37,16 +47,16 @@ fn member_formed(m: Member) -> bool
         return false;
     }
     let ticks = m.ticks;
-    zero_from(&ticks, m.known as usize)
+    zero_from(&ticks, m.known as usize) & (m.mark <= 1)
 }
 
-// The same of the first n connections.
-fn each_formed(members: &[u32], n: usize) -> bool
-    requires { ⌜ n ≡ length (members-in (now members)) ⌝ }
+// The same of each row.
+fn each_formed(members: &[u32]) -> bool
+    requires { ⌜ length (now members) ≡ members-length ⌝ }
     ensures { λ r. ⌜ r ≡ each member-formed (members-in (now (members .entry))) ⌝ }
 {
     let mut i: usize = 0;
-    while i < n {
+    while i < MAX_CONNECTIONS {
         if !member_formed(connections::member_at(members, i)) {
             return false;
         }
@@ -55,15 +65,17 @@ fn each_formed(members: &[u32], n: usize) -> bool
     true
 }
 
-// The table of connections has its length, and rows as they must be.
-fn members_formed(members: &[u32], n: usize) -> bool
-    requires { ⌜ n ≡ length (members-in (now members)) ⌝ }
+// The table of connections has its length, rows as they must be, and behind them the two numbers that sum them up.
+fn members_formed(members: &[u32]) -> bool
     ensures { λ r. ⌜ r ≡ members-formed (now (members .entry)) ⌝ }
 {
     if members.len() != limits::MEMBERS {
         return false;
     }
-    each_formed(members, n)
+    if !each_formed(members) {
+        return false;
+    }
+    sums::sums_ok(members)
 }
 
 // The places table has its length, and zeros behind its rows.
@@ -117,19 +129,18 @@ fn notices_formed(notices: &[u32], waiting: usize) -> bool
 // All three tables.
 fn tables_formed(
     members: &[u32],
-    n: usize,
     places: &[u32],
     held: usize,
     notices: &[u32],
     waiting: usize,
 ) -> bool
-    requires { ⌜ (n ≡ length (members-in (now members))) × (held ≡ length (rows (now places))) × (waiting ≡ length (rows (now notices))) ⌝ }
+    requires { ⌜ (held ≡ length (rows (now places))) × (waiting ≡ length (rows (now notices))) ⌝ }
     ensures { λ r. ⌜ r ≡ tables-formed (before members places notices) ⌝ }
 {
     if !places_formed(places, held) {
         return false;
     }
-    if !members_formed(members, n) {
+    if !members_formed(members) {
         return false;
     }
     notices_formed(notices, waiting)
@@ -145,83 +156,93 @@ fn blank_ok(l: Link) -> bool
     (l.largest == 0) & ((l.silence == 0) & zero_from(&bounds, 0))
 }
 
-// Everything is zero: the link, the clock, the rows of the tables and the line.
-fn unused_ok(h: Hub, n: usize, held: usize, waiting: usize) -> bool
-    ensures { λ r. ⌜ r ≡ unused h n held waiting ⌝ }
+// Everything is zero: the link, the clock, the tables and the line.
+fn unused_ok(h: Hub, members: &[u32], held: usize, waiting: usize) -> bool
+    ensures { λ r. ⌜ r ≡ unused h (now (members .entry)) held waiting ⌝ }
 {
-    let rows = (n == 0) & (held == 0) & (waiting == 0);
+    let rows = zero_from(members, 0) & (held == 0) & (waiting == 0);
     let line = (h.serving == 0) & (h.to_go == 0) & (h.silent == 0);
     blank_ok(h.link) & (h.clock == 0) & rows & line
 }
 
 // ---- with one: the link and the connections
 
-// All connections within their limits.
-fn connections_ok(h: Hub, members: &[u32], n: usize) -> bool
-    requires { ⌜ n ≡ length (members-in (now members)) ⌝ }
-    ensures { λ r. ⌜ r ≡ connections-sound (h .link) (connections-in (now (members .entry))) ⌝ }
+// Number c: its owner is within the limits, or it is free and everything of it is zero.
+fn number_ok(h: Hub, members: &[u32], c: usize) -> bool
+    requires { ⌜ (rows-formed (now members) ≡ true) × (c < max-connections) ⌝ }
+    ensures { λ r. ⌜ ((p q : List ℕ) → r ≡ number-sound (view h (tables (now (members .entry)) p q)) c) ⌝ }
 {
-    let mut i: usize = 0;
-    while i < n {
-        let x = connections::connection_at(members, i);
-        if !limits::connection_ok(h.link, x) {
+    let x = connections::connection_at(members, c);
+    if x.level == 0 {
+        return connections::is_free(members, c);
+    }
+    limits::connection_ok(h.link, x)
+}
+
+// All numbers.
+fn numbers_ok(h: Hub, members: &[u32]) -> bool
+    requires { ⌜ rows-formed (now members) ≡ true ⌝ }
+    ensures { λ r. ⌜ ((p q : List ℕ) → r ≡ every max-connections (number-sound (view h (tables (now (members .entry)) p q)))) ⌝ }
+{
+    let mut c: usize = 0;
+    while c < MAX_CONNECTIONS {
+        if !number_ok(h, members, c) {
             return false;
         }
-        i += 1;
+        c += 1;
     }
     true
 }
 
 // All level tests hold.
-fn tests_ok(h: Hub, members: &[u32], n: usize) -> bool
-    requires { ⌜ Members (now members) n × Within (h .link) (connections-in (now members)) ⌝ }
+fn tests_ok(h: Hub, members: &[u32]) -> bool
+    requires { ⌜ (members-formed (now members) ≡ true) × Within (h .link) (connections-in (now members)) ⌝ }
     ensures { λ r. ⌜ r ≡ passes (h .link) (connections-in (now (members .entry))) ⌝ }
 {
-    let short = connections::standing_test(h.link, members, n);
+    let short = connections::standing_test(h.link, members, connections::used(members));
     short.level == 0
 }
 
 // Link, connections, tests and reservations within the rules.
-fn admissions_ok(h: Hub, members: &[u32], n: usize) -> bool
-    requires { ⌜ Members (now members) n ⌝ }
+fn admissions_ok(h: Hub, members: &[u32]) -> bool
+    requires { ⌜ members-formed (now members) ≡ true ⌝ }
     ensures { λ r. ⌜ ((p q : List ℕ) → r ≡ admissions-sound (view h (tables (now (members .entry)) p q))) ⌝ }
 {
     if !limits::link_ok(h.link) {
         return false;
     }
-    if !connections_ok(h, members, n) {
+    if !numbers_ok(h, members) {
         return false;
     }
-    if !tests_ok(h, members, n) {
+    if !tests_ok(h, members) {
         return false;
     }
-    connections::reserved_by(h.link, members, n) <= MAX_RESERVED
+    connections::reserved_by(h.link, members, connections::used(members)) <= MAX_RESERVED
 }
 
 // ---- the rows
 
-// A held row by itself: a standing connection, a length from 1 to its size, arrival, eligibility.
-fn row_ok(h: Hub, members: &[u32], n: usize, p: Packet) -> bool
-    requires { ⌜ n ≡ length (members-in (now members)) ⌝ }
+// A held row by itself: a number that has an owner, a length from 1 to its size, arrival, eligibility.
+fn row_ok(h: Hub, members: &[u32], p: Packet) -> bool
+    requires { ⌜ length (now members) ≡ members-length ⌝ }
     ensures { λ r. ⌜ r ≡ row-sound (connections-in (now (members .entry))) (h .clock) p ⌝ }
 {
-    let c = p.connection as usize;
-    if n <= c {
+    let x = connections::figures_of(members, p.connection);
+    if x.level == 0 {
         return false;
     }
-    let x = connections::connection_at(members, c);
     (1 <= p.len) & (p.len <= x.size) & ((p.arrival <= h.clock) & (p.arrival <= p.eligibility))
 }
 
 // All held rows, each by itself.
-fn rows_ok(h: Hub, members: &[u32], n: usize, places: &[u32], held: usize) -> bool
-    requires { ⌜ (n ≡ length (members-in (now members))) × (held ≡ length (rows (now places))) ⌝ }
+fn rows_ok(h: Hub, members: &[u32], places: &[u32], held: usize) -> bool
+    requires { ⌜ (length (now members) ≡ members-length) × (held ≡ length (rows (now places))) ⌝ }
     ensures { λ r. ⌜ r ≡ each (row-sound (connections-in (now (members .entry))) (h .clock)) (rows (now (places .entry))) ⌝ }
 {
     let mut i: usize = 0;
     while i < held {
         let p = tables::row(places, i);
-        if !row_ok(h, members, n, p) {
+        if !row_ok(h, members, p) {
             return false;
         }
         i += 1;
@@ -230,17 +251,17 @@ fn rows_ok(h: Hub, members: &[u32], n: usize, places: &[u32], held: usize) -> bo
 }
 
 // The clock, the rows by themselves, and the rows of each connection among themselves.
-fn held_ok(h: Hub, members: &[u32], n: usize, places: &[u32], held: usize) -> bool
-    requires { ⌜ Members (now members) n × Held (now places) held × (members-formed (now members) ≡ true) × Within (h .link) (connections-in (now members)) ⌝ }
+fn held_ok(h: Hub, members: &[u32], places: &[u32], held: usize) -> bool
+    requires { ⌜ Held (now places) held × (members-formed (now members) ≡ true) × Within (h .link) (connections-in (now members)) ⌝ }
     ensures { λ r. ⌜ ((q : List ℕ) → r ≡ rows-sound (view h (tables (now (members .entry)) (now (places .entry)) q))) ⌝ }
 {
     if CLOCK_END < h.clock {
         return false;
     }
-    if !rows_ok(h, members, n, places, held) {
+    if !rows_ok(h, members, places, held) {
         return false;
     }
-    pace::queues_ok(h, members, n, places, held)
+    pace::paced_ok(h, members, places, held)
 }
 
 // ---- the notices
@@ -310,19 +331,18 @@ fn line_ok(h: Hub, places: &[u32], held: usize, notices: &[u32], waiting: usize)
 fn linked_ok(
     h: Hub,
     members: &[u32],
-    n: usize,
     places: &[u32],
     held: usize,
     notices: &[u32],
     waiting: usize,
 ) -> bool
-    requires { ⌜ Members (now members) n × Held (now places) held × Waiting (now notices) waiting × (members-formed (now members) ≡ true) ⌝ }
+    requires { ⌜ Held (now places) held × Waiting (now notices) waiting × (members-formed (now members) ≡ true) ⌝ }
     ensures { λ r. ⌜ r ≡ linked-sound (view h (before members places notices)) ⌝ }
 {
-    if !admissions_ok(h, members, n) {
+    if !admissions_ok(h, members) {
         return false;
     }
-    if !held_ok(h, members, n, places, held) {
+    if !held_ok(h, members, places, held) {
         return false;
     }
     if !notices_ok(h, notices, waiting) {
@@ -335,14 +355,13 @@ fn linked_ok(
 pub fn is_sound(h: Hub, members: &[u32], places: &[u32], notices: &[u32]) -> bool
     ensures { λ r. ⌜ r ≡ sound-hub h (before members places notices) ⌝ }
 {
-    let n = connections::members_in(members);
     let held = tables::held(places);
     let waiting = tables::held(notices);
-    if !tables_formed(members, n, places, held, notices, waiting) {
+    if !tables_formed(members, places, held, notices, waiting) {
         return false;
     }
     if h.link.levels == 0 {
-        return unused_ok(h, n, held, waiting);
+        return unused_ok(h, members, held, waiting);
     }
-    linked_ok(h, members, n, places, held, notices, waiting)
+    linked_ok(h, members, places, held, notices, waiting)
 }

@@ -1,21 +1,23 @@
 // The part of the test that compares rows of a connection with each other and with what is remembered of it, in one pass over the rows.
 ghost use mathlib.Core.Path.{_≡_};
-ghost use mathlib.Core.Bool.{true};
+ghost use mathlib.Core.Bool.{true, _&&_};
 ghost use mathlib.Core.List.{List, []};
 ghost use Prim.Native.Nat.{ℕ, _<_, _≤_};
-ghost use lib.ListN.{length, getD, set, drop};
+ghost use lib.ListN.{length, getD, drop};
 ghost use Rattle.rules.specs.Limits.{max-connections, max-reserved, max-remembered};
 ghost use Rattle.rules.specs.Words.{every};
 ghost use Rattle.rules.specs.Model.{nth};
 ghost use Rattle.rules.specs.Admission.{burst};
 ghost use Rattle.rules.specs.Service.{remember};
-ghost use Rattle.rules.specs.SoundTest.{latest, in-pace, paced, left-in-time, left-sound, queues-sound};
-ghost use Rattle.tables.specs.Places.{rows, row-at};
-ghost use Rattle.connections.specs.Members.{members-in, connection-of, past-of, connections-in, pasts-in, written-members, member-formed, members-formed};
+ghost use Rattle.rules.specs.SoundTest.{latest, in-pace, paced, left-in-time, queues-sound, closed-sound};
+ghost use Rattle.tables.specs.Places.{rows};
+ghost use Rattle.connections.specs.Members.{connection-of, past-of, connections-in, member-formed, rows-formed};
 ghost use Rattle.connections.specs.Within.{Within};
 ghost use Rattle.state.specs.View.{tables, view};
-ghost use Rattle.sound.specs.Pace.{Counts, counted, Countable, past-in, Remembers, past-with, Names, left-at};
+ghost use Rattle.sound.specs.Pace.{Counts, counted, Countable, past-in, with-past, Remembers, past-with, Names, left-with, closed-with};
+use super::wide;
 use connections::Member;
+use connections::closing::charge_over;
 use connections::regulator::after_nth;
 use connections::regulator::earliest_behind;
 use connections::regulator::greatest;
@@ -23,13 +25,6 @@ use limits::MAX_CONNECTIONS;
 use limits::MEMBERS;
 use rules::Packet;
 use state::Hub;
-
-// In 64 bits, where no sum of two is lost.
-fn wide(x: u32) -> u64
-    ensures { λ r. ⌜ r ≡ x ⌝ }
-{
-    x as u64
-}
 
 // ---- the rows of each connection, counted
 
@@ -54,15 +49,25 @@ fn count_rows(places: &[u32], held: usize, seen: &mut [u32])
 
 // ---- before the pass: what has left
 
+// Connection c forgets its newest n, and nothing is written where n is 0.
+fn forget_some(table: &mut [u32], c: usize, n: u32)
+    requires { ⌜ (rows-formed (now table) ≡ true) × (c < max-connections) ⌝ }
+    ensures { λ r. ⌜ now (table .exit) ≡ with-past (now (table .entry)) c (drop n (past-in (now (table .entry)) c)) ⌝ }
+{
+    if n == 0 {
+        return;
+    }
+    connections::forget(table, c, n);
+}
+
 // Each connection forgets as many as it has rows, so that what has left remains.
-fn forget_rows(table: &mut [u32], n: usize, seen: &[u32])
-    requires { ⌜ (n ≡ length (members-in (now table))) × (n ≤ max-connections) × (n ≤ length (now seen)) × (members-formed (now table) ≡ true) ⌝ }
-    requires { ⌜ ((c : ℕ) → c < n → 0 < nth (connections-in (now table)) c .size) ⌝ }
+fn forget_rows(table: &mut [u32], seen: &[u32])
+    requires { ⌜ (rows-formed (now table) ≡ true) × (length (now seen) ≡ max-connections) ⌝ }
     ensures { λ r. ⌜ Remembers (now (table .entry)) (now (table .exit)) (λ c. drop (getD (now (seen .entry)) c 0) (past-in (now (table .entry)) c)) ⌝ }
 {
     let mut c: usize = 0;
-    while c < n {
-        connections::forget(table, c, seen[c]);
+    while c < MAX_CONNECTIONS {
+        forget_some(table, c, seen[c]);
         c += 1;
     }
 }
@@ -86,12 +91,15 @@ fn left_in_time(m: Member, clock: u32) -> bool
     true
 }
 
-// Connection c, which holds n packets.
+// Number c, of which n packets are held; of a free one nothing is asked.
 fn left_ok(h: Hub, table: &[u32], c: usize, n: u32) -> bool
-    requires { ⌜ (members-formed (now table) ≡ true) × (c < length (members-in (now table))) × Within (h .link) (connections-in (now table)) ⌝ }
-    ensures { λ r. ⌜ r ≡ left-sound (h .link) (nth (connections-in (now (table .entry))) c) (h .clock) n (past-in (now (table .entry)) c) ⌝ }
+    requires { ⌜ (rows-formed (now table) ≡ true) × (c < max-connections) × Within (h .link) (connections-in (now table)) ⌝ }
+    ensures { λ r. ⌜ r ≡ left-with h (now (table .entry)) n c ⌝ }
 {
     let x = connections::connection_at(table, c);
+    if x.level == 0 {
+        return true;
+    }
     if connections::reserve(h.link, x) < wide(n) {
         return false;
     }
@@ -99,13 +107,13 @@ fn left_ok(h: Hub, table: &[u32], c: usize, n: u32) -> bool
     left_in_time(m, h.clock)
 }
 
-// The first n connections, with the rows that were counted.
-fn each_left_ok(h: Hub, table: &[u32], n: usize, seen: &[u32]) -> bool
-    requires { ⌜ (n ≡ length (members-in (now table))) × (n ≤ length (now seen)) × (members-formed (now table) ≡ true) × Within (h .link) (connections-in (now table)) ⌝ }
-    ensures { λ r. ⌜ r ≡ every n (left-at h (now (table .entry)) (now (seen .entry))) ⌝ }
+// All numbers, with the rows that were counted.
+fn each_left_ok(h: Hub, table: &[u32], seen: &[u32]) -> bool
+    requires { ⌜ (rows-formed (now table) ≡ true) × (length (now seen) ≡ max-connections) × Within (h .link) (connections-in (now table)) ⌝ }
+    ensures { λ r. ⌜ r ≡ every max-connections (λ c. left-with h (now (table .entry)) (getD (now (seen .entry)) c 0) c) ⌝ }
 {
     let mut c: usize = 0;
-    while c < n {
+    while c < MAX_CONNECTIONS {
         if !left_ok(h, table, c, seen[c]) {
             return false;
         }
@@ -143,9 +151,9 @@ fn in_pace(m: Member, clock: u32, e: u32) -> bool
 
 // Whether the row p keeps the pace of its connection; if so, it is remembered.
 fn pass_row(h: Hub, table: &mut [u32], p: Packet) -> bool
-    requires { ⌜ (members-formed (now table) ≡ true) × (p .connection < length (members-in (now table))) × Within (h .link) (connections-in (now table)) ⌝ }
+    requires { ⌜ (rows-formed (now table) ≡ true) × (p .connection < max-connections) × Within (h .link) (connections-in (now table)) ⌝ }
     ensures { λ r. ⌜ r ≡ in-pace (nth (connections-in (now (table .entry))) (p .connection)) (h .clock) (past-in (now (table .entry)) (p .connection)) (p .eligibility) ⌝ }
-    ensures { λ r. ⌜ (r ≡ true → now (table .exit) ≡ written-members (connections-in (now (table .entry))) (set (pasts-in (now (table .entry))) (p .connection) (remember (past-in (now (table .entry)) (p .connection)) (p .eligibility)))) ⌝ }
+    ensures { λ r. ⌜ (r ≡ true → now (table .exit) ≡ with-past (now (table .entry)) (p .connection) (remember (past-in (now (table .entry)) (p .connection)) (p .eligibility))) ⌝ }
 {
     let c = p.connection as usize;
     let m = connections::member_at(table, c);
@@ -158,7 +166,7 @@ fn pass_row(h: Hub, table: &mut [u32], p: Packet) -> bool
 
 // Whether each row keeps its pace; if so, all rows are remembered.
 fn scan(h: Hub, table: &mut [u32], places: &[u32], held: usize) -> bool
-    requires { ⌜ (held ≡ length (rows (now places))) × (members-formed (now table) ≡ true) × Names (now table) (now places) × Within (h .link) (connections-in (now table)) × (length (members-in (now table)) ≤ max-connections) ⌝ }
+    requires { ⌜ (held ≡ length (rows (now places))) × (rows-formed (now table) ≡ true) × Names (now table) (now places) × Within (h .link) (connections-in (now table)) ⌝ }
     ensures { λ r. ⌜ r ≡ paced (connections-in (now (table .entry))) (h .clock) (past-in (now (table .entry))) [] (rows (now (places .entry))) ⌝ }
     ensures { λ r. ⌜ (r ≡ true → Remembers (now (table .entry)) (now (table .exit)) (past-with (now (table .entry)) (rows (now (places .entry))))) ⌝ }
 {
@@ -172,24 +180,68 @@ fn scan(h: Hub, table: &mut [u32], places: &[u32], held: usize) -> bool
     true
 }
 
-// ---- the whole
-
 // Whether what has left of each connection and its rows keep their pace, none holds more than its reservation, and what is remembered are these.
-pub(crate) fn queues_ok(h: Hub, members: &[u32], n: usize, places: &[u32], held: usize) -> bool
-    requires { ⌜ (n ≡ length (members-in (now members))) × (n ≤ max-connections) × (held ≡ length (rows (now places))) × (held ≤ max-reserved) ⌝ }
-    requires { ⌜ (members-formed (now members) ≡ true) × Names (now members) (now places) × Within (h .link) (connections-in (now members)) ⌝ }
+fn queues_ok(h: Hub, members: &[u32], places: &[u32], held: usize, seen: &[u32]) -> bool
+    requires { ⌜ (held ≡ length (rows (now places))) × Counts (now seen) (rows (now places)) ⌝ }
+    requires { ⌜ (rows-formed (now members) ≡ true) × Names (now members) (now places) × Within (h .link) (connections-in (now members)) ⌝ }
     ensures { λ r. ⌜ ((q : List ℕ) → r ≡ queues-sound (view h (tables (now (members .entry)) (now (places .entry)) q))) ⌝ }
 {
-    let mut seen = [0u32; MAX_CONNECTIONS];
-    count_rows(places, held, &mut seen);
     let mut table = [0u32; MEMBERS];
     tables::copy(&mut table, 0, members);
-    forget_rows(&mut table, n, &seen);
-    if !each_left_ok(h, &table, n, &seen) {
+    forget_rows(&mut table, seen);
+    if !each_left_ok(h, &table, seen) {
         return false;
     }
     if !scan(h, &mut table, places, held) {
         return false;
     }
     tables::same(members, &table)
+}
+
+// ---- those that are closed
+
+// Number c, of which n packets are held: it is not closed, or it holds nothing and its charge is not over.
+fn closed_ok(h: Hub, members: &[u32], c: usize, n: u32) -> bool
+    requires { ⌜ (rows-formed (now members) ≡ true) × (c < max-connections) ⌝ }
+    ensures { λ r. ⌜ r ≡ closed-with h (now (members .entry)) n c ⌝ }
+{
+    if connections::number(members, c, 5) == 0 {
+        return true;
+    }
+    if n != 0 {
+        return false;
+    }
+    let bound = connections::bound_of(h.link, h.link.levels);
+    !charge_over(connections::member_at(members, c), bound, h.clock)
+}
+
+// All numbers, with the rows that were counted.
+fn each_closed_ok(h: Hub, members: &[u32], seen: &[u32]) -> bool
+    requires { ⌜ (rows-formed (now members) ≡ true) × (length (now seen) ≡ max-connections) ⌝ }
+    ensures { λ r. ⌜ r ≡ every max-connections (λ c. closed-with h (now (members .entry)) (getD (now (seen .entry)) c 0) c) ⌝ }
+{
+    let mut c: usize = 0;
+    while c < MAX_CONNECTIONS {
+        if !closed_ok(h, members, c, seen[c]) {
+            return false;
+        }
+        c += 1;
+    }
+    true
+}
+
+// ---- the whole
+
+// Whether rows and memory of each connection keep the rules, and those of each that is closed.
+pub(crate) fn paced_ok(h: Hub, members: &[u32], places: &[u32], held: usize) -> bool
+    requires { ⌜ (held ≡ length (rows (now places))) × (held ≤ max-reserved) ⌝ }
+    requires { ⌜ (rows-formed (now members) ≡ true) × Names (now members) (now places) × Within (h .link) (connections-in (now members)) ⌝ }
+    ensures { λ r. ⌜ ((q : List ℕ) → r ≡ (queues-sound (view h (tables (now (members .entry)) (now (places .entry)) q)) && every max-connections (closed-sound (view h (tables (now (members .entry)) (now (places .entry)) q))))) ⌝ }
+{
+    let mut seen = [0u32; MAX_CONNECTIONS];
+    count_rows(places, held, &mut seen);
+    if !queues_ok(h, members, places, held, &seen) {
+        return false;
+    }
+    each_closed_ok(h, members, &seen)
 }

@@ -1,18 +1,22 @@
 -- What a sound hub and its tables give: a sound state, and tables that are what is written of it.
-use Prim.Native.Nat.{ℕ, _≤_}
+use Prim.Native.Nat.{ℕ, _<_}
 use native.Mathlib.Omega.{arith}
 use mathlib.Core.Path.{_≡_, sym, ap, _∙_}
-use mathlib.Core.Bool.{true, _&&_}
+use mathlib.Core.Bool.{true, false, _&&_}
+use mathlib.Core.Logic.{⊎-elim}
 use borrow.Author.Tests.{ne-eqb}
 use lib.ListN.{length}
 use Rattle.rules.specs.Words.{All}
 use Rattle.rules.specs.Limits.{max-connections, notice-number}
-use Rattle.rules.specs.SoundState.{Sound-with-link, Sound}
+use Rattle.rules.specs.Model.{no-connection, nth}
+use Rattle.rules.specs.Admission.{owned}
+use Rattle.rules.specs.Service.{expired}
+use Rattle.rules.specs.SoundState.{Orderly, Sound}
 use Rattle.rules.specs.SoundTest.{nothing-used, admissions-sound, rows-sound, notices-sound, line-sound, sound}
 use Rattle.rules.proofs.Lists.{all-map}
 use Rattle.rules.proofs.Tests.{and-true}
-use Rattle.rules.proofs.Sums.{cond-is}
-use Rattle.rules.proofs.Standing.{stands-below}
+use Rattle.rules.proofs.Sums.{split, cond-is}
+use Rattle.rules.proofs.Standing.{owned-below}
 use Rattle.rules.proofs.SoundExact.{exact}
 use Rattle.tables.specs.Table.{formed}
 use Rattle.tables.specs.Places.{packet-width, places-length, rows, table-of}
@@ -20,9 +24,9 @@ use Rattle.tables.specs.Notices.{notices-length, notices-formed}
 use Rattle.tables.proofs.TableLaws.{formed-length}
 use Rattle.tables.proofs.PlacesLaws.{table-back}
 use Rattle.tables.proofs.NoticeLaws.{notices-length-is, as-a-table, notices-back}
-use Rattle.connections.specs.Members.{members-length, members-in, None-free, connections-in, members-formed}
+use Rattle.connections.specs.Members.{members-length, connections-in, members-formed}
 use Rattle.connections.specs.Within.{Within}
-use Rattle.connections.proofs.MemberLaws.{connections-length}
+use Rattle.connections.proofs.MemberLaws.{connection-none}
 use Rattle.connections.proofs.WrittenLaws.{members-written, members-long}
 use Rattle.state.specs.declared.Hub.{Hub}
 use Rattle.state.specs.View.{Tables, view, written, tables-formed, sound-hub}
@@ -71,9 +75,6 @@ module _ (h : Hub) (t : Tables) (ok : sound-hub h t ≡ true) where
 
   -- ---- their lengths, and what each has room for
 
-  pub none-free : None-free (t .members)
-  none-free = writable (view h t) is-sound .used
-
   pub members-size : length (t .members) ≡ members-length
   members-size = members-long (t .members) (shapes t formed-tables .members-shape)
 
@@ -89,13 +90,16 @@ module _ (h : Hub) (t : Tables) (ok : sound-hub h t ≡ true) where
   -- ---- with a link set
 
   module _ (n : h .link .levels ≡ 0 → ⊥) where
-    pub linked : Sound-with-link (view h t)
-    linked = is-sound .with-one n
+    pub charged : (c : ℕ) → c < max-connections → expired (view h t) c ≡ false
+    charged = is-sound .with-one n .charged
+
+    pub linked : Orderly (view h t)
+    linked = is-sound .with-one n .orderly
 
     -- each row names a connection, which has another number than the notices
     pub others : All (λ p. p .connection ≡ notice-number → ⊥) (rows (t .places))
     others =
-        all-map (λ p f e. omega (arith, linked .few, stands-below (connections-in (t .members)) (p .connection) (f .standing))) (rows (t .places)) (linked .fit)
+        all-map (λ p f e. omega (arith, linked .numbers, owned-below (connections-in (t .members)) (p .connection) (f .owner))) (rows (t .places)) (linked .fit)
 
     -- the line's clause of the test
     pub line-holds : line-sound (view h t) ≡ true
@@ -107,7 +111,11 @@ module _ (h : Hub) (t : Tables) (ok : sound-hub h t ≡ true) where
         and-true (notices-sound s) (line-sound s) (b .1) .1
 
     pub figures-in-limits : Within (h .link) (connections-in (t .members))
-    figures-in-limits = record { link-in = linked .link-in; figures-in = linked .figures-in }
-
-    pub few-members-of : (k : ℕ) → k ≡ length (members-in (t .members)) → k ≤ max-connections
-    few-members-of k e = omega (arith, linked .few, connections-length (t .members))
+    figures-in-limits = record { link-in = linked .link-in; figures-in = linked .figures-in; blank-in = blank }
+      where
+        blank : (c : ℕ) → owned (connections-in (t .members)) c ≡ false → nth (connections-in (t .members)) c ≡ no-connection
+        blank c o =
+            ⊎-elim
+            (λ l. connection-none (t .members) c l)
+            (λ l. linked .free-blank c l o .no-figures)
+            (split max-connections c)

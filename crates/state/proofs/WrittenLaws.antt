@@ -2,13 +2,14 @@
 use Prim.Native.Nat.{ℕ, _*_, _-_, _≤_, _<_}
 use native.Mathlib.Omega.{arith}
 use mathlib.Core.Path.{_≡_, refl, sym, ap, _∙_, subst}
-use mathlib.Core.Bool.{true}
+use mathlib.Core.Bool.{Bool, true, false}
 use mathlib.Core.Logic.{⊎-elim}
-use lib.ListN.{length}
+use lib.ListN.{length, length-replicate, getD-replicate}
 use Rattle.rules.specs.Words.{All}
 use Rattle.rules.specs.Limits.{max-connections, max-reserved, max-notices}
-use Rattle.rules.specs.Model.{State, no-past, fresh, figures}
-use Rattle.rules.specs.SoundState.{Sound-with-link, Sound}
+use Rattle.rules.specs.Model.{Past, State, no-connection, no-past, fresh, past}
+use Rattle.rules.specs.Admission.{owned}
+use Rattle.rules.specs.SoundState.{Orderly, Sound-with-link, Sound}
 use Rattle.rules.specs.SoundTest.{sound}
 use Rattle.rules.proofs.Lists.{all-map, all-from}
 use Rattle.rules.proofs.Sums.{same}
@@ -18,37 +19,53 @@ use Rattle.rules.proofs.SoundExact.{exact}
 use Rattle.tables.specs.Table.{formed}
 use Rattle.tables.specs.Places.{packet-width, rows, written-places, places-length, packet-in, numbers-of}
 use Rattle.tables.specs.Notices.{notices-formed}
-use Rattle.tables.proofs.TableLaws.{ends-in-front, read-back, formed-back}
+use Rattle.tables.proofs.TableLaws.{read-back, formed-back}
 use Rattle.tables.proofs.NoticeLaws.{notices-again, written-formed}
-use Rattle.connections.specs.Members.{members-formed}
-use Rattle.connections.proofs.FigureLaws.{figure-limits}
-use Rattle.connections.proofs.WrittenLaws.{Few, connections-back, pasts-back, members-formed-back}
+use Rattle.connections.specs.Members.{used-by, first-closed, members-formed}
+use Rattle.connections.proofs.WrittenLaws.{Few, connections-back, pasts-back, closed-back, members-formed-back}
 use Rattle.state.specs.View.{view, hub-of, written, tables-formed, sound-hub}
 
 pub record Writable (s : State) : Type 0 where
-  pub each-past : length (s .pasts) ≡ length (s .connections)
-  pub used : (c : ℕ) → c < length (s .connections) → 0 < figures s c .size
-  pub few : length (s .connections) ≤ max-connections
+  pub numbers : length (s .connections) ≡ max-connections
+  pub each-past : length (s .pasts) ≡ max-connections
+  pub each-mark : length (s .closed) ≡ max-connections
   pub short : All Few (s .pasts)
   pub sent : All (λ p. 0 < p .len) (s .held)
   pub fit : length (s .held) ≤ max-reserved
   pub said : All (λ n. 0 < n .len) (s .notices)
   pub few-said : length (s .notices) ≤ max-notices
 
+-- no more is remembered of a number than there is room for: by its owner, or, where it is free, nothing
+past-few : (s : State) → Orderly s → (c : ℕ) → c < max-connections → Few (past s c)
+past-few s S c l = go (owned (s .connections) c) refl
+  where
+    go : (b : Bool) → owned (s .connections) c ≡ b → Few (past s c)
+    go true e = S .queue c e .few
+    go false e = omega (arith, ap (λ (h : Past). length h) (S .free-blank c l e .no-memory))
+
 linked-writable : (s : State) → Sound s → Sound-with-link s → Writable s
 linked-writable s T S = record {
-  each-past = S .one-past-each;
-  used = λ c l. figure-limits (s .link) (figures s c) (S .figures-in c l) .some-size;
-  few = S .few;
-  short = all-from Few (s .pasts) no-past (λ c l. S .queue c (omega (arith, S .one-past-each)) .few);
-  sent = all-map (λ p f. f .some-len) (s .held) (S .fit);
+  numbers = S .orderly .numbers;
+  each-past = S .orderly .one-past-each;
+  each-mark = S .orderly .one-mark-each;
+  short = all-from Few (s .pasts) no-past (λ c l. past-few s (S .orderly) c (omega (arith, S .orderly .one-past-each)));
+  sent = all-map (λ p f. f .some-len) (s .held) (S .orderly .fit);
   fit = rows-fit-places s T;
-  said = all-map (λ n f. f .some-len) (s .notices) (S .notices-fit);
-  few-said = S .few-notices;
+  said = all-map (λ n f. f .some-len) (s .notices) (S .orderly .notices-fit);
+  few-said = S .orderly .few-notices;
 }
 
 fresh-writable : Writable fresh
-fresh-writable = record { each-past = refl; used = λ c l. absurd (omega arith); few = omega arith; short = tt; sent = tt; fit = omega arith; said = tt; few-said = omega arith }
+fresh-writable = record {
+  numbers = length-replicate max-connections no-connection;
+  each-past = length-replicate max-connections no-past;
+  each-mark = length-replicate max-connections false;
+  short = all-from Few (fresh .pasts) no-past (λ c l. omega (arith, ap (λ (h : Past). length h) (getD-replicate max-connections c no-past no-past (omega (arith, length-replicate max-connections no-past)))));
+  sent = tt;
+  fit = omega arith;
+  said = tt;
+  few-said = omega arith;
+}
 
 pub writable : (s : State) → Sound s → Writable s
 writable s S =
@@ -60,7 +77,7 @@ writable s S =
 module _ (s : State) (W : Writable s) where
   pub rows-back : rows (written-places (s .held)) ≡ s .held
   unfolding rows written-places
-  rows-back = read-back packet-width numbers-of (λ p. refl) (omega arith) packet-in (λ p. refl) ends-in-front (s .held) (places-length - packet-width * length (s .held)) (W .sent)
+  rows-back = read-back packet-width numbers-of (λ p. refl) (omega arith) packet-in (λ p. refl) (s .held) (places-length - packet-width * length (s .held)) (W .sent)
 
   pub places-formed-back : formed packet-width places-length (written-places (s .held)) ≡ true
   unfolding written-places
@@ -70,13 +87,13 @@ module _ (s : State) (W : Writable s) where
   pub read-written : view (hub-of s) (written s) ≡ s
   read-written =
       rw
-      (connections-back (s .connections) (s .pasts) (W .each-past) (W .used) (W .few) (W .short), pasts-back (s .connections) (s .pasts) (W .each-past) (W .used) (W .few) (W .short), rows-back, notices-again (s .notices) (W .said) (W .few-said))
+      (connections-back (s .connections) (s .pasts) (s .closed) (used-by (s .connections)) (first-closed (s .pasts) (s .closed)) (W .numbers) (W .each-past) (W .each-mark) (W .short), pasts-back (s .connections) (s .pasts) (s .closed) (used-by (s .connections)) (first-closed (s .pasts) (s .closed)) (W .numbers) (W .each-past) (W .each-mark) (W .short), closed-back (s .connections) (s .pasts) (s .closed) (used-by (s .connections)) (first-closed (s .pasts) (s .closed)) (W .numbers) (W .each-past) (W .each-mark) (W .short), rows-back, notices-again (s .notices) (W .said) (W .few-said))
 
   written-tables-formed : tables-formed (written s) ≡ true
   unfolding tables-formed
   written-tables-formed =
       and-intro (formed packet-width places-length (written s .places)) _ places-formed-back
-      (and-intro (members-formed (written s .members)) (notices-formed (written s .notices)) (members-formed-back (s .connections) (s .pasts) (W .each-past) (W .used) (W .few) (W .short)) (written-formed (s .notices) (W .said) (W .few-said)))
+      (and-intro (members-formed (written s .members)) (notices-formed (written s .notices)) (members-formed-back (s .connections) (s .pasts) (s .closed) (W .numbers) (W .each-past) (W .each-mark) (W .short)) (written-formed (s .notices) (W .said) (W .few-said)))
 
 -- and what is written is sound
 pub written-sound : (s : State) → Sound s → sound-hub (hub-of s) (written s) ≡ true

@@ -10,7 +10,7 @@ use Rattle.rules.specs.SoundTest.{sound}
 use Rattle.tables.specs.Table.{formed}
 use Rattle.tables.specs.Places.{packet-width, places-length, rows, written-places}
 use Rattle.tables.specs.Notices.{notices-length, notices-in, written-notices, notices-formed}
-use Rattle.connections.specs.Members.{members-length, connections-in, pasts-in, written-members, members-formed}
+use Rattle.connections.specs.Members.{members-length, connections-in, pasts-in, closed-in, written-members, members-formed}
 use Rattle.state.specs.declared.Hub.{Hub}
 
 -- the three lent tables: of connections, of places, of notices
@@ -43,6 +43,7 @@ view h t = record {
   link = h .link;
   connections = connections-in (t .members);
   pasts = pasts-in (t .members);
+  closed = closed-in (t .members);
   clock = h .clock;
   held = rows (t .places);
   notices = notices-in (t .notices);
@@ -56,7 +57,7 @@ abbrev pub hub-of : State → Hub
 hub-of s = record { link = s .link; clock = s .clock; serving = s .serving; «to_go» = s .to-go; silent = s .silent }
 
 abbrev pub written : State → Tables
-written s = tables (written-members (s .connections) (s .pasts)) (written-places (s .held)) (written-notices (s .notices))
+written s = tables (written-members (s .connections) (s .pasts) (s .closed)) (written-places (s .held)) (written-notices (s .notices))
 
 -- the tables are what is written of what is read in them: their lengths, "everything unused is zero", marks as they must be
 unfoldable pub tables-formed : Tables → Bool

@@ -3,7 +3,7 @@ ghost use mathlib.Core.Path.{_≡_};
 ghost use mathlib.Core.Bool.{true};
 ghost use Prim.Native.Nat.{_-_, _≤_};
 ghost use lib.ListN.{length};
-ghost use Rattle.rules.specs.Model.{link, admit, offer, notice};
+ghost use Rattle.rules.specs.Model.{link, admit, offer, notice, close};
 ghost use Rattle.state.specs.View.{given, before, after, sound-hub, view};
 ghost use Rattle.fields.specs.Formats.{over};
 ghost use Rattle.answers.specs.declared.Reply.the-variants.{Broken};
@@ -92,6 +92,27 @@ fn admit_step(
         connection: low(told.number),
         level: low(short.level),
         units: short.units as u32,
+    };
+    answered(at, told.hub, used, reply, out)
+}
+
+// `CL`, the same.
+fn close_step(
+    h: Hub,
+    members: &mut [u32],
+    places: &[u32],
+    notices: &[u32],
+    c: u32,
+    at: u32,
+    used: usize,
+    out: &mut [u8],
+) -> Stepped
+    requires { ⌜ (sound-hub h (given members places notices) ≡ true) × (longest-answer ≤ length (now out)) ⌝ }
+    ensures { λ r. ⌜ Makes (call-next (close c) used at (view h (before members places notices))) r (after members places notices) 0 (now (out .entry)) (now (out .exit)) ⌝ }
+{
+    let told = calls::close_tested(h, members, places, notices, c);
+    let reply = Reply::Closed {
+        verdict: low(told.verdict),
     };
     answered(at, told.hub, used, reply, out)
 }
@@ -223,6 +244,10 @@ fn record_step(
         } => {
             let x = named::connection_named(level, gap, size, window, average);
             admit_step(h, members, places, notices, x, to, used, out)
+        }
+        Record::Close { connection } => {
+            let c = connection as u32;
+            close_step(h, members, places, notices, c, to, used, out)
         }
         Record::Offer {
             connection,

@@ -16,7 +16,7 @@ use Rattle.rules.proofs.Tests.{and-true, and-intro}
 use Rattle.tables.specs.Table.{formed}
 use Rattle.tables.specs.Places.{packet-width, packet-of, packet-in, numbers-of, rows, table-of, row-at}
 use Rattle.tables.specs.Notices.{notices-length, notice-of, notices-in, written-notices, marked, notices-formed}
-use Rattle.tables.proofs.TableLaws.{formed-length, formed-written, ends-in-front, read-back, formed-back}
+use Rattle.tables.proofs.TableLaws.{formed-length, formed-written, read-back, formed-back}
 use Rattle.tables.proofs.PlacesLaws.{numbers-back, rows-from, rows-end}
 
 -- ---- a marked row is its notice's packet
@@ -81,7 +81,7 @@ module _ (q : List ℕ) (f : notices-formed q ≡ true) where
 module _ (ns : List Notice) (pos : All (λ n. 0 < n .len) ns) (few : length ns ≤ max-notices) where
   rows-back : rows (written-notices ns) ≡ map notice-packet ns
   unfolding rows table-of
-  rows-back = read-back packet-width numbers-of (λ p. refl) (omega arith) packet-in (λ p. refl) ends-in-front (map notice-packet ns) (notices-length - 5 * length (map notice-packet ns)) (all-len ns pos)
+  rows-back = read-back packet-width numbers-of (λ p. refl) (omega arith) packet-in (λ p. refl) (map notice-packet ns) (notices-length - 5 * length (map notice-packet ns)) (all-len ns pos)
 
   pub notices-again : notices-in (written-notices ns) ≡ ns
   notices-again = ap (map notice-of) rows-back ∙ same-notices ns

@@ -17,7 +17,7 @@ use Rattle.rules.specs.Service.{first, without}
 use Rattle.rules.proofs.Sums.{same}
 use Rattle.limits.specs.Zeros.{zeros}
 use Rattle.limits.proofs.ZeroLaws.{zeros-rep, zero-at, zeros-more}
-use Rattle.tables.specs.Table.{row-in, in-front, used, write, padded, formed}
+use Rattle.tables.specs.Table.{row-in, used, write, padded, formed}
 use Rattle.tables.specs.Places.{packet-width, put, shifted, cut, place, rows, written-places, table-of, places-length, numbers-of, packet-in, no-packet, row-at}
 use Rattle.tables.proofs.TableLaws.{listed-row, number-in, drop-write, formed-written, read-at, used-end, held-stop, held-more, length-write, write-append, take-rows, drop-rows, length-padded, put-last}
 
@@ -132,16 +132,16 @@ module _ (c : ℕ) where
 
 -- ---- loops over the rows
 
-rows-used : (t : List ℕ) → length (rows t) ≡ length (used in-front packet-width t)
+rows-used : (t : List ℕ) → length (rows t) ≡ length (used packet-width t)
 unfolding rows
-rows-used t = length-map (used in-front packet-width t) packet-in
+rows-used t = length-map (used packet-width t) packet-in
 
 pub row-is : (t : List ℕ) (i : ℕ) → i < length (rows t) → getD (rows t) i no-packet ≡ row-at t i
 unfolding rows
-row-is t i h = read-at in-front packet-width packet-in t i (omega (arith, rows-used t)) ∙ row-numbers t i
+row-is t i h = read-at packet-width packet-in t i (omega (arith, rows-used t)) ∙ row-numbers t i
 
 pub rows-end : (t : List ℕ) → 5 * length (rows t) ≤ length t
-rows-end t = omega (arith, used-end in-front packet-width t, rows-used t)
+rows-end t = omega (arith, used-end packet-width t, rows-used t)
 
 pub rows-stop : (t : List ℕ) (i : ℕ) → i ≤ length (rows t) → getD t (5 * i + 1) 0 ≡ 0 → i ≡ length (rows t)
 rows-stop t i h z = let k = held-stop packet-width t (omega arith) i (omega (arith, rows-used t)) z in omega (arith, rows-used t)

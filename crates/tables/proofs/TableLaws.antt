@@ -4,21 +4,21 @@ use mathlib.Core.Bool.{Bool, true, false, cond, _&&_}
 use mathlib.Core.Logic.{_⊎_, inl, inr}
 use mathlib.Core.List.{List, [], _∷_, _++_, map, append-assoc, append-nil}
 use Prim.Native.Nat.{ℕ, zero, suc, _+_, _*_, _-_, _/_, _≤_, _<_, suc-le-suc}
-use native.Mathlib.Nat.{le-of-suc-le-suc, mul-zero, mul-suc, mul-le-mul-left, mul-div-le, mul-div-right, mul-add-div, mul-sub, le-trans}
+use native.Mathlib.Nat.{le-of-suc-le-suc, mul-zero, mul-suc, mul-le-mul-left, mul-div-le, mul-add-div, le-trans}
 use native.Mathlib.Omega.{arith}
 use lib.Dec.{eqb}
 use borrow.Author.Tests.{eqb-true, eq-eqb, ne-eqb}
-use lib.ListN.{length, getD, set, take, drop, replicate, length-append, length-drop, length-set, length-map, length-replicate, take-append-drop, drop-of-length-le, List·getD-map}
+use lib.ListN.{length, getD, set, take, drop, replicate, length-append, length-drop, length-map, length-replicate, take-append-drop, drop-of-length-le, List·getD-map}
 use lib.Seq.{paste, sets, sets-eq, set-split, take-length, take-at, drop-at, drop-drop, drop-cons, length-take-le, getD-take, getD-drop}
 use Rattle.rules.specs.Words.{All, each}
 use Rattle.rules.specs.SoundTest.{same-numbers}
 use Rattle.rules.proofs.Lists.{all-every}
-use Rattle.rules.proofs.Tests.{never, and-true, and-intro, not-true-false}
+use Rattle.rules.proofs.Tests.{never, and-true, and-intro}
 use Rattle.rules.proofs.Sums.{split, cond-is}
 use Rattle.limits.specs.Zeros.{zeros}
 use Rattle.limits.proofs.ChainLaws.{and-false}
-use Rattle.limits.proofs.ZeroLaws.{zeros-are, zeros-rep, zero-at, zeros-left, drop-zeros, zeros-parts, zeros-join}
-use Rattle.tables.specs.Table.{row-in, rows-in, numbers, whole, until, in-front, by-number, used, read, formed, write, padded}
+use Rattle.limits.proofs.ZeroLaws.{zeros-are, zeros-rep, zero-at, zeros-left, drop-zeros, zeros-parts}
+use Rattle.tables.specs.Table.{row-in, rows-in, numbers, whole, until, used, read, formed, write, padded}
 
 -- ---- a row, number by number
 
@@ -100,7 +100,7 @@ module _ (w : ℕ) where
   next-row : (n : ℕ) (t : List ℕ) → drop (w * n) (drop w t) ≡ drop (w * suc n) t
   next-row n t = let e : w + w * n ≡ w * suc n = omega (arith, mul-suc w n) in drop-drop (w * n) w t ∙ ap (λ (k : ℕ). drop k t) e
 
-  length-rows : (n : ℕ) (t : List ℕ) → length (rows-in w n t) ≡ n
+  pub length-rows : (n : ℕ) (t : List ℕ) → length (rows-in w n t) ≡ n
   length-rows zero t = refl
   length-rows (suc n) t = ap suc (length-rows n (drop w t))
 
@@ -114,31 +114,10 @@ module _ (w : ℕ) where
   zero-rows zero t h = refl
   zero-rows (suc n) t h = let k = zeros-parts w t h in and-intro (zeros (take w t)) (each zeros (rows-in w n (drop w t))) (k .0) (zero-rows n (drop w t) (k .1))
 
-  rows-zero : (n : ℕ) (t : List ℕ) → length t ≡ w * n → each zeros (rows-in w n t) ≡ true → zeros t ≡ true
-  rows-zero zero t e h = none t (e ∙ mul-zero w)
-    where
-      none : (t : List ℕ) → length t ≡ 0 → zeros t ≡ true
-      none [] z = refl
-      none (x ∷ t) z = absurd (omega arith)
-  rows-zero (suc n) t e h =
-      let k = and-true (zeros (take w t)) (each zeros (rows-in w n (drop w t))) h in
-      zeros-join w t (k .0) (rows-zero n (drop w t) (omega (arith, length-drop w t, mul-suc w n)) (k .1))
-
   take-first : (n k : ℕ) (t : List ℕ) → k ≤ n → take k (rows-in w n t) ≡ rows-in w k t
   take-first n zero t h = refl
   take-first zero (suc k) t h = absurd (omega arith)
   take-first (suc n) (suc k) t h = ap (λ (l : List (List ℕ)). take w t ∷ l) (take-first n k (drop w t) (le-of-suc-le-suc h))
-
-  drop-first : (n k : ℕ) (t : List ℕ) → k ≤ n → drop k (rows-in w n t) ≡ rows-in w (n - k) (drop (w * k) t)
-  drop-first n zero t h =
-      let e : n ≡ n - 0 = omega arith in
-      ap (λ (m : ℕ). rows-in w m t) e ∙ ap (λ (m : ℕ). rows-in w (n - 0) (drop m t)) (sym (mul-zero w))
-  drop-first zero (suc k) t h = absurd (omega arith)
-  drop-first (suc n) (suc k) t h =
-      let e : n - k ≡ suc n - suc k = omega arith in
-      drop-first n k (drop w t) (le-of-suc-le-suc h)
-      ∙ ap (λ (m : ℕ). rows-in w m (drop (w * k) (drop w t))) e
-      ∙ ap (rows-in w (suc n - suc k)) (next-row k t)
 
   pub length-row : (t : List ℕ) (i : ℕ) → w * i + w ≤ length t → length (row-in w t i) ≡ w
   length-row t i h = length-take-le w (drop (w * i) t) (omega (arith, length-drop (w * i) t))
@@ -150,139 +129,94 @@ module _ (w : ℕ) where
   rows-fit : (t : List ℕ) (n : ℕ) → n ≤ length t / w → w * n ≤ length t
   rows-fit t n h = le-trans (mul-le-mul-left w h) (mul-div-le (length t) w)
 
+-- .. and so does what is read of it
+pub made-at : {A : Type 0} (w n : ℕ) (make : List ℕ → A) (t : List ℕ) (i : ℕ) → i < n → getD (map make (rows-in w n t)) i (make []) ≡ make (row-in w t i)
+made-at w n make t i h = List·getD-map make (rows-in w n t) i [] ∙ ap make (rows-in-at w n t i h)
+
 -- ---- the rows in use
 
-module _ (ends : List (List ℕ) → Bool) where
-  until-first : (rs : List (List ℕ)) → until ends rs ≡ take (length (until ends rs)) rs
-  until-first [] = refl
-  until-first (r ∷ rs) = go (ends (r ∷ rs)) (until-first rs)
-    where
-      go : (u : Bool) → until ends rs ≡ take (length (until ends rs)) rs → cond u [] (r ∷ until ends rs) ≡ take (length (cond u [] (r ∷ until ends rs))) (r ∷ rs)
-      go true h = refl
-      go false h = ap (λ (l : List (List ℕ)). r ∷ l) h
+-- a row that is none of them, and all behind it
+abbrev ends : List (List ℕ) → Bool
+ends rs = eqb (getD (getD rs 0 []) 1 0) 0
 
-  until-le : (rs : List (List ℕ)) → length (until ends rs) ≤ length rs
-  until-le [] = omega arith
-  until-le (r ∷ rs) = go (ends (r ∷ rs)) (until-le rs)
-    where
-      go : (u : Bool) → length (until ends rs) ≤ length rs → length (cond u [] (r ∷ until ends rs)) ≤ length (r ∷ rs)
-      go true h = omega arith
-      go false h = omega arith
+until-first : (rs : List (List ℕ)) → until rs ≡ take (length (until rs)) rs
+until-first [] = refl
+until-first (r ∷ rs) = go (ends (r ∷ rs)) (until-first rs)
+  where
+    go : (u : Bool) → until rs ≡ take (length (until rs)) rs → cond u [] (r ∷ until rs) ≡ take (length (cond u [] (r ∷ until rs))) (r ∷ rs)
+    go true h = refl
+    go false h = ap (λ (l : List (List ℕ)). r ∷ l) h
 
-  -- the place where they end is the first
-  until-stop : (rs : List (List ℕ)) (i : ℕ) → i ≤ length (until ends rs) → (i < length rs → ends (drop i rs) ≡ true) → length (until ends rs) ≡ i
-  until-stop [] i h z = omega arith
-  until-stop (r ∷ rs) i h z = go (ends (r ∷ rs)) refl i h z (until-stop rs)
-    where
-      go : (u : Bool) → ends (r ∷ rs) ≡ u → (i : ℕ) → i ≤ length (cond u [] (r ∷ until ends rs)) → (i < length (r ∷ rs) → ends (drop i (r ∷ rs)) ≡ true)
-          → ((j : ℕ) → j ≤ length (until ends rs) → (j < length rs → ends (drop j rs) ≡ true) → length (until ends rs) ≡ j)
-          → length (cond u [] (r ∷ until ends rs)) ≡ i
-      go true q i h z ih = omega arith
-      go false q zero h z ih = never (sym q ∙ z (omega arith))
-      go false q (suc i) h z ih = ap suc (ih i (le-of-suc-le-suc h) (λ l. z (suc-le-suc l)))
+until-le : (rs : List (List ℕ)) → length (until rs) ≤ length rs
+until-le [] = omega arith
+until-le (r ∷ rs) = go (ends (r ∷ rs)) (until-le rs)
+  where
+    go : (u : Bool) → length (until rs) ≤ length rs → length (cond u [] (r ∷ until rs)) ≤ length (r ∷ rs)
+    go true h = omega arith
+    go false h = omega arith
 
-  until-end : (rs : List (List ℕ)) → length (until ends rs) < length rs → ends (drop (length (until ends rs)) rs) ≡ true
-  until-end [] h = absurd (omega arith)
-  until-end (r ∷ rs) h = go (ends (r ∷ rs)) refl h (until-end rs)
-    where
-      go : (u : Bool) → ends (r ∷ rs) ≡ u → length (cond u [] (r ∷ until ends rs)) < length (r ∷ rs)
-          → (length (until ends rs) < length rs → ends (drop (length (until ends rs)) rs) ≡ true)
-          → ends (drop (length (cond u [] (r ∷ until ends rs))) (r ∷ rs)) ≡ true
-      go true q h ih = q
-      go false q h ih = ih (le-of-suc-le-suc h)
+-- the place where they end is the first
+until-stop : (rs : List (List ℕ)) (i : ℕ) → i ≤ length (until rs) → (i < length rs → ends (drop i rs) ≡ true) → length (until rs) ≡ i
+until-stop [] i h z = omega arith
+until-stop (r ∷ rs) i h z = go (ends (r ∷ rs)) refl i h z (until-stop rs)
+  where
+    go : (u : Bool) → ends (r ∷ rs) ≡ u → (i : ℕ) → i ≤ length (cond u [] (r ∷ until rs)) → (i < length (r ∷ rs) → ends (drop i (r ∷ rs)) ≡ true)
+        → ((j : ℕ) → j ≤ length (until rs) → (j < length rs → ends (drop j rs) ≡ true) → length (until rs) ≡ j)
+        → length (cond u [] (r ∷ until rs)) ≡ i
+    go true q i h z ih = omega arith
+    go false q zero h z ih = never (sym q ∙ z (omega arith))
+    go false q (suc i) h z ih = ap suc (ih i (le-of-suc-le-suc h) (λ l. z (suc-le-suc l)))
 
-  module _ (w : ℕ) (t : List ℕ) where
-    used-le : length (used ends w t) ≤ length t / w
-    used-le = omega (arith, until-le (whole w t), length-rows w (length t / w) t)
-
-    used-first : used ends w t ≡ rows-in w (length (used ends w t)) t
-    used-first = until-first (whole w t) ∙ take-first w (length t / w) (length (used ends w t)) t used-le
-
-    pub used-end : w * length (used ends w t) ≤ length t
-    used-end = rows-fit w t (length (used ends w t)) used-le
-
-    used-at : (i : ℕ) → i < length (used ends w t) → getD (used ends w t) i [] ≡ row-in w t i
-    used-at i h = ap (λ (rs : List (List ℕ)). getD rs i []) used-first ∙ rows-in-at w (length (used ends w t)) t i h
-
-  -- a row that is read lies where its number says
-  pub read-at : {A : Type 0} (w : ℕ) (make : List ℕ → A) (t : List ℕ) (i : ℕ) → i < length (used ends w t) → getD (read ends w make t) i (make []) ≡ make (row-in w t i)
-  read-at w make t i h = List·getD-map make (used ends w t) i [] ∙ ap make (used-at w t i h)
-
-whole-at : (w : ℕ) (t : List ℕ) (i : ℕ) → i < length t / w → drop i (whole w t) ≡ row-in w t i ∷ drop (suc i) (whole w t)
-whole-at w t i h =
-    drop-cons (whole w t) i [] (omega (arith, length-rows w (length t / w) t))
-    ∙ ap (λ (r : List ℕ). r ∷ drop (suc i) (whole w t)) (rows-in-at w (length t / w) t i h)
-
--- ---- where they come first
-
-module _ (w : ℕ) (t : List ℕ) (wide : 2 ≤ w) where
-  ends-here : (i : ℕ) → i < length t / w → in-front (drop i (whole w t)) ≡ eqb (getD t (w * i + 1) 0) 0
-  ends-here i h = ap in-front (whole-at w t i h) ∙ ap (λ (n : ℕ). eqb n 0) (number-in w t i 1 (omega arith))
-
-  pub held-stop : (i : ℕ) → i ≤ length (used in-front w t) → getD t (w * i + 1) 0 ≡ 0 → length (used in-front w t) ≡ i
-  held-stop i h z = until-stop in-front (whole w t) i h (λ l. ends-here i (omega (arith, length-rows w (length t / w) t)) ∙ eq-eqb (getD t (w * i + 1) 0) 0 z)
-
-  pub held-more : (i : ℕ) → i < length t / w → (getD t (w * i + 1) 0 ≡ 0 → ⊥) → i ≤ length (used in-front w t) → i < length (used in-front w t)
-  held-more i l z h = go (split (length (used in-front w t)) i)
-    where
-      go : (length (used in-front w t) ≤ i) ⊎ (i < length (used in-front w t)) → i < length (used in-front w t)
-      go (inr k) = k
-      go (inl k) =
-          let e : length (used in-front w t) ≡ i = omega arith in
-          absurd (z (eqb-true (getD t (w * i + 1) 0) 0 (sym (ends-here i l) ∙ ap (λ (j : ℕ). in-front (drop j (whole w t))) (sym e) ∙ until-end in-front (whole w t) (omega (arith, length-rows w (length t / w) t)))))
-
-pub formed-length : (w n : ℕ) (t : List ℕ) → formed w n t ≡ true → length t ≡ n
-formed-length w n t h = eqb-true (length t) n (and-true (eqb (length t) n) (zeros (drop (w * length (used in-front w t)) t)) h .0)
-
--- ---- where each stands at its number
-
-zero-row-at : (rs : List (List ℕ)) (i : ℕ) → each zeros rs ≡ true → zeros (getD rs i []) ≡ true
-zero-row-at [] i h = refl
-zero-row-at (r ∷ rs) zero h = and-true (zeros r) (each zeros rs) h .0
-zero-row-at (r ∷ rs) (suc i) h = zero-row-at rs i (and-true (zeros r) (each zeros rs) h .1)
+until-end : (rs : List (List ℕ)) → length (until rs) < length rs → ends (drop (length (until rs)) rs) ≡ true
+until-end [] h = absurd (omega arith)
+until-end (r ∷ rs) h = go (ends (r ∷ rs)) refl h (until-end rs)
+  where
+    go : (u : Bool) → ends (r ∷ rs) ≡ u → length (cond u [] (r ∷ until rs)) < length (r ∷ rs)
+        → (length (until rs) < length rs → ends (drop (length (until rs)) rs) ≡ true)
+        → ends (drop (length (cond u [] (r ∷ until rs))) (r ∷ rs)) ≡ true
+    go true q h ih = q
+    go false q h ih = ih (le-of-suc-le-suc h)
 
 module _ (w : ℕ) (t : List ℕ) where
-  abbrev many : ℕ
-  many = length (used by-number w t)
+  used-le : length (used w t) ≤ length t / w
+  used-le = omega (arith, until-le (whole w t), length-rows w (length t / w) t)
 
-  -- behind the last row there are zeros
-  zero-behind : each zeros (drop many (whole w t)) ≡ true
-  zero-behind = go (split (length (whole w t)) many)
+  used-first : used w t ≡ rows-in w (length (used w t)) t
+  used-first = until-first (whole w t) ∙ take-first w (length t / w) (length (used w t)) t used-le
+
+  pub used-end : w * length (used w t) ≤ length t
+  used-end = rows-fit w t (length (used w t)) used-le
+
+-- a row that is read lies where its number says
+pub read-at : {A : Type 0} (w : ℕ) (make : List ℕ → A) (t : List ℕ) (i : ℕ) → i < length (used w t) → getD (read w make t) i (make []) ≡ make (row-in w t i)
+read-at w make t i h = ap (λ (rs : List (List ℕ)). getD (map make rs) i (make [])) (used-first w t) ∙ made-at w (length (used w t)) make t i h
+
+module _ (w : ℕ) (t : List ℕ) (wide : 2 ≤ w) where
+  ends-here : (i : ℕ) → i < length t / w → ends (drop i (whole w t)) ≡ eqb (getD t (w * i + 1) 0) 0
+  ends-here i h =
+      ap ends (drop-cons (whole w t) i [] (omega (arith, length-rows w (length t / w) t)))
+      ∙ ap (λ (r : List ℕ). eqb (getD r 1 0) 0) (rows-in-at w (length t / w) t i h)
+      ∙ ap (λ (n : ℕ). eqb n 0) (number-in w t i 1 (omega arith))
+
+  pub held-stop : (i : ℕ) → i ≤ length (used w t) → getD t (w * i + 1) 0 ≡ 0 → length (used w t) ≡ i
+  held-stop i h z = until-stop (whole w t) i h (λ l. ends-here i (omega (arith, length-rows w (length t / w) t)) ∙ eq-eqb (getD t (w * i + 1) 0) 0 z)
+
+  pub held-more : (i : ℕ) → i < length t / w → (getD t (w * i + 1) 0 ≡ 0 → ⊥) → i ≤ length (used w t) → i < length (used w t)
+  held-more i l z h = go (split (length (used w t)) i)
     where
-      go : (length (whole w t) ≤ many) ⊎ (many < length (whole w t)) → each zeros (drop many (whole w t)) ≡ true
-      go (inl h) = ap (each zeros) (drop-of-length-le (whole w t) h)
-      go (inr h) = until-end by-number (whole w t) h
+      go : (length (used w t) ≤ i) ⊎ (i < length (used w t)) → i < length (used w t)
+      go (inr k) = k
+      go (inl k) =
+          let e : length (used w t) ≡ i = omega arith in
+          absurd (z (eqb-true (getD t (w * i + 1) 0) 0 (sym (ends-here i l) ∙ ap (λ (j : ℕ). ends (drop j (whole w t))) (sym e) ∙ until-end (whole w t) (omega (arith, length-rows w (length t / w) t)))))
 
-  pub row-behind : (i : ℕ) → i < length t / w → many ≤ i → zeros (row-in w t i) ≡ true
-  row-behind i l h =
-      let e : many + (i - many) ≡ i = omega arith in
-      ap zeros (sym (getD-drop many (whole w t) (i - many) [] ∙ ap (λ (k : ℕ). getD (whole w t) k []) e ∙ rows-in-at w (length t / w) t i l))
-      ∙ zero-row-at (drop many (whole w t)) (i - many) zero-behind
-
-  -- the last one has other numbers
-  pub row-last : (i : ℕ) → many ≡ suc i → zeros (row-in w t i) ≡ false
-  row-last i e =
-      let l : i < length t / w = omega (arith, used-le by-number w t) in
-      let d : drop (suc i) (whole w t) ≡ drop many (whole w t) = ap (λ (j : ℕ). drop j (whole w t)) (sym e) in
-      not-true-false (zeros (row-in w t i))
-      (λ z.
-      omega (
-        arith,
-        until-stop by-number (whole w t) i (omega arith)
-            (λ _. ap by-number (whole-at w t i l) ∙ and-intro (zeros (row-in w t i)) (each zeros (drop (suc i) (whole w t))) z (ap (each zeros) d ∙ zero-behind)),
-      ))
-
-  -- in a table of whole rows only, all is zero behind them
-  pub numbers-behind : (n : ℕ) → 0 < w → length t ≡ w * n → zeros (drop (w * many) t) ≡ true
-  numbers-behind n p e =
-      let m : length t / w ≡ n = ap (λ (j : ℕ). j / w) e ∙ mul-div-right n p in
-      rows-zero w (n - many) (drop (w * many) t) (omega (arith, length-drop (w * many) t, mul-sub w n many))
-      (ap (each zeros) (sym (drop-first w n many t (omega (arith, used-le by-number w t)))) ∙ ap (λ (j : ℕ). each zeros (drop many (rows-in w j t))) (sym m) ∙ zero-behind)
+pub formed-length : (w n : ℕ) (t : List ℕ) → formed w n t ≡ true → length t ≡ n
+formed-length w n t h = eqb-true (length t) n (and-true (eqb (length t) n) (zeros (drop (w * length (used w t)) t)) h .0)
 
 -- ---- a table is the rows read of it, and what is behind them
 
 module _ {A : Type 0} (w : ℕ) (make : List ℕ → A) (parts : A → List ℕ) (back : (r : List ℕ) → length r ≡ w → parts (make r) ≡ r) where
-  write-rows : (n : ℕ) (t : List ℕ) → w * n ≤ length t → write parts (map make (rows-in w n t)) ++ drop (w * n) t ≡ t
+  pub write-rows : (n : ℕ) (t : List ℕ) → w * n ≤ length t → write parts (map make (rows-in w n t)) ++ drop (w * n) t ≡ t
   write-rows zero t h = ap (λ (k : ℕ). drop k t) (mul-zero w)
   write-rows (suc n) t h =
       let ws : List ℕ = write parts (map make (rows-in w n (drop w t))) in
@@ -293,47 +227,26 @@ module _ {A : Type 0} (w : ℕ) (make : List ℕ → A) (parts : A → List ℕ)
       ∙ take-append-drop w t
 
   -- writing what was read of a table with zeros behind its rows gives it back
-  pub written-back : (ends : List (List ℕ) → Bool) (n : ℕ) (t : List ℕ) → length t ≡ n → zeros (drop (w * length (used ends w t)) t) ≡ true → t ≡ padded w parts n (read ends w make t)
-  written-back ends n t h z =
-      let k : ℕ = length (used ends w t) in
+  pub formed-written : (n : ℕ) (t : List ℕ) → formed w n t ≡ true → t ≡ padded w parts n (read w make t)
+  formed-written n t f =
+      let k : ℕ = length (used w t) in
+      let h = and-true (eqb (length t) n) (zeros (drop (w * k) t)) f in
+      let e : length t ≡ n = eqb-true (length t) n (h .0) in
       sym
-      (ap (λ (m : ℕ). write parts (read ends w make t) ++ replicate (n - w * m) 0) (length-map (used ends w t) make)
-      ∙ ap (λ (l : List ℕ). write parts (read ends w make t) ++ l) (sym (zeros-are (drop (w * k) t) z ∙ zeros-left (length (drop (w * k) t)) (n - w * k) (omega (arith, length-drop (w * k) t))))
-      ∙ ap (λ (rs : List (List ℕ)). write parts (map make rs) ++ drop (w * k) t) (used-first ends w t)
-      ∙ write-rows k t (used-end ends w t))
-
-  pub formed-written : (n : ℕ) (t : List ℕ) → formed w n t ≡ true → t ≡ padded w parts n (read in-front w make t)
-  formed-written n t h =
-      let k = and-true (eqb (length t) n) (zeros (drop (w * length (used in-front w t)) t)) h in
-      written-back in-front n t (eqb-true (length t) n (k .0)) (k .1)
+      (ap (λ (m : ℕ). write parts (read w make t) ++ replicate (n - w * m) 0) (length-map (used w t) make)
+      ∙ ap (λ (l : List ℕ). write parts (read w make t) ++ l) (sym (zeros-are (drop (w * k) t) (h .1) ∙ zeros-left (length (drop (w * k) t)) (n - w * k) (omega (arith, length-drop (w * k) t))))
+      ∙ ap (λ (rs : List (List ℕ)). write parts (map make rs) ++ drop (w * k) t) (used-first w t)
+      ∙ write-rows k t (used-end w t))
 
 -- ---- what is written is read back
 
--- rows end behind the last that is used, where all behind it is zero
-pub record Ends (ends : List (List ℕ) → Bool) : Type 0 where
-  pub not-at : (r : List ℕ) (rs : List (List ℕ)) → 0 < getD r 1 0 → ends (r ∷ rs) ≡ false
-  pub at-zeros : (r : List ℕ) (rs : List (List ℕ)) → each zeros (r ∷ rs) ≡ true → ends (r ∷ rs) ≡ true
+until-zeros : (zs : List (List ℕ)) → each zeros zs ≡ true → until zs ≡ []
+until-zeros [] h = refl
+until-zeros (z ∷ zs) h = cond-is [] (z ∷ until zs) (eq-eqb (getD z 1 0) 0 (zero-at z 1 (and-true (zeros z) (each zeros zs) h .0)))
 
-pub ends-in-front : Ends in-front
-ends-in-front = record {
-  not-at = λ r rs h. ne-eqb (getD r 1 0) 0 (λ e. omega arith);
-  at-zeros = λ r rs h. eq-eqb (getD r 1 0) 0 (zero-at r 1 (and-true (zeros r) (each zeros rs) h .0));
-}
-
-pub ends-by-number : Ends by-number
-ends-by-number = record {
-  not-at = λ r rs h. not-true-false (zeros r && each zeros rs) (λ e. omega (arith, zero-at r 1 (and-true (zeros r) (each zeros rs) e .0)));
-  at-zeros = λ r rs h. h;
-}
-
-module _ {ends : List (List ℕ) → Bool} (E : Ends ends) where
-  until-zeros : (zs : List (List ℕ)) → each zeros zs ≡ true → until ends zs ≡ []
-  until-zeros [] h = refl
-  until-zeros (z ∷ zs) h = cond-is [] (z ∷ until ends zs) (E .at-zeros z zs h)
-
-  until-all : (rs zs : List (List ℕ)) → All (λ r. 0 < getD r 1 0) rs → each zeros zs ≡ true → until ends (rs ++ zs) ≡ rs
-  until-all [] zs h z = until-zeros zs z
-  until-all (r ∷ rs) zs h z = cond-is [] (r ∷ until ends (rs ++ zs)) (E .not-at r (rs ++ zs) (h .0)) ∙ ap (λ (l : List (List ℕ)). r ∷ l) (until-all rs zs (h .1) z)
+until-all : (rs zs : List (List ℕ)) → All (λ r. 0 < getD r 1 0) rs → each zeros zs ≡ true → until (rs ++ zs) ≡ rs
+until-all [] zs h z = until-zeros zs z
+until-all (r ∷ rs) zs h z = cond-is [] (r ∷ until (rs ++ zs)) (ne-eqb (getD r 1 0) 0 (λ e. omega arith)) ∙ ap (λ (l : List (List ℕ)). r ∷ l) (until-all rs zs (h .1) z)
 
 all-parts : {A : Type 0} (parts : A → List ℕ) (xs : List A) → All (λ x. 0 < getD (parts x) 1 0) xs → All (λ r. 0 < getD r 1 0) (map parts xs)
 all-parts parts [] h = tt
@@ -368,22 +281,20 @@ module _ {A : Type 0} (w : ℕ) (parts : A → List ℕ) (wide : (x : A) → len
     pub drop-rows : drop (w * i) (write parts xs ++ r) ≡ write parts (drop i xs) ++ r
     drop-rows = ap (drop (w * i)) parted ∙ drop-at (write parts (take i xs)) (write parts (drop i xs) ++ r) (w * i) length-taken
 
+  -- a row in place of another
+  pub put-at : (r : List ℕ) (xs : List A) (i : ℕ) (x : A) → i < length xs → sets (write parts xs ++ r) (w * i) (parts x) ≡ write parts (set xs i x) ++ r
+  put-at r xs i x h =
+      let e : w * i + length (parts x) ≡ w * suc i = omega (arith, wide x, mul-suc w i) in
+      sets-eq (parts x) (write parts xs ++ r) (w * i) (omega (arith, length-append (write parts xs) r, length-write xs, wide x, mul-suc w i, mul-le-mul-left w h))
+      ∙ ap (λ (l : List ℕ). l ++ parts x ++ drop (w * i + length (parts x)) (write parts xs ++ r)) (take-rows r xs i (omega arith))
+      ∙ ap (λ (l : List ℕ). write parts (take i xs) ++ parts x ++ l) (ap (λ (k : ℕ). drop k (write parts xs ++ r)) e ∙ drop-rows r xs (suc i) h)
+      ∙ sym (append-assoc (write parts (take i xs) ++ parts x) (write parts (drop (suc i) xs)) r)
+      ∙ ap (λ (l : List ℕ). l ++ r) (append-assoc (write parts (take i xs)) (parts x) (write parts (drop (suc i) xs)) ∙ sym (write-append (take i xs) (x ∷ drop (suc i) xs)))
+      ∙ ap (λ (ys : List A). write parts ys ++ r) (sym (set-split xs i x h))
+
   module _ (size : ℕ) where
     pub length-padded : (xs : List A) → w * length xs ≤ size → length (padded w parts size xs) ≡ size
     length-padded xs h = omega (arith, length-append (write parts xs) (replicate (size - w * length xs) 0), length-write xs, length-replicate {A = ℕ} (size - w * length xs) 0)
-
-    -- a row in place of another
-    pub put-at : (xs : List A) (i : ℕ) (x : A) → i < length xs → w * length xs ≤ size → sets (padded w parts size xs) (w * i) (parts x) ≡ padded w parts size (set xs i x)
-    put-at xs i x l h =
-        let z : List ℕ = replicate (size - w * length xs) 0 in
-        let e : w * i + length (parts x) ≡ w * suc i = omega (arith, wide x, mul-suc w i) in
-        sets-eq (parts x) (write parts xs ++ z) (w * i) (omega (arith, length-padded xs h, wide x, mul-suc w i, mul-le-mul-left w l))
-        ∙ ap (λ (l : List ℕ). l ++ parts x ++ drop (w * i + length (parts x)) (write parts xs ++ z)) (take-rows z xs i (omega arith))
-        ∙ ap (λ (l : List ℕ). write parts (take i xs) ++ parts x ++ l) (ap (λ (k : ℕ). drop k (write parts xs ++ z)) e ∙ drop-rows z xs (suc i) l)
-        ∙ sym (append-assoc (write parts (take i xs) ++ parts x) (write parts (drop (suc i) xs)) z)
-        ∙ ap (λ (l : List ℕ). l ++ z) (append-assoc (write parts (take i xs)) (parts x) (write parts (drop (suc i) xs)) ∙ sym (write-append (take i xs) (x ∷ drop (suc i) xs)))
-        ∙ ap (λ (ys : List A). write parts ys ++ z) (sym (set-split xs i x l))
-        ∙ ap (λ (k : ℕ). write parts (set xs i x) ++ replicate (size - w * k) 0) (sym (length-set xs i x))
 
     -- a row put behind the others
     pub put-last : (xs : List A) (x : A) → w * length xs + w ≤ size → sets (padded w parts size xs) (w * length xs) (parts x) ≡ padded w parts size (xs ++ x ∷ [])
@@ -397,44 +308,44 @@ module _ {A : Type 0} (w : ℕ) (parts : A → List ℕ) (wide : (x : A) → len
         ∙ ap (λ (l : List ℕ). write parts xs ++ parts x ++ l) (sym (drop-drop w (w * length xs) (write parts xs ++ z)) ∙ ap (drop w) (drop-write xs z) ∙ drop-zeros w n ∙ zeros-left _ _ e)
         ∙ ap (λ (l : List ℕ). l ++ replicate (size - w * length (xs ++ x ∷ [])) 0) (ap (λ (l : List ℕ). write parts xs ++ l) (sym (append-nil (parts x))) ∙ sym (write-append xs (x ∷ [])))
 
-  module _ (some-width : 0 < w) where
-    first-written : (xs : List A) (n : ℕ) (r : List ℕ) → rows-in w (length xs + n) (write parts xs ++ r) ≡ map parts xs ++ rows-in w n r
-    first-written [] n r = let e : 0 + n ≡ n = omega arith in ap (λ (k : ℕ). rows-in w k r) e
-    first-written (x ∷ xs) n r =
-        let e : suc (length xs) + n ≡ suc (length xs + n) = omega arith in
-        let t : List ℕ = parts x ++ (write parts xs ++ r) in
-        ap (λ (k : ℕ). rows-in w k (parts x ++ write parts xs ++ r)) e
-        ∙ ap (rows-in w (suc (length xs + n))) (append-assoc (parts x) (write parts xs) r)
-        ∙ ap (λ (l : List ℕ). l ∷ rows-in w (length xs + n) (drop w t)) (take-at (parts x) (write parts xs ++ r) w (wide x))
-        ∙ ap (λ (l : List ℕ). parts x ∷ rows-in w (length xs + n) l) (drop-at (parts x) (write parts xs ++ r) w (wide x))
-        ∙ ap (λ (rs : List (List ℕ)). parts x ∷ rs) (first-written xs n r)
+  first-written : (xs : List A) (n : ℕ) (r : List ℕ) → rows-in w (length xs + n) (write parts xs ++ r) ≡ map parts xs ++ rows-in w n r
+  first-written [] n r = let e : 0 + n ≡ n = omega arith in ap (λ (k : ℕ). rows-in w k r) e
+  first-written (x ∷ xs) n r =
+      let e : suc (length xs) + n ≡ suc (length xs + n) = omega arith in
+      let t : List ℕ = parts x ++ (write parts xs ++ r) in
+      ap (λ (k : ℕ). rows-in w k (parts x ++ write parts xs ++ r)) e
+      ∙ ap (rows-in w (suc (length xs + n))) (append-assoc (parts x) (write parts xs) r)
+      ∙ ap (λ (l : List ℕ). l ∷ rows-in w (length xs + n) (drop w t)) (take-at (parts x) (write parts xs ++ r) w (wide x))
+      ∙ ap (λ (l : List ℕ). parts x ∷ rows-in w (length xs + n) l) (drop-at (parts x) (write parts xs ++ r) w (wide x))
+      ∙ ap (λ (rs : List (List ℕ)). parts x ∷ rs) (first-written xs n r)
 
-    whole-written : (xs : List A) (r : List ℕ) → whole w (write parts xs ++ r) ≡ map parts xs ++ whole w r
-    whole-written xs r =
-        ap (λ (k : ℕ). rows-in w (k / w) (write parts xs ++ r)) (length-append (write parts xs) r ∙ ap (λ (k : ℕ). k + length r) (length-write xs))
-        ∙ ap (λ (k : ℕ). rows-in w k (write parts xs ++ r)) (mul-add-div some-width (length xs) (length r))
-        ∙ first-written xs (length r / w) r
+  whole-written : 0 < w → (xs : List A) (r : List ℕ) → whole w (write parts xs ++ r) ≡ map parts xs ++ whole w r
+  whole-written some-width xs r =
+      ap (λ (k : ℕ). rows-in w (k / w) (write parts xs ++ r)) (length-append (write parts xs) r ∙ ap (λ (k : ℕ). k + length r) (length-write xs))
+      ∙ ap (λ (k : ℕ). rows-in w k (write parts xs ++ r)) (mul-add-div some-width (length xs) (length r))
+      ∙ first-written xs (length r / w) r
 
-    module _ (make : List ℕ → A) where
-      made-again : (xs : List A) → All (λ x. make (parts x) ≡ x) xs → map make (map parts xs) ≡ xs
-      made-again [] h = refl
-      made-again (x ∷ xs) h = rw (h .0, made-again xs (h .1))
+  module _ (make : List ℕ → A) where
+    made-again : (xs : List A) → All (λ x. make (parts x) ≡ x) xs → map make (map parts xs) ≡ xs
+    made-again [] h = refl
+    made-again (x ∷ xs) h = rw (h .0, made-again xs (h .1))
 
-      -- reading what was written gives it back, where each row does
-      pub read-each : {ends : List (List ℕ) → Bool} → Ends ends → (xs : List A) (n : ℕ) → All (λ x. 0 < getD (parts x) 1 0) xs → All (λ x. make (parts x) ≡ x) xs
-          → read ends w make (write parts xs ++ replicate n 0) ≡ xs
-      read-each {ends} E xs n h again =
-          ap (map make)
-          (ap (until ends) (whole-written xs (replicate n 0))
-          ∙ until-all E (map parts xs) (whole w (replicate n 0)) (all-parts parts xs h) (zero-rows w (length (replicate {A = ℕ} n 0) / w) (replicate n 0) (zeros-rep n)))
-          ∙ made-again xs again
+    -- reading what was written gives it back: the first rows, whatever is behind them, and the rows in use
+    pub first-back : (n : ℕ) (xs : List A) (r : List ℕ) → length xs ≡ n → All (λ x. make (parts x) ≡ x) xs → map make (rows-in w n (write parts xs ++ r)) ≡ xs
+    first-back n xs r e again =
+        let k : n ≡ length xs + 0 = omega arith in
+        ap (map make) (ap (λ (j : ℕ). rows-in w j (write parts xs ++ r)) k ∙ first-written xs 0 r ∙ append-nil (map parts xs)) ∙ made-again xs again
 
-    module _ (make : List ℕ → A) (again : (x : A) → make (parts x) ≡ x) where
-      pub read-back : {ends : List (List ℕ) → Bool} → Ends ends → (xs : List A) (n : ℕ) → All (λ x. 0 < getD (parts x) 1 0) xs → read ends w make (write parts xs ++ replicate n 0) ≡ xs
-      read-back E xs n h = read-each make E xs n h (all-every again xs)
+  module _ (some-width : 0 < w) (make : List ℕ → A) (again : (x : A) → make (parts x) ≡ x) where
+    pub read-back : (xs : List A) (n : ℕ) → All (λ x. 0 < getD (parts x) 1 0) xs → read w make (write parts xs ++ replicate n 0) ≡ xs
+    read-back xs n h =
+        ap (map make)
+        (ap until (whole-written some-width xs (replicate n 0))
+        ∙ until-all (map parts xs) (whole w (replicate n 0)) (all-parts parts xs h) (zero-rows w (length (replicate {A = ℕ} n 0) / w) (replicate n 0) (zeros-rep n)))
+        ∙ made-again make xs (all-every again xs)
 
-      pub formed-back : (xs : List A) (n : ℕ) → All (λ x. 0 < getD (parts x) 1 0) xs → w * length xs ≤ n → formed w n (padded w parts n xs) ≡ true
-      formed-back xs n h l =
-          let t : List ℕ = padded w parts n xs in
-          let e : length (used in-front w t) ≡ length xs = sym (length-map (used in-front w t) make) ∙ ap length (read-back ends-in-front xs (n - w * length xs) h) in
-          rw (eq-eqb (length t) n (length-padded n xs l), e, drop-write xs (replicate (n - w * length xs) 0)) (zeros-rep (n - w * length xs))
+    pub formed-back : (xs : List A) (n : ℕ) → All (λ x. 0 < getD (parts x) 1 0) xs → w * length xs ≤ n → formed w n (padded w parts n xs) ≡ true
+    formed-back xs n h l =
+        let t : List ℕ = padded w parts n xs in
+        let e : length (used w t) ≡ length xs = sym (length-map (used w t) make) ∙ ap length (read-back xs (n - w * length xs) h) in
+        rw (eq-eqb (length t) n (length-padded n xs l), e, drop-write xs (replicate (n - w * length xs) 0)) (zeros-rep (n - w * length xs))

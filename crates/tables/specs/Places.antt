@@ -8,7 +8,7 @@ use lib.ListN.{getD, take, drop}
 use lib.Seq.{paste, sets}
 use Rattle.rules.specs.Limits.{max-reserved}
 use Rattle.rules.specs.declared.Packet.{Packet}
-use Rattle.tables.specs.Table.{in-front, read, padded}
+use Rattle.tables.specs.Table.{read, padded}
 
 abbrev pub packet-width : ℕ
 packet-width = 5
@@ -38,7 +38,7 @@ row-at t i = packet-of (getD t (5 * i) 0) (getD t (5 * i + 1) 0) (getD t (5 * i 
 -- ---- a table
 
 unfoldable pub rows : List ℕ → List Packet
-rows t = read in-front packet-width packet-in t
+rows t = read packet-width packet-in t
 
 -- packets as a table of n numbers, and as the places table
 unfoldable pub table-of : ℕ → List Packet → List ℕ

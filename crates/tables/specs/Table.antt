@@ -1,11 +1,9 @@
--- A lent table of numbers, w to a row: what is read of it, and what is written. Each table gives its width, where its rows end, and how a row is laid out:
--- `make` makes what the numbers of a row stand for, `parts` lists them. Document 01, "Link, connections, places".
+-- A lent table of numbers, w to a row: what is read of it, and what is written. Each table gives its width and how a row is laid out: `make` makes what the numbers of a row stand for, `parts` lists them. Document 01, "Link, connections, places".
 use Prim.Native.Nat.{ℕ, zero, suc, _*_, _-_, _/_}
 use mathlib.Core.Bool.{Bool, cond, _&&_}
 use mathlib.Core.List.{List, [], _∷_, _++_, map}
 use lib.Dec.{eqb}
 use lib.ListN.{length, getD, take, drop, replicate}
-use Rattle.rules.specs.Words.{each}
 use Rattle.limits.specs.Zeros.{zeros}
 
 -- ---- rows
@@ -30,28 +28,20 @@ numbers (suc n) l = getD l 0 0 ∷ numbers n (drop 1 l)
 
 -- ---- reading
 
--- the rows before the first of which, with all behind it, `ends` holds
-abbrev pub until : (List (List ℕ) → Bool) → List (List ℕ) → List (List ℕ)
-until ends [] = []
-until ends (r ∷ rs) = cond (ends (r ∷ rs)) [] (r ∷ until ends rs)
+-- the rows in use come first: those before the first whose second number is 0
+abbrev pub until : List (List ℕ) → List (List ℕ)
+until [] = []
+until (r ∷ rs) = cond (eqb (getD r 1 0) 0) [] (r ∷ until rs)
 
--- where the rows in use come first: at the first whose second number is 0
-abbrev pub in-front : List (List ℕ) → Bool
-in-front rs = eqb (getD (getD rs 0 []) 1 0) 0
+abbrev pub used : ℕ → List ℕ → List (List ℕ)
+used w t = until (whole w t)
 
--- where each row stands at its number, a free one between others too: where nothing but zeros is left
-abbrev pub by-number : List (List ℕ) → Bool
-by-number rs = each zeros rs
-
-abbrev pub used : (List (List ℕ) → Bool) → ℕ → List ℕ → List (List ℕ)
-used ends w t = until ends (whole w t)
-
-abbrev pub read : {A : Type 0} → (List (List ℕ) → Bool) → ℕ → (List ℕ → A) → List ℕ → List A
-read ends w make t = map make (used ends w t)
+abbrev pub read : {A : Type 0} → ℕ → (List ℕ → A) → List ℕ → List A
+read w make t = map make (used w t)
 
 -- a table of n numbers, with nothing but zeros behind its rows
 abbrev pub formed : ℕ → ℕ → List ℕ → Bool
-formed w n t = eqb (length t) n && zeros (drop (w * length (used in-front w t)) t)
+formed w n t = eqb (length t) n && zeros (drop (w * length (used w t)) t)
 
 -- ---- writing
 

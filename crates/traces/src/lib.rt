@@ -1,4 +1,4 @@
-// The trace records of document 01, "Trace and answer records", and of document 02, R-1, R-4 and R-6: their kinds as values, read and written.
+// The trace records of document 01, "Trace and answer records", and of document 02, R-1, R-4, R-6 and R-8: their kinds as values, read and written.
 mod link; // link.rt: links, of which one number says how many follow
 
 ghost use mathlib.Core.Path.{_≡_};
@@ -17,6 +17,8 @@ use fields::read::two;
 const LK: [u8; 2] = *b"LK";
 
 const CN: [u8; 2] = *b"CN";
+
+const CL: [u8; 2] = *b"CL";
 
 const PK: [u8; 2] = *b"PK";
 
@@ -48,6 +50,9 @@ pub enum Record {
         size: u16,
         window: u16,
         average: u16,
+    },
+    Close {
+        connection: u8,
     },
     Offer {
         connection: u8,
@@ -100,11 +105,12 @@ fn mark_of(s: &[u8]) -> u16
     let mark = known(s, TK, 0);
     let mark = known(s, NQ, mark);
     let mark = known(s, PK, mark);
+    let mark = known(s, CL, mark);
     let mark = known(s, CN, mark);
     known(s, LK, mark)
 }
 
-// The record that the bytes start with: the marks are LK, CN, PK, NQ and TK as numbers.
+// The record that the bytes start with: the marks are LK, CN, CL, PK, NQ and TK as numbers.
 pub fn read(s: &[u8]) -> Found
     ensures { λ r. ⌜ r ≡ read-trace (now (s .entry)) ⌝ }
 {
@@ -122,6 +128,7 @@ pub fn read(s: &[u8]) -> Found
             };
             whole_of(s, 11, admit)
         }
+        0x4C43 => whole_of(s, 3, Record::Close { connection: first }),
         0x4B50 => {
             let offer = Record::Offer {
                 connection: first,
@@ -182,6 +189,7 @@ fn draft(r: Record) -> Draft
             .two(size)
             .two(window)
             .two(average),
+        Record::Close { connection } => Draft::headed(CL, connection),
         Record::Offer {
             connection,
             len,

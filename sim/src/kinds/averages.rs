@@ -4,7 +4,7 @@ use super::edges::{after_the_end, broken_average, cross_the_end, crowd_up_to};
 use super::script::Script;
 use super::traffic::{admit_some, camera, flood, modest_link, wild_among_keepers, Keepers};
 use crate::hub::CLOCK_END;
-use crate::link::{Figures, Link, MOST_CONNECTIONS, MOST_PER_WINDOW, MOST_RESERVED};
+use crate::link::{Figures, Link, MOST_CONNECTIONS, MOST_PER_WINDOW};
 
 /// Cameras beside plain lines; in turn all keep their word twice, then a camera goes wild.
 pub fn bursts(script: &mut Script, size: usize) {
@@ -104,12 +104,10 @@ fn about_the_reservations(script: &mut Script) {
         Some(link) => link,
         None => return,
     };
-    let connections = script.connections();
-    let reserved: u64 = connections.iter().map(|one| one.reservation(&link)).sum();
-    let left = MOST_RESERVED.saturating_sub(reserved) as u16;
-    let bound = link.bound(link.levels());
+    let left = script.places_left(&link);
+    let bound = link.largest_bound();
     let mut windows = vec![bound / (left + 1)];
-    if connections.len() + 1 == MOST_CONNECTIONS {
+    if script.hub().counted().count() + 1 == MOST_CONNECTIONS {
         windows.push(bound / left.max(1) + 1);
     }
     for window in windows {

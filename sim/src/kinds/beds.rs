@@ -45,7 +45,7 @@ fn ward_of_keepers(script: &mut Script, offers: usize) {
 
 /// A link whose bounds have room for the packets of all places and, at every level, one more of each
 /// connection.
-fn wide_link(script: &mut Script) -> Option<Link> {
+pub fn wide_link(script: &mut Script) -> Option<Link> {
     let levels = script.random.between16(1, MOST_LEVELS as u16);
     let silence = script.some_silence().min(MOST_SILENT);
     let least = 1 + u16::from(silence);
@@ -58,7 +58,7 @@ fn wide_link(script: &mut Script) -> Option<Link> {
 
 /// So many connections with so many places between them: each draws up to twice its share of what is
 /// left, the last one has the rest.
-fn reserve_between(script: &mut Script, link: &Link, connections: usize, places: u16) {
+pub fn reserve_between(script: &mut Script, link: &Link, connections: usize, places: u16) {
     let mut left = places;
     for behind in (0..connections as u16).rev() {
         let share = left / (behind + 1);
@@ -72,7 +72,7 @@ fn reserve_between(script: &mut Script, link: &Link, connections: usize, places:
 }
 
 /// A connection that reserves so many packets: plain, or with windows of one packet each.
-fn admit_for(script: &mut Script, link: &Link, packets: u16) -> u8 {
+pub fn admit_for(script: &mut Script, link: &Link, packets: u16) -> u8 {
     let level = script.random.between16(1, u16::from(link.levels())) as u8;
     let apart = (link.bound(level) + packets - 1) / packets;
     let gap = script.random.between16(1, apart);
@@ -84,7 +84,7 @@ fn admit_for(script: &mut Script, link: &Link, packets: u16) -> u8 {
 }
 
 /// Newcomers of two places and of one, one that no level has room for, and broken limits.
-fn newcomers(script: &mut Script, link: &Link) {
+pub fn newcomers(script: &mut Script, link: &Link) {
     for packets in [2, 1, 1] {
         admit_for(script, link, packets);
     }
@@ -109,7 +109,7 @@ fn full_places(script: &mut Script, size: usize) {
 
 /// Offers on the last connection and on the numbers that nobody has.
 fn about_the_last_number(script: &mut Script) {
-    let standing = script.connections().len() as u8;
+    let standing = script.hub().standing().count() as u8;
     let most = MOST_CONNECTIONS as u8;
     let numbers = [
         standing - 1,

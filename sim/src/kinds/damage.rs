@@ -1,11 +1,14 @@
 //! Damaged traces: changed, cut, spliced and made-up bytes.
 
 use super::script::Script;
-use super::{edges, notices, traffic};
+use super::{closing, edges, notices, traffic};
 use crate::random::Random;
 
-/// Answer marks and how many bytes follow them.
-const ANSWERS: [(&[u8; 2], usize); 6] = [
+/// A mark and how many bytes follow it.
+type Marked = (&'static [u8; 2], usize);
+
+/// Answers.
+const ANSWERS: [Marked; 6] = [
     (b"LA", 1),
     (b"CA", 7),
     (b"PA", 5),
@@ -22,22 +25,52 @@ const GOOD: [&[u8]; 4] = [
     b"TK\x05\x00",
 ];
 
-/// The records that came with the notices; the lists above stay as they were.
-const NOTICE: &[u8] = b"NQ\x01\x00\x07\x00\x00\x00";
-const NOTICE_ANSWER: (&[u8; 2], usize) = (b"NA", 5);
+/// What a trace is made of. The records that came later than document 01's are damaged in kinds of
+/// their own, and the lists above stay as they were.
+#[derive(Clone, Copy, Debug, PartialEq, Eq)]
+enum Of {
+    Packets,
+    Notices,
+    Closes,
+}
+
+/// A record that came later, and its answer.
+struct Later {
+    record: &'static [u8],
+    marked: Marked,
+    answer: Marked,
+}
+
+impl Of {
+    fn later(self) -> Option<Later> {
+        match self {
+            Of::Packets => None,
+            Of::Notices => Some(Later {
+                record: b"NQ\x01\x00\x07\x00\x00\x00",
+                marked: (b"NQ", 6),
+                answer: (b"NA", 5),
+            }),
+            Of::Closes => Some(Later {
+                record: b"CL\x00",
+                marked: (b"CL", 1),
+                answer: (b"CD", 1),
+            }),
+        }
+    }
+}
 
 /// A trace and the places where its records started before it was damaged.
 struct Trace {
     bytes: Vec<u8>,
     starts: Vec<usize>,
-    with_notices: bool,
+    of: Of,
 }
 
 /// A good trace with one bad record in it; the bad records take turns with the seed.
 pub fn bad_record(seed: u64, random: &mut Random, size: usize) -> Vec<u8> {
     let (bad, cut) = (bad_marks_and_links(), cut_records());
     let turn = (seed % (bad.len() + cut.len()) as u64) as usize;
-    let mut trace = good_trace(random, size, false);
+    let mut trace = good_trace(random, size, Of::Packets);
     if let Some(record) = bad.get(turn) {
         let at = late_start(&trace, random);
         insert(&mut trace, at, record);
@@ -50,7 +83,7 @@ pub fn bad_record(seed: u64, random: &mut Random, size: usize) -> Vec<u8> {
 /// Records that are malformed wherever they stand, with all the bytes they seem to need.
 fn bad_marks_and_links() -> Vec<Vec<u8>> {
     let mut all: Vec<Vec<u8>> = [0, 9, 10, 128, 255].map(link_of_levels).to_vec();
-    all.extend(ANSWERS.map(|(mark, fields)| answer_of(mark, fields)));
+    all.extend(ANSWERS.map(answer_of));
     all.extend(GOOD.into_iter().flat_map(wrong_marks));
     all
 }
@@ -81,15 +114,29 @@ fn cuts_of(record: &'static [u8]) -> impl Iterator<Item = Vec<u8>> {
     (1..record.len()).map(move |length| record[..length].to_vec())
 }
 
-/// The same for `NQ` and `NA`, in traces with notices. The cuts come at the end and, in other
-/// turns, between records, where the next bytes are read as the missing fields.
+/// The same for `NQ` and `NA`, in traces with notices.
 pub fn bad_notice(seed: u64, random: &mut Random, size: usize) -> Vec<u8> {
-    let mut inside = vec![answer_of(NOTICE_ANSWER.0, NOTICE_ANSWER.1)];
-    inside.extend(wrong_marks(NOTICE));
-    inside.extend(cuts_of(NOTICE));
-    let at_the_end: Vec<Vec<u8>> = cuts_of(NOTICE).collect();
+    bad_later(seed, random, size, Of::Notices)
+}
+
+/// The same for `CL` and `CD`, in traces with closes.
+pub fn bad_close(seed: u64, random: &mut Random, size: usize) -> Vec<u8> {
+    bad_later(seed, random, size, Of::Closes)
+}
+
+/// The cuts come at the end and, in other turns, between records, where the next bytes are read as
+/// the missing fields.
+fn bad_later(seed: u64, random: &mut Random, size: usize, of: Of) -> Vec<u8> {
+    let mut trace = good_trace(random, size, of);
+    let later = match of.later() {
+        Some(later) => later,
+        None => return trace.bytes,
+    };
+    let mut inside = vec![answer_of(later.answer)];
+    inside.extend(wrong_marks(later.record));
+    inside.extend(cuts_of(later.record));
+    let at_the_end: Vec<Vec<u8>> = cuts_of(later.record).collect();
     let turn = (seed % (inside.len() + at_the_end.len()) as u64) as usize;
-    let mut trace = good_trace(random, size, true);
     if let Some(record) = inside.get(turn) {
         let at = late_start(&trace, random);
         insert(&mut trace, at, record);
@@ -102,15 +149,19 @@ pub fn bad_notice(seed: u64, random: &mut Random, size: usize) -> Vec<u8> {
 }
 
 pub fn malformed(_seed: u64, random: &mut Random, size: usize) -> Vec<u8> {
-    damaged(random, size, false)
+    damaged(random, size, Of::Packets)
 }
 
 pub fn damaged_notices(_seed: u64, random: &mut Random, size: usize) -> Vec<u8> {
-    damaged(random, size, true)
+    damaged(random, size, Of::Notices)
 }
 
-fn damaged(random: &mut Random, size: usize, with_notices: bool) -> Vec<u8> {
-    let mut trace = good_trace(random, size, with_notices);
+pub fn damaged_closes(_seed: u64, random: &mut Random, size: usize) -> Vec<u8> {
+    damaged(random, size, Of::Closes)
+}
+
+fn damaged(random: &mut Random, size: usize, of: Of) -> Vec<u8> {
+    let mut trace = good_trace(random, size, of);
     for _ in 0..random.between(1, 2) {
         damage(&mut trace, random, size);
     }
@@ -118,19 +169,15 @@ fn damaged(random: &mut Random, size: usize, with_notices: bool) -> Vec<u8> {
 }
 
 /// A short trace of another kind.
-fn good_trace(random: &mut Random, size: usize, with_notices: bool) -> Trace {
+fn good_trace(random: &mut Random, size: usize, of: Of) -> Trace {
     let mut script = Script::new(random.number());
-    if with_notices {
-        good_notices(&mut script, random, size);
-    } else {
-        good_packets(&mut script, random, size);
+    match of {
+        Of::Packets => good_packets(&mut script, random, size),
+        Of::Notices => good_notices(&mut script, random, size),
+        Of::Closes => good_closes(&mut script, random, size),
     }
     let (bytes, starts) = script.finish();
-    Trace {
-        bytes,
-        starts,
-        with_notices,
-    }
+    Trace { bytes, starts, of }
 }
 
 fn good_packets(script: &mut Script, random: &mut Random, size: usize) {
@@ -149,6 +196,14 @@ fn good_notices(script: &mut Script, random: &mut Random, size: usize) {
         0 => notices::notice_flood(script, size / 2),
         1 => notices::notice_refusals(script, size),
         _ => notices::mixed(script, size / 2),
+    }
+}
+
+fn good_closes(script: &mut Script, random: &mut Random, size: usize) {
+    match random.between(0, 3) {
+        0 => closing::turns(script, size / 2),
+        1 => closing::refusals(script, size),
+        _ => closing::small(script, 2 * size),
     }
 }
 
@@ -208,7 +263,7 @@ fn cut_anywhere(trace: &mut Trace, random: &mut Random) {
 
 /// Whole records of another trace between two records.
 fn splice_records(trace: &mut Trace, random: &mut Random, size: usize) {
-    let other = good_trace(random, size, trace.with_notices);
+    let other = good_trace(random, size, trace.of);
     let (one, two) = (late_start(&other, random), late_start(&other, random));
     let at = late_start(trace, random);
     insert(trace, at, &other.bytes[one.min(two)..one.max(two)]);
@@ -216,7 +271,7 @@ fn splice_records(trace: &mut Trace, random: &mut Random, size: usize) {
 
 /// Any bytes of another trace at any place.
 fn splice_anywhere(trace: &mut Trace, random: &mut Random, size: usize) {
-    let other = good_trace(random, size, trace.with_notices);
+    let other = good_trace(random, size, trace.of);
     let from = random.place(other.bytes.len());
     let to = (from + random.place(60)).min(other.bytes.len());
     let at = random.place(trace.bytes.len() + 1);
@@ -225,17 +280,16 @@ fn splice_anywhere(trace: &mut Trace, random: &mut Random, size: usize) {
 
 /// An answer record where a trace record should be.
 fn insert_answer(trace: &mut Trace, random: &mut Random) {
-    let (mark, fields) = if trace.with_notices && random.once_in(3) {
-        NOTICE_ANSWER
-    } else {
-        random.pick(ANSWERS)
+    let marked = match trace.of.later() {
+        Some(later) if random.once_in(3) => later.answer,
+        _ => random.pick(ANSWERS),
     };
-    let answer = answer_of(mark, fields);
+    let answer = answer_of(marked);
     let at = late_start(trace, random);
     insert(trace, at, &answer);
 }
 
-fn answer_of(mark: &[u8; 2], fields: usize) -> Vec<u8> {
+fn answer_of((mark, fields): Marked) -> Vec<u8> {
     let mut answer = mark.to_vec();
     answer.resize(2 + fields, 0);
     answer
@@ -296,10 +350,9 @@ fn change_a_mark(trace: &mut Trace, random: &mut Random) {
 fn only_noise(trace: &mut Trace, random: &mut Random) {
     let mut bytes = Vec::new();
     for _ in 0..random.between(1, 20) {
-        let (mark, fields) = if trace.with_notices && random.once_in(3) {
-            (b"NQ", 6)
-        } else {
-            random.pick([(b"CN", 9), (b"PK", 7), (b"TK", 2), (b"LK", 6)])
+        let (mark, fields): Marked = match trace.of.later() {
+            Some(later) if random.once_in(3) => later.marked,
+            _ => random.pick([(b"CN", 9), (b"PK", 7), (b"TK", 2), (b"LK", 6)]),
         };
         bytes.extend_from_slice(mark);
         for _ in 0..fields {

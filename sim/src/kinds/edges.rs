@@ -92,7 +92,7 @@ pub fn crowd_up_to(script: &mut Script, wanted: usize) {
         _ => return,
     };
     for _ in 0..MOST_CONNECTIONS {
-        if script.connections().len() >= wanted {
+        if script.hub().counted().count() >= wanted {
             return;
         }
         let level = script.random.between16(1, u16::from(link.levels())) as u8;
@@ -168,16 +168,13 @@ pub fn broken_average(script: &mut Script, figures: Figures) -> Figures {
 
 /// One packet more than the reservations that are left.
 fn admit_past_the_reservations(script: &mut Script, link: &Link) -> u8 {
-    let connections = script.connections();
-    let reserved: u64 = connections.iter().map(|one| one.reservation(link)).sum();
-    let left = MOST_RESERVED.saturating_sub(reserved) as u16;
-    let bound = link.bound(link.levels());
-    let gap = (bound - 1) / (left + 1);
+    let left = script.places_left(link);
+    let gap = (link.largest_bound() - 1) / (left + 1);
     script.admit(link.levels(), gap.max(1), 1)
 }
 
 fn bad_offer(script: &mut Script) {
-    let standing = script.connections().len() as u8;
+    let next = script.hub().next_number();
     let (number, connection) = match script.any_connection() {
         Some((number, connection)) => (number, connection),
         _ => {
@@ -186,7 +183,7 @@ fn bad_offer(script: &mut Script) {
         }
     };
     match script.random.between(0, 6) {
-        0 => script.offer(standing, 1),
+        0 => script.offer(next.unwrap_or(MOST_CONNECTIONS as u8), 1),
         1 => script.offer(255, 0),
         2 => script.offer(number, 0),
         3 => script.offer(number, connection.size() + 1),
@@ -261,7 +258,7 @@ pub fn tight_admission(script: &mut Script) {
         _ => (0, 0),
     };
     let sized = |size| Figures::plain(level, gap, size).with_average(window, average);
-    let most = largest_passing(&link, &script.connections(), sized(1));
+    let most = largest_passing(&link, &script.counted(), sized(1));
     script.admit_with(sized(most + 1));
     if script.random.once_in(3) {
         script.admit_with(sized(most));
@@ -397,13 +394,29 @@ fn some_record(script: &mut Script) -> Vec<u8> {
     bytes
 }
 
-pub fn end_with(script: &mut Script, length: usize, bytes: &[u8]) {
+/// A record at the size limit, in turn: that ends there; that crosses it; cut at it. What is mixed
+/// in ends some way before.
+pub fn at_the_limit(script: &mut Script, record: Record) {
+    let limit = SIZE_LIMIT as usize;
+    fill_up_to(script, limit - 10_000);
+    script.mix_in_nothing();
+    let mut bytes = Vec::new();
+    record.append_to(&mut bytes);
+    let inside = script.random.between(1, bytes.len() as u64 - 1) as usize;
+    match script.seed() % 3 {
+        0 => end_with(script, limit - bytes.len(), &bytes),
+        1 => end_with(script, limit - inside, &bytes),
+        _ => end_with(script, limit - inside, &bytes[..inside]),
+    }
+}
+
+fn end_with(script: &mut Script, length: usize, bytes: &[u8]) {
     fill_up_to(script, length);
     script.raw(bytes);
 }
 
 /// Whole records up to exactly this length: mostly long ones, then 9 and 4 bytes at a time.
-pub fn fill_up_to(script: &mut Script, length: usize) {
+fn fill_up_to(script: &mut Script, length: usize) {
     while script.length() + 200 < length {
         match script.random.between(0, 99) {
             0 => script.offer_on_any(),

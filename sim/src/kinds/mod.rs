@@ -2,6 +2,7 @@
 
 mod averages;
 mod beds;
+mod closing;
 mod damage;
 mod edges;
 mod notices;
@@ -28,7 +29,7 @@ pub struct Kind {
 }
 
 #[rustfmt::skip] // One line for each kind.
-pub const KINDS: [Kind; 32] = [
+pub const KINDS: [Kind; 43] = [
     Kind { name: "quiet", size: 60, maker: Maker::Scripted(traffic::quiet) },
     Kind { name: "flooded", size: 60, maker: Maker::Scripted(traffic::flooded) },
     Kind { name: "wild", size: 60, maker: Maker::Scripted(traffic::wild) },
@@ -61,6 +62,17 @@ pub const KINDS: [Kind; 32] = [
     Kind { name: "averagememory", size: 20, maker: Maker::Scripted(averages::memory) },
     Kind { name: "averageend", size: 40, maker: Maker::Scripted(averages::end) },
     Kind { name: "beds", size: 12, maker: Maker::Scripted(beds::beds) },
+    Kind { name: "closes", size: 60, maker: Maker::Scripted(closing::mixed) },
+    Kind { name: "closesmall", size: 400, maker: Maker::Scripted(closing::small) },
+    Kind { name: "closeturns", size: 80, maker: Maker::Scripted(closing::turns) },
+    Kind { name: "closecharges", size: 12, maker: Maker::Scripted(closing::charges) },
+    Kind { name: "closerefusals", size: 60, maker: Maker::Scripted(closing::refusals) },
+    Kind { name: "closebeds", size: 6, maker: Maker::Scripted(closing::beds) },
+    Kind { name: "closereopened", size: 12, maker: Maker::Scripted(closing::reopened) },
+    Kind { name: "closedamage", size: 30, maker: Maker::Bytes(damage::damaged_closes) },
+    Kind { name: "badclose", size: 20, maker: Maker::Bytes(damage::bad_close) },
+    Kind { name: "closeend", size: 40, maker: Maker::Scripted(closing::end) },
+    Kind { name: "closelimit", size: 40, maker: Maker::Scripted(closing::limit) },
 ];
 
 impl Kind {

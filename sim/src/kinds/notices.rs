@@ -1,6 +1,6 @@
 //! Kinds with notices (docs/RULES-AFTER-BASE.md, section R-1).
 
-use super::edges::{broken_link, end_with, fill_up_to, refusals, tight};
+use super::edges::{at_the_limit, broken_link, refusals, tight};
 use super::script::Script;
 use super::traffic::{
     admit_some, big_packets, flood, flooded, midrun, modest_link, quiet, reserve, ties, wild,
@@ -10,7 +10,6 @@ use crate::hub::CLOCK_END;
 use crate::link::MOST_UNITS;
 use crate::notices::{MOST_NOTICES, NOTICE_NUMBER};
 use crate::record::Record;
-use crate::replay::SIZE_LIMIT;
 
 /// The other kinds in turn, with notices mixed in between their ticks.
 pub fn mixed(script: &mut Script, size: usize) {
@@ -190,18 +189,8 @@ pub fn notice_after_the_end(script: &mut Script) {
 
 /// A notice at the size limit, in turn: that ends there; that crosses it; cut at it.
 pub fn notice_limit(script: &mut Script, size: usize) {
-    let limit = SIZE_LIMIT as usize;
     modest_link(script);
     script.mix_in_notices(2);
     flood(script, size);
-    fill_up_to(script, limit - 10_000);
-    script.mix_in_notices(0);
-    let mut notice = Vec::new();
-    Record::Notice { length: 1, tag: 7 }.append_to(&mut notice);
-    let inside = script.random.between(1, notice.len() as u64 - 1) as usize;
-    match script.seed() % 3 {
-        0 => end_with(script, limit - notice.len(), &notice),
-        1 => end_with(script, limit - inside, &notice),
-        _ => end_with(script, limit - inside, &notice[..inside]),
-    }
+    at_the_limit(script, Record::Notice { length: 1, tag: 7 });
 }

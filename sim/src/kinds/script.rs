@@ -5,7 +5,9 @@ use std::convert::Infallible;
 
 use crate::departure::Tick;
 use crate::hub::Hub;
-use crate::link::{Connection, Figures, Link, MOST_LEVELS, MOST_PER_WINDOW, MOST_SILENCE};
+use crate::link::{
+    Connection, Figures, Link, MOST_LEVELS, MOST_PER_WINDOW, MOST_RESERVED, MOST_SILENCE,
+};
 use crate::random::Random;
 use crate::record::Record;
 use crate::replay::{Job, Pace};
@@ -17,7 +19,14 @@ pub struct Script {
     job: Job,
     bytes: Vec<u8>,
     starts: Vec<usize>,
-    notices_once_in: u64,
+    mixed_in: Option<Mixed>,
+}
+
+/// Calls that come before one `TK` in so many.
+#[derive(Clone, Copy)]
+struct Mixed {
+    once_in: u64,
+    calls: fn(&mut Script),
 }
 
 impl Script {
@@ -28,7 +37,7 @@ impl Script {
             job: Job::new(Pace::Passing),
             bytes: Vec::new(),
             starts: Vec::new(),
-            notices_once_in: 0,
+            mixed_in: None,
         }
     }
 
@@ -115,6 +124,10 @@ impl Script {
         self.put(Record::Connection(figures))
     }
 
+    pub fn close(&mut self, connection: u8) -> u8 {
+        self.put(Record::Close { connection })
+    }
+
     /// A window and an average gap for a connection of this gap: few packets to a window or
     /// up to the most, windows up to the longest.
     pub fn some_average(&mut self, gap: u16) -> (u16, u16) {
@@ -161,15 +174,21 @@ impl Script {
         self.notice(length)
     }
 
-    /// From now on notices come before one `TK` in so many; 0 for none.
-    pub fn mix_in_notices(&mut self, once_in: u64) {
-        self.notices_once_in = once_in;
+    /// From now on such calls come before one `TK` in so many, and no others.
+    pub fn mix_in(&mut self, once_in: u64, calls: fn(&mut Script)) {
+        self.mixed_in = Some(Mixed { once_in, calls });
     }
 
-    fn notices_before_ticks(&mut self) {
-        if self.notices_once_in == 0 || !self.random.once_in(self.notices_once_in) {
-            return;
-        }
+    pub fn mix_in_nothing(&mut self) {
+        self.mixed_in = None;
+    }
+
+    /// From now on notices come before one `TK` in so many.
+    pub fn mix_in_notices(&mut self, once_in: u64) {
+        self.mix_in(once_in, Script::some_notices);
+    }
+
+    fn some_notices(&mut self) {
         for _ in 0..self.random.between(1, 3) {
             if self.random.once_in(10) {
                 self.notice_odd();
@@ -180,7 +199,11 @@ impl Script {
     }
 
     pub fn tick(&mut self, asked: u16) -> u8 {
-        self.notices_before_ticks();
+        if let Some(Mixed { once_in, calls }) = self.mixed_in {
+            if self.random.once_in(once_in) {
+                calls(self);
+            }
+        }
         self.put(Record::Ticks { asked })
     }
 
@@ -198,8 +221,22 @@ impl Script {
         self.ticks(moment.saturating_sub(self.clock()));
     }
 
-    pub fn connections(&self) -> Vec<Connection> {
-        self.hub().connections()
+    /// The connections that stand, with their numbers.
+    pub fn standing(&self) -> Vec<(u8, Connection)> {
+        let owned = |(number, connection): (u8, &Connection)| (number, *connection);
+        self.hub().standing().map(owned).collect()
+    }
+
+    /// The connections that count against a newcomer, the closed ones that are charged among them
+    ///
+    pub fn counted(&self) -> Vec<Connection> {
+        self.hub().counted().copied().collect()
+    }
+
+    /// How many places are left for reservations.
+    pub fn places_left(&self, link: &Link) -> u16 {
+        let reserved: u64 = self.hub().counted().map(|one| one.reservation(link)).sum();
+        MOST_RESERVED.saturating_sub(reserved) as u16
     }
 
     /// The link that was set.
@@ -219,9 +256,8 @@ impl Script {
 
     /// Some standing connection, with its number.
     pub fn any_connection(&mut self) -> Option<(u8, Connection)> {
-        let connections = self.connections();
-        let number = self.random.place(connections.len());
-        connections.get(number).map(|one| (number as u8, *one))
+        let standing = self.standing();
+        self.random.one_of(&standing)
     }
 
     /// An offer on some connection, more often of full size than not.
@@ -241,9 +277,9 @@ impl Script {
         self.offer(number, length)
     }
 
-    /// Ticks until everything held and every notice must have gone; no notice is mixed in.
+    /// Ticks until everything held and every notice must have gone; nothing is mixed in.
     pub fn drain(&mut self) {
-        self.mix_in_notices(0);
+        self.mix_in_nothing();
         self.drain_places();
         while self.hub().notices_waiting() > 0 {
             let cost = self.largest_cost();
@@ -254,11 +290,9 @@ impl Script {
 
     fn drain_places(&mut self) {
         for _ in 0..1_000 {
-            let connections = self.connections();
-            let holding =
-                |(number, _): &(usize, &Connection)| self.hub().held_by(*number as u8) > 0;
-            let waiting = match connections.iter().enumerate().find(holding) {
-                Some((_, waiting)) => waiting,
+            let holding = |(number, _): &(u8, &Connection)| self.hub().held_by(*number) > 0;
+            let waiting = match self.hub().standing().find(holding) {
+                Some((_, waiting)) => *waiting,
                 _ => return,
             };
             let window = waiting.average().map_or(0, |average| average.window());

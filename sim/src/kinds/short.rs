@@ -53,14 +53,14 @@ fn short_link(script: &mut Script) -> Option<Link> {
 fn fill_exactly(script: &mut Script, link: &Link, level: u8) {
     let gap = HIGHEST_BOUND;
     let one = Figures::plain(level, gap, 1);
-    let most = largest_passing(link, &script.connections(), one);
+    let most = largest_passing(link, &script.counted(), one);
     script.admit(level, gap, most.max(1));
 }
 
 /// A newcomer for which the wanted level is the lowest that fails, if one is soon found; half of
 /// them with the least size that fails at all.
 fn too_much_at(script: &mut Script, link: &Link, aim: u8) {
-    let connections = script.connections();
+    let connections = script.counted();
     let mut found = None;
     for _ in 0..40 {
         let newcomer = some_newcomer(script, link, aim);

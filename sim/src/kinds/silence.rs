@@ -33,7 +33,7 @@ pub fn small(script: &mut Script, size: usize) {
 }
 
 /// One to three levels with room for a few packets in each bound.
-fn small_link(script: &mut Script, largest: u16, silence: u8) {
+pub fn small_link(script: &mut Script, largest: u16, silence: u8) {
     let cost = largest + u16::from(silence);
     let mut bound = 0;
     let mut bounds = Vec::new();

@@ -26,34 +26,38 @@ pub fn modest_link(script: &mut Script) {
 /// Tries to admit connections of gaps about as long as their bounds.
 pub fn admit_some(script: &mut Script, wanted: usize) {
     for _ in 0..4 * wanted {
-        if script.connections().len() >= wanted {
+        if script.hub().standing().count() >= wanted {
             return;
         }
         admit_one(script);
     }
 }
 
-/// Tries to admit one connection: most often a plain line, else a camera or a line that has an
-/// average besides.
+/// Tries to admit one connection.
 pub fn admit_one(script: &mut Script) -> u8 {
-    let link = match script.link_set() {
-        Some(link) => link,
-        _ => return script.admit(1, 1, 1),
-    };
-    let line = match script.random.between(0, 5) {
-        0 => camera(script, &link),
-        1 => {
+    match script.link_set() {
+        Some(link) => {
             let line = some_line(script, &link);
+            script.admit_with(line)
+        }
+        _ => script.admit(1, 1, 1),
+    }
+}
+
+/// Most often a plain line, else a camera or a line that has an average besides.
+pub fn some_line(script: &mut Script, link: &Link) -> Figures {
+    match script.random.between(0, 5) {
+        0 => camera(script, link),
+        1 => {
+            let line = plain_line(script, link);
             let (window, average) = script.some_average(line.gap);
             line.with_average(window, average)
         }
-        _ => some_line(script, &link),
-    };
-    script.admit_with(line)
+        _ => plain_line(script, link),
+    }
 }
 
-/// A plain line.
-fn some_line(script: &mut Script, link: &Link) -> Figures {
+fn plain_line(script: &mut Script, link: &Link) -> Figures {
     let level = script.random.between16(1, u16::from(link.levels())) as u8;
     let bound = link.bound(level);
     let gap = match script.random.between(0, 3) {
@@ -133,8 +137,7 @@ impl Keepers {
     /// All connections but one start within their first gap.
     pub fn all_but(script: &mut Script, left_out: Option<u8>) -> Keepers {
         let mut all = Vec::new();
-        for (number, connection) in script.connections().into_iter().enumerate() {
-            let number = number as u8;
+        for (number, connection) in script.standing() {
             if left_out != Some(number) {
                 let wait = script.random.between(0, u64::from(connection.gap()));
                 all.push(Keeper {
@@ -243,8 +246,8 @@ pub fn midrun(script: &mut Script, size: usize) {
 
 /// An offer on the number that the next accepted connection will have.
 fn offer_on_the_next(script: &mut Script) {
-    let next = script.connections().len().min(MOST_CONNECTIONS) as u8;
-    script.offer(next, 1);
+    let next = script.hub().next_number();
+    script.offer(next.unwrap_or(MOST_CONNECTIONS as u8), 1);
 }
 
 /// Equal gaps and levels, small packets: the order is decided by eligibility and by row.
@@ -318,12 +321,12 @@ pub fn fill_places(script: &mut Script) {
         Some(link) => link,
         _ => return,
     };
-    for (number, connection) in script.connections().iter().enumerate() {
+    for (number, connection) in script.standing() {
         let room = connection.reservation(&link) as usize;
-        let held = script.hub().held_by(number as u8);
+        let held = script.hub().held_by(number);
         let extra = usize::from(script.random.once_in(10));
         for _ in 0..room.saturating_sub(held) + extra {
-            script.offer(number as u8, 1);
+            script.offer(number, 1);
         }
     }
 }

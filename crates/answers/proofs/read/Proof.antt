@@ -22,17 +22,20 @@ whole-of-requires c κs = search needs
 read-admitted-requires : tie.Need-read-admitted-requires
 read-admitted-requires c κs = search needs
 
+whole-of-requires-2 : tie.Need-whole-of-requires-2
+whole-of-requires-2 c κs = search needs
+
 four-requires : tie.Need-four-requires
 four-requires c κs = search needs
 
-whole-of-requires-2 : tie.Need-whole-of-requires-2
-whole-of-requires-2 c κs = search needs
+whole-of-requires-3 : tie.Need-whole-of-requires-3
+whole-of-requires-3 c κs = search needs
 
 four-requires-2 : tie.Need-four-requires-2
 four-requires-2 c κs = search needs
 
-whole-of-requires-3 : tie.Need-whole-of-requires-3
-whole-of-requires-3 c κs = search needs
+whole-of-requires-4 : tie.Need-whole-of-requires-4
+whole-of-requires-4 c κs = search needs
 
 read-departed-requires : tie.Need-read-departed-requires
 read-departed-requires c κs = search needs
@@ -40,8 +43,8 @@ read-departed-requires c κs = search needs
 two-requires : tie.Need-two-requires
 two-requires c κs = search needs
 
-whole-of-requires-4 : tie.Need-whole-of-requires-4
-whole-of-requires-4 c κs = search needs
+whole-of-requires-5 : tie.Need-whole-of-requires-5
+whole-of-requires-5 c κs = search needs
 
 read-broken-requires : tie.Need-read-broken-requires
 read-broken-requires c κs = search needs
@@ -66,46 +69,54 @@ returns-2 c =
 returns-3 : tie.Need-returns-3
 unfolding read-numbered number read-kind get-fields sum
 returns-3 c =
-    let m = c .before .before .before .before .mark-of in
-    rw (numbered (answers .kinds) (c .before .before .before .before .before .before .args .s .now) (m .result) 0x4150 answer-marks (m .ensures) (search needs))
-    (rw (c .whole-of2 .ensures, c .before .before .before .one .ensures, c .before .four .ensures))
+    let m = c .before .before .before .mark-of in
+    rw (numbered (answers .kinds) (c .before .before .before .before .before .args .s .now) (m .result) 0x4443 answer-marks (m .ensures) (search needs))
+    (rw (c .whole-of2 .ensures, c .before .before .one .ensures))
 
 returns-4 : tie.Need-returns-4
 unfolding read-numbered number read-kind get-fields sum
 returns-4 c =
     let m = c .before .before .before .before .mark-of in
-    rw (numbered (answers .kinds) (c .before .before .before .before .before .before .args .s .now) (m .result) 0x414E answer-marks (m .ensures) (search needs))
-    (rw (c .whole-of3 .ensures, c .before .before .before .one .ensures, c .before .four2 .ensures))
+    rw (numbered (answers .kinds) (c .before .before .before .before .before .before .args .s .now) (m .result) 0x4150 answer-marks (m .ensures) (search needs))
+    (rw (c .whole-of3 .ensures, c .before .before .before .one .ensures, c .before .four .ensures))
 
 returns-5 : tie.Need-returns-5
-unfolding read-numbered number
+unfolding read-numbered number read-kind get-fields sum
 returns-5 c =
+    let m = c .before .before .before .before .mark-of in
+    rw (numbered (answers .kinds) (c .before .before .before .before .before .before .args .s .now) (m .result) 0x414E answer-marks (m .ensures) (search needs))
+    (rw (c .whole-of4 .ensures, c .before .before .before .one .ensures, c .before .four2 .ensures))
+
+returns-6 : tie.Need-returns-6
+unfolding read-numbered number
+returns-6 c =
     let m = c .before .before .before .mark-of in
     rw (numbered (answers .kinds) (c .before .before .before .before .before .args .s .now) (m .result) 0x5044 answer-marks (m .ensures) (search needs))
     (c .read-departed .ensures)
 
-returns-6 : tie.Need-returns-6
+returns-7 : tie.Need-returns-7
 unfolding read-numbered number read-kind get-fields sum
-returns-6 c =
+returns-7 c =
     let m = c .before .before .before .before .mark-of in
     rw (numbered (answers .kinds) (c .before .before .before .before .before .before .args .s .now) (m .result) 0x4154 answer-marks (m .ensures) (search needs))
-    (rw (c .whole-of4 .ensures, c .before .before .before .one .ensures, c .before .two .ensures))
-
-returns-7 : tie.Need-returns-7
-unfolding read-numbered number
-returns-7 c =
-    let m = c .before .before .before .mark-of in
-    rw (numbered (answers .kinds) (c .before .before .before .before .before .args .s .now) (m .result) 0x5245 answer-marks (m .ensures) (search needs))
-    (c .read-broken .ensures)
+    (rw (c .whole-of5 .ensures, c .before .before .before .one .ensures, c .before .two .ensures))
 
 returns-8 : tie.Need-returns-8
 unfolding read-numbered number
 returns-8 c =
     let m = c .before .before .before .mark-of in
+    rw (numbered (answers .kinds) (c .before .before .before .before .before .args .s .now) (m .result) 0x5245 answer-marks (m .ensures) (search needs))
+    (c .read-broken .ensures)
+
+returns-9 : tie.Need-returns-9
+unfolding read-numbered number
+returns-9 c =
+    let m = c .before .before .before .mark-of in
     rw (
       numbered (answers .kinds) (c .before .before .before .before .before .args .s .now) (m .result) (m .result) answer-marks (m .ensures) refl,
       ne-eqb (m .result) 0x414C (search needs),
       ne-eqb (m .result) 0x4143 (search needs),
+      ne-eqb (m .result) 0x4443 (search needs),
       ne-eqb (m .result) 0x4150 (search needs),
       ne-eqb (m .result) 0x414E (search needs),
       ne-eqb (m .result) 0x5044 (search needs),
@@ -122,13 +133,14 @@ read-spec =
     one-requires
     whole-of-requires
     read-admitted-requires
-    four-requires
     whole-of-requires-2
-    four-requires-2
+    four-requires
     whole-of-requires-3
+    four-requires-2
+    whole-of-requires-4
     read-departed-requires
     two-requires
-    whole-of-requires-4
+    whole-of-requires-5
     read-broken-requires
     nothing-requires
     returns
@@ -138,4 +150,5 @@ read-spec =
     returns-5
     returns-6
     returns-7
-    returns-8)
+    returns-8
+    returns-9)

@@ -4,10 +4,10 @@ use Rattle.caller.proofs.ticks.Statement.{statement}
 use Rattle.caller.proofs.ticks.Tie as tie
 
 abbrev Inv-loop : tie.InvT-loop
-Inv-loop cs t₀ q₀ n h₀ i₀ t q h i = i ≤ n
+Inv-loop cs₀ t₀ q₀ n h₀ i₀ cs t q h i = i ≤ n
 
 abbrev μ-loop : tie.MeasureT-loop
-μ-loop cs t₀ q₀ n h₀ i₀ t q h i = n - i
+μ-loop cs₀ t₀ q₀ n h₀ i₀ cs t q h i = n - i
 
 loop-holds : tie.Need-loop-holds Inv-loop μ-loop
 loop-holds c = search needs

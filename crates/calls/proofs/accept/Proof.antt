@@ -1,7 +1,7 @@
 use Rattle.state.proofs.SoundLaws as S
 use Rattle.state.specs.View.{tables}
 use Rattle.calls.proofs.ActLaws as A
-use Rattle.connections.proofs.MemberLaws as M
+use Rattle.connections.proofs.WrittenLaws.{members-rows}
 use native.Mathlib.Omega.{arith}
 use mathlib.Core.Path.{sym, _∙_}
 use Rattle.tables.specs.Places.{rows}
@@ -13,7 +13,7 @@ use Rattle.calls.proofs.accept.Tie as tie
 member-at-requires : tie.Need-member-at-requires
 member-at-requires c κs =
     let a = c .before .before .before .before .args in
-    omega (arith, A.offer-below (a .h) (tables (a .members .now) (a .places .now) (a .notices .now)) (c .before .before .before .before .pre .0) (a .c) (a .len) (a .tag) (c .before .before .before .before .pre .1), M.members-end (a .members .now))
+    omega (arith, A.offer-below (a .h) (tables (a .members .now) (a .places .now) (a .notices .now)) (c .before .before .before .before .pre .0) (a .c) (a .len) (a .tag) (c .before .before .before .before .pre .1), S.members-size (a .h) (tables (a .members .now) (a .places .now) (a .notices .now)) (c .before .before .before .before .pre .0))
 
 next-eligibility-requires : tie.Need-next-eligibility-requires
 next-eligibility-requires c κs =
@@ -49,7 +49,7 @@ put-past-requires c κs =
     let s = c .before .before .before .before .before .before .before .before .before .before .before .before .before in
     let a = s .args in
     let t = tables (a .members .now) (a .places .now) (a .notices .now) in
-    (S.shapes t (S.formed-tables (a .h) t (s .pre .0)) .members-shape, A.offer-below (a .h) t (s .pre .0) (a .c) (a .len) (a .tag) (s .pre .1))
+    (members-rows (a .members .now) (S.shapes t (S.formed-tables (a .h) t (s .pre .0)) .members-shape), A.offer-below (a .h) t (s .pre .0) (a .c) (a .len) (a .tag) (s .pre .1))
 
 say-requires : tie.Need-say-requires
 say-requires c κs = search needs

@@ -1,9 +1,6 @@
 use Rattle.connections.proofs.FigureLaws as L
 use native.Mathlib.Omega.{arith}
-use mathlib.Core.Path.{_∙_, sym, ap}
-use Prim.Native.Nat.{ℕ, min, _%_}
-use native.Mathlib.Nat.{div-le-self, mod-le}
-use Rattle.rules.specs.Admission.{rounded-up}
+use mathlib.Core.Path.{_∙_}
 use borrow.Author.Needs.{needs}
 use Rattle.connections.proofs.average_in.Statement.{statement}
 use Rattle.connections.proofs.average_in.Tie as tie

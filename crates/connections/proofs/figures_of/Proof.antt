@@ -9,10 +9,10 @@ figures-at-requires : tie.Need-figures-at-requires
 figures-at-requires c κs = search needs
 
 returns : tie.Need-returns
-returns c = let a = c .before .before .before .args in c .figures-at .ensures ∙ sym (M.connection-at-number (a .members .now) (a .c) (search needs))
+returns c = let a = c .before .before .before .args in c .figures-at .ensures ∙ sym (M.connection-is (a .members .now) (a .c) (search needs))
 
 returns-2 : tie.Need-returns-2
-returns-2 c = let a = c .before .before .args in sym (M.connection-none (a .members .now) (a .c) (omega (arith, M.members-end (a .members .now))))
+returns-2 c = let a = c .before .before .args in sym (M.connection-none (a .members .now) (a .c) (omega arith))
 
 pub figures-of-spec : {M : Type 1} → statement M
 figures-of-spec = tie.close (tie.spec figures-at-requires returns returns-2)

@@ -1,11 +1,11 @@
 use Rattle.rules.specs.Words.{sum as sigma}
 use Rattle.connections.proofs.MemberLaws as M
+use Rattle.connections.proofs.OwnerLaws as O
 use borrow.Author.Needs.{needs}
 use Rattle.connections.proofs.FigureLaws as L
 use Prim.Native.Nat.{ℕ, _≤_, _-_, _*_}
 use native.Mathlib.Omega.{arith}
 use mathlib.Core.Path.{_≡_, refl, ap, _∙_}
-use lib.ListN.{length}
 use Rattle.rules.specs.Model.{nth}
 use Rattle.connections.specs.Members.{connections-in}
 use Rattle.connections.specs.Within.{share-of, most-share}
@@ -27,9 +27,8 @@ connection-at-requires c κs = search needs
 share-requires : tie.Need-share-requires Inv-loop μ-loop
 share-requires c κs =
     let a = c .before .before .before .before .args in
-    let i = c .before .before .loop .i in
-    let k = L.figure-at (a .l) (connections-in (a .members .now)) (c .before .before .before .before .pre .3) i (c .connection-at .result) (omega (arith, M.connections-length (a .members .now))) (c .connection-at .ensures) in
-    (k .0, search needs, k .1, k .2)
+    let k = L.entry-limits (a .l) (connections-in (a .members .now)) (c .before .before .before .before .pre .4) (c .before .before .loop .i) (c .connection-at .result) (c .connection-at .ensures) in
+    (k .free-blank, k .owner-gap, search needs, k .size-most, k .silence-most)
 
 add-sum : tie.Need-add-sum Inv-loop μ-loop
 add-sum c = omega (arith, c .share .ensures .1, c .before .before .before .loop .inv .2)
@@ -52,9 +51,14 @@ loop-again c =
 
 returns : tie.Need-returns Inv-loop μ-loop
 returns c =
-    let a = c .before .before .before .args in
-    let e : c .before .loop .i ≡ length (connections-in (a .members .now)) = omega (arith, M.connections-length (a .members .now)) in
-    (c .before .loop .inv .1 ∙ ap (λ (j : ℕ). sigma j (λ (k : ℕ). share-of (a .l) (a .m) (a .d) (nth (connections-in (a .members .now)) k))) e, omega (arith, c .before .loop .inv .2))
+    let s = c .before .before .before in
+    let a = s .args in
+    let e : c .before .loop .i ≡ a .n = omega arith in (
+      c .before .loop .inv .1
+          ∙ ap (λ (j : ℕ). sigma j (λ (k : ℕ). share-of (a .l) (a .m) (a .d) (nth (connections-in (a .members .now)) k))) e
+          ∙ O.sum-used (connections-in (a .members .now)) (share-of (a .l) (a .m) (a .d)) (L.share-free (a .l) (a .m) (a .d)) (s .pre .4 .blank-in) (a .n) (s .pre .1) (omega (arith, M.connections-length (a .members .now))),
+      omega (arith, c .before .loop .inv .2),
+    )
 
 pub load-of-spec : {M : Type 1} → statement M
 load-of-spec =

@@ -1,7 +1,6 @@
 use Rattle.connections.proofs.MemberLaws as M
-use mathlib.Core.Path.{ap, _∙_}
+use mathlib.Core.Path.{_≡_, _∙_}
 use lib.ListN.{length, length-set}
-use mathlib.Core.Path.{_≡_}
 use Rattle.rules.specs.Limits.{max-remembered}
 use native.Mathlib.Omega.{arith}
 use borrow.Author.Needs.{needs}
@@ -62,6 +61,15 @@ mul-members-6 c = search needs
 slice-write-members-6 : tie.Need-slice-write-members-6
 slice-write-members-6 c = simp length-set (omega arith)
 
+add-members-6 : tie.Need-add-members-6
+add-members-6 c = search needs
+
+mul-members-7 : tie.Need-mul-members-7
+mul-members-7 c = search needs
+
+slice-write-members-7 : tie.Need-slice-write-members-7
+slice-write-members-7 c = simp length-set (omega arith)
+
 add-copy : tie.Need-add-copy
 add-copy c = search needs
 
@@ -99,6 +107,9 @@ put-member-spec =
     add-members-5
     mul-members-6
     slice-write-members-6
+    add-members-6
+    mul-members-7
+    slice-write-members-7
     add-copy
     slice-aggregate-copy
     copy-requires

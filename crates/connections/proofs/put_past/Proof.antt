@@ -1,4 +1,3 @@
-use Rattle.connections.proofs.MemberLaws as M
 use Rattle.connections.proofs.WrittenLaws as W
 use native.Mathlib.Omega.{arith}
 use mathlib.Core.Path.{sym, ap, subst, _∙_}
@@ -13,13 +12,13 @@ use Rattle.connections.proofs.put_past.Statement.{statement}
 use Rattle.connections.proofs.put_past.Tie as tie
 
 member-at-requires : tie.Need-member-at-requires
-member-at-requires c κs = omega (arith, M.members-end (c .before .before .args .members .now))
+member-at-requires c κs = omega (arith, W.rows-length (c .before .before .args .members .now) (c .before .before .pre .0))
 
 remembering-requires : tie.Need-remembering-requires
-remembering-requires c κs = let a = c .before .before .before .before .args in subst (λ (m : Member). member-formed m ≡ true) (sym (c .before .member-at .ensures)) (W.member-formed-at (a .members .now) (a .c) (search needs) (search needs))
+remembering-requires c κs = let a = c .before .before .before .before .args in subst (λ (m : Member). member-formed m ≡ true) (sym (c .before .member-at .ensures)) (W.member-formed-at (a .members .now) (search needs) (a .c) (search needs))
 
 put-member-requires : tie.Need-put-member-requires
-put-member-requires c κs = omega (arith, M.members-end (c .before .before .before .before .before .args .members .now))
+put-member-requires c κs = omega (arith, W.rows-length (c .before .before .before .before .before .args .members .now) (c .before .before .before .before .before .pre .0))
 
 same-length : tie.Need-same-length
 same-length c = search needs
@@ -29,7 +28,7 @@ returns c =
     let a = c .before .before .before .before .before .before .before .before .args in
     c .before .before .put-member .ensures
     ∙ ap (put-member (a .members .now) (a .c)) (c .before .before .before .remembering .ensures)
-    ∙ W.past-put (a .members .now) (a .c) (search needs) (search needs) _ (c .before .before .before .before .before .member-at .ensures) (λ (h : Past). remember h (a .e))
+    ∙ W.past-put (a .members .now) (search needs) (a .c) (search needs) _ (c .before .before .before .before .before .member-at .ensures) (λ (h : Past). remember h (a .e))
 
 pub put-past-spec : {M : Type 1} → statement M
 put-past-spec =

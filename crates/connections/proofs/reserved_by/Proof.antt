@@ -1,11 +1,11 @@
 use Rattle.rules.specs.Words.{sum as sigma}
 use Rattle.connections.proofs.MemberLaws as M
+use Rattle.connections.proofs.OwnerLaws as O
 use Rattle.connections.proofs.FigureLaws as L
 use borrow.Author.Needs.{needs}
 use Prim.Native.Nat.{ℕ, _≤_, _-_, _*_}
 use native.Mathlib.Omega.{arith}
 use mathlib.Core.Path.{_≡_, refl, ap, _∙_}
-use lib.ListN.{length}
 use Rattle.rules.specs.Limits.{beyond-32-bits}
 use Rattle.rules.specs.Model.{nth}
 use Rattle.rules.specs.Admission.{reservation}
@@ -28,7 +28,8 @@ connection-at-requires c κs = search needs
 reserve-requires : tie.Need-reserve-requires Inv-loop μ-loop
 reserve-requires c κs =
     let a = c .before .before .before .before .args in
-    L.figure-at (a .l) (connections-in (a .members .now)) (c .before .before .before .before .pre .2) (c .before .before .loop .i) (c .connection-at .result) (omega (arith, M.connections-length (a .members .now))) (c .connection-at .ensures) .0
+    let k = L.entry-limits (a .l) (connections-in (a .members .now)) (c .before .before .before .before .pre .3) (c .before .before .loop .i) (c .connection-at .result) (c .connection-at .ensures) in
+    (k .free-blank, k .owner-gap)
 
 add-sum : tie.Need-add-sum Inv-loop μ-loop
 add-sum c = omega (arith, c .reserve .ensures .1, c .before .before .before .loop .inv .2)
@@ -51,9 +52,14 @@ loop-again c =
 
 returns : tie.Need-returns Inv-loop μ-loop
 returns c =
-    let a = c .before .before .before .args in
-    let e : c .before .loop .i ≡ length (connections-in (a .members .now)) = omega (arith, M.connections-length (a .members .now)) in
-    (c .before .loop .inv .1 ∙ ap (λ (j : ℕ). sigma j (λ (k : ℕ). reservation (a .l) (nth (connections-in (a .members .now)) k))) e, omega (arith, c .before .loop .inv .2))
+    let s = c .before .before .before in
+    let a = s .args in
+    let e : c .before .loop .i ≡ a .n = omega arith in (
+      c .before .loop .inv .1
+          ∙ ap (λ (j : ℕ). sigma j (λ (k : ℕ). reservation (a .l) (nth (connections-in (a .members .now)) k))) e
+          ∙ O.sum-used (connections-in (a .members .now)) (reservation (a .l)) (L.reservation-free (a .l)) (s .pre .3 .blank-in) (a .n) (s .pre .1) (omega (arith, M.connections-length (a .members .now))),
+      omega (arith, c .before .loop .inv .2),
+    )
 
 pub reserved-by-spec : {M : Type 1} → statement M
 reserved-by-spec =

@@ -1,7 +1,8 @@
 use Rattle.firmware.proofs.LaidLaws as L
 use Prim.Native.Nat.{ℕ, _≤_, _<_, _-_}
 use native.Mathlib.Omega.{arith}
-use mathlib.Core.Path.{_≡_, ap, _∙_}
+use mathlib.Core.Path.{_≡_, sym, ap, _∙_, subst}
+use Rattle.rules.specs.declared.Connection.{Connection}
 use Rattle.rules.specs.Limits.{max-connections}
 use Rattle.firmware.specs.Questions.{row-asked}
 use Rattle.firmware.specs.Laid.{laid-out}
@@ -27,11 +28,12 @@ add-member-requires c κs =
     let k = c .before .before .before .loop in
     let rows = s .args .rows .now in
     let few : k .i ≤ max-connections = omega arith in
-    let sized : (j : ℕ) → j < k .i → 1 ≤ row-asked rows j .size = λ j h. s .pre .2 j (omega arith) in (
-      L.written-laid rows (k .i) few sized _ (k .inv .1),
-      L.count-laid rows (k .i) few sized _ (k .inv .1),
-      search needs,
-      L.length-laid rows (k .i) few sized _ (k .inv .1),
+    let more : k .i < max-connections = omega arith in
+    let levelled : (j : ℕ) → j < k .i → 1 ≤ row-asked rows j .level = λ j h. s .pre .2 j (omega arith) in
+    let x = c .before .row-asked in
+    let level : 1 ≤ x .result .level = subst (λ (y : Connection). 1 ≤ y .level) (sym (x .ensures)) (s .pre .2 (k .i) (omega arith)) in (
+      (L.formed-laid rows (k .i) few _ (k .inv .1), L.next-free rows (k .i) few _ (k .inv .1) more levelled, more, level),
+      (L.next-past rows (k .i) few _ (k .inv .1) more levelled, L.next-mark rows (k .i) few _ (k .inv .1) more levelled),
     )
 
 add-i : tie.Need-add-i Inv-loop μ-loop
@@ -46,9 +48,10 @@ loop-again c =
     let k = c .before .before .before .before .before .before .loop in
     let rows = s .args .rows .now in
     let few : k .i ≤ max-connections = omega arith in
-    let sized : (j : ℕ) → j < k .i → 1 ≤ row-asked rows j .size = λ j h. s .pre .2 j (omega arith) in
+    let more : k .i < max-connections = omega arith in
+    let levelled : (j : ℕ) → j < k .i → 1 ≤ row-asked rows j .level = λ j h. s .pre .2 j (omega arith) in
     let x = c .before .before .before .before .row-asked in
-    (search needs, c .before .before .add-member .ensures ∙ L.next-laid rows (k .i) few sized _ (k .inv .1) (x .result) (x .ensures))
+    (search needs, c .before .before .add-member .ensures ∙ L.next-laid rows (k .i) few _ (k .inv .1) more levelled (x .result) (x .ensures))
 
 same-length : tie.Need-same-length Inv-loop μ-loop
 same-length c =
@@ -56,9 +59,8 @@ same-length c =
     let k = c .before .loop in
     let rows = s .args .rows .now in
     let few : k .i ≤ max-connections = omega arith in
-    let sized : (j : ℕ) → j < k .i → 1 ≤ row-asked rows j .size = λ j h. s .pre .2 j (omega arith) in
-    let before = L.length-laid rows 0 (omega arith) (λ j h. absurd (omega arith)) _ (s .pre .3) in
-    let after = L.length-laid rows (k .i) few sized _ (k .inv .1) in
+    let before = L.length-laid rows 0 (omega arith) _ (s .pre .3) in
+    let after = L.length-laid rows (k .i) few _ (k .inv .1) in
     omega (arith, before, after)
 
 returns : tie.Need-returns Inv-loop μ-loop

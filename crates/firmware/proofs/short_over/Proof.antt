@@ -1,8 +1,6 @@
 use Rattle.firmware.proofs.AskedLaws as A
 use Rattle.firmware.proofs.LaidLaws as L
-use mathlib.Core.Path.{sym, ap, _∙_, subst}
-use Rattle.rules.specs.Admission.{level-test}
-use Rattle.connections.specs.Within.{Within}
+use mathlib.Core.Path.{_∙_}
 use borrow.Author.Needs.{needs}
 use Rattle.firmware.proofs.short_over.Statement.{statement}
 use Rattle.firmware.proofs.short_over.Tie as tie
@@ -16,8 +14,7 @@ lay-out-requires c κs =
     let l = s .args .l in
     let rows = s .args .rows .now in
     let n = s .args .n in
-    let sized = A.sized l rows n (s .pre .3) in
-    (search needs, search needs, sized, L.blank rows)
+    (search needs, search needs, A.levelled l rows n (s .pre .3), L.blank rows)
 
 slice-aggregate-standing-test : tie.Need-slice-aggregate-standing-test
 slice-aggregate-standing-test c = search needs
@@ -28,22 +25,18 @@ standing-test-requires c κs =
     let l = s .args .l in
     let rows = s .args .rows .now in
     let n = s .args .n in
-    let sized = A.sized l rows n (s .pre .3) in
     let laid = c .before .before .lay-out .ensures in (
-      L.count-laid rows n (s .pre .1) sized _ laid,
-      search needs,
-      subst (Within l) (sym (L.connections-laid rows n (s .pre .1) sized _ laid)) (A.all-within l rows n (s .pre .3) (s .pre .0)),
+      L.length-laid rows n (s .pre .1) _ laid,
+      L.used-laid rows n (s .pre .1) _ laid,
+      s .pre .1,
+      L.within-laid rows n (s .pre .1) _ laid l (s .pre .0) (s .pre .3),
     )
 
 returns : tie.Need-returns
 returns c =
     let s = c .before .before .before .before .before .before in
-    let l = s .args .l in
-    let rows = s .args .rows .now in
-    let n = s .args .n in
-    let sized = A.sized l rows n (s .pre .3) in
     let laid = c .before .before .before .lay-out .ensures in
-    c .standing-test .ensures ∙ ap (level-test l) (L.connections-laid rows n (s .pre .1) sized _ laid)
+    c .standing-test .ensures ∙ L.test-laid (s .args .rows .now) (s .args .n) (s .pre .1) _ laid (s .args .l)
 
 pub short-over-spec : {M : Type 1} → statement M
 short-over-spec =

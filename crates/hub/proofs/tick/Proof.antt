@@ -7,42 +7,50 @@ use borrow.Author.Needs.{needs}
 use Rattle.hub.proofs.tick.Statement.{statement}
 use Rattle.hub.proofs.tick.Tie as tie
 
--- src/lib.rt:100:9
+-- src/lib.rt:110:9
 is-sound-requires : tie.Need-is-sound-requires
 is-sound-requires c κs = search needs
 
--- src/lib.rt:101:9
+-- src/lib.rt:111:9
 say-requires : tie.Need-say-requires
 say-requires c κs = search needs
 
--- src/lib.rt:101:9
+-- src/lib.rt:111:9
 same-length : tie.Need-same-length
 same-length c = search needs
 
--- src/lib.rt:101:9
+-- src/lib.rt:111:9
 same-length-2 : tie.Need-same-length-2
 same-length-2 c = search needs
 
--- src/lib.rt:101:9
-returns : tie.Need-returns
-returns c =
-    let z = c .before .before .before .before .before .before .before .before in
-    let t = tables (z .args .members .now) (z .args .places .now) (z .args .notices .now) in
-    refuses-unsound tick (z .args .h) t (sym (c .before .before .is-sound .ensures) ∙ not-true _ (c .before .if1 .taken)) _ 0 refl (c .say .ensures)
-
--- src/lib.rt:103:5
-tick-tested-requires : tie.Need-tick-tested-requires
-tick-tested-requires c κs = sym (c .before .before .before .is-sound .ensures) ∙ not-false _ (c .before .before .if1 .left)
-
--- src/lib.rt:97:1
+-- src/lib.rt:111:9
 same-length-3 : tie.Need-same-length-3
 same-length-3 c = search needs
 
--- src/lib.rt:97:1
+-- src/lib.rt:111:9
+returns : tie.Need-returns
+returns c =
+    let z = c .before .before .before .before .before .before .before .before .before in
+    let t = tables (z .args .members .now) (z .args .places .now) (z .args .notices .now) in
+    refuses-unsound tick (z .args .h) t (sym (c .before .before .is-sound .ensures) ∙ not-true _ (c .before .if1 .taken)) _ 0 refl (c .say .ensures)
+
+-- src/lib.rt:113:5
+tick-tested-requires : tie.Need-tick-tested-requires
+tick-tested-requires c κs = sym (c .before .before .before .before .is-sound .ensures) ∙ not-false _ (c .before .before .before .if1 .left)
+
+-- src/lib.rt:107:1
 same-length-4 : tie.Need-same-length-4
 same-length-4 c = search needs
 
--- src/lib.rt:97:1
+-- src/lib.rt:107:1
+same-length-5 : tie.Need-same-length-5
+same-length-5 c = search needs
+
+-- src/lib.rt:107:1
+same-length-6 : tie.Need-same-length-6
+same-length-6 c = search needs
+
+-- src/lib.rt:107:1
 returns-2 : tie.Need-returns-2
 returns-2 c = search needs
 
@@ -54,8 +62,10 @@ tick-spec =
     say-requires
     same-length
     same-length-2
+    same-length-3
     returns
     tick-tested-requires
-    same-length-3
     same-length-4
+    same-length-5
+    same-length-6
     returns-2)

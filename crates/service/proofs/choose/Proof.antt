@@ -33,7 +33,7 @@ loop-holds c =
 lead-with-requires : tie.Need-lead-with-requires Inv-loop μ-loop
 lead-with-requires c κs =
     let s = c .before .before .before .before .before in
-    (omega (arith, rows-end (s .args .places .now), c .before .before .count .ensures), c .before .loop .inv .2)
+    (omega (arith, rows-end (s .args .places .now), c .before .before .count .ensures), c .before .loop .inv .2, s .pre .2)
 
 add-i : tie.Need-add-i Inv-loop μ-loop
 add-i c = search needs

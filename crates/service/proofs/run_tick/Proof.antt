@@ -11,7 +11,7 @@ send-requires : tie.Need-send-requires
 send-requires c κs =
     let s = c .before .before .before .before .before .before .before .before in
     let a = s .args in
-    L.in-place-then (a .h) (a .members .now) (a .places .now) (a .notices .now) (s .pre .others) (s .pre .in-place) (c .before .before .start .result) (c .before .before .start .ensures)
+    L.in-place-then (a .h) (a .members .now) (a .places .now) (a .notices .now) (s .pre .0 .others) (s .pre .0 .in-place) (c .before .before .start .result) (c .before .before .start .ensures)
 
 same-length : tie.Need-same-length
 same-length c = search needs

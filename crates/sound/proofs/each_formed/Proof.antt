@@ -1,27 +1,28 @@
 use Rattle.sound.proofs.PartLaws as S
-use Rattle.connections.proofs.MemberLaws as M
 use native.Mathlib.Omega.{arith}
-use mathlib.Core.Path.{_≡_, refl, sym, ap, subst, _∙_}
+use mathlib.Core.Path.{_≡_, refl, sym, ap, _∙_}
 use Prim.Native.Nat.{ℕ, suc, _≤_, _-_}
 use native.Mathlib.Numerals.{add-one}
 use lib.ListN.{length, drop}
+use Rattle.rules.specs.Limits.{max-connections}
 use Rattle.rules.specs.Words.{each}
 use Rattle.connections.specs.Members.{members-in, member-in, member-formed}
+use Rattle.connections.proofs.MemberLaws as M
 use borrow.Author.Needs.{needs}
 use Rattle.sound.proofs.each_formed.Statement.{statement}
 use Rattle.sound.proofs.each_formed.Tie as tie
 
 abbrev Inv-loop : tie.InvT-loop
-Inv-loop members n i₀ i = (i ≤ n) × (each member-formed (drop i (members-in members)) ≡ each member-formed (members-in members))
+Inv-loop members i₀ i = (i ≤ max-connections) × (each member-formed (drop i (members-in members)) ≡ each member-formed (members-in members))
 
 abbrev μ-loop : tie.MeasureT-loop
-μ-loop members n i₀ i = n - i
+μ-loop members i₀ i = max-connections - i
 
 loop-holds : tie.Need-loop-holds Inv-loop μ-loop
 loop-holds c = (search needs, refl)
 
 member-at-requires : tie.Need-member-at-requires Inv-loop μ-loop
-member-at-requires c κs = omega (arith, M.members-end (c .before .before .before .args .members .now))
+member-at-requires c κs = omega (arith, c .before .before .before .pre)
 
 member-formed-requires : tie.Need-member-formed-requires Inv-loop μ-loop
 member-formed-requires c κs = search needs
@@ -31,7 +32,7 @@ returns c =
     let k = c .before .before .before .before in
     let m = k .before .before .args .members .now in
     let i = k .loop .i in
-    S.each-stop member-formed (drop i (members-in m)) (member-in m i) (drop (suc i) (members-in m)) (M.members-from m i (omega arith))
+    S.each-stop member-formed (drop i (members-in m)) (member-in m i) (drop (suc i) (members-in m)) (S.members-from m i (search needs))
     (ap member-formed (sym (c .before .before .member-at .ensures)) ∙ S.falls (c .before .member-formed .ensures) (c .if1 .taken))
     ∙ k .loop .inv .1
 
@@ -46,14 +47,14 @@ loop-again c =
     let k = c .before .before .before .before in
     let m = k .before .before .args .members .now in
     let i = k .loop .i in
-    let next = S.each-pass member-formed (drop i (members-in m)) (member-in m i) (drop (suc i) (members-in m)) (M.members-from m i (omega arith))
+    let next = S.each-pass member-formed (drop i (members-in m)) (member-in m i) (drop (suc i) (members-in m)) (S.members-from m i (search needs))
     (ap member-formed (sym (c .before .before .member-at .ensures)) ∙ S.holds (c .before .member-formed .ensures) (c .if1 .left)) in
     (search needs, ap (λ (j : ℕ). each member-formed (drop j (members-in m))) (add-one i) ∙ next ∙ k .loop .inv .1)
 
 returns-2 : tie.Need-returns-2 Inv-loop μ-loop
 returns-2 c =
     let m = c .before .before .before .args .members .now in
-    let e : c .before .loop .i ≡ length (members-in m) = omega arith in
+    let e : c .before .loop .i ≡ length (members-in m) = omega (arith, M.length-members m) in
     S.each-end member-formed (members-in m) ∙ rw e at (c .before .loop .inv .1)
 
 pub each-formed-spec : {M : Type 1} → statement M

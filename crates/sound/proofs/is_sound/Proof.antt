@@ -1,13 +1,10 @@
-use Rattle.state.proofs.SoundLaws.{shapes}
 use mathlib.Core.Path.{_∙_}
 use Rattle.state.specs.View.{tables, view, sound-hub}
+use Rattle.state.proofs.SoundLaws.{shapes}
 use Rattle.sound.proofs.PartLaws as S
 use borrow.Author.Needs.{needs}
 use Rattle.sound.proofs.is_sound.Statement.{statement}
 use Rattle.sound.proofs.is_sound.Tie as tie
-
-members-in-requires : tie.Need-members-in-requires
-members-in-requires c κs = search needs
 
 held-requires : tie.Need-held-requires
 held-requires c κs = search needs
@@ -28,32 +25,28 @@ unused-ok-requires c κs = search needs
 returns-2 : tie.Need-returns-2
 unfolding sound-hub
 returns-2 c =
-    let f = c .before .before .before .before in
-    let n = f .before .before .before in
-    let a = n .before .before .before .before .args in
+    let a = c .before .before .before .before .before .before .before .before .before .before .args in
     let t = tables (a .members .now) (a .places .now) (a .notices .now) in
-    let read = S.unused-read (a .h) t (n .members-in .ensures) (f .before .before .held .ensures) (f .before .held2 .ensures) in
-    S.passes-on (f .tables-formed .ensures) (c .before .before .before .if1 .left)
+    let shape = S.holds (c .before .before .before .before .tables-formed .ensures) (c .before .before .before .if1 .left) in
+    let read = S.unused-read (a .h) t shape (c .before .before .before .before .before .before .held .ensures) (c .before .before .before .before .before .held2 .ensures) in
+    S.passes-on (c .before .before .before .before .tables-formed .ensures) (c .before .before .before .if1 .left)
     (S.sound-unlinked (view (a .h) t) (c .before .if2 .taken) (c .unused-ok .ensures ∙ read))
 
 linked-ok-requires : tie.Need-linked-ok-requires
 linked-ok-requires c κs =
-    let f = c .before .before .before in
-    let n = f .before .before .before in
-    let a = n .before .before .before .before .args in
-    let shape = S.holds (f .tables-formed .ensures) (c .before .before .if1 .left) in
+    let a = c .before .before .before .before .before .before .before .before .before .args in
     let t = tables (a .members .now) (a .places .now) (a .notices .now) in
-    let k = S.counted t shape (n .members-in .ensures) (f .before .before .held .ensures) (f .before .held2 .ensures) in
-    (k .0, k .1, k .2, shapes t shape .members-shape)
+    let shape = S.holds (c .before .before .before .tables-formed .ensures) (c .before .before .if1 .left) in
+    let k = S.counted t shape (c .before .before .before .before .before .held .ensures) (c .before .before .before .before .held2 .ensures) in
+    (k .0, k .1, shapes t shape .members-shape)
 
 returns-3 : tie.Need-returns-3
 unfolding sound-hub
 returns-3 c =
-    let f = c .before .before .before .before in
-    let a = f .before .before .before .before .before .before .before .args in
+    let a = c .before .before .before .before .before .before .before .before .before .before .args in
     let t = tables (a .members .now) (a .places .now) (a .notices .now) in
-    S.passes-on (f .tables-formed .ensures) (c .before .before .before .if1 .left)
+    S.passes-on (c .before .before .before .before .tables-formed .ensures) (c .before .before .before .if1 .left)
     (S.sound-linked (view (a .h) t) (c .before .if2 .left) (c .linked-ok .ensures))
 
 pub is-sound-spec : {M : Type 1} → statement M
-is-sound-spec = tie.close (tie.spec members-in-requires held-requires held-requires-2 tables-formed-requires returns unused-ok-requires returns-2 linked-ok-requires returns-3)
+is-sound-spec = tie.close (tie.spec held-requires held-requires-2 tables-formed-requires returns unused-ok-requires returns-2 linked-ok-requires returns-3)

@@ -1,6 +1,6 @@
-use borrow.Author.Needs.{needs}
 use Rattle.state.specs.View.{tables}
 use Rattle.sound.proofs.PartLaws as S
+use borrow.Author.Needs.{needs}
 use Rattle.sound.proofs.linked_ok.Statement.{statement}
 use Rattle.sound.proofs.linked_ok.Tie as tie
 
@@ -17,13 +17,12 @@ held-ok-requires c κs =
     let s = c .before .before .before .before .before in
     let a = s .args in
     let admitted = S.holds (c .before .admissions-ok .ensures (a .places .now) (a .notices .now)) (c .if1 .left) in
-    (s .pre .0, s .pre .1, s .pre .3, S.admissions-safe (a .h) (tables (a .members .now) (a .places .now) (a .notices .now)) (s .pre .0) admitted)
+    (s .pre .0, s .pre .2, S.admissions-safe (a .h) (tables (a .members .now) (a .places .now) (a .notices .now)) admitted)
 
 returns-2 : tie.Need-returns-2
 returns-2 c =
-    let l = c .before .before .before in
-    let a = l .before .before .before .before .args in
-    S.passes-on (l .admissions-ok .ensures (a .places .now) (a .notices .now)) (c .before .before .if1 .left)
+    let a = c .before .before .before .before .before .before .before .args in
+    S.passes-on (c .before .before .before .admissions-ok .ensures (a .places .now) (a .notices .now)) (c .before .before .if1 .left)
     (S.stops _ (c .before .held-ok .ensures (a .notices .now)) (c .if2 .taken))
 
 notices-ok-requires : tie.Need-notices-ok-requires
@@ -31,11 +30,9 @@ notices-ok-requires c κs = search needs
 
 returns-3 : tie.Need-returns-3
 returns-3 c =
-    let k = c .before .before .before in
-    let l = k .before .before in
-    let a = l .before .before .before .before .args in
-    S.passes-on (l .admissions-ok .ensures (a .places .now) (a .notices .now)) (k .before .if1 .left)
-    (S.passes-on (k .held-ok .ensures (a .notices .now)) (c .before .before .if2 .left)
+    let a = c .before .before .before .before .before .before .before .before .before .args in
+    S.passes-on (c .before .before .before .before .before .admissions-ok .ensures (a .places .now) (a .notices .now)) (c .before .before .before .before .if1 .left)
+    (S.passes-on (c .before .before .before .held-ok .ensures (a .notices .now)) (c .before .before .if2 .left)
     (S.stops _ (c .before .notices-ok .ensures (a .members .now) (a .places .now)) (c .if3 .taken)))
 
 line-ok-requires : tie.Need-line-ok-requires
@@ -43,11 +40,9 @@ line-ok-requires c κs = search needs
 
 returns-4 : tie.Need-returns-4
 returns-4 c =
-    let k = c .before .before .before .before in
-    let l = k .before .before in
-    let a = l .before .before .before .before .args in
-    S.passes-on (l .admissions-ok .ensures (a .places .now) (a .notices .now)) (k .before .if1 .left)
-    (S.passes-on (k .held-ok .ensures (a .notices .now)) (c .before .before .before .if2 .left)
+    let a = c .before .before .before .before .before .before .before .before .before .before .args in
+    S.passes-on (c .before .before .before .before .before .before .admissions-ok .ensures (a .places .now) (a .notices .now)) (c .before .before .before .before .before .if1 .left)
+    (S.passes-on (c .before .before .before .before .held-ok .ensures (a .notices .now)) (c .before .before .before .if2 .left)
     (S.passes-on (c .before .before .notices-ok .ensures (a .members .now) (a .places .now)) (c .before .if3 .left) (c .line-ok .ensures (a .members .now))))
 
 pub linked-ok-spec : {M : Type 1} → statement M

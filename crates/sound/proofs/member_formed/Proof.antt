@@ -1,6 +1,8 @@
 use Rattle.limits.proofs.ChainLaws as C
 use native.Mathlib.Omega.{arith}
-use mathlib.Core.Path.{_≡_, refl, sym, ap, subst, _∙_}
+use mathlib.Core.Path.{_≡_, ap}
+use mathlib.Core.Bool.{Bool, _&&_}
+use lib.Dec.{leb}
 use lib.ListN.{length}
 use borrow.Author.Tests.{lt-leb, le-leb}
 use Rattle.rules.specs.Limits.{max-remembered}
@@ -24,7 +26,9 @@ zero-from-requires : tie.Need-zero-from-requires
 zero-from-requires c κs = let n : length (c .before .before .before .before .before .args .m .ticks) ≡ max-remembered = search needs in omega (arith, n)
 
 returns-2 : tie.Need-returns-2
-returns-2 c = let a = c .before .before .before .before .before .before .args in C.goes-on _ _ _ (le-leb (a .m .known) max-remembered (search needs)) (c .zero-from .ensures)
+returns-2 c =
+    let a = c .before .before .before .before .before .before .before .args in
+    C.goes-on _ _ _ (le-leb (a .m .known) max-remembered (search needs)) (ap (λ (b : Bool). b && leb (a .m .mark) 1) (c .before .zero-from .ensures))
 
 pub member-formed-spec : {M : Type 1} → statement M
 member-formed-spec =

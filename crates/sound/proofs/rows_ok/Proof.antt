@@ -13,12 +13,12 @@ use Rattle.sound.proofs.rows_ok.Statement.{statement}
 use Rattle.sound.proofs.rows_ok.Tie as tie
 
 abbrev Inv-loop : tie.InvT-loop
-Inv-loop h members n places held i₀ i =
+Inv-loop h members places held i₀ i =
     let test = row-sound (connections-in members) (h .clock) in
     (i ≤ held) × (each test (drop i (rows places)) ≡ each test (rows places))
 
 abbrev μ-loop : tie.MeasureT-loop
-μ-loop h members n places held i₀ i = held - i
+μ-loop h members places held i₀ i = held - i
 
 loop-holds : tie.Need-loop-holds Inv-loop μ-loop
 loop-holds c = (search needs, refl)
@@ -58,4 +58,16 @@ returns-2 c =
     S.rows-done (row-sound (connections-in (a .members .now)) (a .h .clock)) (a .places .now) (k .loop .i) (omega arith) (k .loop .inv .1)
 
 pub rows-ok-spec : {M : Type 1} → statement M
-rows-ok-spec = tie.close (tie.spec Inv-loop μ-loop loop-holds row-requires row-ok-requires returns add-i loop-less loop-again returns-2)
+rows-ok-spec =
+    tie.close
+    (tie.spec
+    Inv-loop
+    μ-loop
+    loop-holds
+    row-requires
+    row-ok-requires
+    returns
+    add-i
+    loop-less
+    loop-again
+    returns-2)

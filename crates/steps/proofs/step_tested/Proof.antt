@@ -64,10 +64,10 @@ same-length-8 c = search needs
 
 returns-2 : tie.Need-returns-2
 returns-2 c =
-    let s = c .before .before .before .before .before .before .before .before .before .before .before .before .before .before .before .before .before .before .before .before in
+    let s = c .before .before .before .before .before .before .before .before .before .before .before .before .before .before .before .before .before .before .before .before .before .before in
     let a = s .args in
-    let e = c .before .before .before .before .before .before .before .before .before .before .before .before .p .given .1 in
-    let k = c .before .before .before .before .before .before .tick-step in (
+    let e = c .before .before .before .before .before .before .before .before .before .before .before .before .before .before .p .given .1 in
+    let k = c .before .before .before .before .before .before .before .before .tick-step in (
       rw (next-phase (a .c) (tables (a .members .now) (a .places .now) (a .notices .now)) (a .window .now) (a .last) e) (k .ensures),
       facts-phase (a .c) e (length (a .window .now)) (a .last) (length (a .out .now)) (k .result)
           (tick-facts _ _ _ (view (a .c .hub) (tables (a .members .now) (a .places .now) (a .notices .now))) _ _ _ _ (s .pre .1) _ (k .ensures .answers)),

@@ -19,10 +19,21 @@ known-requires-4 c κs = search needs
 known-requires-5 : tie.Need-known-requires-5
 known-requires-5 c κs = search needs
 
+known-requires-6 : tie.Need-known-requires-6
+known-requires-6 c κs = search needs
+
 returns : tie.Need-returns
 unfolding mark-among
-returns c = rw (c .known5 .ensures, c .before .known4 .ensures, c .before .before .known3 .ensures, c .before .before .before .known2 .ensures, c .before .before .before .before .known .ensures)
+returns c =
+    rw (
+      c .known6 .ensures,
+      c .before .known5 .ensures,
+      c .before .before .known4 .ensures,
+      c .before .before .before .known3 .ensures,
+      c .before .before .before .before .known2 .ensures,
+      c .before .before .before .before .before .known .ensures,
+    )
 
 pub mark-of-spec : {M : Type 1} → statement M
 mark-of-spec =
-    tie.close (tie.spec known-requires known-requires-2 known-requires-3 known-requires-4 known-requires-5 returns)
+    tie.close (tie.spec known-requires known-requires-2 known-requires-3 known-requires-4 known-requires-5 known-requires-6 returns)

@@ -18,13 +18,13 @@ mul-copy : tie.Need-mul-copy
 mul-copy c = search needs
 
 sub-copy : tie.Need-sub-copy
-sub-copy c = omega (arith, W.formed-parts (c .before .before .before .before .args .m) (c .before .before .before .before .pre) .0)
+sub-copy c = omega (arith, W.formed-parts (c .before .before .before .before .args .m) (c .before .before .before .before .pre) .known-le)
 
 part-copy-start : tie.Need-part-copy-start
-part-copy-start c = omega (arith, W.formed-parts (c .before .before .before .before .before .args .m) (c .before .before .before .before .before .pre) .0)
+part-copy-start c = omega (arith, W.formed-parts (c .before .before .before .before .before .args .m) (c .before .before .before .before .before .pre) .known-le)
 
 part-copy-end : tie.Need-part-copy-end
-part-copy-end c = let n : length (c .before .before .before .before .before .args .m .ticks) ≡ max-remembered = search needs in omega (arith, n, W.formed-parts (c .before .before .before .before .before .args .m) (c .before .before .before .before .before .pre) .0)
+part-copy-end c = let n : length (c .before .before .before .before .before .args .m .ticks) ≡ max-remembered = search needs in omega (arith, n, W.formed-parts (c .before .before .before .before .before .args .m) (c .before .before .before .before .before .pre) .known-le)
 
 copy-requires : tie.Need-copy-requires
 copy-requires c κs = search needs

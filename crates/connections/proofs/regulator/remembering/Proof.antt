@@ -31,7 +31,7 @@ copy-requires : tie.Need-copy-requires
 copy-requires c κs = let n : length (c .before .before .before .before .args .m .ticks) ≡ max-remembered = search needs in search needs
 
 one-more-requires : tie.Need-one-more-requires
-one-more-requires c κs = W.formed-parts (c .before .before .before .before .before .before .args .m) (c .before .before .before .before .before .before .pre) .0
+one-more-requires c κs = W.formed-parts (c .before .before .before .before .before .before .args .m) (c .before .before .before .before .before .before .pre) .known-le
 
 returns : tie.Need-returns
 returns c = let a = c .before .before .before .before .before .before .before .args in R.remembering-is (a .m) (a .e) (search needs) (c .before .before .before .before .before .before .before .pre) _ _ (c .one-more .ensures) (c .before .before .copy .ensures ∙ R.shifted (a .m .ticks) (a .e) (search needs))

@@ -1,6 +1,11 @@
 use native.Mathlib.Omega.{arith}
 use Rattle.state.specs.View.{tables, view}
-use Rattle.service.proofs.QuietCases.{none-without-link, clock-in-time, some-quiet}
+use Prim.Native.Nat.{ℕ}
+use mathlib.Core.Path.{ap, _∙_}
+use Rattle.rules.specs.Admission.{bound}
+use Rattle.connections.proofs.WrittenLaws.{members-long, first-is}
+use Rattle.service.specs.Quiet.{charged-for}
+use Rattle.service.proofs.QuietCases.{none-without-link, clock-in-time, some-quiet, quiet-parts}
 use borrow.Author.Needs.{needs}
 use Rattle.service.proofs.quiet.quiet_ticks.Statement.{statement}
 use Rattle.service.proofs.quiet.quiet_ticks.Tie as tie
@@ -23,22 +28,43 @@ sub-least c =
 least-requires : tie.Need-least-requires
 least-requires c κs = search needs
 
+charged-for-requires : tie.Need-charged-for-requires
+charged-for-requires c κs = let s = c .before .before .before .before .before .before .before .before in members-long (s .args .members .now) (s .pre .3)
+
+least-wide-requires : tie.Need-least-wide-requires
+least-wide-requires c κs = search needs
+
 cast-result : tie.Need-cast-result
 cast-result c = search needs
 
 returns-2 : tie.Need-returns-2
 returns-2 c =
-    let s = c .before .before .before .before .before .before .before .before .before in
+    let i = c .before .before .before .before .before .before in
+    let s = i .before .before .before .before .before in
     let a = s .args in
-    some-quiet (view (a .h) (tables (a .members .now) (a .places .now) (a .notices .now))) (s .pre .0) (a .left) (c .before .before .before .before .if1 .left) _ (omega (arith, c .before .least .ensures, c .before .before .before .quiet-for .ensures))
+    some-quiet (view (a .h) (tables (a .members .now) (a .places .now) (a .notices .now))) (s .pre .0) (a .left) (i .if1 .left) _
+    (quiet-parts _ _ _ _ _ _ _ (a .left) _ (c .before .before .before .before .before .quiet-for .ensures) (c .before .before .before .least .ensures)
+    (c .before .before .charged-for .ensures ∙ ap (λ (f : ℕ). charged-for f (bound (a .h .link) (a .h .link .levels)) (a .h .clock)) (first-is (a .members .now) (s .pre .3))) (c .before .least-wide .ensures) (omega arith))
 
 returns-3 : tie.Need-returns-3
 returns-3 c =
-    let s = c .before .before .before .before .before .before .before .before .before in
+    let i = c .before .before .before .before .before .before in
+    let s = i .before .before .before .before .before in
     let a = s .args in
-    some-quiet (view (a .h) (tables (a .members .now) (a .places .now) (a .notices .now))) (s .pre .0) (a .left) (c .before .before .before .before .if1 .left) _ (omega (arith, c .before .least .ensures, c .before .before .before .quiet-for .ensures))
+    some-quiet (view (a .h) (tables (a .members .now) (a .places .now) (a .notices .now))) (s .pre .0) (a .left) (i .if1 .left) _
+    (quiet-parts _ _ _ _ _ _ _ (a .left) _ (c .before .before .before .before .before .quiet-for .ensures) (c .before .before .before .least .ensures)
+    (c .before .before .charged-for .ensures ∙ ap (λ (f : ℕ). charged-for f (bound (a .h .link) (a .h .link .levels)) (a .h .clock)) (first-is (a .members .now) (s .pre .3))) (c .before .least-wide .ensures) (omega arith))
 
 pub quiet-ticks-spec : {M : Type 1} → statement M
 quiet-ticks-spec =
     tie.close
-    (tie.spec returns quiet-for-requires sub-least least-requires cast-result returns-2 returns-3)
+    (tie.spec
+    returns
+    quiet-for-requires
+    sub-least
+    least-requires
+    charged-for-requires
+    least-wide-requires
+    cast-result
+    returns-2
+    returns-3)

@@ -1,21 +1,22 @@
-use Rattle.sound.proofs.PaceLaws as L
 use native.Mathlib.Omega.{arith}
-use mathlib.Core.Path.{_≡_, refl, sym, ap, subst, _∙_}
+use mathlib.Core.Path.{_≡_, refl, sym, ap, _∙_}
 use Prim.Native.Nat.{ℕ, _≤_, _-_}
 use mathlib.Core.Bool.{true}
+use lib.ListN.{getD}
+use Rattle.rules.specs.Limits.{max-connections}
 use Rattle.rules.specs.Words.{every}
 use Rattle.limits.proofs.EveryLaws as E
 use Rattle.sound.proofs.PartLaws as S
-use Rattle.sound.specs.Pace.{left-at}
+use Rattle.sound.specs.Pace.{left-with}
 use borrow.Author.Needs.{needs}
 use Rattle.sound.proofs.pace.each_left_ok.Statement.{statement}
 use Rattle.sound.proofs.pace.each_left_ok.Tie as tie
 
 abbrev Inv-loop : tie.InvT-loop
-Inv-loop h table n seen c₀ c = (c ≤ n) × (every c (left-at h table seen) ≡ true)
+Inv-loop h table seen c₀ c = (c ≤ max-connections) × (every c (λ k. left-with h table (getD seen k 0) k) ≡ true)
 
 abbrev μ-loop : tie.MeasureT-loop
-μ-loop h table n seen c₀ c = n - c
+μ-loop h table seen c₀ c = max-connections - c
 
 loop-holds : tie.Need-loop-holds Inv-loop μ-loop
 loop-holds c = (search needs, refl)
@@ -27,13 +28,12 @@ shared-slice-read-left-ok : tie.Need-shared-slice-read-left-ok Inv-loop μ-loop
 shared-slice-read-left-ok c = search needs
 
 left-ok-requires : tie.Need-left-ok-requires Inv-loop μ-loop
-left-ok-requires c κs = let s = c .before .before .before .before .before in (s .pre .2, search needs, s .pre .3)
+left-ok-requires c κs = let s = c .before .before .before .before .before in (s .pre .0, search needs, s .pre .2)
 
 returns : tie.Need-returns Inv-loop μ-loop
 returns c =
-    let s = c .before .before .before .before .before .before .before in
-    let a = s .args in
-    E.every-fails (a .n) (left-at (a .h) (a .table .now) (a .seen .now)) (c .before .before .before .before .loop .c) (search needs) (S.falls (c .before .left-ok .ensures) (c .if1 .taken))
+    let a = c .before .before .before .before .before .before .before .args in
+    E.every-fails max-connections (λ k. left-with (a .h) (a .table .now) (getD (a .seen .now) k 0) k) (c .before .before .before .before .loop .c) (search needs) (S.falls (c .before .left-ok .ensures) (c .if1 .taken))
 
 add-c : tie.Need-add-c Inv-loop μ-loop
 add-c c = search needs
@@ -43,17 +43,15 @@ loop-less c = search needs
 
 loop-again : tie.Need-loop-again Inv-loop μ-loop
 loop-again c =
-    let s = c .before .before .before .before .before .before .before in
-    let a = s .args in
+    let a = c .before .before .before .before .before .before .before .args in
     let l = c .before .before .before .before .loop in
-    (search needs, E.every-next (l .c) (left-at (a .h) (a .table .now) (a .seen .now)) (l .inv .1) (S.holds (c .before .left-ok .ensures) (c .if1 .left)))
+    (search needs, E.every-next (l .c) (λ k. left-with (a .h) (a .table .now) (getD (a .seen .now) k 0) k) (l .inv .1) (S.holds (c .before .left-ok .ensures) (c .if1 .left)))
 
 returns-2 : tie.Need-returns-2 Inv-loop μ-loop
 returns-2 c =
-    let s = c .before .before .before .before in
-    let a = s .args in
-    let e : c .before .loop .c ≡ a .n = omega arith in
-    sym (ap (λ (k : ℕ). every k (left-at (a .h) (a .table .now) (a .seen .now))) (sym e) ∙ c .before .loop .inv .1)
+    let a = c .before .before .before .before .args in
+    let e : c .before .loop .c ≡ max-connections = omega arith in
+    sym (ap (λ (j : ℕ). every j (λ k. left-with (a .h) (a .table .now) (getD (a .seen .now) k 0) k)) (sym e) ∙ c .before .loop .inv .1)
 
 pub each-left-ok-spec : {M : Type 1} → statement M
 each-left-ok-spec =

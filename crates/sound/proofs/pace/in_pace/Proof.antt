@@ -1,4 +1,3 @@
-use mathlib.Core.Path.{_≡_, refl, sym, ap, subst, _∙_}
 use borrow.Author.Needs.{needs}
 use Rattle.sound.proofs.pace.in_pace.Statement.{statement}
 use Rattle.sound.proofs.pace.in_pace.Tie as tie

@@ -1,11 +1,9 @@
 use Rattle.sound.proofs.PaceLaws as L
 use Rattle.connections.proofs.FigureLaws as F
 use native.Mathlib.Omega.{arith}
-use mathlib.Core.Path.{_≡_, refl, sym, ap, subst, _∙_}
-use mathlib.Core.Option.{none}
+use mathlib.Core.Path.{_≡_, sym, _∙_}
 use lib.ListN.{length}
 use Rattle.rules.specs.Limits.{max-remembered}
-use Rattle.rules.specs.Service.{nth-before}
 use Rattle.rules.specs.Admission.{burst}
 use Rattle.connections.specs.Members.{connection-of, past-of}
 use borrow.Author.Needs.{needs}

@@ -1,8 +1,8 @@
 use Rattle.sound.proofs.PaceLaws as L
 use native.Mathlib.Omega.{arith}
-use mathlib.Core.Path.{_≡_, refl, sym, ap, subst, _∙_}
+use mathlib.Core.Path.{_≡_, refl, _∙_}
 use Prim.Native.Nat.{_≤_, _-_}
-use lib.ListN.{length, drop}
+use lib.ListN.{drop}
 use Rattle.rules.specs.SoundTest.{left-in-time as in-time}
 use Rattle.connections.specs.Members.{connection-of, past-of}
 use Rattle.connections.proofs.WrittenLaws as W
@@ -20,16 +20,16 @@ loop-holds : tie.Need-loop-holds Inv-loop μ-loop
 loop-holds c = (search needs, refl)
 
 tick-at-requires : tie.Need-tick-at-requires Inv-loop μ-loop
-tick-at-requires c κs = let s = c .before .before .before in (search needs, W.formed-parts (s .args .m) (s .pre .0) .0)
+tick-at-requires c κs = let s = c .before .before .before in (search needs, W.formed-parts (s .args .m) (s .pre .0) .known-le)
 
 wide-requires : tie.Need-wide-requires Inv-loop μ-loop
 wide-requires c κs = search needs
 
 add-earliest-behind : tie.Need-add-earliest-behind Inv-loop μ-loop
-add-earliest-behind c = let s = c .before .before .before .before .before in omega (arith, W.formed-parts (s .args .m) (s .pre .0) .0)
+add-earliest-behind c = let s = c .before .before .before .before .before in omega (arith, W.formed-parts (s .args .m) (s .pre .0) .known-le)
 
 earliest-behind-requires : tie.Need-earliest-behind-requires Inv-loop μ-loop
-earliest-behind-requires c κs = let s = c .before .before .before .before .before in (W.formed-parts (s .args .m) (s .pre .0) .0, omega (arith, W.formed-parts (s .args .m) (s .pre .0) .0), s .pre .1)
+earliest-behind-requires c κs = let s = c .before .before .before .before .before in (W.formed-parts (s .args .m) (s .pre .0) .known-le, omega (arith, W.formed-parts (s .args .m) (s .pre .0) .known-le), s .pre .1)
 
 returns : tie.Need-returns Inv-loop μ-loop
 returns c =
@@ -44,7 +44,7 @@ returns-2 c =
     L.left-late (connection-of (s .args .m)) (s .args .clock) (past-of (s .args .m)) (l .k) (L.known-below (s .args .m) (s .pre .0) (l .k) (search needs) (search needs)) _ _ (c .before .before .before .before .tick-at .ensures) (c .before .before .earliest-behind .ensures) (omega (arith, c .before .before .before .wide .ensures, c .before .if2 .left)) (c .if3 .taken) ∙ l .inv .1
 
 add-k : tie.Need-add-k Inv-loop μ-loop
-add-k c = let s = c .before .before .before .before .before .before .before .before in omega (arith, W.formed-parts (s .args .m) (s .pre .0) .0)
+add-k c = let s = c .before .before .before .before .before .before .before .before in omega (arith, W.formed-parts (s .args .m) (s .pre .0) .known-le)
 
 loop-less : tie.Need-loop-less Inv-loop μ-loop
 loop-less c = search needs

@@ -1,9 +1,7 @@
+use Rattle.connections.proofs.WrittenLaws as W
 use Rattle.connections.proofs.RegulatorLaws as G
-use Rattle.sound.proofs.PaceLaws as L
-use Rattle.connections.proofs.MemberLaws as M
 use native.Mathlib.Omega.{arith}
-use mathlib.Core.Path.{_≡_, refl, sym, ap, subst, _∙_}
-use mathlib.Core.Bool.{true}
+use mathlib.Core.Path.{sym, _∙_}
 use borrow.Author.Tests.{not-true, not-false}
 use Rattle.rules.proofs.Tests.{never}
 use borrow.Author.Needs.{needs}
@@ -14,7 +12,7 @@ cast-c : tie.Need-cast-c
 cast-c c = search needs
 
 member-at-requires : tie.Need-member-at-requires
-member-at-requires c κs = omega (arith, M.members-end (c .before .before .before .args .table .now))
+member-at-requires c κs = let s = c .before .before .before in omega (arith, W.rows-length (s .args .table .now) (s .pre .0), s .pre .1)
 
 in-pace-requires : tie.Need-in-pace-requires
 in-pace-requires c κs = let s = c .before .before .before .before in let m = G.member-facts (s .args .h .link) (s .args .table .now) (s .args .p .connection) _ (s .pre .0) (s .pre .1) (s .pre .2) (c .member-at .ensures) in (m .few, m .regular)

@@ -1,20 +1,16 @@
 use Rattle.sound.proofs.PaceLaws as L
-use Rattle.connections.proofs.FigureLaws as F
 use native.Mathlib.Omega.{arith}
-use mathlib.Core.Path.{_≡_, refl, sym, ap, subst, _∙_}
-use Prim.Native.Nat.{ℕ, _≤_, _<_, _-_}
+use mathlib.Core.Path.{_≡_, refl, _∙_}
+use Prim.Native.Nat.{_≤_, _-_}
 use mathlib.Core.Bool.{true}
 use mathlib.Core.List.{[]}
 use borrow.Author.Tests.{not-true, not-false}
 use lib.ListN.{length, take, drop}
-use Rattle.rules.specs.Model.{nth}
 use Rattle.rules.specs.SoundTest.{paced}
 use Rattle.rules.proofs.Tests.{never}
 use Rattle.tables.specs.Places.{rows}
 use Rattle.tables.proofs.PlacesLaws as P
-use Rattle.connections.specs.Members.{members-in, connections-in}
-use Rattle.connections.specs.Within.{Within}
-use Rattle.connections.proofs.MemberLaws as M
+use Rattle.connections.specs.Members.{connections-in}
 use Rattle.sound.specs.Pace.{past-in, Remembers, past-with}
 use borrow.Author.Needs.{needs}
 use Rattle.sound.proofs.pace.scan.Statement.{statement}
@@ -37,8 +33,7 @@ pass-row-requires c κs =
     let s = c .before .before .before .before .before .before in
     let a = s .args in
     let l = c .before .before .before .loop in
-    let named : c .row .result .connection < length (members-in (a .table .now)) = L.named (a .table .now) (a .places .now) (s .pre .2) (l .i) (omega arith) _ (c .row .ensures) in
-    (l .inv .1 .shape, omega (arith, L.remembers-count _ _ _ (l .inv .1)), L.within-same (a .h .link) _ _ _ (l .inv .1) (s .pre .3))
+    (l .inv .1 .shape, L.named-row (a .table .now) (a .places .now) (s .pre .2) (l .i) (omega arith) _ (c .row .ensures), L.within-same (a .h .link) _ _ _ (l .inv .1) (s .pre .3))
 
 same-length : tie.Need-same-length Inv-loop μ-loop
 same-length c = search needs
@@ -48,8 +43,8 @@ returns c =
     let s = c .before .before .before .before .before .before .before .before .before .before in
     let a = s .args in
     let l = c .before .before .before .before .before .before .before .loop in
-    let named : c .before .before .before .before .row .result .connection < length (members-in (a .table .now)) = L.named (a .table .now) (a .places .now) (s .pre .2) (l .i) (omega arith) _ (c .before .before .before .before .row .ensures) in
-    (L.pass-stops (a .table .now) (a .places .now) (a .h .clock) (l .i) (omega arith) (l .table) (l .inv .1) _ (c .before .before .before .before .row .ensures) named _ (c .before .before .before .pass-row .ensures .0) (not-true _ (c .if1 .taken)) ∙ l .inv .2, λ e. never e)
+    let p = c .before .before .before .before .row in
+    (L.pass-stops (a .table .now) (a .places .now) (a .h .clock) (l .i) (omega arith) (l .table) (l .inv .1) _ (p .ensures) (L.named-row (a .table .now) (a .places .now) (s .pre .2) (l .i) (omega arith) _ (p .ensures)) _ (c .before .before .before .pass-row .ensures .0) (not-true _ (c .if1 .taken)) ∙ l .inv .2, λ e. never e)
 
 add-i : tie.Need-add-i Inv-loop μ-loop
 add-i c = search needs
@@ -64,10 +59,10 @@ loop-again c =
     let l = c .before .before .before .before .before .before .before .loop in
     let p = c .before .before .before .before .row in
     let r = c .before .before .before .pass-row in
-    let named : p .result .connection < length (members-in (a .table .now)) = L.named (a .table .now) (a .places .now) (s .pre .2) (l .i) (omega arith) _ (p .ensures) in
+    let named = L.named-row (a .table .now) (a .places .now) (s .pre .2) (l .i) (omega arith) _ (p .ensures) in
     let passed : r .result ≡ true = not-false _ (c .if1 .left) in (
       search needs,
-      L.pass-next (a .table .now) (a .places .now) (a .h .clock) (l .i) (omega arith) (l .table) _ (l .inv .1) (s .pre .4) (L.sizes (a .h .link) (a .table .now) (s .pre .3)) _ (p .ensures) named (r .ensures .1 passed),
+      L.pass-next (a .table .now) (a .places .now) (a .h .clock) (l .i) (omega arith) (l .table) _ (l .inv .1) _ (p .ensures) named (r .ensures .1 passed),
       L.pass-goes (a .table .now) (a .places .now) (a .h .clock) (l .i) (omega arith) (l .table) (l .inv .1) _ (p .ensures) named _ (r .ensures .0) passed ∙ l .inv .2,
       search needs,
     )

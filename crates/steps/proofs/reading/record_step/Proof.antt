@@ -38,14 +38,23 @@ enum-known-what-3 c = search needs
 cast-c : tie.Need-cast-c
 cast-c c = search needs
 
+close-step-requires : tie.Need-close-step-requires
+close-step-requires c κs = search needs
+
+enum-known-what-4 : tie.Need-enum-known-what-4
+enum-known-what-4 c = search needs
+
+cast-c-2 : tie.Need-cast-c-2
+cast-c-2 c = search needs
+
 cast-offer-step : tie.Need-cast-offer-step
 cast-offer-step c = search needs
 
 offer-step-requires : tie.Need-offer-step-requires
 offer-step-requires c κs = search needs
 
-enum-known-what-4 : tie.Need-enum-known-what-4
-enum-known-what-4 c = search needs
+enum-known-what-5 : tie.Need-enum-known-what-5
+enum-known-what-5 c = search needs
 
 cast-notice-step : tie.Need-cast-notice-step
 cast-notice-step c = search needs
@@ -53,8 +62,8 @@ cast-notice-step c = search needs
 notice-step-requires : tie.Need-notice-step-requires
 notice-step-requires c κs = search needs
 
-enum-known-what-5 : tie.Need-enum-known-what-5
-enum-known-what-5 c = search needs
+enum-known-what-6 : tie.Need-enum-known-what-6
+enum-known-what-6 c = search needs
 
 begin-ticks-requires : tie.Need-begin-ticks-requires
 begin-ticks-requires c κs = search needs
@@ -115,8 +124,8 @@ same-length-12 c = search needs
 
 returns-3 : tie.Need-returns-3
 returns-3 c =
-    let k = c .before .before .before .before .before .before .offer-step in
-    (rw (c .before .before .before .before .before .before .before .before .before .before .before .before .what3 .given .1) (k .ensures), rw (k .ensures .answers) (omega arith))
+    let k = c .before .before .before .before .close-step in
+    (rw (c .before .before .before .before .before .before .before .before .before .before .what3 .given .1) (k .ensures), rw (k .ensures .answers) (omega arith))
 
 same-length-13 : tie.Need-same-length-13
 same-length-13 c = search needs
@@ -132,21 +141,38 @@ same-length-16 c = search needs
 
 returns-4 : tie.Need-returns-4
 returns-4 c =
-    let k = c .before .before .before .before .notice-step in
-    (rw (c .before .before .before .before .before .before .before .before .before .before .what4 .given .1) (k .ensures), rw (k .ensures .answers) (omega arith))
-
-returns-5 : tie.Need-returns-5
-returns-5 c =
-    let s = c .before .before .before .before .before .before .before .before in
-    let a = s .args in
-    let k = c .begin-ticks in
-    (rw (c .before .before .what5 .given .1) (did-kept (a .h) (tables (a .members .now) (a .places .now) (a .notices .now)) (s .pre .0) _ _ _ [] GoOn _ _ _ (k .ensures) refl), rw (k .ensures) (search needs))
+    let k = c .before .before .before .before .before .before .offer-step in
+    (rw (c .before .before .before .before .before .before .before .before .before .before .before .before .what4 .given .1) (k .ensures), rw (k .ensures .answers) (omega arith))
 
 same-length-17 : tie.Need-same-length-17
 same-length-17 c = search needs
 
+same-length-18 : tie.Need-same-length-18
+same-length-18 c = search needs
+
+same-length-19 : tie.Need-same-length-19
+same-length-19 c = search needs
+
+same-length-20 : tie.Need-same-length-20
+same-length-20 c = search needs
+
+returns-5 : tie.Need-returns-5
+returns-5 c =
+    let k = c .before .before .before .before .notice-step in
+    (rw (c .before .before .before .before .before .before .before .before .before .before .what5 .given .1) (k .ensures), rw (k .ensures .answers) (omega arith))
+
 returns-6 : tie.Need-returns-6
 returns-6 c =
+    let s = c .before .before .before .before .before .before .before .before in
+    let a = s .args in
+    let k = c .begin-ticks in
+    (rw (c .before .before .what6 .given .1) (did-kept (a .h) (tables (a .members .now) (a .places .now) (a .notices .now)) (s .pre .0) _ _ _ [] GoOn _ _ _ (k .ensures) refl), rw (k .ensures) (search needs))
+
+same-length-21 : tie.Need-same-length-21
+same-length-21 c = search needs
+
+returns-7 : tie.Need-returns-7
+returns-7 c =
     let s = c .before .before .before .before .before .before .before .before .before .before in
     let a = s .args in
     let k = c .before .before .broken-step in
@@ -166,12 +192,15 @@ record-step-spec =
     admit-step-requires
     enum-known-what-3
     cast-c
+    close-step-requires
+    enum-known-what-4
+    cast-c-2
     cast-offer-step
     offer-step-requires
-    enum-known-what-4
+    enum-known-what-5
     cast-notice-step
     notice-step-requires
-    enum-known-what-5
+    enum-known-what-6
     begin-ticks-requires
     enum-told
     broken-step-requires
@@ -195,6 +224,11 @@ record-step-spec =
     same-length-15
     same-length-16
     returns-4
-    returns-5
     same-length-17
-    returns-6)
+    same-length-18
+    same-length-19
+    same-length-20
+    returns-5
+    returns-6
+    same-length-21
+    returns-7)

@@ -1,7 +1,7 @@
 use Rattle.state.specs.View.{tables}
 use mathlib.Core.Path.{sym, _∙_}
 use Rattle.service.proofs.QuietCases.{quiet-room}
-use Rattle.state.proofs.SoundLaws.{sound-view, places-kept, places-size}
+use Rattle.state.proofs.SoundLaws.{shapes, formed-tables, sound-view, places-kept, places-size}
 use Rattle.steps.proofs.CallLaws.{did-all, did-quiet, did-one}
 use borrow.Author.Needs.{needs}
 use Rattle.steps.proofs.ticking.tick_step.Statement.{statement}
@@ -22,39 +22,30 @@ same-length-2 c = search needs
 same-length-3 : tie.Need-same-length-3
 same-length-3 c = search needs
 
-returns : tie.Need-returns
-returns c =
-    let s = c .before .before .before .before .before .before .before .before .before .before .before .before in
-    let a = s .args in
-    let k = c .before .before .answered .ensures in
-    let v = c .before .before .before .before .all-done-verdict in
-    did-all (a .at) (a .asked) (a .left) (a .h) (tables (a .members .now) (a .places .now) (a .notices .now)) (s .pre .0) (search needs) (v .result) _ _ _ (v .ensures) (k .0) (k .1)
-
-quiet-ticks-requires : tie.Need-quiet-ticks-requires
-quiet-ticks-requires c κs =
-    let s = c .before .before .before .before .before .before .before in
-    let a = s .args in
-    let ok = s .pre .0 in
-    (sound-view (a .h) (tables (a .members .now) (a .places .now) (a .notices .now)) ok, places-kept (a .h) (tables (a .members .now) (a .places .now) (a .notices .now)) ok, places-size (a .h) (tables (a .members .now) (a .places .now) (a .notices .now)) ok)
-
-pass-over-requires : tie.Need-pass-over-requires
-pass-over-requires c κs = let i = quiet-room (c .before .before .before .before .before .before .before .before .before .args .left) _ (c .before .quiet-ticks .ensures) (c .if2 .taken) in (i .few, i .quiet .in-time)
-
 same-length-4 : tie.Need-same-length-4
 same-length-4 c = search needs
 
+returns : tie.Need-returns
+returns c =
+    let s = c .before .before .before .before .before .before .before .before .before .before .before .before .before in
+    let a = s .args in
+    let k = c .before .before .answered .ensures in
+    let v = c .before .before .before .before .all-done-verdict in
+    did-all (a .at) (a .asked) (a .left) (a .h) (tables (a .members .now) (a .places .now) (a .notices .now)) (s .pre .0) (c .before .before .before .before .before .before .before .before .if1 .taken) (v .result) _ _ _ (v .ensures) (k .0) (k .1)
+
+quiet-ticks-requires : tie.Need-quiet-ticks-requires
+quiet-ticks-requires c κs =
+    let s = c .before .before .before .before .before .before .before .before in
+    let a = s .args in
+    let ok = s .pre .0 in
+    let t = tables (a .members .now) (a .places .now) (a .notices .now) in
+    (sound-view (a .h) t ok, places-kept (a .h) t ok, places-size (a .h) t ok, shapes t (formed-tables (a .h) t ok) .members-shape)
+
+pass-over-requires : tie.Need-pass-over-requires
+pass-over-requires c κs = let i = quiet-room (c .before .before .before .before .before .before .before .before .before .before .args .left) _ (c .before .quiet-ticks .ensures) (c .if2 .taken) in (i .few, i .quiet .in-time)
+
 same-length-5 : tie.Need-same-length-5
 same-length-5 c = search needs
-
-returns-2 : tie.Need-returns-2
-returns-2 c =
-    let s = c .before .before .before .before .before .before .before .before .before .before in
-    let a = s .args in
-    let w = c .before .before .quiet-ticks in
-    did-quiet (a .at) (a .asked) (a .left) (a .h) (tables (a .members .now) (a .places .now) (a .notices .now)) (s .pre .0) (c .before .before .before .before .before .if1 .left) (w .result) (w .ensures) (c .before .if2 .taken) _ _ (c .pass-over .ensures (tables (a .members .now) (a .places .now) (a .notices .now)))
-
-one-tick-requires : tie.Need-one-tick-requires
-one-tick-requires c κs = search needs
 
 same-length-6 : tie.Need-same-length-6
 same-length-6 c = search needs
@@ -62,15 +53,34 @@ same-length-6 c = search needs
 same-length-7 : tie.Need-same-length-7
 same-length-7 c = search needs
 
+returns-2 : tie.Need-returns-2
+returns-2 c =
+    let s = c .before .before .before .before .before .before .before .before .before .before .before in
+    let a = s .args in
+    let w = c .before .before .quiet-ticks in
+    did-quiet (a .at) (a .asked) (a .left) (a .h) (tables (a .members .now) (a .places .now) (a .notices .now)) (s .pre .0) (c .before .before .before .before .before .before .if1 .left) (w .result) (w .ensures) (c .before .if2 .taken) _ _ (c .pass-over .ensures (tables (a .members .now) (a .places .now) (a .notices .now)))
+
+one-tick-requires : tie.Need-one-tick-requires
+one-tick-requires c κs = search needs
+
 same-length-8 : tie.Need-same-length-8
 same-length-8 c = search needs
 
+same-length-9 : tie.Need-same-length-9
+same-length-9 c = search needs
+
+same-length-10 : tie.Need-same-length-10
+same-length-10 c = search needs
+
+same-length-11 : tie.Need-same-length-11
+same-length-11 c = search needs
+
 returns-3 : tie.Need-returns-3
 returns-3 c =
-    let z = c .before .before .before .before .before .before .before .before .before .before .before .before .before .before .before .before .before .before .before in
+    let z = c .before .before .before .before .before .before .before .before .before .before .before .before .before .before .before .before .before .before .before .before .before .before .before in
     let a = z .args in
-    let w = c .before .before .before .before .before .before .before .before .before .before .before .quiet-ticks in
-    did-one (a .at) (a .asked) (a .left) (a .h) (tables (a .members .now) (a .places .now) (a .notices .now)) (z .pre .0) (c .before .before .before .before .before .before .before .before .before .before .before .before .before .before .if1 .left) (sym (w .ensures) ∙ c .before .before .before .before .before .before .before .before .before .before .if2 .left) _ _ _ _ (c .before .before .before .before .before .before .one-tick .ensures)
+    let w = c .before .before .before .before .before .before .before .before .before .before .before .before .before .before .quiet-ticks in
+    did-one (a .at) (a .asked) (a .left) (a .h) (tables (a .members .now) (a .places .now) (a .notices .now)) (z .pre .0) (c .before .before .before .before .before .before .before .before .before .before .before .before .before .before .before .before .before .before .if1 .left) (sym (w .ensures) ∙ c .before .before .before .before .before .before .before .before .before .before .before .before .before .if2 .left) _ _ _ _ (c .before .before .before .before .before .before .before .before .one-tick .ensures)
 
 pub tick-step-spec : {M : Type 1} → statement M
 tick-step-spec =
@@ -81,14 +91,17 @@ tick-step-spec =
     same-length
     same-length-2
     same-length-3
+    same-length-4
     returns
     quiet-ticks-requires
     pass-over-requires
-    same-length-4
     same-length-5
-    returns-2
-    one-tick-requires
     same-length-6
     same-length-7
+    returns-2
+    one-tick-requires
     same-length-8
+    same-length-9
+    same-length-10
+    same-length-11
     returns-3)

@@ -1,0 +1,37 @@
+-- Closed connections in their table, and the numbers that are freed. Document 02, R-8.
+use Prim.Native.Nat.{ℕ, _+_, _<_, _≤_}
+use mathlib.Core.Path.{_≡_}
+use mathlib.Core.Bool.{Bool, true, false, cond, _&&_}
+use mathlib.Core.List.{List}
+use lib.ListN.{length, getD}
+use Rattle.rules.specs.Limits.{beyond-32-bits}
+use Rattle.rules.specs.Model.{State, no-past}
+use Rattle.rules.specs.Admission.{owned, largest-bound}
+use Rattle.rules.specs.Service.{charge-over, swept-connections, swept-pasts, swept-marks}
+use Rattle.connections.specs.declared.Member.{Member}
+use Rattle.connections.specs.Members.{no-member, past-of, closed-of, connections-in, pasts-in, closed-in, last-of, written-members}
+
+-- a row is closed and its charge is over; freed, nothing is left of it
+abbrev pub ended : ℕ → ℕ → Member → Bool
+ended bound clock m = closed-of m && charge-over bound clock (past-of m)
+
+abbrev pub freed : ℕ → ℕ → Member → Member
+freed bound clock m = cond (ended bound clock m) no-member m
+
+-- what is closed has an owner that has sent, and its last eligibility leaves room for one more
+pub record Closed-in-order (t : List ℕ) : Type 0 where
+  pub closed-owned : (c : ℕ) → getD (closed-in t) c false ≡ true → owned (connections-in t) c ≡ true
+  pub closed-sent : (c : ℕ) → getD (closed-in t) c false ≡ true → 1 ≤ length (getD (pasts-in t) c no-past)
+  pub closed-fits : (c : ℕ) → getD (closed-in t) c false ≡ true → last-of (getD (pasts-in t) c no-past) + 1 < beyond-32-bits
+
+-- a state of the rules whose connections are those of the table, with this largest bound and clock
+pub record Stands-for (t : List ℕ) (bound clock : ℕ) (s : State) : Type 0 where
+  pub connections-are : s .connections ≡ connections-in t
+  pub pasts-are : s .pasts ≡ pasts-in t
+  pub marks-are : s .closed ≡ closed-in t
+  pub bound-is : largest-bound (s .link) ≡ bound
+  pub clock-is : s .clock ≡ clock
+
+-- every number whose charge is over is freed
+abbrev pub Swept : List ℕ → ℕ → ℕ → List ℕ → Type 0
+Swept t bound clock after = (s : State) → Stands-for t bound clock s → after ≡ written-members (swept-connections s) (swept-pasts s) (swept-marks s)
