@@ -1,6 +1,6 @@
 // One tick of the line: the choice of the next packet in one pass over the rows, and the three steps. Document 01, "One tick"; document 02, R-1
 // and R-4.
-pub mod quiet; // quiet.rt: ticks in which nothing starts and nothing departs
+pub mod quiet; // quiet.rt: ticks in which nothing starts, nothing departs and no charge ends
 
 ghost use mathlib.Core.Path.{_≡_};
 ghost use mathlib.Core.Bool.{true};
