@@ -1,13 +1,15 @@
+use mathlib.Core.Path.{_≡_}
+use lib.ListN.{length}
 use Prim.Native.Nat.{_≤_, _-_}
 use borrow.Author.Needs.{needs}
-use Rattle.hub_cases.proofs.world.copy.Statement.{statement}
-use Rattle.hub_cases.proofs.world.copy.Tie as tie
+use Rattle.hub_pipe.proofs.block.take.Statement.{statement}
+use Rattle.hub_pipe.proofs.block.take.Tie as tie
 
 abbrev Inv-loop : tie.InvT-loop
-Inv-loop w₀ to from n i₀ w i = i ≤ n
+Inv-loop b from a₀ i₀ a i = (i ≤ length a₀) × (length a ≡ length a₀)
 
 abbrev μ-loop : tie.MeasureT-loop
-μ-loop w₀ to from n i₀ w i = n - i
+μ-loop b from a₀ i₀ a i = length a₀ - i
 
 loop-holds : tie.Need-loop-holds Inv-loop μ-loop
 loop-holds c = search needs
@@ -18,11 +20,11 @@ wrapping-add-usize-requires c κs = search needs
 get-requires : tie.Need-get-requires Inv-loop μ-loop
 get-requires c κs = search needs
 
-wrapping-add-usize-requires-2 : tie.Need-wrapping-add-usize-requires-2 Inv-loop μ-loop
-wrapping-add-usize-requires-2 c κs = search needs
+mul-a : tie.Need-mul-a Inv-loop μ-loop
+mul-a c = search needs
 
-put-requires : tie.Need-put-requires Inv-loop μ-loop
-put-requires c κs = search needs
+slice-write-a : tie.Need-slice-write-a Inv-loop μ-loop
+slice-write-a c = search needs
 
 add-i : tie.Need-add-i Inv-loop μ-loop
 add-i c = search needs
@@ -33,11 +35,14 @@ loop-less c = search needs
 loop-again : tie.Need-loop-again Inv-loop μ-loop
 loop-again c = search needs
 
+same-length : tie.Need-same-length Inv-loop μ-loop
+same-length c = search needs
+
 returns : tie.Need-returns Inv-loop μ-loop
 returns c = search needs
 
-pub copy-spec : {M : Type 1} → statement M
-copy-spec =
+pub take-spec : {M : Type 1} → statement M
+take-spec =
     tie.close
     (tie.spec
     Inv-loop
@@ -45,9 +50,10 @@ copy-spec =
     loop-holds
     wrapping-add-usize-requires
     get-requires
-    wrapping-add-usize-requires-2
-    put-requires
+    mul-a
+    slice-write-a
     add-i
     loop-less
     loop-again
+    same-length
     returns)
