@@ -1,9 +1,9 @@
-/* The questions that the hub's firmware asks (document 01, "Two questions from C firmware"; document 02, R-2, R-4 and R-6 to R-8), answered by the
+/* The questions that the hub's firmware asks (document 01, "Two questions from C firmware"; document 02, R-2, R-4 and R-6 to R-9), answered by the
    same rules as the hub's own calls: the archive's functions are proved equal to the rules' definitions.
 
    Link with the archive that `rt staticlib firmware` writes, target/staticlib/libfirmware.a, for x86-64. It needs `memset` of the C library
    and nothing else. The functions may be called at any time and from any thread: they keep nothing, write nothing that the caller can see,
-   take no memory but some 19,000 bytes of stack, and always return. */
+   take no memory but some 21,000 bytes of stack, and always return. */
 #ifndef MTREDOVIM_H
 #define MTREDOVIM_H
 
@@ -14,8 +14,8 @@
 extern "C" {
 #endif
 
-/* The tick at which the next packet of a connection without an average is eligible, were it accepted now. Any numbers are allowed, also those that no
-   hub gives.
+/* The tick at which the next packet of a connection without an average is eligible, were it accepted now, and the connection is regulated by its gap. Of one
+   by stamps there is nothing to ask: the tick is the packet's stamp plus the allowance. Any numbers are allowed, also those that no hub gives.
      flag  0: no packet of the connection was accepted yet; any other number: one was. What another sent under its number before doesn't count
      last  the eligibility of the one accepted last, in ticks; with flag 0 it doesn't count
      gap   the connection's gap, in ticks
@@ -35,7 +35,8 @@ uint64_t mtredovim_next_eligibility(uint32_t flag, uint32_t last, uint32_t gap, 
    average: the average gap is at least the gap and divides the window, 1 to 16 times; one of the two alone breaks them. A bad row gives 255
    wherever it stands, also where a level fails. No rows and a good `LK`: 0. Whether all reservations find room is not asked.
    For the answer that an admission gets, hand in a row for the newcomer and one for each connection of the hub, also for each that is closed and
-   still charged: those count as before. A free number has no row.
+   still charged: those count as before. A free number has no row. One by stamps has a row with its level, gap and size and two zeros: the level test
+   counts it as one regulated by its gap. Its allowance is not tested here.
 
    The caller sees to it that each pointer is valid for reading as many bytes as its length says, while the function runs. With length 0 any
    pointer will do that is not null: nothing is read there. Null is never allowed. */

@@ -11,13 +11,14 @@ INSERTED = {
     "R-6": [(b"CN", 7, 4)],  # window and average gap, behind the size
     "R-7": [],  # nothing: it has moved two limits
     "R-8": [],  # nothing: it has brought a record
+    "R-9": [],  # nothing: it has brought two
 }
 
 # The verdicts of an admission that met a limit of before R-7: 64 connections, 512 places.
 OLD_LIMITS = (7, 9)
 
-# The record that R-8 has brought, which was malformed before.
-CLOSE = b"CL"
+# The records that requests have brought since R-8, which were malformed before.
+BROUGHT = {"R-8": [b"CL"], "R-9": [b"CS", b"PS"]}
 
 
 def from_then_on(request):
@@ -31,24 +32,34 @@ def since(request):
     return [place for name in from_then_on(request) for place in INSERTED[name]]
 
 
-def old_length(trace, at, inserted):
-    """The length that the record at a place had before all this was inserted; 0 if its mark or its n is none."""
+def brought_since(request):
+    """The marks that this request and those after it have brought."""
+    return [mark for name in from_then_on(request) for mark in BROUGHT.get(name, ())]
+
+
+def length_today(trace, at):
+    """The length of the record at a place; 0 if its mark or its n is none."""
     name, fields = fields_at(trace, at, TRACE)
-    if name is None:
+    return 0 if name is None else 2 + struct.calcsize(layout(fields))
+
+
+def old_length(trace, at, request):
+    """The length that it had before a request; 0 also if its mark was none then."""
+    if trace[at:at + 2] in brought_since(request):
         return 0
-    today = 2 + struct.calcsize(layout(fields))
-    return today - sum(width for mark, _, width in inserted if trace.startswith(mark, at))
+    today = length_today(trace, at)
+    return today and today - sum(width for mark, _, width in since(request) if trace.startswith(mark, at))
 
 
 def with_zeros(trace, request):
     """The trace with zeros in the places that came with a request or later, and how many of them whole records got.
 
     A record that is cut short ends it; one that reaches the place gets its zeros, so that it lacks as
-    many bytes as before. Bytes that were no record then, a close among them, and all behind them are left as they are.
+    many bytes as before. Bytes that were no record then, those of one that it has brought among them, and all behind them are left as they are.
     """
     inserted = since(request)
     parts, at, zeros = [], 0, 0
-    while (length := old_length(trace, at, inserted)) and not trace.startswith(CLOSE, at):
+    while length := old_length(trace, at, request):
         record = trace[at:at + length]
         at += length
         whole = len(record) == length
@@ -71,14 +82,19 @@ def moved(answers, zeros):
 
 def still_given(trace, answers, request):
     """The answers of a trace from before a request that are given today: all of them, but up to the first admission that met a limit of before R-7, and
-    without the `ER` at bytes that are a close today. Nothing is said of what is given in their place and behind them."""
+    without the `ER` at bytes that are a record today, since this request or a later one has brought it. Nothing is said of what is given in their place and behind them."""
     limits = OLD_LIMITS if "R-7" in from_then_on(request) else ()
     for at, mark, _, numbers in records(answers, ANSWERS):
         if mark == b"CA" and numbers[0] in limits:
             return answers[:at]
-        if mark == b"ER" and trace.startswith(CLOSE, numbers[1]) and len(trace) > numbers[1] + len(CLOSE):
+        if mark == b"ER" and is_brought(trace, numbers[1], request):
             return answers[:at]
     return answers
+
+
+def is_brought(trace, at, request):
+    """Whether a whole record stands at a place that this request or a later one has brought."""
+    return trace[at:at + 2] in brought_since(request) and len(trace) >= at + length_today(trace, at)
 
 
 def bring_up(request, usage):

@@ -17,7 +17,7 @@ MOST_REMEMBERED = 16
 # what notices bear where a connection's number would stand
 NOTICE = 254
 # the calls, by their numbers
-CALLS = ("fresh_hub", "link", "admit", "offer", "notice", "close", "tick")
+CALLS = ("fresh_hub", "link", "admit", "offer", "notice", "close", "tick", "offer_stamped")
 MOST_ASKED = 11
 LINK = ("levels", "largest", "silence", *(f"bound {level}" for level in range(MOST_LEVELS)))
 HUB = LINK + ("clock", "serving", "units", "silent")
@@ -26,7 +26,7 @@ PACKET = ("connection", "length", "tag", "arrival", "eligibility")
 TOLD = ("verdict", "number", "short level", "short units", "short units, high half", "gone", *(f"{name} of the packet" for name in PACKET))
 HEAD = ("call", *(f"asked {number}" for number in range(MOST_ASKED)), *HUB, *LENT, *TOLD)
 # the row of a connection, and what stands behind all rows: the rows up to the last owner's, and one more than the earliest last eligibility of those that are closed
-CONNECTION = ("level", "size", "gap", "window", "average", "mark", "known", *(f"past {k}" for k in range(1, MOST_REMEMBERED + 1)))
+CONNECTION = ("level", "size", "gap", "window", "average", "kind", "allowance", "mark", "known", *(f"past {k}" for k in range(1, MOST_REMEMBERED + 1)))
 SUMS = ("used", "first")
 # each table has room for so many rows more than its length: it is lent too long as well
 MORE = 16

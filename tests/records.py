@@ -6,8 +6,10 @@ import struct
 TRACE = {
     b"LK": ("link", [("levels", 1), ("largest", 2), ("silence", 1)]),
     b"CN": ("admit", [("level", 1), ("gap", 2), ("size", 2), ("window", 2), ("average", 2)]),
+    b"CS": ("admit by stamps", [("level", 1), ("gap", 2), ("size", 2), ("allowance", 2)]),
     b"CL": ("close", [("connection", 1)]),
     b"PK": ("offer", [("connection", 1), ("length", 2), ("tag", 4)]),
+    b"PS": ("offer with stamp", [("connection", 1), ("length", 2), ("tag", 4), ("stamp", 4)]),
     b"NQ": ("notice", [("length", 2), ("tag", 4)]),
     b"TK": ("ticks", [("asked", 2)]),
 }
@@ -74,12 +76,21 @@ def admit(level, gap, size, window=0, average=0):
     return written(b"CN", level, gap, size, window, average)
 
 
+def admit_stamped(level, gap, size, allowance):
+    """A connection by stamps."""
+    return written(b"CS", level, gap, size, allowance)
+
+
 def close(connection):
     return written(b"CL", connection)
 
 
 def offer(connection, length, tag):
     return written(b"PK", connection, length, tag)
+
+
+def offer_stamped(connection, length, tag, stamp):
+    return written(b"PS", connection, length, tag, stamp)
 
 
 def notice(length, tag):

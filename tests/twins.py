@@ -4,13 +4,14 @@ One line keeps its word, which is its gap and, with an average, n packets to a w
 closed in neither (R-8), and makes the same offers at the same ticks in both; the other lines, the
 notices and the calls around it, closes among them, are drawn anew for each. The line's number may
 differ, and may have had other owners before; in every fourth pair up to 199 lines stand before it
-(R-7).
+(R-7). In other pairs the line is by stamps (R-9): its offers of allowed length come a gap apart,
+with any stamps.
 """
 
 import random
 from collections import namedtuple
 
-from records import ANSWERS, CannotRead, admit, close, link, notice, offer, records, ticks, written
+from records import ANSWERS, CannotRead, admit, admit_stamped, close, link, notice, offer, offer_stamped, records, ticks, written
 
 CLOCK_END = 4_000_000_000
 LAST_TICK = 240
@@ -19,6 +20,9 @@ MOST_CONNECTIONS = 200
 
 # What the shared line is told in one trace, and what it must be told.
 Twin = namedtuple("Twin", "told expected number")
+
+# An offer of the shared line: without a stamp there is None.
+Offer = namedtuple("Offer", "length tag stamp told")
 
 
 def answers(output):
@@ -36,11 +40,13 @@ def some_average(numbers, gap):
 class Line:
     """The line that both traces share: its figures, the tick of its admission, its offers."""
 
+    by_stamps = False
+
     def __init__(self, numbers, bounds, largest, silence):
         self.level = numbers.randint(1, len(bounds))
         self.gap = numbers.randint(1, 40 + 2 * silence)
         self.size = numbers.randint(1, largest)
-        self.window, self.average = some_average(numbers, self.gap)
+        self.draw_kind(numbers)
         self.admitted = numbers.randint(0, 20)
         self.offers = {}
         sent = []
@@ -51,7 +57,12 @@ class Line:
                 sent.append(tick)
             if numbers.random() < 0.05:
                 self.add(tick, numbers.choice((0, self.size + 1, 65_535)), numbers)
-        self.at_end = numbers.randint(1, self.size) if numbers.random() < 0.05 else None
+        self.at_end = None
+        if numbers.random() < 0.05:
+            self.at_end = self.offered(CLOCK_END, numbers.randint(1, self.size), 0, numbers)
+
+    def draw_kind(self, numbers):
+        self.window, self.average = some_average(numbers, self.gap)
 
     def admission(self):
         return admit(self.level, self.gap, self.size, self.window, self.average)
@@ -65,17 +76,56 @@ class Line:
         return earliest
 
     def add(self, tick, length, numbers):
-        self.offers.setdefault(tick, []).append((length, numbers.getrandbits(32)))
+        self.offers.setdefault(tick, []).append(self.offered(tick, length, numbers.getrandbits(32), numbers))
 
-    def told(self, tick, length):
-        """Its own figures and its own offer decide (R-3)."""
+    def offered(self, tick, length, tag, _numbers):
+        return Offer(length, tag, None, self.told(tick, length))
+
+    def told(self, tick, length, stamp=None):
+        """Its own figures and its own offers decide (R-3)."""
         if not 1 <= length <= self.size:
             verdict, eligibility = 11, 0
         elif tick == CLOCK_END:
             verdict, eligibility = 13, 0
         else:
-            verdict, eligibility = 0, tick
+            verdict, eligibility = self.judged(tick, stamp)
         return written(b"PA", verdict, eligibility)
+
+    def judged(self, tick, _stamp):
+        return 0, tick
+
+
+class StampedLine(Line):
+    """The same by stamps (R-9); `last` is the eligibility of its last accepted packet."""
+
+    by_stamps = True
+
+    def draw_kind(self, numbers):
+        self.window = self.average = 0
+        self.allowance = numbers.choice((0, 1, self.gap, numbers.randint(0, 3 * self.gap), numbers.randint(0, 200)))
+        self.last = None
+
+    def admission(self):
+        return admit_stamped(self.level, self.gap, self.size, self.allowance)
+
+    def offered(self, tick, length, tag, numbers):
+        """With a stamp that is timely, if any is, or about the edges of the causes of 17."""
+        earliest = max(tick, self.least()) - self.allowance
+        edge = numbers.choice((tick, earliest, self.least() - self.allowance, tick - self.allowance)) + numbers.randint(-1, 1)
+        timely = numbers.randint(min(earliest, tick), tick)
+        stamp = min(max(0, numbers.choice((timely, timely, timely, edge))), 0xFFFFFFFF)
+        return Offer(length, tag, stamp, self.told(tick, length, stamp))
+
+    def least(self):
+        """The least eligibility that the gap allows."""
+        return 0 if self.last is None else self.last + self.gap
+
+    def judged(self, tick, stamp):
+        eligibility = stamp + self.allowance
+        if stamp > tick or eligibility < tick or eligibility < self.least():
+            return 17, 0
+        self.last = eligibility
+        return 0, eligibility
 
 
 class Ward:
@@ -88,6 +138,7 @@ class Ward:
         self.records = [self.link]
         self.closes = numbers.choice((0, 0.17))
         self.own = None
+        self.now = 0
         self.expected = {}
 
     def many_stand(self):
@@ -98,6 +149,8 @@ class Ward:
     def others(self):
         """A call of somebody else, never an offer or a close under the shared line's number."""
         numbers = self.numbers
+        if self.line.by_stamps and numbers.random() < 0.4:
+            return self.others_by_stamps()
         choice = numbers.random()
         if choice < 0.15:
             level, gap = numbers.randint(0, len(self.bounds) + 1), numbers.randint(1, 300)
@@ -106,11 +159,27 @@ class Ward:
             return notice(numbers.randint(0, self.largest + 1), numbers.getrandbits(32))
         if choice < 0.33:
             return self.link
-        some = (*range(8), numbers.randrange(MOST_CONNECTIONS), MOST_CONNECTIONS, 254, 255)
-        connection = numbers.choice([c for c in some if c != self.own])
+        connection = self.another()
         if choice < 0.33 + self.closes:
             return close(connection)
         return offer(connection, numbers.randint(0, self.largest + 1), numbers.getrandbits(32))
+
+    def another(self):
+        """A number that is not the shared line's."""
+        some = (*range(8), self.numbers.randrange(MOST_CONNECTIONS), MOST_CONNECTIONS, 254, 255)
+        return self.numbers.choice([c for c in some if c != self.own])
+
+    def others_by_stamps(self):
+        """An admission or an offer of somebody else, by stamps; or one without a stamp to the shared line, which does not hear it."""
+        numbers = self.numbers
+        choice = numbers.random()
+        if choice < 0.3:
+            level, gap = numbers.randint(0, len(self.bounds) + 1), numbers.randint(1, 300)
+            return admit_stamped(level, gap, numbers.randint(1, self.largest), numbers.randint(0, 300))
+        if choice < 0.4 and self.own is not None:
+            return offer(self.own, 1, numbers.getrandbits(32))
+        stamp = max(0, self.now + numbers.randint(-100, 5))
+        return offer_stamped(self.another(), numbers.randint(1, self.largest), numbers.getrandbits(32), stamp)
 
     def crowd(self):
         for _ in range(self.numbers.randint(0, self.busy)):
@@ -118,28 +187,29 @@ class Ward:
 
     def until_admitted(self):
         """Up to the admission of the shared line; before it nobody is sure of a number."""
-        for _ in range(self.line.admitted):
+        for self.now in range(self.line.admitted):
             self.crowd()
             self.records.append(ticks(1))
         self.crowd()
         self.records.append(self.line.admission())
         return b"".join(self.records)
 
-    def ask(self, tick, length, tag):
-        self.expected[len(self.records)] = self.line.told(tick, length)
-        self.records.append(offer(self.own, length, tag))
+    def ask(self, asked):
+        self.expected[len(self.records)] = asked.told
+        plain = (self.own, asked.length, asked.tag)
+        self.records.append(offer(*plain) if asked.stamp is None else offer_stamped(*plain, asked.stamp))
 
     def after_admitted(self, own):
         self.own = own
-        for tick in range(self.line.admitted, LAST_TICK):
+        for self.now in range(self.line.admitted, LAST_TICK):
             self.crowd()
-            for length, tag in self.line.offers.get(tick, ()):
-                self.ask(tick, length, tag)
+            for asked in self.line.offers.get(self.now, ()):
+                self.ask(asked)
                 self.crowd()
             self.records.append(ticks(1))
         if self.line.at_end is not None:
             self.to_the_end(LAST_TICK)
-            self.ask(CLOCK_END, self.line.at_end, 0)
+            self.ask(self.line.at_end)
         return b"".join(self.records)
 
     def to_the_end(self, tick):
@@ -157,9 +227,9 @@ def answers_of(ward, trace, run):
     return given
 
 
-def twin(seed, which, run):
-    """One trace of a pair, run; nothing if the shared line is refused even where it is alone."""
-    shared = random.Random(seed)
+def twin(seed, which, run, kind=Line):
+    """One trace of a pair, run; nothing if the shared line, by its gap or by stamps, is refused even where it is alone."""
+    shared = random.Random(f"stamps {seed}" if kind.by_stamps else seed)
     largest = shared.randint(1, 8)
     silence = shared.choice((0, 0, 1, 2, shared.randint(1, 64)))
     first = largest + silence + shared.randint(4, 60 + 6 * silence)
@@ -167,9 +237,9 @@ def twin(seed, which, run):
     crowded = seed % 4 == 3
     if crowded:  # room for a packet of each line and for more
         bounds = [bound + (MOST_CONNECTIONS + 50) * (1 + silence) for bound in bounds]
-    line = Line(shared, bounds, largest, silence)
+    line = kind(shared, bounds, largest, silence)
     for busy in (4, 3, 2, 1, 0):
-        numbers = random.Random(f"{seed} {which} {busy}")
+        numbers = random.Random(f"{seed} {which} {busy}{' stamps' * kind.by_stamps}")
         ward = Ward(numbers, (bounds, largest, silence), line, busy)
         if crowded:
             ward.many_stand()

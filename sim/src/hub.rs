@@ -121,8 +121,8 @@ impl Hub {
             .count()
     }
 
-    /// When a packet that is offered now would be eligible; nothing for a number that does not
-    /// stand.
+    /// When a packet that is offered now without a stamp would be eligible; nothing for a number
+    /// that does not stand.
     pub fn eligibility_now(&self, connection: u8) -> Option<Tick> {
         let owner = self.owners.standing_at(connection)?;
         Some(owner.next_eligibility(self.clock))
@@ -174,13 +174,26 @@ impl Hub {
         Ok(number)
     }
 
-    /// Offers a packet and gives its eligibility: verdicts 2, 10, 11, 12, 13 in that order.
+    /// Offers a packet without a stamp and gives its eligibility.
     pub fn offer(&mut self, connection: u8, length: u16, tag: u32) -> Result<Tick, Refusal> {
+        self.offer_with(connection, length, tag, None)
+    }
+
+    /// Offers a packet that brings a stamp or none and gives its eligibility: verdicts 2, 10,
+    /// 11, 12, 13, 17 in that order.
+    pub fn offer_with(
+        &mut self,
+        connection: u8,
+        length: u16,
+        tag: u32,
+        stamp: Option<Tick>,
+    ) -> Result<Tick, Refusal> {
         let link = *self.link()?;
         let held = self.held_by(connection) as u64;
         let owner = self
             .owners
             .standing_at_mut(connection)
+            .filter(|owner| owner.suits(stamp))
             .ok_or(Refusal::NoSuchConnection)?;
         let terms = owner.connection;
         if !(1..=terms.size()).contains(&length) {
@@ -192,7 +205,9 @@ impl Hub {
         if self.clock >= CLOCK_END {
             return Err(Refusal::ClockEnded);
         }
-        let eligibility = owner.next_eligibility(self.clock);
+        let eligibility = owner
+            .eligibility_of(self.clock, stamp)
+            .ok_or(Refusal::Untimely)?;
         owner.recent.remember(eligibility);
         self.places.push(Held {
             connection,

@@ -1,5 +1,5 @@
 //! Link and connection with their limits (section "Link, connections, places"; the silence by
-//! R-4, averages by R-6, how many connections and places by R-7).
+//! R-4, averages by R-6, how many connections and places by R-7, allowances by R-9).
 
 use crate::verdict::Refusal;
 
@@ -84,7 +84,7 @@ impl Link {
 }
 
 /// The figures of a connection as they are handed in: window I and average gap are both 0 where it
-/// has no average.
+/// has no average; one with an allowance is regulated by stamps, others by their gap.
 #[derive(Clone, Copy, Debug, PartialEq, Eq)]
 pub struct Figures {
     pub level: u8,
@@ -92,10 +92,11 @@ pub struct Figures {
     pub size: u16,
     pub window: u16,
     pub average: u16,
+    pub allowance: Option<u16>,
 }
 
 impl Figures {
-    /// Those of a connection without an average.
+    /// Those of a connection without an average, regulated by its gap.
     pub fn plain(level: u8, gap: u16, size: u16) -> Figures {
         Figures {
             level,
@@ -103,6 +104,7 @@ impl Figures {
             size,
             window: 0,
             average: 0,
+            allowance: None,
         }
     }
 
@@ -110,6 +112,13 @@ impl Figures {
         Figures {
             window,
             average,
+            ..self
+        }
+    }
+
+    pub fn by_stamps(self, allowance: u16) -> Figures {
+        Figures {
+            allowance: Some(allowance),
             ..self
         }
     }
@@ -134,20 +143,26 @@ impl Average {
     }
 }
 
-/// A connection within the limits of its link: level, gap X, size and perhaps an average.
+/// A connection within the limits of its link: level, gap X, size and perhaps an average, or an
+/// allowance, but not both.
 #[derive(Clone, Copy, Debug, PartialEq, Eq)]
 pub struct Connection {
     level: u8,
     gap: u16,
     size: u16,
     average: Option<Average>,
+    allowance: Option<u16>,
 }
 
 impl Connection {
     /// The connection, or verdict 5 or 6 (section "Verdict numbers").
     pub fn new(link: &Link, figures: Figures) -> Result<Connection, Refusal> {
         let Figures {
-            level, gap, size, ..
+            level,
+            gap,
+            size,
+            allowance,
+            ..
         } = figures;
         if !(1..=link.levels()).contains(&level) {
             return Err(Refusal::NoSuchLevel);
@@ -155,11 +170,16 @@ impl Connection {
         if gap == 0 || !(1..=link.largest()).contains(&size) {
             return Err(Refusal::ConnectionLimit);
         }
+        let average = average_of(figures)?;
+        if average.is_some() && allowance.is_some() {
+            return Err(Refusal::ConnectionLimit);
+        }
         Ok(Connection {
             level,
             gap,
             size,
-            average: average_of(figures)?,
+            average,
+            allowance,
         })
     }
 
@@ -179,6 +199,11 @@ impl Connection {
         self.average
     }
 
+    /// a of a connection that is regulated by stamps; nothing of one by its gap.
+    pub fn allowance(&self) -> Option<u16> {
+        self.allowance
+    }
+
     /// The most packets that a stretch of so many ticks can hold: the ticks divided by X, rounded
     /// up; with an average no more than n for each whole I, and for the rest the smaller of n and
     /// the rest divided by X, rounded up.
@@ -194,9 +219,16 @@ impl Connection {
         }
     }
 
-    /// Reservation: the most packets that d of the connection's own level can hold.
+    /// Reservation: the most packets that d of the connection's own level can hold; by stamps, that
+    /// a and d together can.
     pub fn reservation(&self, link: &Link) -> u64 {
-        self.packets_within(link.bound(self.level))
+        match self.allowance {
+            None => self.packets_within(link.bound(self.level)),
+            Some(allowance) => {
+                let bound = link.bound(self.level);
+                rounded_up(u64::from(allowance) + u64::from(bound), self.gap)
+            }
+        }
     }
 }
 
@@ -222,6 +254,6 @@ fn average_of(figures: Figures) -> Result<Option<Average>, Refusal> {
     Ok(Some(Average { window, packets }))
 }
 
-fn rounded_up(ticks: u16, gap: u16) -> u64 {
-    (u64::from(ticks) + u64::from(gap) - 1) / u64::from(gap)
+fn rounded_up(ticks: impl Into<u64>, gap: u16) -> u64 {
+    (ticks.into() + u64::from(gap) - 1) / u64::from(gap)
 }

@@ -1,5 +1,6 @@
 //! Which connection has which number (docs/RULES-AFTER-BASE.md, section R-8): an owner stands until
-//! it is closed, and closed it is charged until its number is freed.
+//! it is closed, and closed it is charged until its number is freed. Eligibilities, by gaps and
+//! averages or by stamps (section R-9).
 
 use crate::departure::Tick;
 use crate::link::{Connection, MOST_CONNECTIONS};
@@ -29,6 +30,30 @@ impl Owner {
                 next_eligibility(nth, Tick::from(average.window()), spaced)
             }
         }
+    }
+
+    /// Whether an offer with a stamp, or without one, is for a connection of this kind.
+    pub fn suits(&self, stamp: Option<Tick>) -> bool {
+        self.connection.allowance().is_some() == stamp.is_some()
+    }
+
+    /// Eligibility of a packet that arrives now and suits: by its stamp if it brings one, and nothing
+    /// where that is untimely.
+    pub fn eligibility_of(&self, arrival: Tick, stamp: Option<Tick>) -> Option<Tick> {
+        match (self.connection.allowance(), stamp) {
+            (Some(allowance), Some(stamp)) => self.timely(arrival, stamp, Tick::from(allowance)),
+            _ => Some(self.next_eligibility(arrival)),
+        }
+    }
+
+    /// The stamp plus a, but not where the stamp is later than now, where the sum is before
+    /// now, or where it is less than X behind the last accepted one, if there is one.
+    fn timely(&self, arrival: Tick, stamp: Tick, allowance: Tick) -> Option<Tick> {
+        let eligibility = stamp + allowance;
+        let gap = Tick::from(self.connection.gap());
+        let earliest = self.recent.back(1).map_or(0, |last| last + gap);
+        let in_time = stamp <= arrival && arrival <= eligibility && earliest <= eligibility;
+        in_time.then_some(eligibility)
     }
 
     fn stands(&self) -> bool {

@@ -1,6 +1,6 @@
 //! Trace and answer records (section "Trace and answer records"; `NQ` and `NA` by R-1,
 //! level and units in `CA` by R-2, the silence in `LK` by R-4, window and average gap in `CN` by
-//! R-6, `CL` and `CD` by R-8).
+//! R-6, `CL` and `CD` by R-8, `CS` and `PS` by R-9).
 
 use crate::departure::{Departure, Tick};
 use crate::link::{Figures, MOST_LEVELS};
@@ -12,7 +12,8 @@ pub const LONGEST_RECORD: usize = 6 + 2 * MOST_LEVELS;
 /// The connection number that a refused admission gives.
 pub const NO_CONNECTION: u8 = 255;
 
-/// A trace record. Bounds past n are 0.
+/// A trace record. Bounds past n are 0. Figures with an allowance stand in a `CS`, others in a `CN`; a
+/// packet with a stamp in a `PS`, one without in a `PK`.
 #[derive(Clone, Copy, Debug, PartialEq, Eq)]
 pub enum Record {
     Link {
@@ -29,6 +30,7 @@ pub enum Record {
         connection: u8,
         length: u16,
         tag: u32,
+        stamp: Option<u32>,
     },
     Notice {
         length: u16,
@@ -46,6 +48,7 @@ impl Record {
         let record = match &fields.take::<2>()? {
             b"LK" => read_link(&mut fields)?,
             b"CN" => Record::Connection(read_figures(&mut fields)?),
+            b"CS" => Record::Connection(read_stamped(&mut fields)?),
             b"CL" => Record::Close {
                 connection: fields.one()?,
             },
@@ -53,6 +56,13 @@ impl Record {
                 connection: fields.one()?,
                 length: fields.two()?,
                 tag: fields.four()?,
+                stamp: None,
+            },
+            b"PS" => Record::Packet {
+                connection: fields.one()?,
+                length: fields.two()?,
+                tag: fields.four()?,
+                stamp: Some(fields.four()?),
             },
             b"NQ" => Record::Notice {
                 length: fields.two()?,
@@ -81,12 +91,8 @@ impl Record {
                 connection,
                 length,
                 tag,
-            } => {
-                out.extend_from_slice(b"PK");
-                out.push(connection);
-                out.extend_from_slice(&length.to_le_bytes());
-                out.extend_from_slice(&tag.to_le_bytes());
-            }
+                stamp,
+            } => append_packet(out, connection, length, tag, stamp),
             Record::Notice { length, tag } => {
                 out.extend_from_slice(b"NQ");
                 out.extend_from_slice(&length.to_le_bytes());
@@ -116,13 +122,29 @@ fn append_link(
     }
 }
 
+/// With an allowance there is no average to be written.
 fn append_connection(out: &mut Vec<u8>, figures: &Figures) {
-    out.extend_from_slice(b"CN");
+    out.extend_from_slice(figures.allowance.map_or(b"CN", |_| b"CS"));
     out.push(figures.level);
     out.extend_from_slice(&figures.gap.to_le_bytes());
     out.extend_from_slice(&figures.size.to_le_bytes());
-    out.extend_from_slice(&figures.window.to_le_bytes());
-    out.extend_from_slice(&figures.average.to_le_bytes());
+    match figures.allowance {
+        Some(allowance) => out.extend_from_slice(&allowance.to_le_bytes()),
+        None => {
+            out.extend_from_slice(&figures.window.to_le_bytes());
+            out.extend_from_slice(&figures.average.to_le_bytes());
+        }
+    }
+}
+
+fn append_packet(out: &mut Vec<u8>, connection: u8, length: u16, tag: u32, stamp: Option<u32>) {
+    out.extend_from_slice(stamp.map_or(b"PK", |_| b"PS"));
+    out.push(connection);
+    out.extend_from_slice(&length.to_le_bytes());
+    out.extend_from_slice(&tag.to_le_bytes());
+    if let Some(stamp) = stamp {
+        out.extend_from_slice(&stamp.to_le_bytes());
+    }
 }
 
 /// Whole figures as a `CN` has them behind its mark, and not a byte more.
@@ -139,7 +161,13 @@ fn read_figures(fields: &mut Fields) -> Option<Figures> {
         size: fields.two()?,
         window: fields.two()?,
         average: fields.two()?,
+        allowance: None,
     })
+}
+
+fn read_stamped(fields: &mut Fields) -> Option<Figures> {
+    let plain = Figures::plain(fields.one()?, fields.two()?, fields.two()?);
+    Some(plain.by_stamps(fields.two()?))
 }
 
 /// An `LK` with n outside 1 to 8 is malformed, with any silence it is not; bounds past n are read
@@ -292,7 +320,8 @@ fn append_departure(out: &mut Vec<u8>, departure: &Departure) {
 }
 
 /// Four bytes. No tick of a run needs more: an accepted offer is made before the clock's end,
-/// and its eligibility is less than 65,536 beyond.
+/// and its eligibility is less than 65,536 beyond, by a stamp as well, which is never later than the
+/// offer.
 fn append_tick(out: &mut Vec<u8>, tick: Tick) {
     out.extend_from_slice(&tick.to_le_bytes()[..4]);
 }

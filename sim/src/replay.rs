@@ -60,7 +60,8 @@ impl Job {
                 connection,
                 length,
                 tag,
-            } => self.offer(connection, length, tag),
+                stamp,
+            } => self.offer(connection, length, tag, stamp),
             Record::Notice { length, tag } => self.offer_notice(length, tag),
             Record::Ticks { asked } => self.run_ticks(asked, hand_over)?,
         };
@@ -94,8 +95,9 @@ impl Job {
         }
     }
 
-    fn offer(&mut self, connection: u8, length: u16, tag: u32) -> Answer {
-        let result = self.hub.offer(connection, length, tag);
+    fn offer(&mut self, connection: u8, length: u16, tag: u32, stamp: Option<u32>) -> Answer {
+        let stamp = stamp.map(Tick::from);
+        let result = self.hub.offer_with(connection, length, tag, stamp);
         Answer::Packet {
             verdict: number_of(&result),
             eligibility: result.unwrap_or(0),

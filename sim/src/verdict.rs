@@ -1,4 +1,4 @@
-//! The verdict numbers (section "Verdict numbers"; 15 by R-1, 16 by R-8).
+//! The verdict numbers (section "Verdict numbers"; 15 by R-1, 16 by R-8, 17 by R-9).
 
 /// A level that fails and by how many units: its sum, in which S is counted, less its bound.
 #[derive(Clone, Copy, Debug, PartialEq, Eq)]
@@ -25,13 +25,14 @@ pub enum Refusal {
     Malformed,
     NoticesFull,
     PacketsHeld,
+    Untimely,
 }
 
 /// The verdict of a call that was done.
 pub const DONE: u8 = 0;
 
 /// The highest verdict number.
-pub const HIGHEST: u8 = Refusal::PacketsHeld.number();
+pub const HIGHEST: u8 = Refusal::Untimely.number();
 
 impl Refusal {
     pub const fn number(self) -> u8 {
@@ -51,6 +52,7 @@ impl Refusal {
             Refusal::Malformed => 14,
             Refusal::NoticesFull => 15,
             Refusal::PacketsHeld => 16,
+            Refusal::Untimely => 17,
         }
     }
 }

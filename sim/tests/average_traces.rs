@@ -1,5 +1,5 @@
 //! What must hold of every connection in every generated trace (docs/RULES-AFTER-BASE.md, section
-//! R-6), told by the records and their answers alone.
+//! R-6, by stamps R-9), told by the records and their answers alone.
 
 mod told;
 
@@ -23,6 +23,10 @@ impl Line {
         u64::from(self.figures.gap)
     }
 
+    fn allowance(&self) -> u64 {
+        self.figures.allowance.map_or(0, u64::from)
+    }
+
     /// I and n.
     fn average(&self) -> Option<(u64, usize)> {
         let Figures {
@@ -31,8 +35,12 @@ impl Line {
         (average > 0).then(|| (u64::from(window), usize::from(window / average)))
     }
 
-    /// The eligibility by the rule's words, from all that was accepted, and what decided it.
-    fn next(&self, arrival: u64) -> (u64, By) {
+    /// The eligibility by the rule's words, from all that was accepted, and what decided it; by a
+    /// stamp it is that plus the allowance.
+    fn next(&self, arrival: u64, stamp: Option<u32>) -> (u64, By) {
+        if let Some(stamp) = stamp {
+            return (u64::from(stamp) + self.allowance(), By::Nothing);
+        }
         let back = |packets: usize| self.eligibilities.iter().rev().nth(packets - 1);
         let mut next = (arrival, By::Nothing);
         if let Some(last) = back(1).filter(|&last| last + self.gap() > next.0) {
@@ -66,8 +74,12 @@ impl Line {
     }
 
     /// A row beyond the clock: the earliest that both rules allow where its n-th before is held or
-    /// remembered, else at most the greater of I past the clock and X past the one before.
+    /// remembered, else at most the greater of I past the clock and X past the one before. By stamps:
+    /// at most a past the clock.
     fn may_wait(&self, known: &[u64], at: usize, clock: u64) -> bool {
+        if self.figures.allowance.is_some() {
+            return known[at] <= clock + self.allowance();
+        }
         let spaced = at.checked_sub(1).map_or(0, |last| known[last] + self.gap());
         match self.average() {
             None => known[at] <= spaced.max(clock + self.gap()),
@@ -105,9 +117,11 @@ struct Met {
 fn carry_out(told: &mut Told, record: Record, met: &mut Met) {
     let clock = told.clock();
     let expected = match record {
-        Record::Packet { connection, .. } => told.standing(connection).map(|line| {
+        Record::Packet {
+            connection, stamp, ..
+        } => told.standing(connection).map(|line| {
             let average = line.average();
-            (line.next(clock), average)
+            (line.next(clock, stamp), average)
         }),
         _ => None,
     };

@@ -37,6 +37,8 @@ fn both_paces_agree() {
         "averageend",
         "closelimit",
         "closeend",
+        "stamplimit",
+        "stampend",
     ];
     for kind in KINDS.iter().filter(|kind| !slow.contains(&kind.name)) {
         for seed in 0..SEEDS {
@@ -190,6 +192,32 @@ fn connections_are_closed_and_opened() {
 }
 
 #[test]
+fn stamps_are_taken_and_refused() {
+    let all = [
+        "stamps",
+        "stamprelays",
+        "stampsmall",
+        "stampfull",
+        "stampreopened",
+    ];
+    for name in all {
+        assert!(total(name).departures > 300, "{name}");
+    }
+    for name in ["stamps", "stampsmall", "stampfull", "stampfigures"] {
+        assert!(total(name).verdict(17) > 400, "{name}");
+    }
+    assert_eq!(total("stamprelays").verdict(17), 0);
+    assert!(total("stampfull").verdict(12) > 200);
+    assert!(total("stampreopened").verdict(10) > 300);
+    let figures = total("stampfigures");
+    for verdict in [2, 5, 6, 7, 8, 9] {
+        assert!(figures.verdict(verdict) > 5, "verdict {verdict}");
+    }
+    let end = total("stampend");
+    assert!(end.verdict(12) > 100 && end.verdict(13) > 300 && end.verdict(17) > 500);
+}
+
+#[test]
 fn damage_is_noticed() {
     let malformed = total("malformed");
     assert!(malformed.verdict(14) > SEEDS / 3);
@@ -199,4 +227,6 @@ fn damage_is_noticed() {
     assert!(total("badnotice").verdict(14) > SEEDS / 2);
     assert!(total("closedamage").verdict(14) > SEEDS / 2);
     assert!(total("badclose").verdict(14) > SEEDS / 2);
+    assert!(total("stampdamage").verdict(14) > SEEDS / 2);
+    assert!(total("badstamp").verdict(14) > SEEDS / 2);
 }

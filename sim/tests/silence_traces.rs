@@ -30,6 +30,7 @@ impl Told {
                 connection,
                 length,
                 tag,
+                ..
             } => (connection, length, tag),
             Record::Notice { length, tag } => (NOTICE_NUMBER, length, tag),
             _ => return,

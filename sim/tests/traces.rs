@@ -339,14 +339,17 @@ fn check_words(trace: &[u8], kind: &str, seed: u64) -> (usize, usize) {
         }
         let (connection, length) = match record {
             Record::Packet {
-                connection, length, ..
+                connection,
+                length,
+                stamp: None,
+                ..
             } => (connection, length),
             _ => continue,
         };
         let (line, clock) = (usize::from(connection), job.hub().clock());
         let terms = match job.hub().connection(connection) {
-            Some(terms) => *terms,
-            None => continue,
+            Some(terms) if terms.allowance().is_none() => *terms,
+            _ => continue,
         };
         if length == 0 || length > terms.size() || clock >= CLOCK_END {
             continue;

@@ -1,4 +1,4 @@
-// A caller of the hub, to read and to copy: a link, three lines, seven offers and a notice, a close, 55 ticks. It prints each answer and each departure; its
+// A caller of the hub, to read and to copy: a link, four lines, ten offers and a notice, a close, 72 ticks. It prints each answer and each departure; its
 // README.md works out by hand what they must be. docs/CALLERS.md has every type and every call.
 use libc::STDOUT_FILENO;
 use rules::Connection;
@@ -68,8 +68,8 @@ fn ticks(
 }
 
 // A link, and lines that ask to be admitted. A line says its level, the gap that it keeps between packets and their largest size; one that sends in bursts also
-// an averaging window and an average gap, and no window has more packets than that gap goes into it; for the others both are 0. The number that a line is given
-// names it in its offers.
+// an averaging window and an average gap, and no window has more packets than that gap goes into it; for the others both are 0. Kind and allowance are 0 but for
+// lines from another hub, below. The number that a line is given names it in its offers.
 fn open(
     fresh: Hub,
     members: &mut Connections,
@@ -91,6 +91,8 @@ fn open(
         size: 2,
         window: 20,
         average: 10,
+        kind: 0,
+        allowance: 0,
     };
     let h = show(b"link", hub::link(fresh, members, places, notices, line));
     let h = show(b"admit", hub::admit(h, members, places, notices, urgent));
@@ -132,6 +134,35 @@ fn reopen(
     ticks(h, members, places, notices, 4)
 }
 
+// A line that comes from another hub: each of its offers brings the packet's eligibility there, its stamp, and it is eligible here the line's allowance later,
+// which is the other hub's bound and the delay of the wire between them. An offer without a stamp is not this line's, and a stamp lies not in the future.
+fn onward(
+    reopened: Hub,
+    members: &mut Connections,
+    places: &mut Places,
+    notices: &mut Notices,
+) -> Hub {
+    let floor = Connection {
+        level: 2,
+        gap: 40,
+        size: 2,
+        window: 0,
+        average: 0,
+        kind: 1,
+        allowance: 30,
+    };
+    let h = show(
+        b"admit",
+        hub::admit(reopened, members, places, notices, floor),
+    );
+    let r = hub::offer_stamped(h, members, places, notices, 2, 2, 200, 40);
+    let h = show(b"offer with stamp 40", r);
+    let h = show(b"offer", hub::offer(h, members, places, notices, 2, 2, 201));
+    let r = hub::offer_stamped(h, members, places, notices, 2, 2, 202, 56);
+    let h = show(b"offer with stamp 56", r);
+    ticks(h, members, places, notices, 17)
+}
+
 fn main() {
     let mut members: Connections = [0; hub::CONNECTIONS];
     let mut places: Places = [0; hub::PLACES];
@@ -142,10 +173,13 @@ fn main() {
         size: 4,
         window: 0,
         average: 0,
+        kind: 0,
+        allowance: 0,
     };
     let h = open(hub::fresh_hub(), &mut members, &places, &notices, urgent);
     let h = send(h, &mut members, &mut places, &mut notices);
     let h = reopen(h, &mut members, &mut places, &mut notices, urgent);
+    let h = onward(h, &mut members, &mut places, &mut notices);
     write(b"clock: ", h.clock as u64);
     io::write_all(STDOUT_FILENO, b"\n");
 }

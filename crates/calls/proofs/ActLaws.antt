@@ -5,6 +5,7 @@ use native.Mathlib.Omega.{arith}
 use mathlib.Core.Path.{_≡_, refl, sym, ap, _∙_, subst}
 use mathlib.Core.Bool.{Bool, true, false, cond, not}
 use mathlib.Core.List.{List, [], _∷_, _++_}
+use mathlib.Core.Option.{Option, none, some}
 use lib.Dec.{eqb}
 use lib.ListN.{length, getD, set, drop, length-append, length-map, length-set, List·getD-eq-default}
 use lib.Seq.{drop-length, getD-set-same, getD-set-other}
@@ -16,7 +17,7 @@ use Rattle.rules.specs.Words.{All}
 use Rattle.rules.specs.Limits.{max-connections, clock-end, beyond-32-bits, notice-number}
 use Rattle.rules.specs.Model.{Past, State, Call, link, admit, offer, notice, close, tick, no-short, no-connection, no-past, past, figures, closed-at, notice-packet}
 use Rattle.rules.specs.Admission.{owned, free-number, joining, largest-bound}
-use Rattle.rules.specs.Service.{next-eligibility, remember, of, ticked, charge-over, expired, swept-connections, swept-pasts, swept-marks}
+use Rattle.rules.specs.Service.{eligibility-by, untimely-by, remember, of, ticked, charge-over, expired, swept-connections, swept-pasts, swept-marks}
 use Rattle.rules.specs.SoundState.{Free-number}
 use Rattle.rules.specs.Calls.{verdict, refused-number, refused-short, eligibility-now, placed, marked}
 use Rattle.rules.proofs.Rows.{map-append}
@@ -28,6 +29,7 @@ use Rattle.rules.proofs.Standing.{level-free, stands-open, stands-below, free-i
 use Rattle.rules.proofs.Closing.{expired-yes}
 use Rattle.rules.proofs.Line.{tick-leaves}
 use Rattle.rules.proofs.Bounds.{rows-fit-places, eligibilities-fit-32, charges-fit-32}
+use Rattle.rules.proofs.Stamps.{in-time-of}
 use Rattle.rules.proofs.SoundKept.{done-sound}
 use Rattle.rules.proofs.Verdicts.{admit-done, Offer-done, offer-done, notice-done, Close-done, close-done}
 use Rattle.tables.specs.Places.{places-length, rows, written-places, table-of, no-packet}
@@ -177,9 +179,9 @@ bit-le a b = go (eqb a b)
 pub all-counted : (c : ℕ) (ps : List Packet) (n i : ℕ) → i ≡ length ps → n + length (of c (drop i ps)) ≡ length (of c ps) → n ≡ length (of c ps)
 all-counted c ps n i e h = omega (arith, ap (λ (l : List Packet). length (of c l)) (ap (λ (j : ℕ). drop j ps) e ∙ drop-length ps))
 
-module _ (h : Hub) (t : Tables) (ok : sound-hub h t ≡ true) (c len tag : ℕ) (good : verdict (offer c len tag) (view h t) ≡ 0) where
-  did : Offer-done (view h t) c len
-  did = offer-done (view h t) c len tag good
+module _ (h : Hub) (t : Tables) (ok : sound-hub h t ≡ true) (c len tag : ℕ) (st : Option ℕ) (good : verdict (offer c len tag st) (view h t) ≡ 0) where
+  did : Offer-done (view h t) c len st
+  did = offer-done (view h t) c len tag st good
 
   pub offer-below : c < max-connections
   offer-below = omega (arith, stands-below (view h t) c (did .standing), connections-length (t .members))
@@ -189,37 +191,42 @@ module _ (h : Hub) (t : Tables) (ok : sound-hub h t ≡ true) (c len tag : ℕ) 
   offer-room =
       omega (
         arith,
-        rows-fit-places (placed (view h t) c len tag) (done-sound (offer c len tag) (view h t) (is-sound h t ok) good),
-        length-append (rows (t .places)) (record { connection = c; len = len; tag = tag; arrival = h .clock; eligibility = eligibility-now (view h t) c } ∷ []),
+        rows-fit-places (placed (view h t) c len tag st) (done-sound (offer c len tag st) (view h t) (is-sound h t ok) good),
+        length-append (rows (t .places)) (record { connection = c; len = len; tag = tag; arrival = h .clock; eligibility = eligibility-now (view h t) c st } ∷ []),
       )
 
   -- the eligibility of the row read
   pub offer-reads : (m : Member) → m ≡ member-in (t .members) c → Member-facts (t .members) c m
   offer-reads m e = member-facts (h .link) (t .members) c m (members-rows (t .members) (shapes t (formed-tables h t ok) .members-shape)) offer-below (figures-in-limits h t ok (did .set)) e
 
-  pub offer-eligibility : (m : Member) (e : ℕ) → m ≡ member-in (t .members) c → e ≡ next-eligibility (connection-of m) (past-of m) (h .clock) → e ≡ eligibility-now (view h t) c
+  pub offer-eligibility : (m : Member) (e : ℕ) → m ≡ member-in (t .members) c → e ≡ eligibility-by (connection-of m) (past-of m) (h .clock) st → e ≡ eligibility-now (view h t) c st
   offer-eligibility m e i j =
       j
-      ∙ ap (λ (x : Connection). next-eligibility x (past-of m) (h .clock)) (offer-reads m i .figures)
-      ∙ ap (λ (y : Past). next-eligibility (figures (view h t) c) y (h .clock)) (offer-reads m i .past)
+      ∙ ap (λ (x : Connection). eligibility-by x (past-of m) (h .clock) st) (offer-reads m i .figures)
+      ∙ ap (λ (y : Past). eligibility-by (figures (view h t) c) y (h .clock) st) (offer-reads m i .past)
 
-  pub offer-fits : eligibility-now (view h t) c < beyond-32-bits
-  offer-fits = eligibilities-fit-32 (view h t) (is-sound h t ok) .1 c .1
+  -- a stamp in time is not later than the clock
+  pub offer-fits : eligibility-now (view h t) c st < beyond-32-bits
+  offer-fits = go st (did .in-time)
+    where
+      go : (o : Option ℕ) → untimely-by (figures (view h t) c) (past (view h t) c) (h .clock) o ≡ false → eligibility-now (view h t) c o < beyond-32-bits
+      go none e = eligibilities-fit-32 (view h t) (is-sound h t ok) .1 c .1
+      go (some stamp) e = eligibilities-fit-32 (view h t) (is-sound h t ok) .1 c .2 stamp (in-time-of (figures (view h t) c) (past (view h t) c) (h .clock) stamp e .not-later)
 
-  pub offer-acts : (r : Told) (e : ℕ) (m p : List ℕ) → e ≡ eligibility-now (view h t) c → r ≡ refusal h 0 e
+  pub offer-acts : (r : Told) (e : ℕ) (m p : List ℕ) → e ≡ eligibility-now (view h t) c st → r ≡ refusal h 0 e
       → m ≡ written-table (connections-in (t .members)) (set (pasts-in (t .members)) c (remember (past (view h t) c) e)) (closed-in (t .members)) (used-in (t .members)) (first-in (t .members))
       → p ≡ written-places (rows (t .places) ++ record { connection = c; len = len; tag = tag; arrival = h .clock; eligibility = e } ∷ [])
-      → Does (offer c len tag) h t r (tables m p (t .notices))
+      → Does (offer c len tag st) h t r (tables m p (t .notices))
   offer-acts r e m p i j k l =
       let f = shapes t (formed-tables h t ok) .members-shape in
       let hs : ℕ → List Past = λ u. set (pasts-in (t .members)) c (remember (past (view h t) c) u) in
       let m′ = k
       ∙ ap (λ (u : ℕ). written-table (connections-in (t .members)) (hs u) (closed-in (t .members)) (used-in (t .members)) (first-in (t .members))) i
-      ∙ ap (λ (u : ℕ). written-table (connections-in (t .members)) (hs (eligibility-now (view h t) c)) (closed-in (t .members)) u (first-in (t .members))) (used-is (t .members) f)
-      ∙ ap (written-table (connections-in (t .members)) (hs (eligibility-now (view h t) c)) (closed-in (t .members)) (used-by (connections-in (t .members))))
-      (first-is (t .members) f ∙ sym (first-same (pasts-in (t .members)) (closed-in (t .members)) c (remember (past (view h t) c) (eligibility-now (view h t) c)) (stands-open (view h t) c (did .standing)))) in
+      ∙ ap (λ (u : ℕ). written-table (connections-in (t .members)) (hs (eligibility-now (view h t) c st)) (closed-in (t .members)) u (first-in (t .members))) (used-is (t .members) f)
+      ∙ ap (written-table (connections-in (t .members)) (hs (eligibility-now (view h t) c st)) (closed-in (t .members)) (used-by (connections-in (t .members))))
+      (first-is (t .members) f ∙ sym (first-same (pasts-in (t .members)) (closed-in (t .members)) c (remember (past (view h t) c) (eligibility-now (view h t) c st)) (stands-open (view h t) c (did .standing)))) in
       let p′ = l ∙ ap (λ (u : ℕ). written-places (rows (t .places) ++ record { connection = c; len = len; tag = tag; arrival = h .clock; eligibility = u } ∷ [])) i in
-      acts (offer c len tag) h t ok r (tables m p (t .notices)) good (j ∙ ap (refusal h 0) i) (λ n. tables (m′ n) (p′ n) (notices-kept h t ok n))
+      acts (offer c len tag st) h t ok r (tables m p (t .notices)) good (j ∙ ap (refusal h 0) i) (λ n. tables (m′ n) (p′ n) (notices-kept h t ok n))
 
 -- ---- a notice
 

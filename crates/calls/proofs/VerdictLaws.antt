@@ -3,31 +3,35 @@ use Prim.Native.Nat.{ℕ, _+_, _≤_, _<_}
 use native.Mathlib.Omega.{arith}
 use mathlib.Core.Path.{_≡_, refl, sym, ap, _∙_, subst}
 use mathlib.Core.Logic.{_⊎_, inl, inr}
-use mathlib.Core.Bool.{Bool, true, false, cond, not}
+use mathlib.Core.Bool.{Bool, true, false, cond, not, _&&_}
 use mathlib.Core.List.{List, [], _∷_, _++_}
+use mathlib.Core.Option.{Option}
 use lib.Dec.{leb, ltb, eqb}
-use lib.ListN.{length}
+use lib.ListN.{length, getD}
 use borrow.Author.Tests.{eq-eqb, ne-eqb, lt-ltb, le-ltb, leb-false, not-false}
 use Rattle.rules.specs.declared.Link.{Link}
 use Rattle.rules.specs.declared.Connection.{Connection}
 use Rattle.rules.specs.declared.Short.{Short}
 use Rattle.rules.specs.Words.{All, within, first-number}
-use Rattle.rules.specs.Limits.{max-largest, max-connections, max-reserved}
-use Rattle.rules.specs.Model.{State, Call, admit, offer, close, no-short, no-connection, nth, figures}
-use Rattle.rules.specs.Admission.{level-within, stands, free-number, joining, reservation, reserved, level-test, passes}
-use Rattle.rules.specs.Service.{of}
+use Rattle.rules.specs.Limits.{max-largest, max-connections, max-reserved, beyond-32-bits}
+use Rattle.rules.specs.Model.{State, Call, admit, offer, close, no-short, no-connection, no-past, nth, figures, past}
+use Rattle.rules.specs.Admission.{level-within, owned, stands, free-number, joining, bound, reservation, reserved, level-test, passes}
+use Rattle.rules.specs.Service.{suits, untimely, untimely-by, of}
 use Rattle.rules.specs.SoundTest.{sound}
-use Rattle.rules.specs.Calls.{no-link-set, no-such-connection, clock-ended, causes, verdicts, verdict, refused-short}
+use Rattle.rules.specs.Calls.{heard, no-link-set, no-such-connection, clock-ended, causes, verdicts, verdict, refused-short}
 use Rattle.rules.proofs.Tests.{passed, never, never-number, within-intro, within-true}
 use Rattle.rules.proofs.Sums.{cond-is, split}
-use Rattle.rules.proofs.Standing.{owned-level, level-free, stands-owned, free-is}
+use Rattle.rules.proofs.Standing.{owned-level, level-free, stands-is, stands-owned, stands-below, free-is}
+use Rattle.rules.proofs.Verdicts.{heard-parts}
 use Rattle.rules.proofs.Results.{level-test-tells}
 use Rattle.limits.proofs.ChainLaws.{too-low, too-high}
 use Rattle.tables.specs.Places.{rows}
-use Rattle.connections.specs.Members.{connections-in}
+use Rattle.connections.specs.declared.Member.{Member}
+use Rattle.connections.specs.Members.{member-in, connection-of, past-of, connections-in, pasts-in}
+use Rattle.connections.specs.Stamps.{stamp-if}
 use Rattle.connections.specs.Within.{Within, Sums-with}
-use Rattle.connections.proofs.MemberLaws.{connections-length}
-use Rattle.connections.proofs.FigureLaws.{link-limits, figure-limits, sums-joining, reserved-joining}
+use Rattle.connections.proofs.MemberLaws.{connections-length, connection-is, past-is}
+use Rattle.connections.proofs.FigureLaws.{link-limits, figure-limits, entry-limits, sums-joining, reserved-joining}
 use Rattle.state.specs.declared.Hub.{Hub}
 use Rattle.state.specs.View.{Tables, view, sound-hub}
 use Rattle.state.proofs.SoundLaws.{sound-view, figures-in-limits}
@@ -71,23 +75,47 @@ too-long largest len h = go (split len largest)
 
 -- ---- an offer: what needs no walk over the places, then the rest
 
-module _ (h : Hub) (t : Tables) (ok : sound-hub h t ≡ true) (c len tag : ℕ) (b : Bool) (there : b ≡ stands (view h t) c) (x : Connection) (is : x ≡ nth (connections-in (t .members)) c) where
+-- who hears it, from what the code asks
+pub hears : (s : State) (c : ℕ) (st : Option ℕ) (x : Connection) (a b : Bool) → x ≡ nth (s .connections) c → a ≡ (owned (s .connections) c && not (getD (s .closed) c false)) → b ≡ suits x st
+    → (a && b) ≡ heard s c st
+unfolding heard
+hears s c st x a b is e f = (λ i. (e ∙ sym (stands-is s c)) i && (f ∙ ap (λ (y : Connection). suits y st) is) i)
+
+-- a stamp, and none
+module _ (t : List ℕ) (c clock stamp : ℕ) (brings : Bool) where
+  pub untimely-without : brings ≡ false → false ≡ untimely-by (nth (connections-in t) c) (getD (pasts-in t) c no-past) clock (stamp-if brings stamp)
+  untimely-without b = rw b
+
+  pub untimely-with : brings ≡ true → c < max-connections → (m : Member) → m ≡ member-in t c → (r : Bool) → r ≡ untimely (connection-of m) (past-of m) clock stamp
+      → r ≡ untimely-by (nth (connections-in t) c) (getD (pasts-in t) c no-past) clock (stamp-if brings stamp)
+  untimely-with b k m i r e =
+      rw b
+      (e
+      ∙ (λ j. untimely ((ap connection-of i ∙ sym (connection-is t c k)) j) ((ap past-of i ∙ sym (past-is t c k)) j) clock stamp))
+
+module _ (h : Hub) (t : Tables) (ok : sound-hub h t ≡ true) (c len tag : ℕ) (st : Option ℕ) (b : Bool) (there : b ≡ heard (view h t) c st) (x : Connection) (is : x ≡ nth (connections-in (t .members)) c) where
   abbrev offered : State
   offered = view h t
 
   abbrev in-front : List (ℕ × Bool)
-  in-front = no-link-set offered ∷ no-such-connection offered c ∷ (11, not (within 1 (figures offered c .size) len)) ∷ []
+  in-front = no-link-set offered ∷ (10, not (heard offered c st)) ∷ (11, not (within 1 (figures offered c .size) len)) ∷ []
+
+  abbrev rest-of : Connection → List (ℕ × Bool)
+  rest-of y =
+      (12, leb (reservation (h .link) y) (length (of c (rows (t .places)))))
+      ∷ clock-ended offered
+      ∷ (17, untimely-by (figures offered c) (past offered c) (h .clock) st) ∷ []
 
   abbrev rest : List (ℕ × Bool)
-  rest = (12, leb (reservation (h .link) (figures offered c)) (length (of c (rows (t .places))))) ∷ clock-ended offered ∷ []
+  rest = rest-of (figures offered c)
 
   front-is : early-offer (h .link) b x len ≡ in-front
   front-is i = no-link-set offered ∷ (10, not (there i)) ∷ (11, not (within 1 (is i .size) len)) ∷ []
 
-  pub offer-early : (v : ℕ) → v ≡ first-number (early-offer (h .link) b x len) → (v ≡ 0 → ⊥) → v ≡ verdict (offer c len tag) offered
+  pub offer-early : (v : ℕ) → v ≡ first-number (early-offer (h .link) b x len) → (v ≡ 0 → ⊥) → v ≡ verdict (offer c len tag st) offered
   offer-early v e n =
       let f = e ∙ ap first-number front-is in
-      f ∙ front-gives in-front rest (λ z. n (f ∙ z)) ∙ by-causes (offer c len tag) offered (sound-view h t ok)
+      f ∙ front-gives in-front rest (λ z. n (f ∙ z)) ∙ by-causes (offer c len tag st) offered (sound-view h t ok)
 
   module _ (none : first-number (early-offer (h .link) b x len) ≡ 0) where
     unrefused : first-number in-front ≡ 0
@@ -96,20 +124,27 @@ module _ (h : Hub) (t : Tables) (ok : sound-hub h t ≡ true) (c len tag : ℕ) 
     tests : All (λ (r : ℕ × Bool). r .1 ≡ false) in-front
     tests = passed in-front (omega arith, (omega arith, (omega arith, tt))) unrefused
 
-    pub offer-late : (r : ℕ) → r ≡ first-number ((12, leb (reservation (h .link) x) (length (of c (rows (t .places))))) ∷ clock-ended offered ∷ []) → r ≡ verdict (offer c len tag) offered
+    pub offer-late : (r : ℕ) → r ≡ first-number (rest-of x) → r ≡ verdict (offer c len tag st) offered
     offer-late r e =
         e
-        ∙ ap (λ (y : Connection). first-number ((12, leb (reservation (h .link) y) (length (of c (rows (t .places))))) ∷ clock-ended offered ∷ [])) is
+        ∙ ap (λ (y : Connection). first-number (rest-of y)) is
         ∙ behind-gives in-front rest (omega arith, (omega arith, (omega arith, tt))) unrefused
-        ∙ by-causes (offer c len tag) offered (sound-view h t ok)
+        ∙ by-causes (offer c len tag st) offered (sound-view h t ok)
 
-    -- the connection has an owner, so it has a level and a gap
-    pub offer-figures : (1 ≤ x .level) × (1 ≤ x .gap)
+    standing : stands offered c ≡ true
+    standing = heard-parts offered c st (not-false _ (tests .1 .0)) .0
+
+    pub offer-number : c < max-connections
+    offer-number = omega (arith, stands-below offered c standing, connections-length (t .members))
+
+    -- the connection has an owner, so it has a level and a gap, and its reservation can be counted
+    pub offer-figures : (1 ≤ x .level) × (1 ≤ x .gap) × (x .allowance + bound (h .link) (x .level) < beyond-32-bits)
     offer-figures =
         let w = figures-in-limits h t ok (λ e. never (sym (tests .0) ∙ eq-eqb (h .link .levels) 0 e)) in
-        let o = stands-owned offered c (not-false _ (tests .1 .0)) in (
+        let o = stands-owned offered c standing in (
           subst (λ (y : Connection). 1 ≤ y .level) (sym is) (omega (arith, owned-level (connections-in (t .members)) c o)),
           subst (λ (y : Connection). 1 ≤ y .gap) (sym is) (figure-limits (h .link) (nth (connections-in (t .members)) c) (w .figures-in c o) .some-gap),
+          entry-limits (h .link) (connections-in (t .members)) w c x is .reach-fits,
         )
 
 -- ---- a close, the same
@@ -188,10 +223,11 @@ module _ (h : Hub) (t : Tables) (ok : sound-hub h t ≡ true) (x : Connection) (
     pub admit-within : Within (h .link) (connections-in (t .members))
     admit-within = figures-in-limits h t ok link-is-set
 
-    pub admit-figures : (1 ≤ x .level) × (1 ≤ x .gap) × (x .size ≤ max-largest)
+    pub admit-figures : (1 ≤ x .level) × (1 ≤ x .gap) × (x .size ≤ max-largest) × (x .allowance + bound (h .link) (x .level) < beyond-32-bits)
     admit-figures =
         let f = figure-limits (h .link) x (not-false _ (all-false .1 .1 .0)) in
-        (some-level (h .link) x (not-false _ (all-false .1 .0)), f .some-gap, omega (arith, f .size-le, link-limits (h .link) (admit-within .link-in) .largest-le))
+        let l = link-limits (h .link) (admit-within .link-in) in
+        (some-level (h .link) x (not-false _ (all-false .1 .0)), f .some-gap, omega (arith, f .size-le, l .largest-le), omega (arith, f .allowance-le, l .bounds-le (x .level)))
 
     -- there is a free number, and nothing is left of its owner
     free-room : free-number (connections-in (t .members)) < length (connections-in (t .members))

@@ -1,4 +1,4 @@
--- What the code decides of a call's table of verdicts, and in which parts. Document 01, "Verdict numbers"; document 02, R-2 and R-8.
+-- What the code decides of a call's table of verdicts, and in which parts. Document 01, "Verdict numbers"; document 02, R-2, R-8 and R-9.
 use Prim.Native.Nat.{ℕ}
 use mathlib.Core.Bool.{Bool, not}
 use mathlib.Core.List.{List, [], _∷_}
@@ -20,9 +20,9 @@ ruling-of k s = record { verdict = verdict k s; short = refused-short k s (verdi
 abbrev pub early-admit : Link → ℕ → Connection → List (ℕ × Bool)
 early-admit l c x = (2, eqb (l .levels) 0) ∷ (5, not (level-within l x)) ∷ (6, not (figures-within l x)) ∷ (7, leb max-connections c) ∷ []
 
--- the rows of an offer's table that need no walk over the places, of a connection with figures x, and whether it stands
+-- the rows of an offer's table that need no walk over the places, of a connection with figures x, and whether it hears the offer
 abbrev pub early-offer : Link → Bool → Connection → ℕ → List (ℕ × Bool)
-early-offer l stands x len = (2, eqb (l .levels) 0) ∷ (10, not stands) ∷ (11, not (within 1 (x .size) len)) ∷ []
+early-offer l heard x len = (2, eqb (l .levels) 0) ∷ (10, not heard) ∷ (11, not (within 1 (x .size) len)) ∷ []
 
 -- .. and of a close's
 abbrev pub early-close : Link → Bool → List (ℕ × Bool)

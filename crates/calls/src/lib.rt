@@ -5,6 +5,7 @@ ghost use mathlib.Core.Path.{_≡_};
 ghost use mathlib.Core.Bool.{true};
 ghost use Rattle.rules.specs.Model.{link, admit, offer, notice, close, tick};
 ghost use Rattle.rules.specs.Calls.{verdict};
+ghost use Rattle.connections.specs.Stamps.{stamp-if};
 ghost use Rattle.state.specs.View.{given, before, after, view, sound-hub};
 ghost use Rattle.state.specs.Does.{Does};
 use limits::NO_CONNECTION;
@@ -92,13 +93,15 @@ fn accept(
     c: u32,
     len: u32,
     tag: u32,
+    brings: bool,
+    stamp: u32,
 ) -> Told
-    requires { ⌜ (sound-hub h (given members places notices) ≡ true) × (verdict (offer c len tag) (view h (given members places notices)) ≡ 0) ⌝ }
-    ensures { λ r. ⌜ Does (offer c len tag) h (before members places notices) r (after members places notices) ⌝ }
+    requires { ⌜ (sound-hub h (given members places notices) ≡ true) × (verdict (offer c len tag (stamp-if brings stamp)) (view h (given members places notices)) ≡ 0) ⌝ }
+    ensures { λ r. ⌜ Does (offer c len tag (stamp-if brings stamp)) h (before members places notices) r (after members places notices) ⌝ }
 {
     let k = c as usize;
     let m = connections::member_at(members, k);
-    let e = connections::regulator::next_eligibility(m, h.clock) as u32;
+    let e = connections::stamps::eligibility_by(m, h.clock, brings, stamp) as u32;
     let held = tables::count(places);
     tables::append(
         places,
@@ -115,7 +118,7 @@ fn accept(
     say(h, 0, e)
 }
 
-// A packet is offered.
+// A packet is offered: with a stamp, where it brings one.
 pub fn offer_tested(
     h: Hub,
     members: &mut [u32],
@@ -124,15 +127,17 @@ pub fn offer_tested(
     c: u32,
     len: u32,
     tag: u32,
+    brings: bool,
+    stamp: u32,
 ) -> Told
     requires { ⌜ sound-hub h (given members places notices) ≡ true ⌝ }
-    ensures { λ r. ⌜ Does (offer c len tag) h (before members places notices) r (after members places notices) ⌝ }
+    ensures { λ r. ⌜ Does (offer c len tag (stamp-if brings stamp)) h (before members places notices) r (after members places notices) ⌝ }
 {
-    let v = verdicts::offer_verdict(h, members, places, notices, c, len);
+    let v = verdicts::offer_verdict(h, members, places, notices, c, len, brings, stamp);
     if v != 0 {
         return say(h, v, 0);
     }
-    accept(h, members, places, notices, c, len, tag)
+    accept(h, members, places, notices, c, len, tag, brings, stamp)
 }
 
 // A notice is offered.

@@ -1,18 +1,19 @@
 // The verdict of each call on a sound state: what the table of verdicts asks, each by a function of its own, and the first number of which the test holds.
-// Document 01, "Verdict numbers"; document 02, R-1 and R-8.
+// Document 01, "Verdict numbers"; document 02, R-1, R-8 and R-9.
 ghost use mathlib.Core.Path.{_≡_};
 ghost use mathlib.Core.Bool.{true, cond, not};
-ghost use Prim.Native.Nat.{ℕ, _≤_};
+ghost use Prim.Native.Nat.{ℕ, _+_, _<_, _≤_};
 ghost use lib.Dec.{leb, eqb};
-ghost use lib.ListN.{length};
+ghost use lib.ListN.{length, getD};
 ghost use Rattle.rules.specs.Words.{within, first-number};
-ghost use Rattle.rules.specs.Limits.{clock-end};
-ghost use Rattle.rules.specs.Model.{link, admit, offer, notice, close, tick};
-ghost use Rattle.rules.specs.Admission.{reservation, free-number};
-ghost use Rattle.rules.specs.Service.{of};
+ghost use Rattle.rules.specs.Limits.{max-connections, clock-end, beyond-32-bits};
+ghost use Rattle.rules.specs.Model.{link, admit, offer, notice, close, tick, nth, no-past};
+ghost use Rattle.rules.specs.Admission.{bound, reservation, free-number};
+ghost use Rattle.rules.specs.Service.{untimely-by, of};
 ghost use Rattle.rules.specs.Calls.{verdict};
 ghost use Rattle.tables.specs.Places.{rows, written-places, places-length};
-ghost use Rattle.connections.specs.Members.{connections-in, used-in};
+ghost use Rattle.connections.specs.Members.{connections-in, pasts-in, used-in, rows-formed};
+ghost use Rattle.connections.specs.Stamps.{stamp-if};
 ghost use Rattle.state.specs.View.{given, before, view, sound-hub};
 ghost use Rattle.calls.specs.Rulings.{ruling-of, early-admit, early-offer, early-close};
 use limits::CLOCK_END;
@@ -95,7 +96,7 @@ fn held_by(places: &[u32], c: u32) -> u64
 
 // Connection c, with figures x, holds as many packets as its reservation.
 fn full(l: Link, x: Connection, places: &[u32], c: u32) -> bool
-    requires { ⌜ (1 ≤ x .level) × (1 ≤ x .gap) × (now places ≡ written-places (rows (now places))) × (length (now places) ≡ places-length) ⌝ }
+    requires { ⌜ (1 ≤ x .level) × (1 ≤ x .gap) × (x .allowance + bound l (x .level) < beyond-32-bits) × (now places ≡ written-places (rows (now places))) × (length (now places) ≡ places-length) ⌝ }
     ensures { λ r. ⌜ r ≡ leb (reservation l x) (length (of c (rows (now (places .entry))))) ⌝ }
 {
     connections::reserve(l, x) <= held_by(places, c)
@@ -170,14 +171,27 @@ pub(crate) fn admit_verdict(
 }
 
 // What speaks against an offer to a connection with figures x before the rows are walked.
-fn offer_refusal(h: Hub, stands: bool, x: Connection, len: u32) -> u32
-    ensures { λ r. ⌜ r ≡ first-number (early-offer (h .link) stands x len) ⌝ }
+fn offer_refusal(h: Hub, heard: bool, x: Connection, len: u32) -> u32
+    ensures { λ r. ⌜ r ≡ first-number (early-offer (h .link) heard x len) ⌝ }
 {
     first_of(
         unset(h),
         2,
-        first_of(!stands, 10, first_of(misfits(x.size, len), 11, 0)),
+        first_of(!heard, 10, first_of(misfits(x.size, len), 11, 0)),
     )
+}
+
+// An offer, with a stamp or none, is out of time at number c.
+fn untimely(members: &[u32], c: u32, clock: u32, brings: bool, stamp: u32) -> bool
+    requires { ⌜ (rows-formed (now members) ≡ true) × (c < max-connections) ⌝ }
+    ensures { λ r. ⌜ r ≡ untimely-by (nth (connections-in (now (members .entry))) c) (getD (pasts-in (now (members .entry))) c no-past) clock (stamp-if brings stamp) ⌝ }
+{
+    // without a stamp nothing is read
+    if !brings {
+        return false;
+    }
+    let m = connections::member_at(members, c as usize);
+    connections::stamps::untimely(m, clock, stamp)
 }
 
 pub(crate) fn offer_verdict(
@@ -187,17 +201,21 @@ pub(crate) fn offer_verdict(
     notices: &[u32],
     c: u32,
     len: u32,
+    brings: bool,
+    stamp: u32,
 ) -> u32
     requires { ⌜ sound-hub h (given members places notices) ≡ true ⌝ }
-    ensures { λ r. ⌜ ((tag : ℕ) → r ≡ verdict (offer c len tag) (view h (before members places notices))) ⌝ }
+    ensures { λ r. ⌜ ((tag : ℕ) → r ≡ verdict (offer c len tag (stamp-if brings stamp)) (view h (before members places notices))) ⌝ }
 {
     let l = h.link;
     let x = connections::figures_of(members, c);
-    let early = offer_refusal(h, connections::stands(members, c), x, len);
+    let suits = connections::stamps::suits(x, brings, stamp);
+    let early = offer_refusal(h, connections::stands(members, c) & suits, x, len);
     if early != 0 {
         return early;
     }
-    first_of(full(l, x, places, c), 12, first_of(ended(h), 13, 0))
+    let late = first_of(untimely(members, c, h.clock, brings, stamp), 17, 0);
+    first_of(full(l, x, places, c), 12, first_of(ended(h), 13, late))
 }
 
 // What speaks against a close before the rows are walked.

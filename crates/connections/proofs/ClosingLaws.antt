@@ -178,7 +178,7 @@ module _ (t : List ℕ) (f : rows-formed t ≡ true) where
       ∙ ap last-of (sym (past-is t k l))
 
   -- the earliest with row k taken in
-  pub first-step : (k mark last first : ℕ) → k < max-connections → mark ≡ getD (row-in member-width t k) 5 0 → last ≡ getD (row-in member-width t k) member-head 0
+  pub first-step : (k mark last first : ℕ) → k < max-connections → mark ≡ getD (row-in member-width t k) 7 0 → last ≡ getD (row-in member-width t k) member-head 0
       → first ≡ first-among (drop (suc k) (members-in t)) → cond (eqb mark 0) first (earlier (suc last) first) ≡ first-among (drop k (members-in t))
   first-step k mark last first l m e i =
       rw (m, i)
@@ -186,10 +186,10 @@ module _ (t : List ℕ) (f : rows-formed t ≡ true) where
       ∙ first-with (members-in t) k last (omega (arith, length-members t)) (e ∙ last-read k l ∙ ap last-of (past-member t k)))
 
   -- where it is closed, one more than its last eligibility fits
-  pub last-fits : Closed-in-order t → (k mark last : ℕ) → k < max-connections → mark ≡ getD (row-in member-width t k) 5 0 → last ≡ getD (row-in member-width t k) member-head 0
+  pub last-fits : Closed-in-order t → (k mark last : ℕ) → k < max-connections → mark ≡ getD (row-in member-width t k) 7 0 → last ≡ getD (row-in member-width t k) member-head 0
       → (mark ≡ 0 → ⊥) → last + 1 < beyond-32-bits
   last-fits o k mark last l m e n =
-      rw (e, last-read k l) (o .closed-fits k (closed-is t k l ∙ ap not (ne-eqb (getD (row-in member-width t k) 5 0) 0 (λ z. n (m ∙ z)))))
+      rw (e, last-read k l) (o .closed-fits k (closed-is t k l ∙ ap not (ne-eqb (getD (row-in member-width t k) 7 0) 0 (λ z. n (m ∙ z)))))
 
   -- both numbers behind the rows put anew
   pub sums-put : (u g : ℕ) → set (set t rows-end u) (rows-end + 1) g ≡ written-table (connections-in t) (pasts-in t) (closed-in t) u g
@@ -231,13 +231,13 @@ module _ (t : List ℕ) (f : rows-formed t ≡ true) (c : ℕ) (l : c < max-conn
       ∙ rw (set-getD (connections-in t) c no-connection, set-getD (pasts-in t) c no-past, set-getD (closed-in t) c false) (sym (table-written t f))
 
   -- closed, and then the earliest put anew
-  mark-put : (g : ℕ) → set (set t (member-width * c + 5) 1) (rows-end + 1) g ≡ written-table (connections-in t) (pasts-in t) (set (closed-in t) c true) (used-in t) g
+  mark-put : (g : ℕ) → set (set t (member-width * c + 7) 1) (rows-end + 1) g ≡ written-table (connections-in t) (pasts-in t) (set (closed-in t) c true) (used-in t) g
   mark-put g =
       let x : Connection = nth (connections-in t) c in
       let h : Past = getD (pasts-in t) c no-past in
       let m : Member = member x h (getD (closed-in t) c false) in
-      ap (λ (u : List ℕ). set (set u (member-width * c + 5) 1) (rows-end + 1) g) (sym same-row)
-      ∙ ap (λ (u : List ℕ). set u (rows-end + 1) g) (set-among t (member-width * c) (row-of m) 5 1 (omega arith) ∙ put-anew t f c l x h true)
+      ap (λ (u : List ℕ). set (set u (member-width * c + 7) 1) (rows-end + 1) g) (sym same-row)
+      ∙ ap (λ (u : List ℕ). set u (rows-end + 1) g) (set-among t (member-width * c) (row-of m) 7 1 (omega arith) ∙ put-anew t f c l x h true)
       ∙ set-first (members-for (set (connections-in t) c x) (set (pasts-in t) c h) (set (closed-in t) c true)) (used-in t) (first-in t) (anew-many x h true) g
       ∙ rw (set-getD (connections-in t) c no-connection, set-getD (pasts-in t) c no-past)
 
@@ -271,7 +271,7 @@ module _ (t : List ℕ) (f : rows-formed t ≡ true) (c : ℕ) (l : c < max-conn
 -- where the two numbers were those of the rows, they are still
 module _ (t : List ℕ) (f : members-formed t ≡ true) (c : ℕ) (l : c < max-connections) (o : getD (closed-in t) c false ≡ false) where
   pub mark-written : (last g : ℕ) → last ≡ getD (row-in member-width t c) member-head 0 → g ≡ earlier (last + 1) (first-in t)
-      → set (set t (member-width * c + 5) 1) (rows-end + 1) g ≡ written-members (connections-in t) (pasts-in t) (set (closed-in t) c true)
+      → set (set t (member-width * c + 7) 1) (rows-end + 1) g ≡ written-members (connections-in t) (pasts-in t) (set (closed-in t) c true)
   mark-written last g e i =
       let r = members-rows t f in
       let k : g ≡ first-closed (pasts-in t) (set (closed-in t) c true) =

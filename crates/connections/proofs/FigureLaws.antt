@@ -1,22 +1,22 @@
 -- Laws that the figures of connections give the code: bounds by level, counts, shares and sums.
 use mathlib.Core.Path.{_≡_, refl, sym, ap, _∙_, subst}
-use mathlib.Core.Bool.{true, _&&_}
+use mathlib.Core.Bool.{true, _&&_, _||_}
 use mathlib.Core.List.{List, [], _∷_}
 use mathlib.Core.Logic.{⊎-elim}
 use Prim.Native.Nat.{ℕ, zero, suc, _+_, _*_, _-_, _/_, _%_, _≤_, _<_, min}
 use native.Mathlib.Nat.{mul-le-mul-right, mul-le-mul-left, le-trans, pos-of-div-pos}
 use native.Mathlib.Omega.{arith}
 use native.Mathlib.Numerals.{add-one}
-use lib.Dec.{leb}
-use borrow.Author.Tests.{leb-true, le-leb, lt-leb}
+use lib.Dec.{leb, eqb}
+use borrow.Author.Tests.{leb-true, le-leb, lt-leb, eqb-true}
 use lib.ListN.{length, getD, List·getD-eq-default}
 use Rattle.rules.specs.declared.Link.{Link}
 use Rattle.rules.specs.declared.Connection.{Connection}
 use Rattle.rules.specs.Words.{within, sum}
-use Rattle.rules.specs.Limits.{max-levels, max-largest, max-silence, max-bound, max-gap, max-burst, beyond-32-bits}
+use Rattle.rules.specs.Limits.{max-levels, max-largest, max-silence, max-bound, max-gap, max-burst, max-allowance, beyond-32-bits}
 use Rattle.rules.specs.Model.{nth, no-connection}
-use Rattle.rules.specs.Admission.{rising, link-within, burst, average-within, figures-within, free-number, joining, bound, rounded-up, average-count, count, reservation, reserved, cost, load, level-sum, short-from, level-test}
-use Rattle.rules.proofs.Tests.{never, and-true, within-true}
+use Rattle.rules.specs.Admission.{rising, link-within, burst, average-within, kind-within, figures-within, free-number, joining, bound, rounded-up, average-count, count, reservation, reserved, cost, load, level-sum, short-from, level-test}
+use Rattle.rules.proofs.Tests.{never, and-true, or-cases, within-true}
 use Rattle.rules.proofs.Sums.{same, upto-yes, upto-no, upto-le, cond-is}
 use Rattle.rules.proofs.Standing.{level-owned, level-free}
 use Rattle.rules.proofs.Figures.{few-at-once, reservation-is, sum-is}
@@ -38,18 +38,20 @@ pub bound-at : (l : Link) (m : ℕ) → 1 ≤ m → getD (l .bounds) (m - 1) 0 �
 bound-at l zero h = absurd (omega arith)
 bound-at l (suc m) h = let e : suc m - 1 ≡ m = omega arith in rw e
 
-rising-high : (low n : ℕ) (ds : List ℕ) → rising low n ds ≡ true → (k : ℕ) → k < n → getD ds k 0 ≤ max-bound
-rising-high low zero ds e k l = absurd (omega arith)
-rising-high low (suc n) [] e k l = never e
-rising-high low (suc n) (d ∷ ds) e zero l = leb-true d max-bound (and-true (leb d max-bound) (rising (suc d) n ds) (and-true (leb low d) (leb d max-bound && rising (suc d) n ds) e .1) .0)
-rising-high low (suc n) (d ∷ ds) e (suc k) l =
-    rising-high (suc d) n ds (and-true (leb d max-bound) (rising (suc d) n ds) (and-true (leb low d) (leb d max-bound && rising (suc d) n ds) e .1) .1) k (omega arith)
+rising-high : (low n : ℕ) (ds : List ℕ) → rising low n ds ≡ true → (k : ℕ) → getD ds k 0 ≤ max-bound
+rising-high low zero [] e k = omega (arith, List·getD-eq-default {A = ℕ} [] 0 {n = k} (omega arith))
+rising-high low zero (d ∷ ds) e zero = omega (arith, eqb-true d 0 (and-true (eqb d 0) (rising low zero ds) e .0))
+rising-high low zero (d ∷ ds) e (suc k) = rising-high low zero ds (and-true (eqb d 0) (rising low zero ds) e .1) k
+rising-high low (suc n) [] e k = never e
+rising-high low (suc n) (d ∷ ds) e zero = leb-true d max-bound (and-true (leb d max-bound) (rising (suc d) n ds) (and-true (leb low d) (leb d max-bound && rising (suc d) n ds) e .1) .0)
+rising-high low (suc n) (d ∷ ds) e (suc k) =
+    rising-high (suc d) n ds (and-true (leb d max-bound) (rising (suc d) n ds) (and-true (leb low d) (leb d max-bound && rising (suc d) n ds) e .1) .1) k
 
 pub record Link-limits (l : Link) : Type 0 where
   pub levels-le : l .levels ≤ max-levels
   pub largest-le : l .largest ≤ max-largest
   pub silence-le : l .silence ≤ max-silence
-  pub bounds-le : (m : ℕ) → m ≤ l .levels → bound l m ≤ max-bound
+  pub bounds-le : (m : ℕ) → bound l m ≤ max-bound
 
 pub link-limits : (l : Link) → link-within l ≡ true → Link-limits l
 unfolding link-within
@@ -65,22 +67,34 @@ link-limits l e =
       bounds-le = below (k .1);
     }
   where
-    below : rising (cost l (l .largest)) (l .levels) (l .bounds) ≡ true → (m : ℕ) → m ≤ l .levels → bound l m ≤ max-bound
-    below r zero h = omega arith
-    below r (suc m) h = rising-high (cost l (l .largest)) (l .levels) (l .bounds) r m h
+    below : rising (cost l (l .largest)) (l .levels) (l .bounds) ≡ true → (m : ℕ) → bound l m ≤ max-bound
+    below r zero = omega arith
+    below r (suc m) = rising-high (cost l (l .largest)) (l .levels) (l .bounds) r m
 
 pub record Figure-limits (l : Link) (x : Connection) : Type 0 where
   pub some-gap : 1 ≤ x .gap
   pub some-size : 1 ≤ x .size
   pub size-le : x .size ≤ l .largest
   pub burst-le : burst x ≤ max-burst
+  pub allowance-le : x .allowance ≤ max-allowance
+
+-- an allowance within its limit, of either kind
+allowance-high : (x : Connection) → kind-within x ≡ true → x .allowance ≤ max-allowance
+allowance-high x e =
+    or-cases (eqb (x .kind) 0 && (eqb (x .allowance) 0 && average-within x)) (eqb (x .kind) 1 && (leb (x .allowance) max-allowance && (eqb (x .window) 0 && eqb (x .average) 0))) e
+    (λ z. omega (arith, eqb-true (x .allowance) 0 (and-true (eqb (x .allowance) 0) (average-within x) (and-true (eqb (x .kind) 0) (eqb (x .allowance) 0 && average-within x) z .1) .0)))
+    (λ _ z.
+    leb-true (x .allowance) max-allowance
+    (and-true (leb (x .allowance) max-allowance) (eqb (x .window) 0 && eqb (x .average) 0)
+    (and-true (eqb (x .kind) 1) (leb (x .allowance) max-allowance && (eqb (x .window) 0 && eqb (x .average) 0)) z .1) .0))
 
 pub figure-limits : (l : Link) (x : Connection) → figures-within l x ≡ true → Figure-limits l x
 unfolding figures-within
 figure-limits l x e =
-    let a = and-true (within 1 max-gap (x .gap)) (within 1 (l .largest) (x .size) && average-within x) e in
-    let b = within-true 1 (l .largest) (x .size) (and-true (within 1 (l .largest) (x .size)) (average-within x) (a .1) .0) in
-    record { some-gap = within-true 1 max-gap (x .gap) (a .0) .0; some-size = b .0; size-le = b .1; burst-le = few-at-once l x e }
+    let a = and-true (within 1 max-gap (x .gap)) (within 1 (l .largest) (x .size) && kind-within x) e in
+    let k = and-true (within 1 (l .largest) (x .size)) (kind-within x) (a .1) in
+    let b = within-true 1 (l .largest) (x .size) (k .0) in
+    record { some-gap = within-true 1 max-gap (x .gap) (a .0) .0; some-size = b .0; size-le = b .1; burst-le = few-at-once l x e; allowance-le = allowance-high x (k .1) }
 
 -- ---- counts and shares
 
@@ -127,7 +141,7 @@ pub share-free : (l : Link) (m d : ℕ) → share-of l m d no-connection ≡ 0
 share-free l m d = omega (arith, upto-le 0 m (count no-connection d * cost l 0), ap (λ (k : ℕ). k * cost l 0) (count-none d))
 
 pub reservation-free : (l : Link) → reservation l no-connection ≡ 0
-reservation-free l = reservation-is l no-connection ∙ count-none (bound l 0)
+reservation-free l = reservation-is l no-connection ∙ count-none (0 + bound l 0)
 
 -- ---- sums
 
@@ -136,10 +150,11 @@ pub record Entry-limits (l : Link) (x : Connection) : Type 0 where
   pub free-blank : x .level ≡ 0 → x ≡ no-connection
   pub owner-gap : (x .level ≡ 0 → ⊥) → 1 ≤ x .gap
   pub size-most : x .size ≤ max-largest
+  pub reach-fits : x .allowance + bound l (x .level) < beyond-32-bits
   pub silence-most : l .silence ≤ max-silence
 
 pub entry-limits : (l : Link) (cs : List Connection) → Within l cs → (c : ℕ) (x : Connection) → x ≡ nth cs c → Entry-limits l x
-entry-limits l cs W c x e = subst (Entry-limits l) (sym e) (record { free-blank = blank; owner-gap = λ n. owner n .some-gap; size-most = size; silence-most = k .silence-le })
+entry-limits l cs W c x e = subst (Entry-limits l) (sym e) (record { free-blank = blank; owner-gap = λ n. owner n .some-gap; size-most = size; reach-fits = reach; silence-most = k .silence-le })
   where
     k : Link-limits l
     k = link-limits l (W .link-in)
@@ -152,6 +167,11 @@ entry-limits l cs W c x e = subst (Entry-limits l) (sym e) (record { free-blank 
 
     size : nth cs c .size ≤ max-largest
     size = ⊎-elim (λ z. omega (arith, ap (λ (y : Connection). y .size) (blank z))) (λ n. omega (arith, owner n .size-le, k .largest-le)) (same (nth cs c .level) 0)
+
+    reach : nth cs c .allowance + bound l (nth cs c .level) < beyond-32-bits
+    reach =
+        ⊎-elim (λ z. omega (arith, ap (λ (y : Connection). y .allowance) (blank z), k .bounds-le (nth cs c .level))) (λ n. omega (arith, owner n .allowance-le, k .bounds-le (nth cs c .level)))
+        (same (nth cs c .level) 0)
 
 -- a running sum, one entry further
 pub sum-more : (i s r : ℕ) (f : ℕ → ℕ) → s ≡ sum i f → r ≡ f i → s + r ≡ sum (i + 1) f

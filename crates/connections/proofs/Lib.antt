@@ -5,3 +5,4 @@ pub mod WrittenLaws
 pub mod RegulatorLaws
 pub mod ClosingLaws
 pub mod SweepLaws
+pub mod StampLaws

@@ -17,7 +17,7 @@ use Rattle.rules.proofs.Standing.{level-free}
 use Rattle.tables.specs.Table.{row-in, rows-in, numbers, write}
 use Rattle.tables.proofs.TableLaws.{numbers-all, length-numbers, length-rows, made-at, write-rows, length-write, put-at, first-back}
 use Rattle.connections.specs.declared.Member.{Member}
-use Rattle.connections.specs.Members.{member-head, member-width, rows-end, members-length, row-of, member-of, no-member, member-in, put-member, members-in, connection-of, past-of, closed-of, connections-in, pasts-in, closed-in, used-in, first-in, written-rows}
+use Rattle.connections.specs.Members.{member-head, member-width, rows-end, members-length, figures-row, row-of, member-of, no-member, member-in, put-member, members-in, connection-of, past-of, closed-of, connections-in, pasts-in, closed-in, used-in, first-in, written-rows}
 
 -- ---- a row
 
@@ -29,7 +29,9 @@ row-back (a ∷ b ∷ c ∷ []) e = absurd (omega arith)
 row-back (a ∷ b ∷ c ∷ d ∷ []) e = absurd (omega arith)
 row-back (a ∷ b ∷ c ∷ d ∷ f ∷ []) e = absurd (omega arith)
 row-back (a ∷ b ∷ c ∷ d ∷ f ∷ g ∷ []) e = absurd (omega arith)
-row-back (a ∷ b ∷ c ∷ d ∷ f ∷ g ∷ h ∷ r) e = ap (λ (l : List ℕ). a ∷ b ∷ c ∷ d ∷ f ∷ g ∷ h ∷ l) (numbers-all max-remembered r (omega arith))
+row-back (a ∷ b ∷ c ∷ d ∷ f ∷ g ∷ h ∷ []) e = absurd (omega arith)
+row-back (a ∷ b ∷ c ∷ d ∷ f ∷ g ∷ h ∷ i ∷ []) e = absurd (omega arith)
+row-back (a ∷ b ∷ c ∷ d ∷ f ∷ g ∷ h ∷ i ∷ j ∷ r) e = ap (λ (l : List ℕ). a ∷ b ∷ c ∷ d ∷ f ∷ g ∷ h ∷ i ∷ j ∷ l) (numbers-all max-remembered r (omega arith))
 
 -- sixteen eligibilities, remembered or not
 abbrev pub Long : Member → Type 0
@@ -37,7 +39,7 @@ Long m = length (m .ticks) ≡ max-remembered
 
 row-again : (m : Member) → Long m → member-of (row-of m) ≡ m
 row-again m e =
-    ap (λ (ts : List ℕ). record { level = m .level; size = m .size; gap = m .gap; window = m .window; average = m .average; mark = m .mark; known = m .known; ticks = ts }) (numbers-all max-remembered (m .ticks) e)
+    ap (λ (ts : List ℕ). record { figures = m .figures; mark = m .mark; known = m .known; ticks = ts }) (numbers-all max-remembered (m .ticks) e)
 
 -- the remembered eligibilities of a row, read and written as a part of the table
 
@@ -64,9 +66,21 @@ ticks-read t i h =
     ∙ copied-over v max-remembered n
     ∙ sym (ap (numbers max-remembered) r ∙ numbers-all max-remembered v n)
 
+-- numbers written behind others
+sets-behind : (l : List ℕ) (i : ℕ) (a b : List ℕ) → sets l i (a ++ b) ≡ sets (sets l i a) (i + length a) b
+sets-behind l i [] b = let e : i ≡ i + 0 = omega arith in ap (λ (j : ℕ). sets l j b) e
+sets-behind l i (x ∷ a) b = let e : suc i + length a ≡ i + suc (length a) = omega arith in sets-behind (set l i x) (suc i) a b ∙ ap (λ (j : ℕ). sets (sets (set l i x) (suc i) a) j b) e
+
+pub put-figures : (t : List ℕ) (at : ℕ) (x : Connection)
+    → set (set (set (set (set (set (set t at (x .level)) (at + 1) (x .size)) (at + 2) (x .gap)) (at + 3) (x .window)) (at + 4) (x .average)) (at + 5) (x .kind)) (at + 6) (x .allowance) ≡ sets t at (figures-row x)
+put-figures t at x = simp unary-clauses
+
 pub put-parts : (t : List ℕ) (at : ℕ) (m : Member) → Long m
-    → sets (set (set (set (set (set (set (set t at (m .level)) (at + 1) (m .size)) (at + 2) (m .gap)) (at + 3) (m .window)) (at + 4) (m .average)) (at + 5) (m .mark)) (at + 6) (m .known)) (at + member-head) (m .ticks) ≡ sets t at (row-of m)
-put-parts t at m e = rw (← numbers-all max-remembered (m .ticks) e) (simp unary-clauses)
+    → sets (set (set (sets t at (figures-row (m .figures))) (at + 7) (m .mark)) (at + 8) (m .known)) (at + member-head) (m .ticks) ≡ sets t at (row-of m)
+put-parts t at m e =
+    let i : at + 8 ≡ suc (at + 7) = omega arith in
+    let j : at + member-head ≡ suc (suc (at + 7)) = omega arith in
+    rw (i, j, ← numbers-all max-remembered (m .ticks) e) (sym (sets-behind t at (figures-row (m .figures)) (m .mark ∷ m .known ∷ numbers max-remembered (m .ticks))))
 
 -- ---- what is read, by number
 
@@ -110,10 +124,10 @@ module _ (t : List ℕ) (c : ℕ) where
     pub connection-is : nth (connections-in t) c ≡ connection-of (member-in t c)
     connection-is = nth-member ∙ ap connection-of member-is
 
-    pub level-is : nth (connections-in t) c .level ≡ member-in t c .level
+    pub level-is : nth (connections-in t) c .level ≡ member-in t c .figures .level
     level-is = ap (λ (x : Connection). x .level) connection-is
 
-    pub owned-is : owned (connections-in t) c ≡ not (eqb (member-in t c .level) 0)
+    pub owned-is : owned (connections-in t) c ≡ not (eqb (member-in t c .figures .level) 0)
     unfolding owned
     owned-is = ap (λ (n : ℕ). not (eqb n 0)) level-is
 

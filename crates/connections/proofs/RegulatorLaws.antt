@@ -71,7 +71,7 @@ module _ (m : Member) (k n x : ℕ) where
 
 -- ---- the next eligibility
 
-pub earliest-of : (m : Member) (k n a b : ℕ) → n ≡ m .window / m .average → a ≡ ticks-after (m .gap) (nth-before 1 (drop k (past-of m))) → b ≡ ticks-after (m .window) (nth-before n (drop k (past-of m)))
+pub earliest-of : (m : Member) (k n a b : ℕ) → n ≡ m .figures .window / m .figures .average → a ≡ ticks-after (m .figures .gap) (nth-before 1 (drop k (past-of m))) → b ≡ ticks-after (m .figures .window) (nth-before n (drop k (past-of m)))
     → max a b ≡ earliest (connection-of m) (drop k (past-of m))
 earliest-of m k n a b e f g = rw (f, g, e ∙ burst-is (connection-of m)) (sym (earliest-is (connection-of m) (drop k (past-of m))))
 
@@ -81,7 +81,7 @@ next-of m now a b e f = rw (e, f) (sym (next-is (connection-of m) (past-of m) no
 -- by the gap alone
 module _ (flag last gap now : ℕ) where
   by-gap : (h : Past) → next-eligibility (gap-only gap) h now ≡ base-eligibility (gap-only gap) h now
-  by-gap h = as-before (gap-only gap) (refl, refl) .2 h now
+  by-gap h = as-before (gap-only gap) (refl, refl, refl, refl) .2 h now
 
   pub next-first : flag ≡ 0 → now ≡ next-eligibility (gap-only gap) (last-only flag last) now
   next-first e = sym (ap (λ (h : Past). next-eligibility (gap-only gap) h now) (cond-is [] (last ∷ []) (eq-eqb flag 0 e)) ∙ by-gap [])
@@ -125,7 +125,7 @@ module _ (m : Member) (e : ℕ) (long : length (m .ticks) ≡ max-remembered) (f
   more-known = omega (arith, length-take max-remembered (e ∷ past-of m), length-take (m .known) (m .ticks), formed-parts m f .known-le)
 
   pub remembering-is : (k : ℕ) (ts : List ℕ) → k ≡ min max-remembered (m .known + 1) → ts ≡ e ∷ take 15 (m .ticks)
-      → _≡_ {A = Member} (record { level = m .level; size = m .size; gap = m .gap; window = m .window; average = m .average; mark = m .mark; known = k; ticks = ts }) (member (connection-of m) (remember (past-of m) e) (closed-of m))
+      → _≡_ {A = Member} (record { figures = m .figures; mark = m .mark; known = k; ticks = ts }) (member (connection-of m) (remember (past-of m) e) (closed-of m))
   remembering-is k ts a b = rw (a ∙ sym more-known, b ∙ sym more-ticks, mark-back m f)
 
 -- ---- fewer
@@ -155,7 +155,7 @@ numbers-padded n k l h i z =
 
 module _ (m : Member) (n : ℕ) (long : length (m .ticks) ≡ max-remembered) (f : member-formed m ≡ true) where
   pub forgets-all : m .known ≤ n
-      → _≡_ {A = Member} (record { level = m .level; size = m .size; gap = m .gap; window = m .window; average = m .average; mark = m .mark; known = 0; ticks = replicate max-remembered 0 }) (member (connection-of m) (drop n (past-of m)) (closed-of m))
+      → _≡_ {A = Member} (record { figures = m .figures; mark = m .mark; known = 0; ticks = replicate max-remembered 0 }) (member (connection-of m) (drop n (past-of m)) (closed-of m))
   forgets-all h =
       let e : drop n (past-of m) ≡ [] = drop-of-length-le (past-of m) {i = n} (omega (arith, length-take (m .known) (m .ticks))) in
       rw (e, mark-back m f)
@@ -178,7 +178,7 @@ module _ (m : Member) (n : ℕ) (long : length (m .ticks) ≡ max-remembered) (f
         ∙ ap (sets (replicate max-remembered 0) 0) (sym (take-all (max-remembered - n) l (omega (arith, length-drop n (m .ticks)))))
 
     pub forgets-some : (k : ℕ) (ts : List ℕ) → k ≡ m .known - n → ts ≡ sets (replicate max-remembered 0) 0 (take (max-remembered - n) (drop n (m .ticks)))
-        → _≡_ {A = Member} (record { level = m .level; size = m .size; gap = m .gap; window = m .window; average = m .average; mark = m .mark; known = k; ticks = ts }) (member (connection-of m) (drop n (past-of m)) (closed-of m))
+        → _≡_ {A = Member} (record { figures = m .figures; mark = m .mark; known = k; ticks = ts }) (member (connection-of m) (drop n (past-of m)) (closed-of m))
     forgets-some k ts a b = rw (a ∙ sym fewer-known, b ∙ sym fewer-ticks, mark-back m f)
 
 -- ---- a connection read from its table

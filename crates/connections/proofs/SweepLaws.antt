@@ -139,11 +139,11 @@ module _ (t : List ℕ) (bound clock : ℕ) where
 
 -- whether a row is to be freed, by its mark as it is read
 module _ (t : List ℕ) (bound clock i : ℕ) where
-  pub open-stays : getD (row-in member-width t i) 5 0 ≡ 0 → ended bound clock (member-in t i) ≡ false
-  open-stays z = ap (λ (b : Bool). not b && charge-over bound clock (past-of (member-in t i))) (eq-eqb (getD (row-in member-width t i) 5 0) 0 z)
+  pub open-stays : getD (row-in member-width t i) 7 0 ≡ 0 → ended bound clock (member-in t i) ≡ false
+  open-stays z = ap (λ (b : Bool). not b && charge-over bound clock (past-of (member-in t i))) (eq-eqb (getD (row-in member-width t i) 7 0) 0 z)
 
-  pub ended-by-charge : (getD (row-in member-width t i) 5 0 ≡ 0 → ⊥) → ended bound clock (member-in t i) ≡ charge-over bound clock (past-of (member-in t i))
-  ended-by-charge n = ap (λ (b : Bool). not b && charge-over bound clock (past-of (member-in t i))) (ne-eqb (getD (row-in member-width t i) 5 0) 0 n)
+  pub ended-by-charge : (getD (row-in member-width t i) 7 0 ≡ 0 → ⊥) → ended bound clock (member-in t i) ≡ charge-over bound clock (past-of (member-in t i))
+  ended-by-charge n = ap (λ (b : Bool). not b && charge-over bound clock (past-of (member-in t i))) (ne-eqb (getD (row-in member-width t i) 7 0) 0 n)
 
 -- the first i rows freed where they are to be
 abbrev pub rows-freed : List ℕ → ℕ → ℕ → ℕ → List ℕ
@@ -240,7 +240,7 @@ module _ (t r : List ℕ) (bound clock : ℕ) (e : members-in r ≡ map (freed b
       used-fewer (connections-in t) (connections-in r)
       (λ c z.
       ap (λ (x : Connection). x .level) (nth-member r c ∙ ap connection-of (left-at c))
-      ∙ freed-keeps bound clock (λ m. m .level ≡ 0) refl (getD (members-in t) c no-member) (ap (λ (x : Connection). x .level) (sym (nth-member t c)) ∙ z))
+      ∙ freed-keeps bound clock (λ m. m .figures .level ≡ 0) refl (getD (members-in t) c no-member) (ap (λ (x : Connection). x .level) (sym (nth-member t c)) ∙ z))
 
 -- where nothing is to be freed the table is swept as it stands
 pub swept-as-is : (t : List ℕ) → members-formed t ≡ true → (bound clock : ℕ) → Closed-in-order t → (0 < first-in t → clock + 1 < first-in t + bound) → Swept t bound clock t

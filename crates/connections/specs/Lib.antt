@@ -1,3 +1,4 @@
 pub mod Members
 pub mod Within
 pub mod Closing
+pub mod Stamps

@@ -1,5 +1,5 @@
--- The table of connections: a row for each number, with level, size, gap, averaging window, average gap, a mark, how many eligibilities are remembered, and these,
--- newest first; and behind the rows two numbers that sum them up. Document 01 leaves its form open; docs/RULES-AFTER-BASE.md, R-6 and R-8, has it.
+-- The table of connections: a row for each number, with level, size, gap, averaging window, average gap, kind, allowance, a mark, how many eligibilities are remembered, and these,
+-- newest first; and behind the rows two numbers that sum them up. Document 01 leaves its form open; docs/RULES-AFTER-BASE.md, R-6, R-8 and R-9, has it.
 use Prim.Native.Nat.{ℕ, zero, suc, _+_, _*_, min}
 use mathlib.Core.Bool.{Bool, cond, not, _&&_}
 use mathlib.Core.List.{List, [], _∷_, _++_, map}
@@ -15,10 +15,10 @@ use Rattle.tables.specs.Table.{row-in, rows-in, numbers, write}
 use Rattle.connections.specs.declared.Member.{Member}
 
 abbrev pub member-head : ℕ
-member-head = 7
+member-head = 9
 
 abbrev pub member-width : ℕ
-member-width = 23
+member-width = 25
 
 -- where the rows end, and the numbers of the table: a row for each number, and two behind them
 abbrev pub rows-end : ℕ
@@ -29,19 +29,21 @@ members-length = rows-end + 2
 
 -- ---- rows
 
--- the numbers of a row, in their order, and the row that they make
+-- the numbers of a row, in their order, figures first, and the row that they make
+abbrev pub figures-row : Connection → List ℕ
+figures-row x = x .level ∷ x .size ∷ x .gap ∷ x .window ∷ x .average ∷ x .kind ∷ x .allowance ∷ []
+
 abbrev pub row-of : Member → List ℕ
-row-of m = m .level ∷ m .size ∷ m .gap ∷ m .window ∷ m .average ∷ m .mark ∷ m .known ∷ numbers max-remembered (m .ticks)
+row-of m = figures-row (m .figures) ++ m .mark ∷ m .known ∷ numbers max-remembered (m .ticks)
+
+abbrev pub figures-from : List ℕ → Connection
+figures-from r = record { level = getD r 0 0; gap = getD r 2 0; size = getD r 1 0; window = getD r 3 0; average = getD r 4 0; kind = getD r 5 0; allowance = getD r 6 0 }
 
 abbrev pub member-of : List ℕ → Member
 member-of r = record {
-  level = getD r 0 0;
-  size = getD r 1 0;
-  gap = getD r 2 0;
-  window = getD r 3 0;
-  average = getD r 4 0;
-  mark = getD r 5 0;
-  known = getD r 6 0;
+  figures = figures-from r;
+  mark = getD r 7 0;
+  known = getD r 8 0;
   ticks = numbers max-remembered (drop member-head r);
 }
 
@@ -62,7 +64,7 @@ members-in t = map member-of (rows-in member-width max-connections t)
 -- ---- what they stand for
 
 abbrev pub connection-of : Member → Connection
-connection-of m = record { level = m .level; gap = m .gap; size = m .size; window = m .window; average = m .average }
+connection-of m = m .figures
 
 abbrev pub past-of : Member → Past
 past-of m = take (m .known) (m .ticks)
@@ -114,11 +116,7 @@ first-in t = getD t (rows-end + 1) 0
 
 abbrev pub member : Connection → Past → Bool → Member
 member x h b = record {
-  level = x .level;
-  size = x .size;
-  gap = x .gap;
-  window = x .window;
-  average = x .average;
+  figures = x;
   mark = cond b 1 0;
   known = length h;
   ticks = numbers max-remembered h;

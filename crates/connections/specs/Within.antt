@@ -30,7 +30,7 @@ Sums-with l cs x js = (m : ℕ) → m ≤ l .levels → level-sum l js m ≡ loa
 
 -- a connection of which only the gap counts, as for an eligibility, and what is remembered where at most the last one is: nothing where the flag is 0
 abbrev pub gap-only : ℕ → Connection
-gap-only gap = record { level = 0; gap = gap; size = 0; window = 0; average = 0 }
+gap-only gap = record { level = 0; gap = gap; size = 0; window = 0; average = 0; kind = 0; allowance = 0 }
 
 abbrev pub last-only : ℕ → ℕ → Past
 last-only flag last = cond (eqb flag 0) [] (last ∷ [])

@@ -10,8 +10,10 @@ ghost use Rattle.rules.specs.Model.{no-connection, no-past};
 ghost use Rattle.rules.specs.Service.{charge-over};
 ghost use Rattle.connections.specs.Members.{members-length, no-member, members-in, past-of, connections-in, pasts-in, closed-in, earlier, last-of, used-by, used-in, first-closed, first-in, written-rows, written-members, member-formed, rows-formed, members-formed};
 ghost use Rattle.connections.specs.Closing.{freed, Closed-in-order, Swept};
+use super::MARK;
 use super::Member;
 use super::member_at;
+use super::no_figures;
 use super::number;
 use super::put_member;
 use super::used;
@@ -76,7 +78,7 @@ fn first_of(members: &[u32], n: usize) -> u32
     while 0 < k {
         k -= 1;
         first = first_with(
-            number(members, k, 5),
+            number(members, k, MARK),
             number(members, k, MEMBER_HEAD),
             first,
         );
@@ -108,7 +110,7 @@ pub fn mark_closed(members: &mut [u32], c: usize)
 {
     let last = number(members, c, MEMBER_HEAD);
     let first = earlier(last + 1, first_charge(members));
-    members[MEMBER_WIDTH * c + 5] = 1;
+    members[MEMBER_WIDTH * c + MARK] = 1;
     members[MEMBER_ROWS + 1] = first;
 }
 
@@ -117,11 +119,7 @@ fn no_member() -> Member
     ensures { λ r. ⌜ r ≡ no-member ⌝ }
 {
     Member {
-        level: 0,
-        size: 0,
-        gap: 0,
-        window: 0,
-        average: 0,
+        figures: no_figures(),
         mark: 0,
         known: 0,
         ticks: [0u32; MAX_REMEMBERED],
@@ -146,7 +144,7 @@ fn clear_ended(members: &mut [u32], i: usize, bound: u32, clock: u32)
     requires { ⌜ (rows-formed (now members) ≡ true) × (i < max-connections) ⌝ }
     ensures { λ r. ⌜ now (members .exit) ≡ written-rows (set (members-in (now (members .entry))) i (freed bound clock (getD (members-in (now (members .entry))) i no-member))) (used-in (now (members .entry))) (first-in (now (members .entry))) ⌝ }
 {
-    if number(members, i, 5) == 0 {
+    if number(members, i, MARK) == 0 {
         return;
     }
     if charge_over(member_at(members, i), bound, clock) {

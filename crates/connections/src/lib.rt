@@ -1,12 +1,14 @@
 // The table of connections, and what is asked of its figures: reservations and the level test.
 pub mod closing; // closing.rt: connections that are closed, and numbers that are freed
 pub mod regulator; // regulator.rt: the next eligibility of a connection, and what it remembers
+pub mod stamps; // stamps.rt: offers that bring a stamp, and connections that want one
 
 ghost use mathlib.Core.Path.{_≡_};
 ghost use mathlib.Core.Bool.{true, false, not, _&&_};
 ghost use mathlib.Core.List.{List};
 ghost use Prim.Native.Nat.{_+_, _*_, _-_, _/_, _<_, _≤_, min, max};
 ghost use lib.ListN.{length, getD, set, drop};
+ghost use lib.Seq.{sets};
 ghost use Rattle.rules.specs.declared.Connection.{Connection as Figures};
 ghost use Rattle.rules.specs.Limits.{max-largest, max-silence, max-bound, max-connections, beyond-32-bits};
 ghost use Rattle.rules.specs.Model.{no-short, nth, no-past, no-connection};
@@ -14,7 +16,7 @@ ghost use Rattle.rules.specs.Admission.{bound, burst, rounded-up, average-count
 ghost use Rattle.rules.specs.Service.{remember};
 ghost use Rattle.limits.specs.Zeros.{zeros};
 ghost use Rattle.tables.specs.Table.{row-in};
-ghost use Rattle.connections.specs.Members.{member-width, rows-end, members-length, member-in, put-member, connection-of, connections-in, pasts-in, closed-in, used-by, used-in, first-in, written-table, written-members, rows-formed, members-formed};
+ghost use Rattle.connections.specs.Members.{member-width, rows-end, members-length, member-in, figures-row, put-member, connection-of, connections-in, pasts-in, closed-in, used-by, used-in, first-in, written-table, written-members, rows-formed, members-formed};
 ghost use Rattle.connections.specs.Within.{Within, Sums-with, most-share, share-of};
 use limits::MAX_CONNECTIONS;
 use limits::MAX_LEVELS;
@@ -28,15 +30,16 @@ use rules::Short;
 
 // A row of the table: a connection's figures, a mark where it is closed, how many eligibilities of its accepted packets are remembered, and these, newest first.
 pub struct Member {
-    pub level: u32,
-    pub size: u32,
-    pub gap: u32,
-    pub window: u32,
-    pub average: u32,
+    pub figures: Connection,
     pub mark: u32,
     pub known: u32,
     pub ticks: [u32; MAX_REMEMBERED],
 }
+
+// Where the mark and the count of the remembered eligibilities stand in a row: behind the figures.
+pub const MARK: usize = 7;
+
+pub(crate) const KNOWN: usize = 8;
 
 // Number k of row i.
 pub fn number(members: &[u32], i: usize, k: usize) -> u32
@@ -69,6 +72,8 @@ fn figures_at(members: &[u32], i: usize) -> Connection
         size: number(members, i, 1),
         window: number(members, i, 3),
         average: number(members, i, 4),
+        kind: number(members, i, 5),
+        allowance: number(members, i, 6),
     }
 }
 
@@ -77,17 +82,27 @@ pub fn member_at(members: &[u32], i: usize) -> Member
     requires { ⌜ member-width * i + member-width ≤ length (now members) ⌝ }
     ensures { λ r. ⌜ r ≡ member-in (now (members .entry)) i ⌝ }
 {
-    let x = figures_at(members, i);
     Member {
-        level: x.level,
-        size: x.size,
-        gap: x.gap,
-        window: x.window,
-        average: x.average,
-        mark: number(members, i, 5),
-        known: number(members, i, 6),
+        figures: figures_at(members, i),
+        mark: number(members, i, MARK),
+        known: number(members, i, KNOWN),
         ticks: ticks_at(members, i),
     }
+}
+
+// Row i gets these figures; the numbers behind them stay.
+fn put_figures(members: &mut [u32], i: usize, x: Connection)
+    requires { ⌜ member-width * i + member-width ≤ length (now members) ⌝ }
+    ensures { λ r. ⌜ now (members .exit) ≡ sets (now (members .entry)) (member-width * i) (figures-row x) ⌝ }
+{
+    let at = MEMBER_WIDTH * i;
+    members[at] = x.level;
+    members[at + 1] = x.size;
+    members[at + 2] = x.gap;
+    members[at + 3] = x.window;
+    members[at + 4] = x.average;
+    members[at + 5] = x.kind;
+    members[at + 6] = x.allowance;
 }
 
 // Row i becomes m.
@@ -96,13 +111,9 @@ fn put_member(members: &mut [u32], i: usize, m: Member)
     ensures { λ r. ⌜ now (members .exit) ≡ put-member (now (members .entry)) i m ⌝ }
 {
     let at = MEMBER_WIDTH * i;
-    members[at] = m.level;
-    members[at + 1] = m.size;
-    members[at + 2] = m.gap;
-    members[at + 3] = m.window;
-    members[at + 4] = m.average;
-    members[at + 5] = m.mark;
-    members[at + 6] = m.known;
+    put_figures(members, i, m.figures);
+    members[at + MARK] = m.mark;
+    members[at + KNOWN] = m.known;
     let ticks = m.ticks;
     tables::copy(members, at + MEMBER_HEAD, &ticks);
 }
@@ -162,17 +173,28 @@ pub fn add_member(members: &mut [u32], c: usize, x: Connection)
         members,
         c,
         Member {
-            level: x.level,
-            size: x.size,
-            gap: x.gap,
-            window: x.window,
-            average: x.average,
+            figures: x,
             mark: 0,
             known: 0,
             ticks: [0u32; MAX_REMEMBERED],
         },
     );
     use_up_to(members, c);
+}
+
+// The figures of a free number: zeros.
+pub(crate) fn no_figures() -> Connection
+    ensures { λ r. ⌜ r ≡ no-connection ⌝ }
+{
+    Connection {
+        level: 0,
+        gap: 0,
+        size: 0,
+        window: 0,
+        average: 0,
+        kind: 0,
+        allowance: 0,
+    }
 }
 
 // The figures of number c; zeros where it has no owner.
@@ -184,13 +206,7 @@ pub fn figures_of(members: &[u32], c: u32) -> Connection
     if k < MAX_CONNECTIONS {
         return figures_at(members, k);
     }
-    Connection {
-        level: 0,
-        gap: 0,
-        size: 0,
-        window: 0,
-        average: 0,
-    }
+    no_figures()
 }
 
 // Number c stands: it has an owner that is not closed.
@@ -202,7 +218,7 @@ pub fn stands(members: &[u32], c: u32) -> bool
     if MAX_CONNECTIONS <= k {
         return false;
     }
-    (number(members, k, 0) != 0) & (number(members, k, 5) == 0)
+    (number(members, k, 0) != 0) & (number(members, k, MARK) == 0)
 }
 
 // The level of number c; 0 where it has no owner.
@@ -210,8 +226,11 @@ pub fn level_of(members: &[u32], c: u32) -> u32
     requires { ⌜ length (now members) ≡ members-length ⌝ }
     ensures { λ r. ⌜ r ≡ nth (connections-in (now (members .entry))) c .level ⌝ }
 {
-    let x = figures_of(members, c);
-    x.level
+    let k = c as usize;
+    if k < MAX_CONNECTIONS {
+        return number(members, k, 0);
+    }
+    0
 }
 
 // Connection c has had a packet accepted, with the eligibility e. The numbers behind the rows stay.
@@ -303,14 +322,14 @@ pub fn count_in(x: Connection, w: u32) -> u64
 
 // The places reserved for a connection; none for a free number.
 pub fn reserve(l: Link, x: Connection) -> u64
-    requires { ⌜ (x .level ≡ 0 → x ≡ no-connection) × ((x .level ≡ 0 → ⊥) → 1 ≤ x .gap) ⌝ }
+    requires { ⌜ (x .level ≡ 0 → x ≡ no-connection) × ((x .level ≡ 0 → ⊥) → 1 ≤ x .gap) × (x .allowance + bound l (x .level) < beyond-32-bits) ⌝ }
     ensures { λ r. ⌜ (r ≡ reservation l x) × (r < beyond-32-bits) ⌝ }
 {
     if x.level == 0 {
         return 0;
     }
     let d = bound_of(l, x.level);
-    count_in(x, d)
+    count_in(x, x.allowance + d)
 }
 
 // What a packet costs the line, in ticks: a tick for each unit, and then the silence.
@@ -405,6 +424,8 @@ pub fn standing_test(l: Link, members: &[u32], n: usize) -> Short
         size: 0,
         window: 0,
         average: 0,
+        kind: 0,
+        allowance: 0,
     };
     level_test(l, members, n, nobody)
 }

@@ -63,8 +63,11 @@ pub fn earliest_behind(m: Member, k: u32) -> u64
     requires { ⌜ (m .known ≤ max-remembered) × (k ≤ max-remembered) × (burst (connection-of m) ≤ max-remembered) ⌝ }
     ensures { λ r. ⌜ r ≡ earliest (connection-of m) (drop k (past-of m)) ⌝ }
 {
-    let n = packets_in(m.window, m.average);
-    greatest(after_nth(m, k, 1, m.gap), after_nth(m, k, n, m.window))
+    let n = packets_in(m.figures.window, m.figures.average);
+    greatest(
+        after_nth(m, k, 1, m.figures.gap),
+        after_nth(m, k, n, m.figures.window),
+    )
 }
 
 // The next eligibility of a connection.
@@ -91,16 +94,13 @@ pub(crate) fn remembering(m: Member, e: u32) -> Member
     requires { ⌜ member-formed m ≡ true ⌝ }
     ensures { λ r. ⌜ r ≡ member (connection-of m) (remember (past-of m) e) (closed-of m) ⌝ }
 {
+    let figures = m.figures;
     let old = m.ticks;
     let mut ticks = [0u32; MAX_REMEMBERED];
     ticks[0] = e;
     tables::copy(&mut ticks, 1, &old[0..MAX_REMEMBERED - 1]);
     Member {
-        level: m.level,
-        size: m.size,
-        gap: m.gap,
-        window: m.window,
-        average: m.average,
+        figures: figures,
         mark: m.mark,
         known: one_more(m.known),
         ticks: ticks,
@@ -112,13 +112,10 @@ pub(crate) fn forgetting(m: Member, n: u32) -> Member
     requires { ⌜ member-formed m ≡ true ⌝ }
     ensures { λ r. ⌜ r ≡ member (connection-of m) (drop n (past-of m)) (closed-of m) ⌝ }
 {
+    let figures = m.figures;
     if m.known <= n {
         return Member {
-            level: m.level,
-            size: m.size,
-            gap: m.gap,
-            window: m.window,
-            average: m.average,
+            figures: figures,
             mark: m.mark,
             known: 0,
             ticks: [0u32; MAX_REMEMBERED],
@@ -129,11 +126,7 @@ pub(crate) fn forgetting(m: Member, n: u32) -> Member
     let mut ticks = [0u32; MAX_REMEMBERED];
     tables::copy(&mut ticks, 0, &old[from..MAX_REMEMBERED]);
     Member {
-        level: m.level,
-        size: m.size,
-        gap: m.gap,
-        window: m.window,
-        average: m.average,
+        figures: figures,
         mark: m.mark,
         known: m.known - n,
         ticks: ticks,

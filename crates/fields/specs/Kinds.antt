@@ -1,5 +1,5 @@
--- Document 01, "Trace and answer records": what a kind of records is. The ten kinds of its table, and the four
--- of document 02, R-1 and R-8, stand in the crates `traces` and `answers`. R is the type of the records.
+-- Document 01, "Trace and answer records": what a kind of records is. The ten kinds of its table, and the six
+-- of document 02, R-1, R-8 and R-9, stand in the crates `traces` and `answers`. R is the type of the records.
 use mathlib.Core.Bool.{Bool, true}
 use mathlib.Core.List.{List, _++_}
 use Prim.Native.Nat.{ℕ, _+_}

@@ -4,15 +4,16 @@ use native.Mathlib.Omega.{arith}
 use mathlib.Core.Path.{_≡_, refl, sym, ap, _∙_, subst}
 use mathlib.Core.Bool.{Bool, true, false, not, _&&_}
 use mathlib.Core.Logic.{_⊎_, inl, inr, _↔_}
-use mathlib.Core.List.{List, [], _∷_, _++_}
+use mathlib.Core.List.{List, [], _∷_, _++_, map}
+use mathlib.Core.Option.{none}
 use lib.Dec.{eqb}
 use lib.ListN.{length, length-append}
 use lib.Seq.{getD-append-seam}
-use borrow.Author.Tests.{lt-leb, eqb-false, eq-eqb, ne-eqb}
+use borrow.Author.Tests.{le-leb, lt-leb, eqb-false, eq-eqb, ne-eqb}
 use Rattle.rules.specs.declared.Link.{Link}
 use Rattle.rules.specs.declared.Connection.{Connection}
 use Rattle.rules.specs.Words.{All}
-use Rattle.rules.specs.Limits.{max-connections}
+use Rattle.rules.specs.Limits.{max-connections, max-allowance}
 use Rattle.rules.specs.declared.Short.{Short}
 use Rattle.rules.specs.Model.{Past, State, admit, offer, no-short, Answer, no-connection, nth, past, figures}
 use Rattle.rules.specs.Admission.{link-within, level-within, figures-within, free-number, joining, burst, cost, level-sum, level-test, passes}
@@ -21,19 +22,21 @@ use Rattle.rules.specs.SoundState.{Orderly, Sound}
 use Rattle.rules.specs.SoundTest.{sound}
 use Rattle.rules.specs.Calls.{verdicts, verdict, answer}
 use Rattle.rules.specs.Promises as R
-use Rattle.rules.specs.Promises.{No-level-fails}
+use Rattle.rules.specs.Promises.{No-level-fails, by-its-gap}
+use Rattle.rules.specs.WithoutAverage.{base-figures-within}
 use Rattle.rules.proofs.Sums.{same}
 use Rattle.rules.proofs.Lists.{all-from}
 use Rattle.rules.proofs.Tests.{never-number, and-true, every-true, not-true-false}
+use Rattle.rules.proofs.Rows.{length-map, map-append}
 use Rattle.rules.proofs.Standing.{level-free}
 use Rattle.rules.proofs.Verdicts.{settled}
 use Rattle.rules.proofs.Figures.{link-facts, burst-none}
 use Rattle.rules.proofs.Spacing.{earliest-is, next-is}
 use Rattle.rules.proofs.SoundExact.{exact}
-use Rattle.rules.proofs.Results.{answer-verdict, level-test-tells, short-is-told}
+use Rattle.rules.proofs.Results.{answer-verdict, level-test-tells, short-is-told, first-kind, second-kind, level-test-counts-alike}
 use Rattle.firmware.specs.Questions.{past-asked, next-asked, link-asked, rows-asked, row-asked, all-rows, testable, well-asked, short-asked}
 use Rattle.firmware.specs.Promises.{Same-eligibility-as-an-offer, Greater-with-an-average, Refused-exactly, Holds-exactly, No-units-exactly}
-use Rattle.firmware.specs.Promises.{Names-the-lowest, No-rows-hold, owners, Same-test-as-an-admission}
+use Rattle.firmware.specs.Promises.{Names-the-lowest, No-rows-hold, owners, Of-a-kind, Same-test-as-an-admission}
 use Rattle.firmware.proofs.AskedLaws.{row-ok, length-first, nth-first, Asked, asked, refuses, answers, is-level}
 use Rattle.firmware.proofs.FreeLaws.{Blank, test-owners, owners-room}
 
@@ -43,7 +46,7 @@ use Rattle.firmware.proofs.FreeLaws.{Blank, test-owners, owners-room}
 asked-is : (flag last gap now : ℕ) → next-asked flag last gap now ≡ max now (ticks-after gap (nth-before 1 (past-asked flag last)))
 unfolding next-asked
 asked-is flag last gap now =
-    let x : Connection = record { level = 0; gap = gap; size = 0; window = 0; average = 0 } in
+    let x : Connection = record { level = 0; gap = gap; size = 0; window = 0; average = 0; kind = 0; allowance = 0 } in
     let h : Past = past-asked flag last in
     omega (arith, next-is x h now, earliest-is x h, ap (λ (n : ℕ). ticks-after 0 (nth-before n h)) (burst-none x refl))
 
@@ -57,7 +60,7 @@ pub greater-with-an-average : Greater-with-an-average
 greater-with-an-average s c len tag flag last e =
     settled
     (λ (a : Answer). a .verdict ≡ 0 → a .number ≡ max (next-asked flag last (figures s c .gap) (s .clock)) (ticks-after (figures s c .window) (nth-before (burst (figures s c)) (past s c))))
-    (offer c len tag) s (verdict (offer c len tag) s)
+    (offer c len tag none) s (verdict (offer c len tag none) s)
     (λ _ _. same-next (figures s c) (past s c) flag last (s .clock) e)
     (λ w z. absurd (omega (arith, z)))
 
@@ -135,8 +138,21 @@ not-eight s x p =
     other : {A : Type 0} (n : ℕ) → eqb n 8 ≡ false → n ≡ 8 → A
     other n e i = absurd (eqb-false n 8 e i)
 
-module _ (lk rows : List ℕ) (s : State) (x : Connection) (S : Sound s) (same-link : link-asked lk ≡ s .link)
-    (same-rows : all-rows rows ≡ owners (s .connections) ++ x ∷ []) (e : well-asked lk rows ≡ true) where
+-- one of the first kind is its own row
+itself : (x : Connection) → x .kind ≡ 0 → x .allowance ≡ 0 → by-its-gap x ≡ x
+itself x k a =
+    ap (λ (n : ℕ). record { level = x .level; gap = x .gap; size = x .size; window = x .window; average = x .average; kind = n; allowance = 0 }) (sym k)
+    ∙ ap (λ (n : ℕ). record { level = x .level; gap = x .gap; size = x .size; window = x .window; average = x .average; kind = x .kind; allowance = n }) (sym a)
+
+-- one whose row is within the limits of figures is within them itself
+figures-by-row : (l : Link) (x : Connection) → Of-a-kind x → figures-within l (by-its-gap x) ≡ true → figures-within l x ≡ true
+figures-by-row l x (inl (k, a)) e = subst (λ (y : Connection). figures-within l y ≡ true) (itself x k a) e
+figures-by-row l x (inr (two, a)) e =
+    let b = and-true (base-figures-within l x) _ (sym (first-kind (by-its-gap x) refl refl .0 l) ∙ e) .0 in
+    second-kind x two .0 l ∙ rw (b, le-leb (x .allowance) max-allowance a) refl
+
+module _ (lk rows : List ℕ) (s : State) (x : Connection) (S : Sound s) (K : Of-a-kind x) (same-link : link-asked lk ≡ s .link)
+    (same-rows : all-rows rows ≡ map by-its-gap (owners (s .connections) ++ x ∷ [])) (e : well-asked lk rows ≡ true) where
   question : Asked (link-asked lk) rows
   question = asked (link-asked lk) rows e
 
@@ -144,21 +160,26 @@ module _ (lk rows : List ℕ) (s : State) (x : Connection) (S : Sound s) (same-l
   count : length (owners (s .connections)) + 1 ≡ rows-asked rows
   count =
       sym (length-append (owners (s .connections)) (x ∷ []))
+      ∙ sym (length-map by-its-gap (owners (s .connections) ++ x ∷ []))
       ∙ ap (λ (cs : List Connection). length cs) (sym same-rows)
       ∙ length-first rows (rows-asked rows)
 
-  newcomer : row-asked rows (length (owners (s .connections))) ≡ x
+  newcomer : row-asked rows (length (owners (s .connections))) ≡ by-its-gap x
   newcomer =
       sym (nth-first rows (rows-asked rows) (length (owners (s .connections))) (omega (arith, count)))
-      ∙ ap (λ (cs : List Connection). nth cs (length (owners (s .connections)))) same-rows
-      ∙ getD-append-seam (owners (s .connections)) x [] no-connection
+      ∙ ap (λ (cs : List Connection). nth cs (length (owners (s .connections)))) (same-rows ∙ map-append by-its-gap (owners (s .connections)) (x ∷ []))
+      ∙ ap (nth (map by-its-gap (owners (s .connections)) ++ by-its-gap x ∷ [])) (sym (length-map by-its-gap (owners (s .connections))))
+      ∙ getD-append-seam (map by-its-gap (owners (s .connections))) (by-its-gap x) [] no-connection
 
   newcomer-in : (level-within (s .link) x ≡ true) × (figures-within (s .link) x ≡ true)
+  unfolding level-within
   newcomer-in =
       let r = every-true (rows-asked rows) (row-ok (link-asked lk) rows) (question .rows-in) (length (owners (s .connections))) (omega (arith, count)) in
-      and-true (level-within (s .link) x) (figures-within (s .link) x)
-      (subst (λ (l : Link). (level-within l x && figures-within l x) ≡ true) same-link
-      (subst (λ (y : Connection). (level-within (link-asked lk) y && figures-within (link-asked lk) y) ≡ true) newcomer r))
+      let b =
+      and-true (level-within (s .link) (by-its-gap x)) (figures-within (s .link) (by-its-gap x))
+      (subst (λ (l : Link). (level-within l (by-its-gap x) && figures-within l (by-its-gap x)) ≡ true) same-link
+      (subst (λ (y : Connection). (level-within (link-asked lk) y && figures-within (link-asked lk) y) ≡ true) newcomer r)) in
+      (b .0, figures-by-row (s .link) x K (b .1))
 
   -- there is a link, and fewer owners than numbers
   linked : s .link .levels ≡ 0 → ⊥
@@ -177,7 +198,10 @@ module _ (lk rows : List ℕ) (s : State) (x : Connection) (S : Sound s) (same-l
 
   -- the two tests are one
   same-test : short-asked lk rows ≡ level-test (s .link) (joining (s .connections) x)
-  same-test = answers lk rows e ∙ rw (same-link, same-rows) (test-owners (s .link) (s .connections) x blanks room)
+  same-test =
+      answers lk rows e
+      ∙ rw (same-link, same-rows) (sym (level-test-counts-alike (s .link) (owners (s .connections) ++ x ∷ [])))
+      ∙ test-owners (s .link) (s .connections) x blanks room
 
   passed : short-asked lk rows .level ≡ 0 → passes (s .link) (joining (s .connections) x) ≡ true
   passed z = eq-eqb _ 0 (ap (λ (t : Short). t .level) (sym same-test) ∙ z)
@@ -192,12 +216,12 @@ module _ (lk rows : List ℕ) (s : State) (x : Connection) (S : Sound s) (same-l
   eight-if : answer (admit x) s .verdict ≡ 8 ↔ (short-asked lk rows .level ≡ 0 → ⊥)
   eight-if = (λ v z. not-eight s x (passed z) (sym (answer-verdict (admit x) s) ∙ v), λ n. answer-verdict (admit x) s ∙ gets-eight n)
 
-  none : short-asked lk rows .level ≡ 0 → no-short ≡ short-asked lk rows
-  none z = let u = tells lk rows e .1 .1 (tells lk rows e .0 .0 z) in sym (rw (z, u))
+  nothing-told : short-asked lk rows .level ≡ 0 → no-short ≡ short-asked lk rows
+  nothing-told z = let u = tells lk rows e .1 .1 (tells lk rows e .0 .0 z) in sym (rw (z, u))
 
   same-short : (short-asked lk rows .level ≡ 0) ⊎ (short-asked lk rows .level ≡ 0 → ⊥) → answer (admit x) s .short ≡ short-asked lk rows
-  same-short (inl z) = short-is-told (admit x) s .0 (λ v. eight-if .0 v z) ∙ none z
+  same-short (inl z) = short-is-told (admit x) s .0 (λ v. eight-if .0 v z) ∙ nothing-told z
   same-short (inr n) = short-is-told (admit x) s .1 x refl (eight-if .1 n) .0 ∙ sym same-test
 
 pub same-test-as-an-admission : Same-test-as-an-admission
-same-test-as-an-admission lk rows s x S l r e = (eight-if lk rows s x S l r e, same-short lk rows s x S l r e (same (short-asked lk rows .level) 0))
+same-test-as-an-admission lk rows s x S k l r e = (eight-if lk rows s x S k l r e, same-short lk rows s x S k l r e (same (short-asked lk rows .level) 0))

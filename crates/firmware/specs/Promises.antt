@@ -1,12 +1,14 @@
 -- THE STATEMENTS of the questions, apart from their proofs: each is proved in proofs/Results under the same name in small letters.
-use Prim.Native.Nat.{ℕ, max}
+use Prim.Native.Nat.{ℕ, _≤_, max}
 use mathlib.Core.Path.{_≡_}
 use mathlib.Core.Bool.{true, not}
-use mathlib.Core.Logic.{_↔_}
-use mathlib.Core.List.{List, [], _∷_, _++_}
+use mathlib.Core.Logic.{_⊎_, _↔_}
+use mathlib.Core.List.{List, [], _∷_, _++_, map}
+use mathlib.Core.Option.{none}
 use lib.Dec.{eqb}
 use Rattle.rules.specs.declared.Connection.{Connection}
 use Rattle.rules.specs.Words.{filter}
+use Rattle.rules.specs.Limits.{max-allowance}
 use Rattle.rules.specs.Model.{State, admit, offer, past, figures}
 use Rattle.rules.specs.Admission.{link-within, burst}
 use Rattle.rules.specs.Service.{nth-before, ticks-after}
@@ -14,27 +16,28 @@ use Rattle.rules.specs.WithoutAverage.{Plain}
 use Rattle.rules.specs.SoundState.{Sound}
 use Rattle.rules.specs.Calls.{answer}
 use Rattle.rules.specs.Promises as R
-use Rattle.rules.specs.Promises.{No-level-fails}
+use Rattle.rules.specs.Promises.{No-level-fails, Second, by-its-gap}
 use Rattle.firmware.specs.Questions.{past-asked, next-asked, link-asked, all-rows, well-asked, short-asked}
 
 -- ---- (a) and the eligibility that the hub gives
 
--- an accepted offer's, where the flag says whether a packet was accepted before it, and the last eligibility is that packet's: of a connection without an average
+-- an accepted offer's that brings no stamp (document 02, R-9), where the flag says whether a packet was accepted before it, and the last eligibility is that packet's: of
+-- a connection without an average
 abbrev pub Same-eligibility-as-an-offer : Type 0
 Same-eligibility-as-an-offer =
     (s : State) (c len tag flag last : ℕ)
     → Plain (figures s c)
     → nth-before 1 (past s c) ≡ nth-before 1 (past-asked flag last)
-    → answer (offer c len tag) s .verdict ≡ 0
-    → answer (offer c len tag) s .number ≡ next-asked flag last (figures s c .gap) (s .clock)
+    → answer (offer c len tag none) s .verdict ≡ 0
+    → answer (offer c len tag none) s .number ≡ next-asked flag last (figures s c .gap) (s .clock)
 
 -- .. and of any connection the greater of that and I after the n-th before (document 02, R-6)
 abbrev pub Greater-with-an-average : Type 0
 Greater-with-an-average =
     (s : State) (c len tag flag last : ℕ)
     → nth-before 1 (past s c) ≡ nth-before 1 (past-asked flag last)
-    → answer (offer c len tag) s .verdict ≡ 0
-    → answer (offer c len tag) s .number
+    → answer (offer c len tag none) s .verdict ≡ 0
+    → answer (offer c len tag none) s .number
     ≡ max (next-asked flag last (figures s c .gap) (s .clock)) (ticks-after (figures s c .window) (nth-before (burst (figures s c)) (past s c)))
 
 -- ---- (b), by the sums themselves
@@ -68,14 +71,19 @@ No-rows-hold = (lk : List ℕ) → link-within (link-asked lk) ≡ true → (sho
 abbrev pub owners : List Connection → List Connection
 owners cs = filter (λ x. not (eqb (x .level) 0)) cs
 
--- asked with the hub's link, and its owners and a newcomer as rows: a level is named exactly where the newcomer's admission gets 8,
--- and level and units are those of its answer
+-- of the first kind, with no allowance, or of the second, with an allowance up to its limit and no average (document 02, R-9)
+abbrev pub Of-a-kind : Connection → Type 0
+Of-a-kind x = ((x .kind ≡ 0) × (x .allowance ≡ 0)) ⊎ (Second x × (x .allowance ≤ max-allowance))
+
+-- asked with the hub's link, and its owners and a newcomer as rows, each as regulated by its gap, whatever its kind: a level is named exactly where the newcomer's
+-- admission gets 8, and level and units are those of its answer
 abbrev pub Same-test-as-an-admission : Type 0
 Same-test-as-an-admission =
     (lk rows : List ℕ) (s : State) (x : Connection)
     → Sound s
+    → Of-a-kind x
     → link-asked lk ≡ s .link
-    → all-rows rows ≡ owners (s .connections) ++ x ∷ []
+    → all-rows rows ≡ map by-its-gap (owners (s .connections) ++ x ∷ [])
     → well-asked lk rows ≡ true
     → (answer (admit x) s .verdict ≡ 8 ↔ (short-asked lk rows .level ≡ 0 → ⊥))
     × (answer (admit x) s .short ≡ short-asked lk rows)

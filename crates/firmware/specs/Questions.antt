@@ -1,4 +1,4 @@
--- THE QUESTIONS, answered by the rules' own definitions. Document 01, "Two questions from C firmware"; document 02, R-2 and R-6.
+-- THE QUESTIONS, answered by the rules' own definitions. Document 01, "Two questions from C firmware"; document 02, R-2, R-6 and R-9.
 use Prim.Native.Nat.{ℕ, zero, suc, _*_, _/_}
 use mathlib.Core.Bool.{Bool, cond, _&&_}
 use mathlib.Core.List.{List, [], _∷_, _++_}
@@ -25,9 +25,9 @@ use Rattle.named.specs.Named.{link-named, connection-named}
 abbrev pub past-asked : ℕ → ℕ → Past
 past-asked flag last = cond (eqb flag 0) [] (last ∷ [])
 
--- ".., a gap and the present tick .. the next eligibility": of a connection only its gap counts; it has no average (R-6)
+-- ".., a gap and the present tick .. the next eligibility": of a connection only its gap counts; it has no average (R-6) and is of the first kind (R-9)
 unfoldable pub next-asked : ℕ → ℕ → ℕ → ℕ → ℕ
-next-asked flag last gap now = next-eligibility (record { level = 0; gap = gap; size = 0; window = 0; average = 0 }) (past-asked flag last) now
+next-asked flag last gap now = next-eligibility (record { level = 0; gap = gap; size = 0; window = 0; average = 0; kind = 0; allowance = 0 }) (past-asked flag last) now
 
 -- ---- (b)
 
@@ -36,7 +36,7 @@ next-asked flag last gap now = next-eligibility (record { level = 0; gap = gap; 
 unfoldable pub link-asked : List ℕ → Link
 link-asked lk = cond (starts (LK .mark) lk && eqb (read-trace lk .taken) (length lk)) (link-named (get-fields (LK .widths (getD lk 2 0)) lk 2)) no-link
 
--- a table of "rows laid out as in `CN` after its mark", which are of 9 bytes since R-6: how many, row i, and the connections of the first n
+-- a table of "rows laid out as in `CN` after its mark", which are of 9 bytes since R-6: how many, row i, and the connections of the first n. They are of the first kind
 abbrev pub row-bytes : ℕ
 row-bytes = 9
 

@@ -1,4 +1,4 @@
-// The questions that the hub's firmware asks across the C boundary. Document 01, "Two questions from C firmware", and document 02, R-2 and R-6; for C:
+// The questions that the hub's firmware asks across the C boundary. Document 01, "Two questions from C firmware", and document 02, R-2, R-6 and R-9; for C:
 // include/mtredovim.h.
 ghost use mathlib.Core.Path.{_≡_};
 ghost use mathlib.Core.Bool.{true};
@@ -25,7 +25,8 @@ const ROW: usize = 9;
 // The level of a question that is not well asked.
 const NOT_WELL_ASKED: u32 = 255;
 
-// The next eligibility of a connection without an average, from a flag (0: no packet of it was accepted), the last eligibility, its gap and the present tick.
+// The next eligibility of a connection of the first kind without an average, from a flag (0: no packet of it was accepted), the last eligibility, its gap and the
+// present tick.
 #[no_mangle]
 pub extern "C" fn mtredovim_next_eligibility(flag: u32, last: u32, gap: u32, now: u32) -> u64
     ensures { λ r. ⌜ r ≡ next-asked flag last gap now ⌝ }

@@ -13,20 +13,20 @@ use Rattle.rules.specs.declared.Connection.{Connection}
 use Rattle.rules.specs.Words.{All, push}
 use Rattle.rules.specs.Limits.{clock-end, notice-number}
 use Rattle.rules.specs.declared.Notice.{Notice}
-use Rattle.rules.specs.Model.{State, Call, link, admit, offer, notice, close, tick, Answer, past, figures}
-use Rattle.rules.specs.Admission.{owned, stands, largest-bound}
-use Rattle.rules.specs.Service.{Spaced, of, first, notice-departs, packet-departs, after-unit, started, charge-over}
+use Rattle.rules.specs.Model.{State, Call, link, admit, offer, notice, close, tick, Answer, no-past, past, figures}
+use Rattle.rules.specs.Admission.{owned, stands, stamped, reservation, largest-bound}
+use Rattle.rules.specs.Service.{suits, Spaced, of, first, notice-departs, packet-departs, after-unit, started, charge-over}
 use Rattle.rules.specs.SoundState.{Sound}
 use Rattle.rules.specs.SoundTest.{sound}
-use Rattle.rules.specs.Calls.{verdict, done, refused-number, settle, answer, eligibility-now}
-use Rattle.rules.specs.Runs.{Departure, History, while-owned, taken, leaving, after, run-from, nothing-yet, run, departures, in-hub, bound-of, allowed, offer-tick, offer-ticks-from, offer-ticks, Keeps-its-word, Exchange, exchange, exchanges-from, exchanges, own-answer}
-use Rattle.rules.specs.Promises.{Conserved-since, Left-by, Kept-promise, Still-charged, Lowest-free}
+use Rattle.rules.specs.Calls.{heard, verdict, done, refused-number, settle, answer, eligibility-now}
+use Rattle.rules.specs.Runs.{Departure, History, while-owned, taken, leaving, after, run-from, nothing-yet, run, departures, in-hub, bound-of, allowed, offer-tick, offer-ticks-from, offer-ticks, Keeps-its-word, Exchange, exchange, exchanges-from, exchanges, own-answer, own-stamp-answers}
+use Rattle.rules.specs.Promises.{Conserved-since, Left-by, Kept-promise, Still-charged, Lowest-free, stamp-plus, No-cause, Stamp-promise}
 use Rattle.rules.proofs.Sums.{cond-is}
 use Rattle.rules.proofs.Verdicts.{settled}
 use Rattle.rules.proofs.SoundKept.{kept}
 use Rattle.rules.proofs.Every.{fresh-invariant}
 use Rattle.rules.proofs.Alone.{asks}
-use Rattle.rules.proofs.Results.{answer-verdict, demand-1-refusals, verdict-1-exactly, runs-are-sound, conservation, conservation-by-owner, demand-3-first, demand-3-second, told-by-its-own, bed-nine-and-bed-ten, counted, close-is-refused, closed-gets-10, closed-or-freed, freed-by-the-tick, charge-lasts, lowest-number-is-given}
+use Rattle.rules.proofs.Results.{answer-verdict, demand-1-refusals, verdict-1-exactly, runs-are-sound, conservation, conservation-by-owner, demand-3-first, demand-3-second, told-by-its-own, bed-nine-and-bed-ten, counted, close-is-refused, closed-gets-10, closed-or-freed, freed-by-the-tick, charge-lasts, lowest-number-is-given, ten-exactly, seventeen-exactly, no-finish-before, demand-3-for-stamps, stamps-told-by-their-own, bed-nine-and-bed-ten-with-stamps}
 use Rattle.tables.specs.Places.{written-places, table-of}
 use Rattle.connections.specs.Members.{written-rows}
 use Rattle.state.specs.declared.Hub.{Hub}
@@ -37,8 +37,8 @@ use Rattle.state.specs.Does.{tells, leaves, Does}
 use Rattle.state.proofs.WrittenLaws.{writable, read-written, written-sound}
 use Rattle.state.proofs.SoundLaws.{is-sound, tables-kept}
 use Rattle.state.proofs.DoesLaws.{told-as, left-as}
-use Rattle.hub.specs.Sequence.{Notes, brought, went, call, calls-from, blank, calls, state-of, notes-of, seen-ticks-from, seen-ticks, Seen-to-keep-its-word, heard, heard-from, all-heard}
-use Rattle.hub.specs.Promises.{One-outcome, Written-reads-back, Sound-is-written, Demand-1-of-the-code, Verdict-1-of-the-code, Sound-is-kept-by-the-code, Answers-as-the-rules, Close-is-refused-of-the-code, Closed-gets-10-of-the-code, Closed-or-freed-of-the-code, Freed-by-the-tick-of-the-code, Charge-lasts-of-the-code, Lowest-number-is-given-of-the-code, Follows-the-rules, Conservation-of-the-code, Noted-since, Conservation-by-owner-of-the-code, Noted-by, Demand-3-first-of-the-code, Kept-by-the-code, Demand-3-second-of-the-code, Told-by-its-own-of-the-code, Bed-nine-and-bed-ten-of-the-code, Counted-of-the-code}
+use Rattle.hub.specs.Sequence.{Notes, brought, went, call, calls-from, blank, calls, state-of, notes-of, seen-ticks-from, seen-ticks, Seen-to-keep-its-word, noted, noted-from, all-noted}
+use Rattle.hub.specs.Promises.{One-outcome, Written-reads-back, Sound-is-written, Demand-1-of-the-code, Verdict-1-of-the-code, Sound-is-kept-by-the-code, Answers-as-the-rules, Close-is-refused-of-the-code, Closed-gets-10-of-the-code, Closed-or-freed-of-the-code, Freed-by-the-tick-of-the-code, Charge-lasts-of-the-code, Lowest-number-is-given-of-the-code, Follows-the-rules, Conservation-of-the-code, Noted-since, Conservation-by-owner-of-the-code, Noted-by, Demand-3-first-of-the-code, Kept-by-the-code, Demand-3-second-of-the-code, Told-by-its-own-of-the-code, Bed-nine-and-bed-ten-of-the-code, Counted-of-the-code, Ten-exactly-of-the-code, Seventeen-exactly-of-the-code, No-finish-before-of-the-code, Stamp-kept-by-the-code, Demand-3-for-stamps-of-the-code, Stamps-told-by-their-own-of-the-code, Bed-nine-and-bed-ten-with-stamps-of-the-code}
 
 -- ---- one outcome
 
@@ -109,9 +109,9 @@ close-is-refused-of-the-code c h t r u D e linked =
     (close-is-refused c (view h t) (is-sound h t e) linked)
 
 pub closed-gets-10-of-the-code : Closed-gets-10-of-the-code
-closed-gets-10-of-the-code c len tag h t e is-closed =
-    let ten = closed-gets-10 (view h t) c len tag (is-sound h t e) is-closed in (
-      λ r u D. answers-as-the-rules (offer c len tag) h t r u D e .1 ∙ ten .0,
+closed-gets-10-of-the-code c len tag st h t e is-closed =
+    let ten = closed-gets-10 (view h t) c len tag st (is-sound h t e) is-closed in (
+      λ r u D. answers-as-the-rules (offer c len tag st) h t r u D e .1 ∙ ten .0,
       λ r u D. answers-as-the-rules (close c) h t r u D e .1 ∙ ten .1,
     )
 
@@ -173,7 +173,7 @@ same-date s (some p) = refl
 done-left : (k : Call) (s : State) → went (told-of (done k s)) ≡ leaving s (done k s .departed)
 done-left (link l) s = refl
 done-left (admit x) s = refl
-done-left (offer c len tag) s = refl
+done-left (offer c len tag st) s = refl
 done-left (notice len tag) s = refl
 done-left (close c) s = refl
 done-left tick s = unit-left (started s) (started s .to-go) ∙ same-date s (done tick s .departed)
@@ -184,7 +184,7 @@ answer-left k s = settled (λ a. went (told-of a) ≡ leaving s (a .departed)) k
 answer-brought : (k : Call) (s : State) (a : Answer) → brought k (hub-of s) (told-of a) ≡ taken k s a
 answer-brought (link l) s a = refl
 answer-brought (admit x) s a = refl
-answer-brought (offer c len tag) s a = refl
+answer-brought (offer c len tag st) s a = refl
 answer-brought (notice len tag) s a = refl
 answer-brought (close c) s a = refl
 answer-brought tick s a = refl
@@ -282,20 +282,20 @@ conservation-by-owner-of-the-code earlier later x r u D z =
 -- ---- demand 3
 
 -- a packet that has left in the rules' run has left in the notes: accepted behind the calls `earlier`, with its eligibility e
-module _ (earlier later : List Call) (c len tag : ℕ) where
+module _ (earlier later : List Call) (c len tag : ℕ) (st : Option ℕ) where
   abbrev all : List Call
-  all = earlier ++ offer c len tag ∷ later
+  all = earlier ++ offer c len tag st ∷ later
 
   -- in the notes g of the calls before it and G of all, with its owner's bound d
   abbrev Noted : Notes → Notes → ℕ → ℕ → Type 0
   Noted g G e d =
       Noted-by G c (length (of c (g .accepted))) (record { connection = c; len = len; tag = tag; arrival = g .hub .clock; eligibility = e }) (e + d)
 
-  noted : (e : ℕ)
+  has-left : (e : ℕ)
       → Left-by (run all) c (length (of c (run earlier .accepted))) (record { connection = c; len = len; tag = tag; arrival = run earlier .now .clock; eligibility = e })
       (e + bound-of (run earlier .now) c)
       → Noted (calls earlier) (calls all) e (bound-of (state-of (calls earlier)) c)
-  noted e q =
+  has-left e q =
       subst (Noted (calls earlier) (calls all) e) (sym (same-bound earlier c))
       (subst (λ (g : Notes). Noted g (calls all) e (bound-of (run earlier .now) c)) (sym (follows-the-rules earlier))
       (subst (λ (G : Notes). Noted (notes-of (run earlier)) G e (bound-of (run earlier .now) c)) (sym (follows-the-rules all))
@@ -305,36 +305,36 @@ module _ (earlier later : List Call) (c len tag : ℕ) where
   clock-is = ap (λ (g : Notes). g .hub .clock) (follows-the-rules all)
 
 pub demand-3-first-of-the-code : Demand-3-first-of-the-code
-demand-3-first-of-the-code earlier later c len tag r u D z over =
+demand-3-first-of-the-code earlier later c len tag st r u D z over =
     let s = run earlier .now in
-    let it = offer c len tag in
+    let it = offer c len tag st in
     let a = told-then earlier it r u D in
     let v : answer it s .verdict ≡ 0 = sym (ap (λ (x : Told). x .verdict) a) ∙ z in
-    let n : r .number ≡ eligibility-now s c = ap (λ (x : Told). x .number) a ∙ ap (λ (w : ℕ). settle it s w .number) (sym (answer-verdict it s) ∙ v) in
-    let then : eligibility-now s c + bound-of s c ≤ run (earlier ++ it ∷ later) .now .clock = (omega (arith, over, n, same-bound earlier c, clock-is earlier later c len tag)) in
-    subst (λ (e : ℕ). Noted earlier later c len tag (calls earlier) (calls (earlier ++ it ∷ later)) e (bound-of (state-of (calls earlier)) c)) (sym n)
-    (noted earlier later c len tag (eligibility-now s c) (demand-3-first earlier later c len tag v then))
+    let n : r .number ≡ eligibility-now s c st = ap (λ (x : Told). x .number) a ∙ ap (λ (w : ℕ). settle it s w .number) (sym (answer-verdict it s) ∙ v) in
+    let then : eligibility-now s c st + bound-of s c ≤ run (earlier ++ it ∷ later) .now .clock = (omega (arith, over, n, same-bound earlier c, clock-is earlier later c len tag st)) in
+    subst (λ (e : ℕ). Noted earlier later c len tag st (calls earlier) (calls (earlier ++ it ∷ later)) e (bound-of (state-of (calls earlier)) c)) (sym n)
+    (has-left earlier later c len tag st (eligibility-now s c st) (demand-3-first earlier later c len tag st v then))
 
-module _ (earlier later : List Call) (c len tag : ℕ) (word : Seen-to-keep-its-word c (earlier ++ offer c len tag ∷ [])) (good : allowed (state-of (calls earlier)) c len ≡ true) where
+same-clock : (ks : List Call) → calls ks .hub .clock ≡ run ks .now .clock
+same-clock ks = ap (λ (g : Notes). g .hub .clock) (follows-the-rules ks)
+
+module _ (earlier later : List Call) (c len tag : ℕ) (word : Seen-to-keep-its-word c (earlier ++ offer c len tag none ∷ [])) (good : allowed (state-of (calls earlier)) c len none ≡ true) where
   promise : Kept-promise earlier later c len tag
   promise =
-      demand-3-second earlier later c len tag (transport (word-is c (earlier ++ offer c len tag ∷ [])) word)
-      (subst (λ (s : State). allowed s c len ≡ true) (state-is earlier) good)
-
-  same-clock : calls earlier .hub .clock ≡ run earlier .now .clock
-  same-clock = ap (λ (g : Notes). g .hub .clock) (follows-the-rules earlier)
+      demand-3-second earlier later c len tag (transport (word-is c (earlier ++ offer c len tag none ∷ [])) word)
+      (subst (λ (s : State). allowed s c len none ≡ true) (state-is earlier) good)
 
   kept-by-the-code : Kept-by-the-code earlier later c len tag
   kept-by-the-code = record {
-    never-for-room = λ r u D z. promise .never-for-room (sym (ap (λ (x : Told). x .verdict) (told-then earlier (offer c len tag) r u D)) ∙ z);
+    never-for-room = λ r u D z. promise .never-for-room (sym (ap (λ (x : Told). x .verdict) (told-then earlier (offer c len tag none) r u D)) ∙ z);
     accepted = λ r u D l.
-        let a = told-then earlier (offer c len tag) r u D in
-        let running : run earlier .now .clock < clock-end = omega (arith, same-clock) in
-        (ap (λ (x : Told). x .verdict) a ∙ promise .accepted running, ap (λ (x : Told). x .number) a ∙ promise .on-arrival running ∙ sym same-clock);
+        let a = told-then earlier (offer c len tag none) r u D in
+        let running : run earlier .now .clock < clock-end = omega (arith, same-clock earlier) in
+        (ap (λ (x : Told). x .verdict) a ∙ promise .accepted running, ap (λ (x : Told). x .number) a ∙ promise .on-arrival running ∙ sym (same-clock earlier));
     in-time = λ l over.
-        subst (λ (e : ℕ). Noted earlier later c len tag (calls earlier) (calls (all earlier later c len tag)) e (bound-of (state-of (calls earlier)) c)) (sym same-clock)
-        (noted earlier later c len tag (run earlier .now .clock)
-        (promise .in-time (omega (arith, same-clock)) (omega (arith, same-clock, same-bound earlier c, clock-is earlier later c len tag))));
+        subst (λ (e : ℕ). Noted earlier later c len tag none (calls earlier) (calls (all earlier later c len tag none)) e (bound-of (state-of (calls earlier)) c)) (sym (same-clock earlier))
+        (has-left earlier later c len tag none (run earlier .now .clock)
+        (promise .in-time (omega (arith, same-clock earlier)) (omega (arith, same-clock earlier, same-bound earlier c, clock-is earlier later c len tag none))));
   }
 
 pub demand-3-second-of-the-code : Demand-3-second-of-the-code
@@ -342,48 +342,115 @@ demand-3-second-of-the-code earlier later c len tag word good = kept-by-the-code
 
 -- ---- bed nine and bed ten
 
--- what is heard of a state of the rules as it is written
-heard-one : (c : ℕ) (h : History) (k : Call) → Sound (h .now) → heard c (notes-of h) k ≡ exchange c (h .now) k
-heard-one c h (link l) S = refl
-heard-one c h (admit x) S = refl
-heard-one c h (offer d len tag) S =
-    ap (λ (r : Told). listen (state-of (notes-of h)) r) (same-tells (h .now) S (offer d len tag))
-    ∙ ap (λ (s : State). listen s (told-of (answer (offer d len tag) (h .now)))) (back (h .now) S)
+-- what is noted of a state of the rules as it is written
+noted-one : (c : ℕ) (h : History) (k : Call) → Sound (h .now) → noted c (notes-of h) k ≡ exchange c (h .now) k
+noted-one c h (link l) S = refl
+noted-one c h (admit x) S = refl
+noted-one c h (offer d len tag st) S =
+    ap (λ (r : Told). listen (state-of (notes-of h)) r) (same-tells (h .now) S (offer d len tag st))
+    ∙ ap (λ (s : State). listen s (told-of (answer (offer d len tag st) (h .now)))) (back (h .now) S)
   where
     listen : State → Told → Option Exchange
     listen s r =
-        cond (eqb d c && stands s c) (some (record { asked = record { at = h .now .clock; len = len; tag = tag }; verdict = r .verdict; eligibility = r .number })) none
-heard-one c h (notice len tag) S = refl
-heard-one c h (close d) S = refl
-heard-one c h tick S = refl
+        cond (eqb d c && heard s c st) (some (record { asked = record { at = h .now .clock; len = len; tag = tag; stamp = st }; verdict = r .verdict; eligibility = r .number })) none
+noted-one c h (notice len tag) S = refl
+noted-one c h (close d) S = refl
+noted-one c h tick S = refl
 
-heard-all : (c : ℕ) (ks : List Call) (h : History) (es : List Exchange) → Sound (h .now) → heard-from c (notes-of h) es ks ≡ exchanges-from c h es ks
-heard-all c [] h es S = refl
-heard-all c (k ∷ ks) h es S =
+noted-each : (c : ℕ) (ks : List Call) (h : History) (es : List Exchange) → Sound (h .now) → noted-from c (notes-of h) es ks ≡ exchanges-from c h es ks
+noted-each c [] h es S = refl
+noted-each c (k ∷ ks) h es S =
     let fs = push es (exchange c (h .now) k) in
-    ap (λ (o : Option Exchange). heard-from c (call (notes-of h) k) (while-owned (state-of (call (notes-of h) k)) c (push es o)) ks) (heard-one c h k S)
-    ∙ ap (λ (g : Notes). heard-from c g (while-owned (state-of g) c fs) ks) (follows-one h k S)
-    ∙ ap (λ (s : State). heard-from c (notes-of (after h k)) (while-owned s c fs) ks) (back (after h k .now) (kept k (h .now) S))
-    ∙ heard-all c ks (after h k) (while-owned (after h k .now) c fs) (kept k (h .now) S)
+    ap (λ (o : Option Exchange). noted-from c (call (notes-of h) k) (while-owned (state-of (call (notes-of h) k)) c (push es o)) ks) (noted-one c h k S)
+    ∙ ap (λ (g : Notes). noted-from c g (while-owned (state-of g) c fs) ks) (follows-one h k S)
+    ∙ ap (λ (s : State). noted-from c (notes-of (after h k)) (while-owned s c fs) ks) (back (after h k .now) (kept k (h .now) S))
+    ∙ noted-each c ks (after h k) (while-owned (after h k .now) c fs) (kept k (h .now) S)
 
--- so what is heard is what the rules say
-heard-is : (c : ℕ) (ks : List Call) → all-heard c ks ≡ exchanges c ks
-heard-is c ks = ap (λ (g : Notes). heard-from c g [] ks) blank-is ∙ heard-all c ks nothing-yet [] (fresh-invariant .sound)
+-- so what is noted is what the rules say
+noted-is : (c : ℕ) (ks : List Call) → all-noted c ks ≡ exchanges c ks
+noted-is c ks = ap (λ (g : Notes). noted-from c g [] ks) blank-is ∙ noted-each c ks nothing-yet [] (fresh-invariant .sound)
+
+-- the kind of a connection is the one that the rules have
+kind-is : (ks : List Call) (c : ℕ) (b : Bool) → stamped (figures (state-of (calls ks)) c) ≡ b → stamped (figures (run ks .now) c) ≡ b
+kind-is ks c b e = ap stamped (sym (same-figures ks c)) ∙ e
 
 pub told-by-its-own-of-the-code : Told-by-its-own-of-the-code
-told-by-its-own-of-the-code ks c word =
-    subst (λ (x : Connection). All (λ (e : Exchange). e ≡ own-answer x (e .asked)) (all-heard c ks)) (sym (same-figures ks c))
-    (subst (All (λ (e : Exchange). e ≡ own-answer (figures (run ks .now) c) (e .asked))) (sym (heard-is c ks)) (told-by-its-own ks c (transport (word-is c ks) word)))
+told-by-its-own-of-the-code ks c kind word =
+    subst (λ (x : Connection). All (λ (e : Exchange). e ≡ own-answer x (e .asked)) (all-noted c ks)) (sym (same-figures ks c))
+    (subst (All (λ (e : Exchange). e ≡ own-answer (figures (run ks .now) c) (e .asked))) (sym (noted-is c ks)) (told-by-its-own ks c (kind-is ks c false kind) (transport (word-is c ks) word)))
 
 pub bed-nine-and-bed-ten-of-the-code : Bed-nine-and-bed-ten-of-the-code
-bed-nine-and-bed-ten-of-the-code ks ms c d alike asked word =
-    heard-is c ks
+bed-nine-and-bed-ten-of-the-code ks ms c d alike asked kind word =
+    noted-is c ks
     ∙ bed-nine-and-bed-ten ks ms c d (sym (same-figures ks c) ∙ alike ∙ same-figures ms d)
-    (ap asks (sym (heard-is c ks)) ∙ asked ∙ ap asks (heard-is d ms)) (transport (word-is c ks) word)
-    ∙ sym (heard-is d ms)
+    (ap asks (sym (noted-is c ks)) ∙ asked ∙ ap asks (noted-is d ms)) (kind-is ks c false kind) (transport (word-is c ks) word)
+    ∙ sym (noted-is d ms)
 
 pub counted-of-the-code : Counted-of-the-code
 counted-of-the-code ks c =
     subst (λ (g : Notes). length (of c (g .accepted)) ≡ length (departures c (g .departed)) + length (of c (in-hub (state-of g))))
     (sym (follows-the-rules ks))
     (counted ks c ∙ ap (λ (s : State). length (departures c (run ks .departed)) + length (of c (in-hub s))) (sym (back (run ks .now) (runs-are-sound ks))))
+
+-- ---- connections by stamps
+
+pub ten-exactly-of-the-code : Ten-exactly-of-the-code
+ten-exactly-of-the-code c len tag st h t r u D e linked =
+    subst (λ (v : ℕ). v ≡ 10 ↔ ((stands (view h t) c ≡ true) × (suits (figures (view h t) c) st ≡ true) → ⊥))
+    (sym (answers-as-the-rules (offer c len tag st) h t r u D e .1))
+    (ten-exactly c len tag st (view h t) (is-sound h t e) linked)
+
+pub seventeen-exactly-of-the-code : Seventeen-exactly-of-the-code
+seventeen-exactly-of-the-code c len tag stamp h t r u D e linked =
+    subst (λ (v : ℕ). v ≡ 17
+    ↔ ((allowed (view h t) c len (some stamp) ≡ true)
+    × (length (of c (view h t .held)) < reservation (h .link) (figures (view h t) c))
+    × (h .clock < clock-end)
+    × (No-cause (view h t) c stamp → ⊥)))
+    (sym (answers-as-the-rules (offer c len tag (some stamp)) h t r u D e .1))
+    (seventeen-exactly c len tag stamp (view h t) (is-sound h t e) linked)
+
+pub no-finish-before-of-the-code : No-finish-before-of-the-code
+no-finish-before-of-the-code ks =
+    subst (λ (g : Notes). All (λ (d : Departure). (d .what .connection ≡ notice-number → ⊥) → d .what .eligibility + d .what .len ≤ d .finish) (g .departed))
+    (sym (follows-the-rules ks))
+    (no-finish-before ks)
+
+module _ (earlier later : List Call) (c len tag stamp : ℕ) (good : allowed (state-of (calls earlier)) c len (some stamp) ≡ true) (cause : No-cause (state-of (calls earlier)) c stamp) where
+  stamp-promise : Stamp-promise earlier later c len tag stamp
+  stamp-promise =
+      demand-3-for-stamps earlier later c len tag stamp
+      (subst (λ (s : State). allowed s c len (some stamp) ≡ true) (state-is earlier) good)
+      (subst (λ (s : State). No-cause s c stamp) (state-is earlier) cause)
+
+  same-sum : stamp-plus (state-of (calls earlier)) c stamp ≡ stamp-plus (run earlier .now) c stamp
+  same-sum = ap (λ (s : State). stamp-plus s c stamp) (state-is earlier)
+
+  stamp-kept : Stamp-kept-by-the-code earlier later c len tag stamp
+  stamp-kept = record {
+    never-for-room = λ r u D z. stamp-promise .never-for-room (sym (ap (λ (x : Told). x .verdict) (told-then earlier (offer c len tag (some stamp)) r u D)) ∙ z);
+    accepted = λ r u D l.
+        let a = told-then earlier (offer c len tag (some stamp)) r u D in
+        let running : run earlier .now .clock < clock-end = omega (arith, same-clock earlier) in
+        (ap (λ (x : Told). x .verdict) a ∙ stamp-promise .accepted running, ap (λ (x : Told). x .number) a ∙ stamp-promise .eligible running ∙ sym same-sum);
+    in-time = λ l over.
+        subst (λ (e : ℕ). Noted earlier later c len tag (some stamp) (calls earlier) (calls (all earlier later c len tag (some stamp))) e (bound-of (state-of (calls earlier)) c)) (sym same-sum)
+        (has-left earlier later c len tag (some stamp) (stamp-plus (run earlier .now) c stamp)
+        (stamp-promise .in-time (omega (arith, same-clock earlier)) (omega (arith, over, same-sum, same-bound earlier c, clock-is earlier later c len tag (some stamp)))));
+  }
+
+pub demand-3-for-stamps-of-the-code : Demand-3-for-stamps-of-the-code
+demand-3-for-stamps-of-the-code earlier later c len tag stamp good cause = stamp-kept earlier later c len tag stamp good cause
+
+pub stamps-told-by-their-own-of-the-code : Stamps-told-by-their-own-of-the-code
+stamps-told-by-their-own-of-the-code ks c kind word =
+    subst (λ (x : Connection). all-noted c ks ≡ own-stamp-answers x no-past (asks (all-noted c ks))) (sym (same-figures ks c))
+    (subst (λ (es : List Exchange). es ≡ own-stamp-answers (figures (run ks .now) c) no-past (asks es)) (sym (noted-is c ks))
+    (stamps-told-by-their-own ks c (kind-is ks c true kind) (transport (word-is c ks) word)))
+
+pub bed-nine-and-bed-ten-with-stamps-of-the-code : Bed-nine-and-bed-ten-with-stamps-of-the-code
+bed-nine-and-bed-ten-with-stamps-of-the-code ks ms c d alike asked kind word =
+    noted-is c ks
+    ∙ bed-nine-and-bed-ten-with-stamps ks ms c d (sym (same-figures ks c) ∙ alike ∙ same-figures ms d)
+    (ap asks (sym (noted-is c ks)) ∙ asked ∙ ap asks (noted-is d ms)) (kind-is ks c true kind) (transport (word-is c ks) word)
+    ∙ sym (noted-is d ms)

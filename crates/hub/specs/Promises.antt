@@ -4,24 +4,24 @@ use mathlib.Core.Path.{_≡_}
 use mathlib.Core.Bool.{true, false}
 use mathlib.Core.Logic.{_↔_}
 use mathlib.Core.List.{List, [], _∷_, _++_, map}
-use mathlib.Core.Option.{some}
+use mathlib.Core.Option.{Option, none, some}
 use lib.ListN.{length, getElem?, drop}
 use Rattle.rules.specs.declared.Packet.{Packet}
 use Rattle.rules.specs.declared.Connection.{Connection}
-use Rattle.rules.specs.Limits.{clock-end}
+use Rattle.rules.specs.Limits.{clock-end, notice-number}
 use Rattle.rules.specs.Words.{All}
-use Rattle.rules.specs.Model.{State, Call, admit, offer, close, tick, past, figures, closed-at}
-use Rattle.rules.specs.Admission.{owned, stands, largest-bound}
-use Rattle.rules.specs.Service.{of, charge-over}
+use Rattle.rules.specs.Model.{State, Call, admit, offer, close, tick, no-past, past, figures, closed-at}
+use Rattle.rules.specs.Admission.{owned, stands, stamped, reservation, largest-bound}
+use Rattle.rules.specs.Service.{suits, of, charge-over}
 use Rattle.rules.specs.SoundState.{Sound}
 use Rattle.rules.specs.Calls.{refused-number, answer}
-use Rattle.rules.specs.Runs.{Departure, run, departures, in-hub, bound-of, allowed, Exchange, own-answer}
-use Rattle.rules.specs.Promises.{Still-charged, Lowest-free}
+use Rattle.rules.specs.Runs.{Departure, run, departures, in-hub, bound-of, allowed, Exchange, own-answer, own-stamp-answers}
+use Rattle.rules.specs.Promises.{Still-charged, Lowest-free, stamp-plus, No-cause}
 use Rattle.state.specs.declared.Hub.{Hub}
 use Rattle.state.specs.declared.Told.{Told}
 use Rattle.state.specs.View.{Tables, view, hub-of, written, sound-hub}
 use Rattle.state.specs.Does.{Does}
-use Rattle.hub.specs.Sequence.{Notes, calls, state-of, notes-of, Seen-to-keep-its-word, all-heard}
+use Rattle.hub.specs.Sequence.{Notes, calls, state-of, notes-of, Seen-to-keep-its-word, all-noted}
 
 -- document 01, "What the hub's answers must settle": any two answers and tables that a contract allows are equal
 abbrev pub One-outcome : Type 0
@@ -87,10 +87,10 @@ Close-is-refused-of-the-code =
 -- an offer to a closed number, and another close of it, get 10
 abbrev pub Closed-gets-10-of-the-code : Type 0
 Closed-gets-10-of-the-code =
-    (c len tag : ℕ) (h : Hub) (before : Tables)
+    (c len tag : ℕ) (st : Option ℕ) (h : Hub) (before : Tables)
     → sound-hub h before ≡ true
     → closed-at (view h before) c ≡ true
-    → ((told : Told) (after : Tables) → Does (offer c len tag) h before told after → told .verdict ≡ 10)
+    → ((told : Told) (after : Tables) → Does (offer c len tag st) h before told after → told .verdict ≡ 10)
     × ((told : Told) (after : Tables) → Does (close c) h before told after → told .verdict ≡ 10)
 
 -- a connection that is closed is freed at once where it never sent or the clock has reached its last eligibility plus the largest bound; else it is charged
@@ -170,32 +170,32 @@ pub record Noted-by (g : Notes) (c i : ℕ) (p : Packet) (deadline : ℕ) : Type
 -- any calls `earlier`, an offer of c that is accepted, any calls `later`; the bound is the one of c's owner at the offer (document 02, R-8)
 abbrev pub Demand-3-first-of-the-code : Type 0
 Demand-3-first-of-the-code =
-    (earlier later : List Call) (c len tag : ℕ) (told : Told) (after : Tables)
-    → Does (offer c len tag) (calls earlier .hub) (calls earlier .tables) told after
+    (earlier later : List Call) (c len tag : ℕ) (st : Option ℕ) (told : Told) (after : Tables)
+    → Does (offer c len tag st) (calls earlier .hub) (calls earlier .tables) told after
     → told .verdict ≡ 0
-    → told .number + bound-of (state-of (calls earlier)) c ≤ calls (earlier ++ offer c len tag ∷ later) .hub .clock
-    → Noted-by (calls (earlier ++ offer c len tag ∷ later)) c (length (of c (calls earlier .accepted)))
+    → told .number + bound-of (state-of (calls earlier)) c ≤ calls (earlier ++ offer c len tag st ∷ later) .hub .clock
+    → Noted-by (calls (earlier ++ offer c len tag st ∷ later)) c (length (of c (calls earlier .accepted)))
     (record { connection = c; len = len; tag = tag; arrival = calls earlier .hub .clock; eligibility = told .number })
     (told .number + bound-of (state-of (calls earlier)) c)
 
 -- and a connection that keeps its word is never refused for room: while the clock runs its offer is accepted, eligible on arrival, and leaves within the bound of
 -- its arrival. Any calls `earlier`, an offer of c of allowed length, any calls `later`; c has kept its word up to this offer
 pub record Kept-by-the-code (earlier later : List Call) (c len tag : ℕ) : Type 0 where
-  pub never-for-room : (told : Told) (after : Tables) → Does (offer c len tag) (calls earlier .hub) (calls earlier .tables) told after → told .verdict ≡ 12 → ⊥
-  pub accepted : (told : Told) (after : Tables) → Does (offer c len tag) (calls earlier .hub) (calls earlier .tables) told after
+  pub never-for-room : (told : Told) (after : Tables) → Does (offer c len tag none) (calls earlier .hub) (calls earlier .tables) told after → told .verdict ≡ 12 → ⊥
+  pub accepted : (told : Told) (after : Tables) → Does (offer c len tag none) (calls earlier .hub) (calls earlier .tables) told after
       → calls earlier .hub .clock < clock-end
       → (told .verdict ≡ 0) × (told .number ≡ calls earlier .hub .clock)
   pub in-time : calls earlier .hub .clock < clock-end
-      → calls earlier .hub .clock + bound-of (state-of (calls earlier)) c ≤ calls (earlier ++ offer c len tag ∷ later) .hub .clock
-      → Noted-by (calls (earlier ++ offer c len tag ∷ later)) c (length (of c (calls earlier .accepted)))
+      → calls earlier .hub .clock + bound-of (state-of (calls earlier)) c ≤ calls (earlier ++ offer c len tag none ∷ later) .hub .clock
+      → Noted-by (calls (earlier ++ offer c len tag none ∷ later)) c (length (of c (calls earlier .accepted)))
       (record { connection = c; len = len; tag = tag; arrival = calls earlier .hub .clock; eligibility = calls earlier .hub .clock })
       (calls earlier .hub .clock + bound-of (state-of (calls earlier)) c)
 
 abbrev pub Demand-3-second-of-the-code : Type 0
 Demand-3-second-of-the-code =
     (earlier later : List Call) (c len tag : ℕ)
-    → Seen-to-keep-its-word c (earlier ++ offer c len tag ∷ [])
-    → allowed (state-of (calls earlier)) c len ≡ true
+    → Seen-to-keep-its-word c (earlier ++ offer c len tag none ∷ [])
+    → allowed (state-of (calls earlier)) c len none ≡ true
     → Kept-by-the-code earlier later c len tag
 
 -- ---- bed nine and bed ten, of the code (document 02, R-3)
@@ -204,20 +204,89 @@ Demand-3-second-of-the-code =
 abbrev pub Told-by-its-own-of-the-code : Type 0
 Told-by-its-own-of-the-code =
     (ks : List Call) (c : ℕ)
+    → stamped (figures (state-of (calls ks)) c) ≡ false
     → Seen-to-keep-its-word c ks
-    → All (λ (e : Exchange). e ≡ own-answer (figures (state-of (calls ks)) c) (e .asked)) (all-heard c ks)
+    → All (λ (e : Exchange). e ≡ own-answer (figures (state-of (calls ks)) c) (e .asked)) (all-noted c ks)
 
 -- so through any two sequences of calls a connection with the same figures and the same offers at the same ticks gets the same answers, whatever its number in each
 abbrev pub Bed-nine-and-bed-ten-of-the-code : Type 0
 Bed-nine-and-bed-ten-of-the-code =
     (ks ms : List Call) (c d : ℕ)
     → figures (state-of (calls ks)) c ≡ figures (state-of (calls ms)) d
-    → map (λ (e : Exchange). e .asked) (all-heard c ks) ≡ map (λ (e : Exchange). e .asked) (all-heard d ms)
+    → map (λ (e : Exchange). e .asked) (all-noted c ks) ≡ map (λ (e : Exchange). e .asked) (all-noted d ms)
+    → stamped (figures (state-of (calls ks)) c) ≡ false
     → Seen-to-keep-its-word c ks
-    → all-heard c ks ≡ all-heard d ms
+    → all-noted c ks ≡ all-noted d ms
 
 -- for every connection, counted in the caller's notes: accepted since the hub was fresh = departed plus held
 abbrev pub Counted-of-the-code : Type 0
 Counted-of-the-code =
     (ks : List Call) (c : ℕ)
     → length (of c (calls ks .accepted)) ≡ length (departures c (calls ks .departed)) + length (of c (in-hub (state-of (calls ks))))
+
+-- ---- connections by stamps, of the code (document 02, R-9). The first sentence of demand 3 is theirs too (`Demand-3-first-of-the-code`)
+
+-- on a sound hub with a link an offer gets 10 exactly for a number that does not stand, for a stamp to the first kind, and for none to the second
+abbrev pub Ten-exactly-of-the-code : Type 0
+Ten-exactly-of-the-code =
+    (c len tag : ℕ) (st : Option ℕ) (h : Hub) (before : Tables) (told : Told) (after : Tables)
+    → Does (offer c len tag st) h before told after
+    → sound-hub h before ≡ true
+    → (h .link .levels ≡ 0 → ⊥)
+    → told .verdict ≡ 10 ↔ ((stands (view h before) c ≡ true) × (suits (figures (view h before) c) st ≡ true) → ⊥)
+
+-- .. and 17 exactly where a cause of 17 applies, and neither 10, 11, 12 nor 13 is given
+abbrev pub Seventeen-exactly-of-the-code : Type 0
+Seventeen-exactly-of-the-code =
+    (c len tag stamp : ℕ) (h : Hub) (before : Tables) (told : Told) (after : Tables)
+    → Does (offer c len tag (some stamp)) h before told after
+    → sound-hub h before ≡ true
+    → (h .link .levels ≡ 0 → ⊥)
+    → told .verdict ≡ 17
+    ↔ ((allowed (view h before) c len (some stamp) ≡ true)
+    × (length (of c (view h before .held)) < reservation (h .link) (figures (view h before) c))
+    × (h .clock < clock-end)
+    × (No-cause (view h before) c stamp → ⊥))
+
+-- no packet of a connection leaves before its eligibility plus its length
+abbrev pub No-finish-before-of-the-code : Type 0
+No-finish-before-of-the-code =
+    (ks : List Call)
+    → All (λ (d : Departure). (d .what .connection ≡ notice-number → ⊥) → d .what .eligibility + d .what .len ≤ d .finish) (calls ks .departed)
+
+-- in place of the second sentence of demand 3: an offer of allowed length to which no cause of 17 applies is never refused for room; while the clock runs it is
+-- accepted, with the stamp plus the allowance as its eligibility, and it leaves within the bound of that
+pub record Stamp-kept-by-the-code (earlier later : List Call) (c len tag stamp : ℕ) : Type 0 where
+  pub never-for-room : (told : Told) (after : Tables) → Does (offer c len tag (some stamp)) (calls earlier .hub) (calls earlier .tables) told after → told .verdict ≡ 12 → ⊥
+  pub accepted : (told : Told) (after : Tables) → Does (offer c len tag (some stamp)) (calls earlier .hub) (calls earlier .tables) told after
+      → calls earlier .hub .clock < clock-end
+      → (told .verdict ≡ 0) × (told .number ≡ stamp-plus (state-of (calls earlier)) c stamp)
+  pub in-time : calls earlier .hub .clock < clock-end
+      → stamp-plus (state-of (calls earlier)) c stamp + bound-of (state-of (calls earlier)) c ≤ calls (earlier ++ offer c len tag (some stamp) ∷ later) .hub .clock
+      → Noted-by (calls (earlier ++ offer c len tag (some stamp) ∷ later)) c (length (of c (calls earlier .accepted)))
+      (record { connection = c; len = len; tag = tag; arrival = calls earlier .hub .clock; eligibility = stamp-plus (state-of (calls earlier)) c stamp })
+      (stamp-plus (state-of (calls earlier)) c stamp + bound-of (state-of (calls earlier)) c)
+
+abbrev pub Demand-3-for-stamps-of-the-code : Type 0
+Demand-3-for-stamps-of-the-code =
+    (earlier later : List Call) (c len tag stamp : ℕ)
+    → allowed (state-of (calls earlier)) c len (some stamp) ≡ true
+    → No-cause (state-of (calls earlier)) c stamp
+    → Stamp-kept-by-the-code earlier later c len tag stamp
+
+-- bed nine and bed ten for these, where the offers of allowed length come a gap apart, whatever their stamps
+abbrev pub Stamps-told-by-their-own-of-the-code : Type 0
+Stamps-told-by-their-own-of-the-code =
+    (ks : List Call) (c : ℕ)
+    → stamped (figures (state-of (calls ks)) c) ≡ true
+    → Seen-to-keep-its-word c ks
+    → all-noted c ks ≡ own-stamp-answers (figures (state-of (calls ks)) c) no-past (map (λ (e : Exchange). e .asked) (all-noted c ks))
+
+abbrev pub Bed-nine-and-bed-ten-with-stamps-of-the-code : Type 0
+Bed-nine-and-bed-ten-with-stamps-of-the-code =
+    (ks ms : List Call) (c d : ℕ)
+    → figures (state-of (calls ks)) c ≡ figures (state-of (calls ms)) d
+    → map (λ (e : Exchange). e .asked) (all-noted c ks) ≡ map (λ (e : Exchange). e .asked) (all-noted d ms)
+    → stamped (figures (state-of (calls ks)) c) ≡ true
+    → Seen-to-keep-its-word c ks
+    → all-noted c ks ≡ all-noted d ms

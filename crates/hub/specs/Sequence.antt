@@ -8,8 +8,8 @@ use Rattle.rules.specs.declared.Packet.{Packet}
 use Rattle.rules.specs.Words.{push}
 use Rattle.rules.specs.Limits.{notice-number}
 use Rattle.rules.specs.Model.{State, Call, link, admit, offer, notice, close, tick, fresh, figures}
-use Rattle.rules.specs.Admission.{stands}
 use Rattle.rules.specs.Service.{Spaced}
+use Rattle.rules.specs.Calls.{heard}
 use Rattle.rules.specs.Runs.{Departure, History, while-owned, if-done, offer-tick, Exchange}
 use Rattle.state.specs.declared.Hub.{Hub}
 use Rattle.state.specs.declared.Told.{Told}
@@ -27,7 +27,7 @@ pub record Notes : Type 0 where
 abbrev pub brought : Call → Hub → Told → Option Packet
 brought (link l) h r = none
 brought (admit x) h r = none
-brought (offer c len tag) h r = if-done (r .verdict) (record { connection = c; len = len; tag = tag; arrival = h .clock; eligibility = r .number })
+brought (offer c len tag st) h r = if-done (r .verdict) (record { connection = c; len = len; tag = tag; arrival = h .clock; eligibility = r .number })
 brought (notice len tag) h r =
     if-done (r .verdict) (record { connection = notice-number; len = len; tag = tag; arrival = h .clock; eligibility = r .number })
 brought (close c) h r = none
@@ -82,22 +82,22 @@ Seen-to-keep-its-word c ks = Spaced (figures (state-of (calls ks)) c) (seen-tick
 
 -- ---- what a connection asks and is told, read off the answers (document 02, R-3)
 
-abbrev pub heard : ℕ → Notes → Call → Option Exchange
-heard c g (link l) = none
-heard c g (admit x) = none
-heard c g (offer d len tag) =
-    let r = tells (offer d len tag) (g .hub) (g .tables) in
-    cond (eqb d c && stands (state-of g) c)
-    (some (record { asked = record { at = g .hub .clock; len = len; tag = tag }; verdict = r .verdict; eligibility = r .number }))
+abbrev pub noted : ℕ → Notes → Call → Option Exchange
+noted c g (link l) = none
+noted c g (admit x) = none
+noted c g (offer d len tag st) =
+    let r = tells (offer d len tag st) (g .hub) (g .tables) in
+    cond (eqb d c && heard (state-of g) c st)
+    (some (record { asked = record { at = g .hub .clock; len = len; tag = tag; stamp = st }; verdict = r .verdict; eligibility = r .number }))
     none
-heard c g (notice len tag) = none
-heard c g (close d) = none
-heard c g tick = none
+noted c g (notice len tag) = none
+noted c g (close d) = none
+noted c g tick = none
 
-abbrev pub heard-from : ℕ → Notes → List Exchange → List Call → List Exchange
-heard-from c g es [] = es
-heard-from c g es (k ∷ ks) = heard-from c (call g k) (while-owned (state-of (call g k)) c (push es (heard c g k))) ks
+abbrev pub noted-from : ℕ → Notes → List Exchange → List Call → List Exchange
+noted-from c g es [] = es
+noted-from c g es (k ∷ ks) = noted-from c (call g k) (while-owned (state-of (call g k)) c (push es (noted c g k))) ks
 
--- all offers to the present owner of number c while it stands, in order, each with its answer
-abbrev pub all-heard : ℕ → List Call → List Exchange
-all-heard c ks = heard-from c blank [] ks
+-- all offers to the present owner of number c that it hears, in order, each with its answer
+abbrev pub all-noted : ℕ → List Call → List Exchange
+all-noted c ks = noted-from c blank [] ks

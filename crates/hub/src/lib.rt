@@ -1,7 +1,8 @@
-// The hub of one output line: link, admit, offer, notice, close, tick. Any hub value and any tables: an answer or a numbered refusal; a refused call changes nothing.
-// The caller keeps a `Hub`, a table of connections of 4,602 numbers, a places table of 10,240 and a table of notices of 320, all zero at first, and hands them
+// The hub of one output line: link, admit, offer, offer with a stamp, notice, close, tick. Any hub value and any tables: an answer or a numbered refusal; a refused call changes nothing.
+// The caller keeps a `Hub`, a table of connections of 5,002 numbers, a places table of 10,240 and a table of notices of 320, all zero at first, and hands them
 // to every call.
 ghost use mathlib.Core.Path.{_≡_};
+ghost use mathlib.Core.Option.{none, some};
 ghost use Rattle.rules.specs.Model.{fresh, link, admit, offer, notice, close, tick};
 ghost use Rattle.state.specs.View.{before, after, hub-of};
 ghost use Rattle.state.specs.Does.{Does};
@@ -58,7 +59,7 @@ pub fn admit(h: Hub, members: &mut [u32], places: &[u32], notices: &[u32], x: Co
     calls::admit_tested(h, members, places, notices, x)
 }
 
-// Offer a packet: its eligibility, or 0. Verdicts 0, 1, 2, 10 to 13.
+// Offer a packet of a connection regulated by its gap: its eligibility, or 0. Verdicts 0, 1, 2, 10 to 13.
 pub fn offer(
     h: Hub,
     members: &mut [u32],
@@ -68,12 +69,31 @@ pub fn offer(
     len: u32,
     tag: u32,
 ) -> Told
-    ensures { λ r. ⌜ Does (offer c len tag) h (before members places notices) r (after members places notices) ⌝ }
+    ensures { λ r. ⌜ Does (offer c len tag none) h (before members places notices) r (after members places notices) ⌝ }
 {
     if !sound::is_sound(h, members, places, notices) {
         return say(h, 1, 0);
     }
-    calls::offer_tested(h, members, places, notices, c, len, tag)
+    calls::offer_tested(h, members, places, notices, c, len, tag, false, 0)
+}
+
+// Offer a packet of a connection by stamps, with its eligibility at the hub before: its eligibility here, or 0. Verdicts 0, 1, 2, 10 to 13, 17.
+pub fn offer_stamped(
+    h: Hub,
+    members: &mut [u32],
+    places: &mut [u32],
+    notices: &[u32],
+    c: u32,
+    len: u32,
+    tag: u32,
+    stamp: u32,
+) -> Told
+    ensures { λ r. ⌜ Does (offer c len tag (some stamp)) h (before members places notices) r (after members places notices) ⌝ }
+{
+    if !sound::is_sound(h, members, places, notices) {
+        return say(h, 1, 0);
+    }
+    calls::offer_tested(h, members, places, notices, c, len, tag, true, stamp)
 }
 
 // Offer a notice: its eligibility, which is its arrival, or 0. Verdicts 0, 1, 2, 11, 13, 15.

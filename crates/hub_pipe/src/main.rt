@@ -19,11 +19,12 @@ use state::Told;
 // Each table has room for 16 rows more than its length: it is lent too long as well.
 const MORE: usize = 16;
 
-// Where the numbers of a block stand, in the order in which they follow each other. First which call: 1 link, 2 admit, 3 offer, 4 notice, 5 close, 6 tick, any
-// other number fresh_hub.
+// Where the numbers of a block stand, in the order in which they follow each other. First which call: 1 link, 2 admit, 3 offer, 4 notice, 5 close, 6 tick,
+// 7 offer with a stamp, any other number fresh_hub.
 const CALL: usize = 0;
 
-// What is asked: a link's numbers as below; level, gap, size, window, average gap; connection, length, tag; length, tag; connection.
+// What is asked: a link's numbers as below; level, gap, size, window, average gap, kind, allowance; connection, length, tag, and with a stamp the stamp; length, tag;
+// connection.
 const ASKED: usize = CALL + 1;
 
 // The hub. Its link: levels, largest packet, silence, eight bounds; then clock, serving, units to go, silence to run.
@@ -81,6 +82,8 @@ fn connection_of(b: &Block) -> Connection {
         size: get(b, ASKED + 2),
         window: get(b, ASKED + 3),
         average: get(b, ASKED + 4),
+        kind: get(b, ASKED + 5),
+        allowance: get(b, ASKED + 6),
     }
 }
 
@@ -140,6 +143,7 @@ fn call(b: &Block, members: &mut [u32], places: &mut [u32], notices: &mut [u32])
     let x = get(b, ASKED);
     let y = get(b, ASKED + 1);
     let z = get(b, ASKED + 2);
+    let stamp = get(b, ASKED + 3);
     match get(b, CALL) {
         1 => hub::link(h, members, places, notices, link_at(b, ASKED)),
         2 => hub::admit(h, members, places, notices, connection_of(b)),
@@ -147,6 +151,7 @@ fn call(b: &Block, members: &mut [u32], places: &mut [u32], notices: &mut [u32])
         4 => hub::notice(h, members, places, notices, x, y),
         5 => hub::close(h, members, places, notices, x),
         6 => hub::tick(h, members, places, notices),
+        7 => hub::offer_stamped(h, members, places, notices, x, y, z, stamp),
         _ => state::say(hub::fresh_hub(), 0, 0),
     }
 }

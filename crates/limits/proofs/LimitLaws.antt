@@ -13,8 +13,8 @@ use borrow.Author.Tests.{le-leb, lt-leb, eq-eqb, ne-eqb}
 use Rattle.rules.specs.declared.Link.{Link}
 use Rattle.rules.specs.declared.Connection.{Connection}
 use Rattle.rules.specs.Words.{within}
-use Rattle.rules.specs.Limits.{max-levels, max-largest, max-silence, max-bound, max-gap, max-window, max-burst}
-use Rattle.rules.specs.Admission.{rising, cost, link-within, level-within, burst, average-within, figures-within}
+use Rattle.rules.specs.Limits.{max-levels, max-largest, max-silence, max-bound, max-gap, max-window, max-burst, max-allowance}
+use Rattle.rules.specs.Admission.{rising, cost, link-within, level-within, burst, average-within, kind-within, figures-within}
 use Rattle.rules.proofs.Tests.{within-intro}
 use Rattle.limits.specs.Zeros.{zeros}
 use Rattle.limits.proofs.ChainLaws.{fails, goes-on, and-false, too-low, too-high}
@@ -49,9 +49,9 @@ module _ (l : Link) (x : Connection) where
         unfolding figures-within
         size-high m = goes-on (within 1 max-gap (x .gap)) _ false (within-intro 1 max-gap (x .gap) g h) (fails (within 1 (l .largest) (x .size)) _ (too-high 1 (l .largest) (x .size) k m))
 
-        pub average-rest : x .size ≤ l .largest → (r : Bool) → r ≡ average-within x → r ≡ figures-within l x
+        pub kind-rest : x .size ≤ l .largest → (r : Bool) → r ≡ kind-within x → r ≡ figures-within l x
         unfolding figures-within
-        average-rest m r e = goes-on (within 1 max-gap (x .gap)) _ r (within-intro 1 max-gap (x .gap) g h) (goes-on (within 1 (l .largest) (x .size)) _ r (within-intro 1 (l .largest) (x .size) k m) e)
+        kind-rest m r e = goes-on (within 1 max-gap (x .gap)) _ r (within-intro 1 max-gap (x .gap) g h) (goes-on (within 1 (l .largest) (x .size)) _ r (within-intro 1 (l .largest) (x .size) k m) e)
 
 -- ---- an average
 
@@ -89,6 +89,45 @@ module _ (x : Connection) where
         pub burst-rest : x .window % x .average ≡ 0 → within 1 max-burst (x .window / x .average) ≡ average-within x
         unfolding burst
         burst-rest e = behind-gap (within 1 max-burst (x .window / x .average)) (goes-on (eqb (x .window % x .average) 0) _ _ (eq-eqb (x .window % x .average) 0 e) refl)
+
+-- ---- a kind
+
+or-false : (b : Bool) → b ≡ (b || false)
+or-false true = refl
+or-false false = refl
+
+module _ (x : Connection) where
+  -- by its gap
+  module _ (z : x .kind ≡ 0) where
+    by-gap : (r : Bool) → r ≡ (eqb (x .allowance) 0 && average-within x) → r ≡ kind-within x
+    by-gap r e = rw (eq-eqb (x .kind) 0 z, other) (e ∙ or-false (eqb (x .allowance) 0 && average-within x))
+      where
+        other : eqb (x .kind) 1 ≡ false
+        other = ne-eqb (x .kind) 1 (omega arith)
+
+    pub allowance-none : (x .allowance ≡ 0 → ⊥) → false ≡ kind-within x
+    allowance-none n = by-gap false (fails (eqb (x .allowance) 0) _ (ne-eqb (x .allowance) 0 n))
+
+    pub average-rest : x .allowance ≡ 0 → (r : Bool) → r ≡ average-within x → r ≡ kind-within x
+    average-rest a r e = by-gap r (goes-on (eqb (x .allowance) 0) _ r (eq-eqb (x .allowance) 0 a) e)
+
+  -- by stamps
+  module _ (n : x .kind ≡ 0 → ⊥) where
+    not-by-gap : (r : Bool) → r ≡ (eqb (x .kind) 1 && (leb (x .allowance) max-allowance && (eqb (x .window) 0 && eqb (x .average) 0))) → r ≡ kind-within x
+    not-by-gap r e = rw (ne-eqb (x .kind) 0 n) e
+
+    pub no-kind : (x .kind ≡ 1 → ⊥) → false ≡ kind-within x
+    no-kind m = not-by-gap false (fails (eqb (x .kind) 1) _ (ne-eqb (x .kind) 1 m))
+
+    module _ (o : x .kind ≡ 1) where
+      by-stamps : (r : Bool) → r ≡ (leb (x .allowance) max-allowance && (eqb (x .window) 0 && eqb (x .average) 0)) → r ≡ kind-within x
+      by-stamps r e = not-by-gap r (goes-on (eqb (x .kind) 1) _ r (eq-eqb (x .kind) 1 o) e)
+
+      pub allowance-high : max-allowance < x .allowance → false ≡ kind-within x
+      allowance-high h = by-stamps false (fails (leb (x .allowance) max-allowance) _ (lt-leb (x .allowance) max-allowance h))
+
+      pub no-average-rest : x .allowance ≤ max-allowance → (eqb (x .window) 0 && eqb (x .average) 0) ≡ kind-within x
+      no-average-rest h = by-stamps _ (goes-on (leb (x .allowance) max-allowance) _ _ (le-leb (x .allowance) max-allowance h) refl)
 
 -- ---- a link
 

@@ -4,13 +4,13 @@ ghost use mathlib.Core.Path.{_≡_};
 ghost use Prim.Native.Nat.{_≤_};
 ghost use lib.ListN.{length, drop};
 ghost use Rattle.rules.specs.Limits.{max-levels};
-ghost use Rattle.rules.specs.Admission.{rising, link-within, level-within, average-within, figures-within};
+ghost use Rattle.rules.specs.Admission.{rising, link-within, level-within, average-within, kind-within, figures-within};
 ghost use Rattle.rules.specs.SoundTest.{connection-sound};
 ghost use Rattle.limits.specs.Zeros.{zeros};
 use rules::Connection;
 use rules::Link;
 
-// ---- the limits of document 01, "Link, connections, places", and of document 02, R-1, R-4, R-6, R-7 and R-8
+// ---- the limits of document 01, "Link, connections, places", and of document 02, R-1, R-4 and R-6 to R-9
 
 // Levels of a link.
 pub const MAX_LEVELS: u32 = 8;
@@ -34,6 +34,9 @@ const MAX_BURST: u32 = 16;
 
 pub const MAX_REMEMBERED: usize = 16;
 
+// Ticks of an allowance.
+const MAX_ALLOWANCE: u32 = 65535;
+
 // Connections.
 pub const MAX_CONNECTIONS: usize = 200;
 
@@ -54,9 +57,9 @@ pub const CLOCK_END: u32 = 4000000000;
 
 // ---- the tables
 
-// The numbers of a row of the table of connections, seven before the remembered eligibilities; where the rows end; and the numbers of the table, which has two
+// The numbers of a row of the table of connections, nine before the remembered eligibilities; where the rows end; and the numbers of the table, which has two
 // behind its rows.
-pub const MEMBER_HEAD: usize = 7;
+pub const MEMBER_HEAD: usize = 9;
 
 pub const MEMBER_WIDTH: usize = MEMBER_HEAD + MAX_REMEMBERED;
 
@@ -163,7 +166,27 @@ fn average_ok(x: Connection) -> bool
     (1 <= n) & (n <= MAX_BURST)
 }
 
-// Gap, size and average within their limits.
+// A connection regulated by its gap has no allowance, and an average or none; one by stamps has an allowance up to its limit, and no average.
+fn kind_ok(x: Connection) -> bool
+    requires { ⌜ 1 ≤ x .gap ⌝ }
+    ensures { λ r. ⌜ r ≡ kind-within x ⌝ }
+{
+    if x.kind == 0 {
+        if x.allowance != 0 {
+            return false;
+        }
+        return average_ok(x);
+    }
+    if x.kind != 1 {
+        return false;
+    }
+    if MAX_ALLOWANCE < x.allowance {
+        return false;
+    }
+    (x.window == 0) & (x.average == 0)
+}
+
+// Gap and size within their limits, and what the kind asks.
 pub fn figures_ok(l: Link, x: Connection) -> bool
     ensures { λ r. ⌜ r ≡ figures-within l x ⌝ }
 {
@@ -179,7 +202,7 @@ pub fn figures_ok(l: Link, x: Connection) -> bool
     if l.largest < x.size {
         return false;
     }
-    average_ok(x)
+    kind_ok(x)
 }
 
 // Level and figures within their limits.

@@ -1,5 +1,5 @@
 -- THE ANSWER LOG of a trace, from bytes to bytes, by the rules alone: no hub value, no table, no window. Document 01, "Trace and answer records" and
--- "One tick"; document 02, R-1, R-2, R-4, R-6 and R-8.
+-- "One tick"; document 02, R-1, R-2, R-4, R-6, R-8 and R-9.
 use Prim.Native.Nat.{ℕ, zero, suc, _+_, _-_}
 use mathlib.Core.Bool.{cond, not}
 use mathlib.Core.List.{List, [], _∷_, _++_}
@@ -12,12 +12,12 @@ use Rattle.rules.specs.Model.{State, Call, link, admit, offer, notice, close, t
 use Rattle.rules.specs.SoundTest.{sound}
 use Rattle.rules.specs.Calls.{answer}
 use Rattle.traces.specs.declared.Record.{Record}
-use Rattle.traces.specs.declared.Record.the-variants.{Link as LinkRecord, Admit, Close, Offer, Notice, Ticks, Malformed}
+use Rattle.traces.specs.declared.Record.the-variants.{Link as LinkRecord, Admit, AdmitStamped, Close, Offer, OfferStamped, Notice, Ticks, Malformed}
 use Rattle.traces.specs.declared.Found.{Found}
 use Rattle.traces.specs.Trace.{found, read-trace}
 use Rattle.answers.specs.declared.Reply.the-variants.{Linked, Admitted, Closed, Offered, Noticed, Departed, Ticked, Broken}
 use Rattle.answers.specs.Answers.{answer-bytes}
-use Rattle.named.specs.Named.{link-named, connection-named}
+use Rattle.named.specs.Named.{link-named, connection-named, stamped-named}
 
 -- "A trace of up to 16,777,216 bytes"
 abbrev pub trace-limit : ℕ
@@ -66,8 +66,10 @@ pub data Asked : Type 0 where
 abbrev pub asks : Record → Asked
 asks (LinkRecord n m silence d1 d2 d3 d4 d5 d6 d7 d8) = one-call (link (link-named (n ∷ m ∷ silence ∷ d1 ∷ d2 ∷ d3 ∷ d4 ∷ d5 ∷ d6 ∷ d7 ∷ d8 ∷ [])))
 asks (Admit level gap size window average) = one-call (admit (connection-named (level ∷ gap ∷ size ∷ window ∷ average ∷ [])))
+asks (AdmitStamped level gap size allowance) = one-call (admit (stamped-named (level ∷ gap ∷ size ∷ allowance ∷ [])))
 asks (Close c) = one-call (close c)
-asks (Offer c len tag) = one-call (offer c len tag)
+asks (Offer c len tag) = one-call (offer c len tag none)
+asks (OfferStamped c len tag stamp) = one-call (offer c len tag (some stamp))
 asks (Notice len tag) = one-call (notice len tag)
 asks (Ticks n) = some-ticks n
 asks Malformed = unread
@@ -76,7 +78,7 @@ asks Malformed = unread
 abbrev pub call-log : Call → Answer → List ℕ
 call-log (link l) a = answer-bytes (Linked (a .verdict))
 call-log (admit x) a = answer-bytes (Admitted (a .verdict) (a .number) (a .short .level) (a .short .units))
-call-log (offer c len tag) a = answer-bytes (Offered (a .verdict) (a .number))
+call-log (offer c len tag st) a = answer-bytes (Offered (a .verdict) (a .number))
 call-log (notice len tag) a = answer-bytes (Noticed (a .verdict) (a .number))
 call-log (close c) a = answer-bytes (Closed (a .verdict))
 call-log tick a = tick-log a

@@ -1,4 +1,4 @@
--- What the numbers of a trace record name: the link of an `LK`, the connection of a `CN`. Document 01, "Trace and answer records".
+-- What the numbers of a trace record name: the link of an `LK`, the connection of a `CN` and of a `CS`. Document 01, "Trace and answer records".
 use Prim.Native.Nat.{ℕ}
 use mathlib.Core.List.{List, _++_}
 use lib.ListN.{getD, take, drop, replicate}
@@ -10,6 +10,10 @@ use Rattle.rules.specs.Limits.{max-levels}
 abbrev pub link-named : List ℕ → Link
 link-named xs = record { levels = getD xs 0 0; largest = getD xs 1 0; silence = getD xs 2 0; bounds = take max-levels (drop 3 xs ++ replicate max-levels 0) }
 
--- level, gap, size, the window and the average gap (document 02, R-6)
+-- level, gap, size, the window and the average gap (document 02, R-6): regulated by its gap, kind 0, with no allowance (R-9)
 abbrev pub connection-named : List ℕ → Connection
-connection-named xs = record { level = getD xs 0 0; gap = getD xs 1 0; size = getD xs 2 0; window = getD xs 3 0; average = getD xs 4 0 }
+connection-named xs = record { level = getD xs 0 0; gap = getD xs 1 0; size = getD xs 2 0; window = getD xs 3 0; average = getD xs 4 0; kind = 0; allowance = 0 }
+
+-- level, gap, size and the allowance (document 02, R-9): regulated by stamps, kind 1, with no average
+abbrev pub stamped-named : List ℕ → Connection
+stamped-named xs = record { level = getD xs 0 0; gap = getD xs 1 0; size = getD xs 2 0; window = 0; average = 0; kind = 1; allowance = getD xs 3 0 }

@@ -1,8 +1,8 @@
-// What the numbers of a trace record name: the link of an `LK`, the connection of a `CN`. The replay and the firmware get them through these.
+// What the numbers of a trace record name: the link of an `LK`, the connection of a `CN` and of a `CS`. The replay and the firmware get them through these.
 ghost use mathlib.Core.Path.{_≡_};
 ghost use mathlib.Core.List.{[], _∷_};
 ghost use Rattle.rules.specs.Model.{no-link};
-ghost use Rattle.named.specs.Named.{link-named, connection-named};
+ghost use Rattle.named.specs.Named.{link-named, connection-named, stamped-named};
 use limits::MAX_LEVELS;
 use rules::Connection;
 use rules::Link;
@@ -40,7 +40,7 @@ pub fn link_named(
     }
 }
 
-// The connection of a `CN`.
+// The connection of a `CN`: of the first kind.
 pub fn connection_named(level: u8, gap: u16, size: u16, window: u16, average: u16) -> Connection
     ensures { λ r. ⌜ r ≡ connection-named (level ∷ gap ∷ size ∷ window ∷ average ∷ []) ⌝ }
 {
@@ -50,7 +50,19 @@ pub fn connection_named(level: u8, gap: u16, size: u16, window: u16, average: u1
         size: size as u32,
         window: window as u32,
         average: average as u32,
+        kind: 0,
+        allowance: 0,
     }
+}
+
+// The connection of a `CS`: of the second kind.
+pub fn stamped_named(level: u8, gap: u16, size: u16, allowance: u16) -> Connection
+    ensures { λ r. ⌜ r ≡ stamped-named (level ∷ gap ∷ size ∷ allowance ∷ []) ⌝ }
+{
+    let mut x = connection_named(level, gap, size, 0, 0);
+    x.kind = 1;
+    x.allowance = allowance as u32;
+    x
 }
 
 // No link.

@@ -8,9 +8,13 @@ const LK: u64 = 230;
 
 const CN: u64 = 143;
 
+const CS: u64 = 148;
+
 const CL: u64 = 141;
 
 const PK: u64 = 270;
+
+const PS: u64 = 278;
 
 const NQ: u64 = 256;
 
@@ -84,6 +88,26 @@ fn trace_numbers(taken: u64, r: Record) -> [u64; 13] {
             0,
             0,
         ],
+        Record::AdmitStamped {
+            level,
+            gap,
+            size,
+            allowance,
+        } => [
+            taken,
+            CS,
+            level as u64,
+            gap as u64,
+            size as u64,
+            allowance as u64,
+            0,
+            0,
+            0,
+            0,
+            0,
+            0,
+            0,
+        ],
         Record::Close { connection } => [
             taken,
             CL,
@@ -110,6 +134,26 @@ fn trace_numbers(taken: u64, r: Record) -> [u64; 13] {
             len as u64,
             tag as u64,
             0,
+            0,
+            0,
+            0,
+            0,
+            0,
+            0,
+            0,
+        ],
+        Record::OfferStamped {
+            connection,
+            len,
+            tag,
+            stamp,
+        } => [
+            taken,
+            PS,
+            connection as u64,
+            len as u64,
+            tag as u64,
+            stamp as u64,
             0,
             0,
             0,

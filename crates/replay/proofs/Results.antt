@@ -9,12 +9,13 @@ use lib.Dec.{ltb}
 use lib.ListN.{length, take, drop}
 use lib.Seq.{take-append-seam}
 use borrow.Author.Tests.{ltb-true}
+use Rattle.rules.specs.Model.{fresh}
 use Rattle.rules.specs.SoundState.{Sound}
 use Rattle.rules.proofs.Tests.{never}
 use Rattle.rules.proofs.Every.{fresh-invariant}
 use Rattle.tables.specs.Places.{written-places, table-of}
 use Rattle.connections.specs.Members.{written-rows}
-use Rattle.state.specs.View.{Tables, tables, zero-tables, sound-hub}
+use Rattle.state.specs.View.{Tables, tables, zero-tables, written, sound-hub}
 use Rattle.steps.specs.declared.Phase.{Phase}
 use Rattle.steps.specs.declared.Phase.the-variants.{Finished}
 use Rattle.steps.specs.declared.Cursor.{Cursor}
@@ -43,12 +44,17 @@ record Holds (trace wrote : List ℕ) (c : Cursor) (t : Tables) (w unread : List
   adds-up : wrote ++ to-come here (w ++ unread) ≡ log trace
   told : Malformed-in (bad-at trace) here w unread
 
+-- the tables of the fresh state are zeros
+zeros-written : zero-tables ≡ written fresh
+unfolding written-rows written-places table-of
+zeros-written = refl
+
 start-holds : (trace : List ℕ) → Holds trace [] (cursor-of beginning) zero-tables [] trace
-unfolding log bad-at written-rows written-places table-of
+unfolding log bad-at
 start-holds trace =
     record {
       here = beginning;
-      stands = record { sound = fresh-invariant .sound; cursor = refl; tables = refl };
+      stands = record { sound = fresh-invariant .sound; cursor = refl; tables = zeros-written };
       adds-up = refl;
       told = refl;
     }

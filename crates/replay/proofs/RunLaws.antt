@@ -1,11 +1,11 @@
--- The loop of `run`: what stands after i steps, after one more, and at its end.
+-- A step on a part of the window, into a part of the room; and the loop of `run`: what stands after i steps, after one more, and at its end.
 use Prim.Native.Nat.{ℕ, zero, suc, _+_, _*_, _-_, _/_, _<_, _≤_}
 use native.Mathlib.Omega.{arith}
 use native.Mathlib.Numerals.{add-one}
 use mathlib.Core.Path.{_≡_, refl, sym, ap, _∙_, subst}
 use mathlib.Core.Bool.{Bool, true, false}
 use mathlib.Core.List.{List, _++_, append-assoc}
-use lib.ListN.{length, take, drop, length-append}
+use lib.ListN.{length, take, drop, length-append, length-drop}
 use lib.Seq.{take-append-seam, drop-append-seam, drop-drop}
 use Rattle.rules.proofs.Tests.{never}
 use Rattle.state.specs.View.{Tables, tables, written, sound-hub}
@@ -19,8 +19,20 @@ use Rattle.steps.specs.Steps.{Next, next, joined, onward, steps, is-go, work}
 use Rattle.steps.proofs.OutcomeLaws.{steps-end-well}
 use Rattle.steps.specs.Tie.{point-of, cursor-of, Makes, Facts}
 use Rattle.fields.specs.Formats.{over}
+use Rattle.fields.proofs.PartLaws.{part-all, part-back}
 use Rattle.steps.proofs.FactLaws.{next-short}
 use Rattle.replay.proofs.Standing.{Stands, stands-sound, stands-there, stands-of}
+
+-- a step on the window from `used` on, into the room from `wrote` on, which is given back. Of any step, so that a step which is another one is refused before a table
+-- is written out
+pub on-parts : (n : List ℕ → Next) (w o : List ℕ) (used wrote : ℕ) (c : Cursor) (last : Bool) (a : Stepped) (t : Tables) (o′ : List ℕ)
+    → Makes (n (take (length w - used) (drop used w))) a t 0 (take (length o - wrote) (drop wrote o)) o′
+    → Facts c (length (take (length w - used) (drop used w))) last (length (take (length o - wrote) (drop wrote o))) a
+    → Makes (n (drop used w)) a t wrote o (take wrote o ++ (o′ ++ drop (length o - wrote) (drop wrote o))) × Facts c (length w - used) last (length o - wrote) a
+on-parts n w o used wrote c last a t o′ D F =
+    let d = rw (part-all used w, part-all wrote o) at D in
+    let f = rw (part-all used w, part-all wrote o, length-drop wrote o, length-drop used w) at F in
+    (record { answers = d .answers; tables = d .tables; room = part-back wrote o _ _ (d .room) }, f)
 
 -- after i steps from c, cs, t, w, o, which may have stopped at the last: s is what that one answered, with all bytes used and written so far
 pub record Made (c : Cursor) (t : Tables) (w : List ℕ) (last : Bool) (o : List ℕ) (i : ℕ) (k : Status) (cur : Cursor) (t2 : Tables) (o2 : List ℕ) (used wrote : ℕ) : Type 0 where

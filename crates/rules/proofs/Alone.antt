@@ -9,28 +9,29 @@ use borrow.Author.Tests.{eqb-true}
 use Rattle.rules.specs.Words.{within, push}
 use Rattle.rules.specs.Limits.{clock-end, notice-number}
 use Rattle.rules.specs.Model.{Connection, State, Call, link, admit, offer, notice, close, tick, figures}
-use Rattle.rules.specs.Admission.{owned, stands}
+use Rattle.rules.specs.Admission.{owned, stands, stamped}
 use Rattle.rules.specs.Service.{Spaced}
-use Rattle.rules.specs.Calls.{verdict, eligibility-now, settle, answer}
+use Rattle.rules.specs.Calls.{heard, verdict, eligibility-now, settle}
 use Rattle.rules.specs.Runs.{History, while-owned, after, run-from, nothing-yet, run, allowed, offer-tick, offer-ticks, Keeps-its-word, Asked, Exchange, exchange, exchanges-from, exchanges, own-answer}
 use Rattle.rules.proofs.Lists.{All, all-snoc}
 use Rattle.rules.proofs.Sums.{cond-is}
-use Rattle.rules.proofs.Tests.{and-true, and-intro}
+use Rattle.rules.proofs.Tests.{never, and-true, and-intro}
 use Rattle.rules.proofs.Rows.{map-append}
 use Rattle.rules.proofs.Standing.{stands-owned}
+use Rattle.rules.proofs.Verdicts.{heard-parts}
 use Rattle.rules.proofs.Invariant.{Invariant}
 use Rattle.rules.proofs.Every.{invariant}
 use Rattle.rules.proofs.Room.{decided}
-use Rattle.rules.proofs.Keeper.{from-end, run-last, ticks-last, owner-stays, All-taken, on-arrival, has-room, no-ticks, word-before, all-taken}
+use Rattle.rules.proofs.Keeper.{from-end, run-last, ticks-last, owner-stays, kind-before, All-taken, on-arrival, has-room, no-ticks, word-before, all-taken}
 
 -- ---- an offer of a connection that keeps its word
 
 -- an offer, and the answer to it where the verdict is v
-abbrev told : State → ℕ → ℕ → ℕ → ℕ → Exchange
-told s c len tag v = record {
-  asked = record { at = s .clock; len = len; tag = tag };
-  verdict = settle (offer c len tag) s v .verdict;
-  eligibility = settle (offer c len tag) s v .number;
+abbrev pub told : State → ℕ → ℕ → ℕ → Option ℕ → ℕ → Exchange
+told s c len tag st v = record {
+  asked = record { at = s .clock; len = len; tag = tag; stamp = st };
+  verdict = settle (offer c len tag st) s v .verdict;
+  eligibility = settle (offer c len tag st) s v .number;
 }
 
 -- it is told what its own figures and its own offer decide
@@ -38,29 +39,29 @@ abbrev pub Own : Connection → Exchange → Type 0
 Own x e = e ≡ own-answer x (e .asked)
 
 module _ (c : ℕ) (level : c ≡ notice-number → ⊥) where
-  module _ (h : History) (I : Invariant h) (ts : List ℕ) (A : All-taken c level (h .now) (h .present) ts) where
+  module _ (h : History) (I : Invariant h) (ts : List ℕ) (A : All-taken c level (h .now) (h .present) ts) (first-kind : stamped (figures (h .now) c) ≡ false) where
     open History h using (now as s)
 
-    module _ (len tag : ℕ) (standing : stands s c ≡ true)
+    module _ (len tag : ℕ) (hears : heard s c none ≡ true)
         (word : within 1 (figures s c .size) len ≡ true → Spaced (figures s c) (ts ++ s .clock ∷ [])) where
-      ok : within 1 (figures s c .size) len ≡ true → allowed s c len ≡ true
-      ok w = and-intro (stands s c) (within 1 (figures s c .size) len) standing w
+      ok : within 1 (figures s c .size) len ≡ true → allowed s c len none ≡ true
+      ok w = and-intro (heard s c none) (within 1 (figures s c .size) len) hears w
 
-      own-told : Own (figures s c) (told s c len tag (verdict (offer c len tag) s))
+      own-told : Own (figures s c) (told s c len tag none (verdict (offer c len tag none) s))
       own-told =
-          ap (told s c len tag) (decided h I c len tag standing (λ w. has-room c level h I ts A len tag (ok w) (word w)))
-          ∙ go (within 1 (figures s c .size) len) (leb clock-end (s .clock)) (λ w. on-arrival c level h I ts A len tag (ok w) (word w))
+          ap (told s c len tag none) (decided h I c len tag none hears (λ w. has-room c level h I ts A first-kind len tag (ok w) (word w)) (λ _. refl))
+          ∙ go (within 1 (figures s c .size) len) (leb clock-end (s .clock)) (λ w. on-arrival c level h I ts A first-kind len tag (ok w) (word w))
         where
-          go : (right ended : Bool) → (right ≡ true → eligibility-now s c ≡ s .clock)
-              → told s c len tag (cond right (cond ended 13 0) 11)
+          go : (right ended : Bool) → (right ≡ true → eligibility-now s c none ≡ s .clock)
+              → told s c len tag none (cond right (cond ended 13 0) 11)
               ≡ record {
-                asked = record { at = s .clock; len = len; tag = tag };
+                asked = record { at = s .clock; len = len; tag = tag; stamp = none };
                 verdict = cond right (cond ended 13 0) 11;
                 eligibility = cond right (cond ended 0 (s .clock)) 0;
               }
           go false f now = refl
           go true true now = refl
-          go true false now = ap (λ (e : ℕ). record { asked = record { at = s .clock; len = len; tag = tag }; verdict = 0; eligibility = e }) (now refl)
+          go true false now = ap (λ (e : ℕ). record { asked = record { at = s .clock; len = len; tag = tag; stamp = none }; verdict = 0; eligibility = e }) (now refl)
 
     -- ---- any call
 
@@ -72,19 +73,25 @@ module _ (c : ℕ) (level : c ≡ notice-number → ⊥) where
     own-call x alike (notice len tag) word es E = E
     own-call x alike (close d) word es E = E
     own-call x alike tick word es E = E
-    own-call x alike (offer d len tag) word es E = go (eqb d c && stands s c) refl
+    own-call x alike (offer d len tag st) word es E = go (eqb d c && heard s c st) refl
       where
-        go : (b : Bool) → (eqb d c && stands s c) ≡ b → All (Own x) (push es (cond b (some (told s d len tag (verdict (offer d len tag) s))) none))
+        -- a connection of the first kind hears no stamp
+        own : (st : Option ℕ) → heard s c st ≡ true → ((t : ℕ) → offer-tick c s (offer d len tag st) ≡ some t → Spaced (figures s c) (ts ++ t ∷ [])) → eqb d c ≡ true
+            → Own (figures s c) (told s c len tag st (verdict (offer c len tag st) s))
+        own none k w i =
+            own-told len tag k
+            (λ r. w (s .clock)
+            (cond-is (some (s .clock)) none (and-intro (eqb d c) (allowed s c len none) i (and-intro (heard s c none) (within 1 (figures s c .size) len) k r))))
+        own (some e) k w i = never (sym first-kind ∙ heard-parts s c (some e) k .1)
+
+        go : (b : Bool) → (eqb d c && heard s c st) ≡ b → All (Own x) (push es (cond b (some (told s d len tag st (verdict (offer d len tag st) s))) none))
         go false q = E
         go true q =
-            let p = and-true (eqb d c) (stands s c) q in
-            all-snoc (Own x) es (told s d len tag (verdict (offer d len tag) s)) E
-            (subst (λ (j : ℕ). Own x (told s j len tag (verdict (offer j len tag) s))) (sym (eqb-true d c (p .0)))
-            (subst (λ (y : Connection). Own y (told s c len tag (verdict (offer c len tag) s))) (alike (p .1))
-            (own-told len tag (p .1)
-            (λ w. word (s .clock)
-            (cond-is (some (s .clock)) none
-            (and-intro (eqb d c) (allowed s c len) (p .0) (and-intro (stands s c) (within 1 (figures s c .size) len) (p .1) w)))))))
+            let p = and-true (eqb d c) (heard s c st) q in
+            all-snoc (Own x) es (told s d len tag st (verdict (offer d len tag st) s)) E
+            (subst (λ (j : ℕ). Own x (told s j len tag st (verdict (offer j len tag st) s))) (sym (eqb-true d c (p .0)))
+            (subst (λ (y : Connection). Own y (told s c len tag st (verdict (offer c len tag st) s))) (alike (heard-parts s c st (p .1) .0))
+            (own st (p .1) word (p .0))))
 
 -- ---- over a run
 
@@ -92,7 +99,7 @@ exchanges-append : (c : ℕ) (pre ks : List Call) (h : History) (es : List Excha
 exchanges-append c [] ks h es = refl
 exchanges-append c (k ∷ pre) ks h es = exchanges-append c pre ks (after h k) (while-owned (after h k .now) c (push es (exchange c (h .now) k)))
 
-exchanges-last : (c : ℕ) (ks : List Call) (k : Call) → exchanges c (ks ++ k ∷ []) ≡ while-owned (after (run ks) k .now) c (push (exchanges c ks) (exchange c (run ks .now) k))
+pub exchanges-last : (c : ℕ) (ks : List Call) (k : Call) → exchanges c (ks ++ k ∷ []) ≡ while-owned (after (run ks) k .now) c (push (exchanges c ks) (exchange c (run ks .now) k))
 exchanges-last c ks k = exchanges-append c ks (k ∷ []) nothing-yet []
 
 module _ (c : ℕ) where
@@ -121,12 +128,12 @@ module _ (c : ℕ) where
         go false b = subst (P (figures (after (run ks) k .now) c)) (sym (no-exchanges ks b)) (z (figures (after (run ks) k .now) c))
 
 module _ (c : ℕ) (level : c ≡ notice-number → ⊥) where
-  pub told-by-own : (ks : List Call) → Keeps-its-word c ks → All (Own (figures (run ks .now) c)) (exchanges c ks)
-  told-by-own = from-end (λ ks. Keeps-its-word c ks → All (Own (figures (run ks .now) c)) (exchanges c ks)) (λ _. tt) one
+  pub told-by-own : (ks : List Call) → stamped (figures (run ks .now) c) ≡ false → Keeps-its-word c ks → All (Own (figures (run ks .now) c)) (exchanges c ks)
+  told-by-own = from-end (λ ks. stamped (figures (run ks .now) c) ≡ false → Keeps-its-word c ks → All (Own (figures (run ks .now) c)) (exchanges c ks)) (λ _ _. tt) one
     where
-      one : (ks : List Call) (k : Call) → (Keeps-its-word c ks → All (Own (figures (run ks .now) c)) (exchanges c ks))
-          → Keeps-its-word c (ks ++ k ∷ []) → All (Own (figures (run (ks ++ k ∷ []) .now) c)) (exchanges c (ks ++ k ∷ []))
-      one ks k ih word =
+      one : (ks : List Call) (k : Call) → (stamped (figures (run ks .now) c) ≡ false → Keeps-its-word c ks → All (Own (figures (run ks .now) c)) (exchanges c ks))
+          → stamped (figures (run (ks ++ k ∷ []) .now) c) ≡ false → Keeps-its-word c (ks ++ k ∷ []) → All (Own (figures (run (ks ++ k ∷ []) .now) c)) (exchanges c (ks ++ k ∷ []))
+      one ks k ih kind word =
           subst (λ (h : History). All (Own (figures (h .now) c)) (exchanges c (ks ++ k ∷ []))) (sym (run-last ks k))
           (subst (All (Own (figures (after (run ks) k .now) c))) (sym (exchanges-last c ks k)) (go (owned (after (run ks) k .now .connections) c) refl))
         where
@@ -135,8 +142,9 @@ module _ (c : ℕ) (level : c ≡ notice-number → ⊥) where
           go false o = tt
           go true o =
               let W = word-before c level ks k o word in
-              own-call c level (run ks) (invariant ks) (offer-ticks c ks) (all-taken c level ks (W .so-far)) (figures (after (run ks) k .now) c) (alike-standing c ks k o) k (W .this-one)
-              (exchanges c ks) (same-owner c ks k o (λ x es. All (Own x) es) (λ x. tt) (ih (W .so-far)))
+              let was = kind-before c (run ks .now) (invariant ks .sound) k o (subst (λ (h : History). stamped (figures (h .now) c) ≡ false) (run-last ks k) kind) in
+              own-call c level (run ks) (invariant ks) (offer-ticks c ks) (all-taken c level ks was (W .so-far)) was (figures (after (run ks) k .now) c) (alike-standing c ks k o) k (W .this-one)
+              (exchanges c ks) (same-owner c ks k o (λ x es. All (Own x) es) (λ x. tt) (ih was (W .so-far)))
 
 -- ---- the offers whose ticks count are those among all that have an allowed length
 
@@ -171,17 +179,17 @@ module _ (c : ℕ) where
   ticks-call s x alike (notice len tag) es = refl
   ticks-call s x alike (close d) es = refl
   ticks-call s x alike tick es = refl
-  ticks-call s x alike (offer d len tag) es = go (eqb d c) (stands s c) refl
+  ticks-call s x alike (offer d len tag st) es = go (eqb d c) (heard s c st) refl
     where
-      go : (b : Bool) (standing : Bool) → stands s c ≡ standing
+      go : (b : Bool) (standing : Bool) → heard s c st ≡ standing
           → push (own-ticks x (asks es)) (cond (b && (standing && within 1 (figures s c .size) len)) (some (s .clock)) none)
-          ≡ own-ticks x (asks (push es (cond (b && standing) (some (told s d len tag (verdict (offer d len tag) s))) none)))
+          ≡ own-ticks x (asks (push es (cond (b && standing) (some (told s d len tag st (verdict (offer d len tag st) s))) none)))
       go false standing i = refl
       go true false i = refl
       go true true i =
-          ap (λ (y : Connection). push (own-ticks x (asks es)) (cond (within 1 (y .size) len) (some (s .clock)) none)) (alike i)
-          ∙ sym (own-ticks-snoc x (asks es) (record { at = s .clock; len = len; tag = tag }))
-          ∙ ap (own-ticks x) (sym (map-append (λ (e : Exchange). e .asked) es (told s d len tag (verdict (offer d len tag) s) ∷ [])))
+          ap (λ (y : Connection). push (own-ticks x (asks es)) (cond (within 1 (y .size) len) (some (s .clock)) none)) (alike (heard-parts s c st i .0))
+          ∙ sym (own-ticks-snoc x (asks es) (record { at = s .clock; len = len; tag = tag; stamp = st }))
+          ∙ ap (own-ticks x) (sym (map-append (λ (e : Exchange). e .asked) es (told s d len tag st (verdict (offer d len tag st) s) ∷ [])))
 
   pub ticks-are-own : (ks : List Call) → offer-ticks c ks ≡ own-ticks (figures (run ks .now) c) (asks (exchanges c ks))
   ticks-are-own = from-end (λ ks. offer-ticks c ks ≡ own-ticks (figures (run ks .now) c) (asks (exchanges c ks))) refl one

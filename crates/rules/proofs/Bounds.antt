@@ -6,10 +6,11 @@ use mathlib.Core.Path.{_≡_, refl, sym, ap, _∙_, subst}
 use mathlib.Core.Bool.{Bool, true, false, cond, true≢false}
 use mathlib.Core.Logic.{⊎-elim}
 use mathlib.Core.List.{List, [], _∷_}
+use mathlib.Core.Option.{none, some}
 use lib.Dec.{eqb}
 use lib.ListN.{length, List·getD-eq-default}
 use borrow.Author.Tests.{eqb-true, eqb-false}
-use Rattle.rules.specs.Limits.{max-connections, max-gap, max-window, max-reserved, clock-end, beyond-32-bits, max-notices}
+use Rattle.rules.specs.Limits.{max-connections, max-gap, max-window, max-allowance, max-reserved, clock-end, beyond-32-bits, max-notices}
 use Rattle.rules.specs.Model.{Connection, Past, Packet, State, no-connection, no-past, fresh, past, figures}
 use Rattle.rules.specs.Admission.{owned, largest-bound, reservation}
 use Rattle.rules.specs.Service.{of, eligibilities}
@@ -76,7 +77,7 @@ module _ (s : State) (S : Orderly s) where
 
   -- so no eligibility lies further beyond the clock than the longest gap or window for each place
   longest : ℕ
-  longest = max max-gap max-window
+  longest = max max-allowance (max max-gap max-window)
 
   far : ℕ
   far = clock-end + max-reserved * longest
@@ -106,31 +107,31 @@ module _ (s : State) (S : Orderly s) where
           (λ l. let k = S .free-blank c l o in gone (k .no-figures) (k .no-memory))
           (split max-connections c)
 
-  figures-le-longest : (c : ℕ) → (figures s c .gap ≤ longest) × (figures s c .window ≤ longest)
+  figures-le-longest : (c : ℕ) → (figures s c .gap ≤ longest) × (figures s c .window ≤ longest) × (figures s c .allowance ≤ longest)
   unfolding longest
   figures-le-longest c =
-      blank-or (λ x h. (x .gap ≤ max max-gap max-window) × (x .window ≤ max max-gap max-window)) (omega arith, omega arith)
-      (λ c o. (omega (arith, facts s S c o .gap-le), omega (arith, facts s S c o .window-le))) c
+      blank-or (λ x h. (x .gap ≤ max max-allowance (max max-gap max-window)) × (x .window ≤ max max-allowance (max max-gap max-window)) × (x .allowance ≤ max max-allowance (max max-gap max-window))) (omega arith, omega arith, omega arith)
+      (λ c o. (omega (arith, facts s S c o .gap-le), omega (arith, facts s S c o .window-le), omega (arith, facts s S c o .allowance-le))) c
 
   queue-far : (c : ℕ) → owned (s .connections) c ≡ true → All (λ e. e ≤ far) (eligibilities c (s .held)) × All (λ e. e ≤ far) (past s c)
   queue-far c l =
-      let k = chained-far (figures s c) longest (s .clock) (figures-le-longest c .0) (figures-le-longest c .1) (past s c) (eligibilities c (s .held)) (queue-chained (figures s c) (regulated s S c l) (s .clock) (past s c) (eligibilities c (s .held)) (S .queue c l)) in
+      let k = chained-far (figures s c) longest (s .clock) (figures-le-longest c .0) (figures-le-longest c .1) (figures-le-longest c .2) (past s c) (eligibilities c (s .held)) (queue-chained (figures s c) (regulated s S c l) (s .clock) (past s c) (eligibilities c (s .held)) (S .queue c l)) in
       (all-map (λ e h. omega (arith, reach c)) (eligibilities c (s .held)) (k .0), all-map (λ e h. omega (arith, reach c)) (past s c) (k .1))
 
   past-far : (c : ℕ) → All (λ e. e ≤ far) (past s c)
   past-far c = blank-or (λ x h. All (λ e. e ≤ far) h) tt (λ c o. queue-far c o .1) c
 
-  next-far : (c : ℕ) → eligibility-now s c ≤ far + longest
+  next-far : (c : ℕ) → eligibility-now s c none ≤ far + longest
   unfolding far
   next-far c =
-      next-near (figures s c) longest (s .clock) (figures-le-longest c .0) (figures-le-longest c .1) far (past s c) (omega (arith, S .clock-le)) (past-far c)
+      next-near (figures s c) longest (s .clock) (figures-le-longest c .0) (figures-le-longest c .1) (figures-le-longest c .2) far (past s c) (omega (arith, S .clock-le)) (past-far c)
 
-  linked-fit : All (λ p. p .eligibility < beyond-32-bits) (s .held) × ((c : ℕ) → All (λ e. e < beyond-32-bits) (past s c) × (eligibility-now s c < beyond-32-bits))
+  linked-fit : All (λ p. p .eligibility < beyond-32-bits) (s .held) × ((c : ℕ) → All (λ e. e < beyond-32-bits) (past s c) × (eligibility-now s c none < beyond-32-bits) × ((stamp : ℕ) → stamp ≤ s .clock → eligibility-now s c (some stamp) < beyond-32-bits))
   unfolding far longest
   linked-fit = (
     all-by-connection (λ c. owned (s .connections) c ≡ true) (λ e. e < beyond-32-bits) (s .held) (all-map (λ p f. f .owner) (s .held) (S .fit))
         (λ c l. all-map (λ e k. omega arith) (eligibilities c (s .held)) (queue-far c l .0)),
-    λ c. (all-map (λ e k. omega arith) (past s c) (past-far c), omega (arith, next-far c)),
+    λ c. (all-map (λ e k. omega arith) (past s c) (past-far c), omega (arith, next-far c), λ stamp k. omega (arith, S .clock-le, figures-le-longest c .2)),
   )
 
   linked-charges : (c : ℕ) → All (λ e. e + largest-bound (s .link) < beyond-32-bits) (past s c)
@@ -156,19 +157,19 @@ notices-fit-places s S =
     (same (s .link .levels) 0)
 
 pub eligibilities-fit-32 : (s : State) → Sound s
-    → All (λ p. p .eligibility < beyond-32-bits) (s .held) × ((c : ℕ) → All (λ e. e < beyond-32-bits) (past s c) × (eligibility-now s c < beyond-32-bits))
+    → All (λ p. p .eligibility < beyond-32-bits) (s .held) × ((c : ℕ) → All (λ e. e < beyond-32-bits) (past s c) × (eligibility-now s c none < beyond-32-bits) × ((stamp : ℕ) → stamp ≤ s .clock → eligibility-now s c (some stamp) < beyond-32-bits))
 eligibilities-fit-32 s S =
     ⊎-elim
     (λ z.
     subst
-    (λ (r : State). All (λ p. p .eligibility < beyond-32-bits) (r .held) × ((c : ℕ) → All (λ e. e < beyond-32-bits) (past r c) × (eligibility-now r c < beyond-32-bits)))
+    (λ (r : State). All (λ p. p .eligibility < beyond-32-bits) (r .held) × ((c : ℕ) → All (λ e. e < beyond-32-bits) (past r c) × (eligibility-now r c none < beyond-32-bits) × ((stamp : ℕ) → stamp ≤ r .clock → eligibility-now r c (some stamp) < beyond-32-bits)))
     (sym (S .with-no-link z))
     (tt, λ c. fresh-fit c (fresh-figures c) (fresh-past c)))
     (λ n. linked-fit s (S .with-one n .orderly))
     (same (s .link .levels) 0)
   where
-    fresh-fit : (c : ℕ) → figures fresh c ≡ no-connection → past fresh c ≡ no-past → All (λ e. e < beyond-32-bits) (past fresh c) × (eligibility-now fresh c < beyond-32-bits)
-    fresh-fit c i j = rw (i, j) (tt, omega (arith, next-near no-connection 0 0 (omega arith) (omega arith) 0 no-past (omega arith) tt))
+    fresh-fit : (c : ℕ) → figures fresh c ≡ no-connection → past fresh c ≡ no-past → All (λ e. e < beyond-32-bits) (past fresh c) × (eligibility-now fresh c none < beyond-32-bits) × ((stamp : ℕ) → stamp ≤ 0 → eligibility-now fresh c (some stamp) < beyond-32-bits)
+    fresh-fit c i j = rw (i, j) (tt, omega (arith, next-near no-connection 0 0 (omega arith) (omega arith) (omega arith) 0 no-past (omega arith) tt), λ stamp k. omega arith)
 
 pub charges-fit-32 : (s : State) → Sound s → (c : ℕ) → All (λ e. e + largest-bound (s .link) < beyond-32-bits) (past s c)
 charges-fit-32 s S c =

@@ -5,17 +5,18 @@ use mathlib.Core.Path.{_≡_, refl, sym, ap, _∙_, subst}
 use mathlib.Core.Bool.{Bool, true, false, cond, not, _&&_, true≢false}
 use mathlib.Core.Logic.{_↔_}
 use mathlib.Core.List.{List, [], _∷_}
+use mathlib.Core.Option.{Option}
 use lib.Dec.{leb, eqb}
 use lib.ListN.{length, getD}
 use lib.Seq.{getD-set-same, getD-set-other}
 use borrow.Author.Tests.{leb-true, le-leb, eqb-false, ne-eqb}
 use Rattle.rules.specs.Limits.{max-connections}
-use Rattle.rules.specs.Model.{Link, Connection, Past, State, Answer, Call, link, admit, offer, notice, close, tick, no-past, nth, past, closed-at}
+use Rattle.rules.specs.Model.{Link, Connection, Past, State, Answer, Call, link, admit, offer, notice, close, tick, no-past, nth, past, figures, closed-at}
 use Rattle.rules.specs.Admission.{owned, stands, free-number, joining, largest-bound}
-use Rattle.rules.specs.Service.{remember, of, ticked, charge-over, expired, swept}
+use Rattle.rules.specs.Service.{suits, remember, of, ticked, charge-over, expired, swept}
 use Rattle.rules.specs.SoundState.{Orderly, Sound}
 use Rattle.rules.specs.SoundTest.{sound}
-use Rattle.rules.specs.Calls.{verdicts, verdict, eligibility-now, joined, placed, noted, marked, done, settle, answer}
+use Rattle.rules.specs.Calls.{heard, verdicts, verdict, eligibility-now, joined, placed, noted, marked, done, settle, answer}
 use Rattle.rules.specs.Promises.{Close-is-refused, Closed-or-freed, Freed-by-the-tick, Still-charged, Lowest-free, Lowest-number-is-given}
 use Rattle.rules.proofs.Sums.{cond-is}
 use Rattle.rules.proofs.Tests.{and-intro, not-false-true}
@@ -124,11 +125,15 @@ module _ (s : State) (S : Sound s) (c : ℕ) (e : closed-at s c ≡ true) where
   set-link : s .link .levels ≡ 0 → ⊥
   set-link z = true≢false (sym e ∙ ap (λ (r : State). closed-at r c) (S .with-no-link z) ∙ fresh-open c)
 
-  pub tens : (len tag : ℕ) → (answer (offer c len tag) s .verdict ≡ 10) × (answer (close c) s .verdict ≡ 10)
+  unheard : (st : Option ℕ) → heard s c st ≡ false
+  unfolding heard
+  unheard st = ap (λ (b : Bool). b && suits (figures s c) st) (closed-stands-not s c e)
+
+  pub tens : (len tag : ℕ) (st : Option ℕ) → (answer (offer c len tag st) s .verdict ≡ 10) × (answer (close c) s .verdict ≡ 10)
   unfolding verdicts
-  tens len tag = (
-    ap (λ (v : ℕ). settle (offer c len tag) s v .verdict)
-        (cond-is 1 _ (ap not (exact s .1 S)) ∙ cond-is 2 _ (ne-eqb (s .link .levels) 0 set-link) ∙ cond-is 10 _ (ap not (closed-stands-not s c e))),
+  tens len tag st = (
+    ap (λ (v : ℕ). settle (offer c len tag st) s v .verdict)
+        (cond-is 1 _ (ap not (exact s .1 S)) ∙ cond-is 2 _ (ne-eqb (s .link .levels) 0 set-link) ∙ cond-is 10 _ (ap not (unheard st))),
     ap (λ (v : ℕ). settle (close c) s v .verdict)
         (cond-is 1 _ (ap not (exact s .1 S)) ∙ cond-is 2 _ (ne-eqb (s .link .levels) 0 set-link) ∙ cond-is 10 _ (ap not (closed-stands-not s c e))),
   )
@@ -185,12 +190,12 @@ module _ (s : State) (S : Sound s) (c : ℕ) (e : closed-at s c ≡ true) where
   done-lasts (admit x) v =
       still (joined s x) refl
       (record { is-marked = e; same-figures = nth-old (s .connections) x (omega (arith, O .numbers, admit-done s x v .free)) c has-owner; same-memory = refl })
-  done-lasts (offer d len tag) v =
-      still (placed s d len tag) refl
+  done-lasts (offer d len tag st) v =
+      still (placed s d len tag st) refl
       (record {
         is-marked = e;
         same-figures = refl;
-        same-memory = getD-set-other (s .pasts) d c (remember (past s d) (eligibility-now s d)) no-past (not-standing d (offer-done s d len tag v .standing));
+        same-memory = getD-set-other (s .pasts) d c (remember (past s d) (eligibility-now s d st)) no-past (not-standing d (offer-done s d len tag st v .standing));
       })
   done-lasts (notice len tag) v = still (noted s len tag) refl (record { is-marked = e; same-figures = refl; same-memory = refl })
   done-lasts (close d) v =

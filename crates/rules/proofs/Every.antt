@@ -50,11 +50,11 @@ done-keeps (admit x) h I e T =
     let room : free-number (h .now .connections) < length (h .now .connections) = omega (arith, O .numbers, d .free) in
     settle-in (h .accepted) (h .departed) (h .present) (done (admit x) (h .now) .next) T
     (joined-keeps h I x room (O .free-blank (free-number (h .now .connections)) (d .free) (level-free (h .now .connections) (free-number (h .now .connections)) (free-is (h .now .connections) room)) .no-memory))
-done-keeps (offer c len tag) h I e T =
-    let d = offer-done (h .now) c len tag e in
+done-keeps (offer c len tag st) h I e T =
+    let d = offer-done (h .now) c len tag st e in
     let O = I .sound .with-one (d .set) .orderly in
-    settle-in (h .accepted ++ packet (h .now) c len tag ∷ []) (h .departed) (h .present ++ packet (h .now) c len tag ∷ []) (done (offer c len tag) (h .now) .next) T
-    (placed-keeps h I c len tag (omega (arith, O .numbers, O .one-past-each, stands-below (h .now) c (d .standing))) d)
+    settle-in (h .accepted ++ packet (h .now) c len tag st ∷ []) (h .departed) (h .present ++ packet (h .now) c len tag st ∷ []) (done (offer c len tag st) (h .now) .next) T
+    (placed-keeps h I c len tag st (omega (arith, O .numbers, O .one-past-each, stands-below (h .now) c (d .standing))) d)
 done-keeps (notice len tag) h I e T =
     subst (λ (ps : List Packet). Invariant (record { accepted = h .accepted ++ it ∷ []; departed = h .departed; present = ps; now = done (notice len tag) (h .now) .next }))
     (sym (filter-snoc-off (λ p. owned (h .now .connections) (p .connection)) (h .present) it (no-owner (h .now) (I .sound))))
@@ -75,7 +75,7 @@ done-keeps tick h I e T =
 refused-keeps : (k : Call) (h : History) (v : ℕ) → Invariant h → Invariant (logged h k (refused k (h .now) (suc v)))
 refused-keeps (link l) h v I = settle-in (h .accepted) (h .departed) (h .present) (h .now) (I .sound) (I .steady)
 refused-keeps (admit x) h v I = settle-in (h .accepted) (h .departed) (h .present) (h .now) (I .sound) (I .steady)
-refused-keeps (offer c len tag) h v I = settle-in (h .accepted) (h .departed) (h .present) (h .now) (I .sound) (I .steady)
+refused-keeps (offer c len tag st) h v I = settle-in (h .accepted) (h .departed) (h .present) (h .now) (I .sound) (I .steady)
 refused-keeps (notice len tag) h v I = settle-in (h .accepted) (h .departed) (h .present) (h .now) (I .sound) (I .steady)
 refused-keeps (close c) h v I = settle-in (h .accepted) (h .departed) (h .present) (h .now) (I .sound) (I .steady)
 refused-keeps tick h v I = settle-in (h .accepted) (h .departed) (h .present) (h .now) (I .sound) (I .steady)

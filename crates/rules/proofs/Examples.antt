@@ -1,41 +1,47 @@
 -- The worked examples, computed by the checker.
+use Prim.Native.Nat.{ℕ, _+_}
 use native.Mathlib.Omega.{arith}
-use mathlib.Core.Path.{_≡_, refl, ap, _∙_}
-use mathlib.Core.List.{[], _∷_, map, _++_}
+use mathlib.Core.Path.{_≡_, refl, sym, ap, _∙_, subst}
+use mathlib.Core.Bool.{true}
+use mathlib.Core.Logic.{inl}
+use mathlib.Core.List.{List, [], _∷_, map, _++_}
+use mathlib.Core.Option.{none, some}
 use Rattle.rules.specs.Words.{upto}
-use Rattle.rules.specs.Model.{offer}
-use Rattle.rules.specs.Admission.{link-within, level-within, burst, figures-within, owned, stands, average-count, count, reservation, cost, level-sum, level-test}
-use Rattle.rules.specs.Service.{earliest, next-eligibility, remember, Spaced}
+use Rattle.rules.specs.Model.{Connection, State, offer, figures}
+use Rattle.rules.specs.Admission.{link-within, level-within, burst, stamped, figures-within, owned, stands, average-count, count, reservation, cost, level-sum, level-test}
+use Rattle.rules.specs.Service.{earliest, next-eligibility, untimely, remember, Spaced}
 use Rattle.rules.specs.SoundState.{Sound}
-use Rattle.rules.specs.SoundTest.{latest, nothing-used, admissions-sound, rows-sound, notices-sound, line-sound, sound}
-use Rattle.rules.specs.Runs.{Departure, History, nothing-yet, run}
-use Rattle.rules.specs.Examples.{gap-broken-calls, longer-bound, table, silences, averages, closings, A-longer-bound-can-fail-too, A-broken-gap-can-be-told-apart, Worked-examples, Worked-silences, Worked-averages, Worked-closings, before-early, freed-early, behind-early, too-early, Freed-too-early-is-late, Left-must-be-eligible}
+use Rattle.rules.specs.SoundTest.{latest-by-gap, latest, nothing-used, admissions-sound, rows-sound, notices-sound, line-sound, sound}
+use Rattle.rules.specs.Calls.{heard}
+use Rattle.rules.specs.Runs.{Departure, History, nothing-yet, run, own-departures, bound-of, Exchange, exchanges}
+use Rattle.rules.specs.TwoHubs.{Carries, asked-of}
+use Rattle.rules.specs.Examples.{gap-broken-calls, longer-bound, table, silences, averages, closings, stamps, A-longer-bound-can-fail-too, A-broken-gap-can-be-told-apart, Worked-examples, Worked-silences, Worked-averages, Worked-closings, Worked-stamps, stamps-broken-calls, Broken-stamps-can-be-told-apart, hub-1, hub-2, A-row-of-two, before-early, freed-early, behind-early, too-early, Freed-too-early-is-late, Left-must-be-eligible}
 use Rattle.rules.proofs.SoundExact.{exact}
-use Rattle.rules.proofs.Quick.{quick-from, quick-run, fresh-sound, quick-seen, quick-all, quick-exchanges}
+use Rattle.rules.proofs.Quick.{quick-from, quick-run, fresh-sound, quick-seen, quick-all, quick-exchanges, quick-departures, quick-now}
 
 pub worked-examples : Worked-examples
-unfolding upto link-within level-within burst figures-within owned stands average-count count reservation cost level-sum level-test earliest next-eligibility remember quick-seen
+unfolding upto link-within level-within burst stamped figures-within owned stands average-count count reservation cost level-sum level-test earliest next-eligibility untimely remember heard quick-seen
 worked-examples = quick-all table ∙ refl
 
 pub a-longer-bound-can-fail-too : A-longer-bound-can-fail-too
-unfolding upto link-within level-within burst figures-within owned stands average-count count reservation cost level-sum level-test earliest next-eligibility remember quick-seen
+unfolding upto link-within level-within burst stamped figures-within owned stands average-count count reservation cost level-sum level-test earliest next-eligibility untimely remember heard quick-seen
 a-longer-bound-can-fail-too = quick-all longer-bound ∙ refl
 
 pub worked-silences : Worked-silences
-unfolding upto link-within level-within burst figures-within owned stands average-count count reservation cost level-sum level-test earliest next-eligibility remember quick-seen
+unfolding upto link-within level-within burst stamped figures-within owned stands average-count count reservation cost level-sum level-test earliest next-eligibility untimely remember heard quick-seen
 worked-silences = quick-all silences ∙ refl
 
 pub worked-averages : Worked-averages
-unfolding upto link-within level-within burst figures-within owned stands average-count count reservation cost level-sum level-test earliest next-eligibility remember quick-seen
+unfolding upto link-within level-within burst stamped figures-within owned stands average-count count reservation cost level-sum level-test earliest next-eligibility untimely remember heard quick-seen
 worked-averages = quick-all averages ∙ refl
 
 pub worked-closings : Worked-closings
-unfolding upto link-within level-within burst figures-within owned stands average-count count reservation cost level-sum level-test earliest next-eligibility remember quick-seen
+unfolding upto link-within level-within burst stamped figures-within owned stands average-count count reservation cost level-sum level-test earliest next-eligibility untimely remember heard quick-seen
 worked-closings = quick-all closings ∙ refl
 
 -- the state in which number 0 is freed too early is sound, so the quick answers are the answers
 early-sound : Sound (freed-early (run before-early) .now)
-unfolding upto link-within level-within burst figures-within owned stands average-count count reservation cost level-sum level-test earliest next-eligibility remember latest nothing-used admissions-sound rows-sound notices-sound line-sound sound
+unfolding upto link-within level-within burst stamped figures-within owned stands average-count count reservation cost level-sum level-test earliest next-eligibility untimely remember heard latest-by-gap latest nothing-used admissions-sound rows-sound notices-sound line-sound sound
 early-sound = exact (freed-early (run before-early) .now) .0 (ap (λ (h : History). sound (freed-early h .now)) (quick-run before-early nothing-yet fresh-sound) ∙ refl)
 
 too-early-is : too-early ≡ quick-from (freed-early (quick-from nothing-yet before-early)) behind-early
@@ -44,7 +50,7 @@ too-early-is =
     ∙ ap (λ (h : History). quick-from (freed-early h) behind-early) (quick-run before-early nothing-yet fresh-sound)
 
 pub freed-too-early-is-late : Freed-too-early-is-late
-unfolding upto link-within level-within burst figures-within owned stands average-count count reservation cost level-sum level-test earliest next-eligibility remember
+unfolding upto link-within level-within burst stamped figures-within owned stands average-count count reservation cost level-sum level-test earliest next-eligibility untimely remember heard
 freed-too-early-is-late = (
   ap (λ (h : History). map (λ (d : Departure). d .finish) (h .departed)) (quick-run before-early nothing-yet fresh-sound) ∙ refl,
   ap (λ (h : History). h .now .clock) too-early-is ∙ refl,
@@ -53,9 +59,55 @@ freed-too-early-is-late = (
 )
 
 pub left-must-be-eligible : Left-must-be-eligible
-unfolding burst owned stands average-count count reservation earliest next-eligibility remember Spaced
+unfolding burst stamped owned stands average-count count reservation earliest next-eligibility remember heard Spaced
 left-must-be-eligible = ((omega arith, refl, omega arith, (λ _. refl, tt)), refl, λ h. omega (arith, h .3 .0 (omega arith)))
 
+pub worked-stamps : Worked-stamps
+unfolding upto link-within level-within burst stamped figures-within owned stands average-count count reservation cost level-sum level-test earliest next-eligibility untimely remember heard quick-seen
+worked-stamps = quick-all stamps ∙ refl
+
 pub a-broken-gap-can-be-told-apart : A-broken-gap-can-be-told-apart
-unfolding upto link-within level-within burst figures-within owned stands average-count count reservation cost level-sum level-test earliest next-eligibility remember
-a-broken-gap-can-be-told-apart = (quick-exchanges 0 (gap-broken-calls []) ∙ refl, quick-exchanges 0 (gap-broken-calls (offer 1 4 71 ∷ [])) ∙ refl)
+unfolding upto link-within level-within burst stamped figures-within owned stands average-count count reservation cost level-sum level-test earliest next-eligibility untimely remember heard
+a-broken-gap-can-be-told-apart = (quick-exchanges 0 (gap-broken-calls []) ∙ refl, quick-exchanges 0 (gap-broken-calls (offer 1 4 71 none ∷ [])) ∙ refl)
+
+pub broken-stamps-can-be-told-apart : Broken-stamps-can-be-told-apart
+unfolding upto link-within level-within burst stamped figures-within owned stands average-count count reservation cost level-sum level-test earliest next-eligibility untimely remember heard
+broken-stamps-can-be-told-apart = (quick-exchanges 0 (stamps-broken-calls []) ∙ refl, quick-exchanges 0 (stamps-broken-calls (offer 1 2 71 none ∷ [])) ∙ refl)
+
+figures-1 : figures (run hub-1 .now) 0 ≡ record { level = 1; gap = 4; size = 1; window = 0; average = 0; kind = 0; allowance = 0 }
+unfolding upto link-within level-within burst stamped figures-within owned stands average-count count reservation cost level-sum level-test earliest next-eligibility untimely remember heard
+figures-1 = ap (λ (s : State). figures s 0) (quick-now hub-1) ∙ refl
+
+figures-2 : figures (run hub-2 .now) 0 ≡ record { level = 1; gap = 4; size = 1; window = 0; average = 0; kind = 1; allowance = 5 }
+unfolding upto link-within level-within burst stamped figures-within owned stands average-count count reservation cost level-sum level-test earliest next-eligibility untimely remember heard
+figures-2 = ap (λ (s : State). figures s 0) (quick-now hub-2) ∙ refl
+
+bound-1 : bound-of (run hub-1 .now) 0 ≡ 4
+unfolding upto link-within level-within burst stamped figures-within owned stands average-count count reservation cost level-sum level-test earliest next-eligibility untimely remember heard
+bound-1 = ap (λ (s : State). bound-of s 0) (quick-now hub-1) ∙ refl
+
+left-1 : own-departures 0 hub-1 ≡ record { what = record { connection = 0; len = 1; tag = 71; arrival = 0; eligibility = 0 }; finish = 1 } ∷ []
+unfolding upto link-within level-within burst stamped figures-within owned stands average-count count reservation cost level-sum level-test earliest next-eligibility untimely remember heard
+left-1 = quick-departures 0 hub-1 ∙ refl
+
+told-2 : exchanges 0 hub-2 ≡ record { asked = record { at = 2; len = 1; tag = 71; stamp = some 0 }; verdict = 0; eligibility = 5 } ∷ []
+unfolding upto link-within level-within burst stamped figures-within owned stands average-count count reservation cost level-sum level-test earliest next-eligibility untimely remember heard
+told-2 = quick-exchanges 0 hub-2 ∙ refl
+
+second : stamped (record { level = 1; gap = 4; size = 1; window = 0; average = 0; kind = 1; allowance = 5 }) ≡ true
+unfolding stamped
+second = refl
+
+pub a-row-of-two : A-row-of-two
+a-row-of-two = (
+  record {
+    second-kind = ap stamped figures-2 ∙ second;
+    same-gap = ap (λ (x : Connection). x .gap) figures-2 ∙ sym (ap (λ (x : Connection). x .gap) figures-1);
+    same-size = ap (λ (x : Connection). x .size) figures-2 ∙ sym (ap (λ (x : Connection). x .size) figures-1);
+    allowance = ap (λ (x : Connection). x .allowance) figures-2 ∙ sym (ap (λ (n : ℕ). n + 1) bound-1);
+  },
+  subst (λ (ds : List Departure). Carries 1 ds (asked-of 0 hub-2)) (sym left-1)
+      (subst (λ (es : List Exchange). Carries 1 (record { what = record { connection = 0; len = 1; tag = 71; arrival = 0; eligibility = 0 }; finish = 1 } ∷ []) (map (λ (e : Exchange). e .asked) es)) (sym told-2)
+      (inl (record { after-finish = omega arith; within-delay = omega arith; same-len = refl; same-tag = refl; stamp = refl }, tt))),
+  ap (map (λ (e : Exchange). e .eligibility)) told-2,
+)

@@ -4,22 +4,23 @@ use native.Mathlib.Omega.{arith}
 use mathlib.Core.Path.{_≡_, refl, ap, _∙_, subst}
 use mathlib.Core.Bool.{Bool, true, false, cond}
 use mathlib.Core.List.{List, [], _∷_}
-use mathlib.Core.Option.{none, some}
+use mathlib.Core.Option.{Option, none, some}
 use mathlib.Core.Logic.{_⊎_, inl, inr, ⊎-elim}
 use lib.Dec.{eqb}
 use Rattle.rules.specs.Words.{first-number}
 use Rattle.rules.specs.Limits.{max-largest, max-silence, max-bound, clock-end, beyond-32-bits, notice-number}
-use Rattle.rules.specs.Model.{Connection, Packet, Notice, State, Call, link, admit, offer, notice, close, tick, Short, no-short, Answer, notice-packet, first-notice}
+use Rattle.rules.specs.Model.{Connection, Packet, Notice, State, Call, link, admit, offer, notice, close, tick, Short, no-short, Answer, past, figures, notice-packet, first-notice}
 use Rattle.rules.specs.Admission.{joining, level-test}
-use Rattle.rules.specs.Service.{first, started, tick-answer, packet-departs, notice-departs, after-unit, ticked}
+use Rattle.rules.specs.Service.{untimely-by, first, started, tick-answer, packet-departs, notice-departs, after-unit, ticked}
 use Rattle.rules.specs.SoundState.{Fits, Dated, Notice-fits, Orderly, Sound}
-use Rattle.rules.specs.Calls.{causes, verdicts, verdict, done, refused-number, refused-short, refused, settle, answer}
+use Rattle.rules.specs.Calls.{causes, verdicts, verdict, eligibility-now, done, refused-number, refused-short, refused, settle, answer}
 use Rattle.rules.specs.Promises.{Names-the-lowest, own-term, Packet-fits, Answer-fits, number-limit}
 use Rattle.rules.proofs.Lists.{All, all-map, all-zip}
 use Rattle.rules.proofs.Rows.{none-some, some-inj, first-all}
 use Rattle.rules.proofs.Notices.{first-notice-is}
 use Rattle.rules.proofs.Standing.{owned-below}
-use Rattle.rules.proofs.Verdicts.{causes-from-2, admit-done, Short-refused, short-refused, tick-done}
+use Rattle.rules.proofs.Verdicts.{causes-from-2, admit-done, offer-done, Short-refused, short-refused, tick-done}
+use Rattle.rules.proofs.Stamps.{in-time-of}
 use Rattle.rules.proofs.Line.{tick-leaves}
 use Rattle.rules.proofs.Invariant.{clock-le-end}
 use Rattle.rules.proofs.Figures.{link-facts}
@@ -76,9 +77,9 @@ short-fits x s R t N =
     let b = term-le (s .link) x (t .level) (S .link-in) (R .figures-in) (a .0) (a .1) in
     (omega (arith, N .units-are), omega (arith, N .units-are))
 
-verdict-le : (k : Call) (s : State) → verdict k s ≤ 16
+verdict-le : (k : Call) (s : State) → verdict k s ≤ 17
 unfolding verdicts
-verdict-le k s = number-le 16 (verdicts k s) (omega arith, all-map {P = λ r. (2 ≤ r .0) × (r .0 ≤ 16)} {Q = λ r. r .0 ≤ 16} (λ r n. n .1) (causes k s) (causes-from-2 k s))
+verdict-le k s = number-le 17 (verdicts k s) (omega arith, all-map {P = λ r. (2 ≤ r .0) × (r .0 ≤ 17)} {Q = λ r. r .0 ≤ 17} (λ r n. n .1) (causes k s) (causes-from-2 k s))
 
 -- a held packet's numbers
 held-fit : (s : State) (S : Sound s) (T : Orderly s) → All Packet-fits (s .held)
@@ -117,8 +118,12 @@ ticked-fits s S T r = record {
 done-fits : (k : Call) (s : State) → Sound s → verdict k s ≡ 0 → Answer-fits k (done k s)
 done-fits (link l) s S e = record { verdict = omega arith; number = omega arith; level = omega arith; units = omega arith; departed = λ p i. absurd (none-some i); finish = omega (arith, clock-le-end s S) }
 done-fits (admit x) s S e = record { verdict = omega arith; number = omega (arith, admit-done s x e .free); level = omega arith; units = omega arith; departed = λ p i. absurd (none-some i); finish = omega (arith, clock-le-end s S) }
-done-fits (offer c len tag) s S e =
-    record { verdict = omega arith; number = eligibilities-fit-32 s S .1 c .1; level = omega arith; units = omega arith; departed = λ p i. absurd (none-some i); finish = omega (arith, clock-le-end s S) }
+done-fits (offer c len tag st) s S e =
+    record { verdict = omega arith; number = in-32 st (offer-done s c len tag st e .in-time); level = omega arith; units = omega arith; departed = λ p i. absurd (none-some i); finish = omega (arith, clock-le-end s S) }
+  where
+    in-32 : (st : Option ℕ) → untimely-by (figures s c) (past s c) (s .clock) st ≡ false → eligibility-now s c st < beyond-32-bits
+    in-32 none u = eligibilities-fit-32 s S .1 c .1
+    in-32 (some stamp) u = eligibilities-fit-32 s S .1 c .2 stamp (in-time-of (figures s c) (past s c) (s .clock) stamp u .not-later)
 done-fits (notice len tag) s S e =
     record { verdict = omega arith; number = omega (arith, clock-le-end s S); level = omega arith; units = omega arith; departed = λ p i. absurd (none-some i); finish = omega (arith, clock-le-end s S) }
 done-fits (close c) s S e =
@@ -139,7 +144,7 @@ refused-small (admit x) s v e = cond-ind Small-short (eqb v 8) (λ i. eight (e �
         let N = names (s .link) (joining (s .connections) x) (eqb-false _ 0 (R .fails)) in
         let S = exact s .0 (R .sound-state) .with-one (R .set) .orderly in
         (omega (arith, N .is-level .1, link-facts (s .link) (S .link-in) .few-levels), omega (arith, short-fits x s R _ N .1))
-refused-small (offer c len tag) s v e = (omega arith, omega arith)
+refused-small (offer c len tag st) s v e = (omega arith, omega arith)
 refused-small (notice len tag) s v e = (omega arith, omega arith)
 refused-small (close c) s v e = (omega arith, omega arith)
 refused-small tick s v e = (omega arith, omega arith)
@@ -150,7 +155,7 @@ refused-fits k s v S l t = record { verdict = l; number = small k; level = t .0;
     small : (k : Call) → refused-number k < number-limit k
     small (link l) = omega arith
     small (admit x) = omega arith
-    small (offer c len tag) = omega arith
+    small (offer c len tag st) = omega arith
     small (notice len tag) = omega arith
     small (close c) = omega arith
     small tick = omega arith

@@ -3,15 +3,15 @@ use Prim.Native.Nat.{ℕ, zero, suc, _+_, _*_, _/_, _%_, _≤_, _<_}
 use native.Mathlib.Omega.{arith}
 use native.Mathlib.Nat.{zero-div, div-mul-le-self, mul-le-mul-left, mul-le-mul-right}
 use mathlib.Core.Path.{_≡_, refl, ap, _∙_}
-use mathlib.Core.Bool.{true, _&&_}
+use mathlib.Core.Bool.{Bool, true, false, _&&_, _||_}
 use mathlib.Core.List.{List, [], _∷_}
 use lib.Dec.{leb, eqb}
 use lib.ListN.{getD}
 use borrow.Author.Tests.{leb-true, eqb-true, eq-eqb, ne-eqb}
 use Rattle.rules.specs.Words.{within}
-use Rattle.rules.specs.Limits.{max-levels, max-largest, max-silence, max-bound, max-gap, max-window, max-burst}
+use Rattle.rules.specs.Limits.{max-levels, max-largest, max-silence, max-bound, max-gap, max-window, max-burst, max-allowance}
 use Rattle.rules.specs.Model.{Link, Connection}
-use Rattle.rules.specs.Admission.{rising, link-within, level-within, burst, average-within, figures-within, bound, largest-bound, count, reservation, cost, load, level-sum}
+use Rattle.rules.specs.Admission.{rising, link-within, level-within, burst, average-within, stamped, kind-within, figures-within, bound, largest-bound, count, reservation, cost, load, level-sum}
 use Rattle.rules.specs.SoundState.{reach}
 use Rattle.rules.proofs.Sums.{cond-is}
 use Rattle.rules.proofs.Tests.{never, and-true, or-cases, within-true}
@@ -110,6 +110,8 @@ pub record Connection-facts (l : Link) (c : Connection) : Type 0 where
   pub burst-le : burst c ≤ max-burst
   pub window-le : c .window ≤ max-window
   pub gap-le-reach : c .gap ≤ reach c
+  pub allowance-le : c .allowance ≤ max-allowance
+  pub no-average : stamped c ≡ true → burst c ≡ 0
 
 -- no average, or one within its limits
 record Average-facts (c : Connection) : Type 0 where
@@ -117,8 +119,8 @@ record Average-facts (c : Connection) : Type 0 where
   window-le : c .window ≤ max-window
   gap-le-reach : c .gap ≤ reach c
 
-no-average : (c : Connection) → c .window ≡ 0 → c .average ≡ 0 → Average-facts c
-no-average c i j = record { burst-le = omega (arith, none); window-le = omega arith; gap-le-reach = omega (arith, cond-is (c .gap) (c .window) (eq-eqb (burst c) 0 none)) }
+without-average : (c : Connection) → c .window ≡ 0 → c .average ≡ 0 → Average-facts c
+without-average c i j = record { burst-le = omega (arith, none); window-le = omega arith; gap-le-reach = omega (arith, cond-is (c .gap) (c .window) (eq-eqb (burst c) 0 none)) }
   where
     none : burst c ≡ 0
     none = burst-none c i
@@ -134,7 +136,7 @@ some-average c w g low high = record {
 average-facts : (c : Connection) → average-within c ≡ true → Average-facts c
 average-facts c e =
     or-cases (eqb (c .window) 0 && eqb (c .average) 0) _ e
-    (λ z. let k = and-true (eqb (c .window) 0) (eqb (c .average) 0) z in no-average c (eqb-true _ 0 (k .0)) (eqb-true _ 0 (k .1)))
+    (λ z. let k = and-true (eqb (c .window) 0) (eqb (c .average) 0) z in without-average c (eqb-true _ 0 (k .0)) (eqb-true _ 0 (k .1)))
     (λ _ z.
     let a = and-true (leb (c .window) max-window) _ z in
     let b = and-true (leb (c .gap) (c .average)) _ (a .1) in
@@ -153,20 +155,53 @@ packets-fit c e some =
     let b = and-true (leb (c .gap) (c .average)) _ (a .1) in
     omega (arith, div-mul-le-self (c .window) (c .average), mul-le-mul-left (c .window / c .average) (leb-true (c .gap) (c .average) (b .0))))
 
+-- the kind: the average is within its limits whatever it is, and the second kind has none
+record Kind-facts (c : Connection) : Type 0 where
+  average : average-within c ≡ true
+  allowance-le : c .allowance ≤ max-allowance
+  none-stamped : stamped c ≡ true → burst c ≡ 0
+
+kind-facts : (c : Connection) → kind-within c ≡ true → Kind-facts c
+unfolding stamped
+kind-facts c e =
+    or-cases (eqb (c .kind) 0 && (eqb (c .allowance) 0 && average-within c)) (eqb (c .kind) 1 && (leb (c .allowance) max-allowance && (eqb (c .window) 0 && eqb (c .average) 0))) e
+    (λ z.
+    let a = and-true (eqb (c .kind) 0) (eqb (c .allowance) 0 && average-within c) z in
+    let b = and-true (eqb (c .allowance) 0) (average-within c) (a .1) in
+    record {
+      average = b .1;
+      allowance-le = omega (arith, eqb-true (c .allowance) 0 (b .0));
+      none-stamped = λ q. absurd (omega (arith, eqb-true (c .kind) 0 (a .0), eqb-true (c .kind) 1 q));
+    })
+    (λ _ z.
+    let a = and-true (eqb (c .kind) 1) (leb (c .allowance) max-allowance && (eqb (c .window) 0 && eqb (c .average) 0)) z in
+    let b = and-true (leb (c .allowance) max-allowance) (eqb (c .window) 0 && eqb (c .average) 0) (a .1) in
+    let d = and-true (eqb (c .window) 0) (eqb (c .average) 0) (b .1) in
+    record {
+      average = either-way (eqb (c .window) 0 && eqb (c .average) 0) _ (b .1);
+      allowance-le = leb-true (c .allowance) max-allowance (b .0);
+      none-stamped = λ _. burst-none c (eqb-true (c .window) 0 (d .0));
+    })
+  where
+    either-way : (a b : Bool) → a ≡ true → (a || b) ≡ true
+    either-way true b e = e
+    either-way false b e = never e
+
 -- gap, size and average alone, whatever the level
 pub record Figures-facts (l : Link) (c : Connection) : Type 0 where
   pub some-gap : 1 ≤ c .gap
   pub gap-le : c .gap ≤ max-gap
   pub size-le : c .size ≤ l .largest
   pub average : average-within c ≡ true
+  pub kind : kind-within c ≡ true
 
 pub figures-facts : (l : Link) (c : Connection) → figures-within l c ≡ true → Figures-facts l c
 unfolding figures-within
 figures-facts l c f =
-    let a = and-true (within 1 max-gap (c .gap)) (within 1 (l .largest) (c .size) && average-within c) f in
-    let b = and-true (within 1 (l .largest) (c .size)) (average-within c) (a .1) in
+    let a = and-true (within 1 max-gap (c .gap)) (within 1 (l .largest) (c .size) && kind-within c) f in
+    let b = and-true (within 1 (l .largest) (c .size)) (kind-within c) (a .1) in
     let g = within-true 1 max-gap (c .gap) (a .0) in
-    record { some-gap = g .0; gap-le = g .1; size-le = within-true 1 (l .largest) (c .size) (b .0) .1; average = b .1 }
+    record { some-gap = g .0; gap-le = g .1; size-le = within-true 1 (l .largest) (c .size) (b .0) .1; average = kind-facts c (b .1) .average; kind = b .1 }
 
 pub few-at-once : (l : Link) (c : Connection) → figures-within l c ≡ true → burst c ≤ max-burst
 few-at-once l c f = average-facts c (figures-facts l c f .average) .burst-le
@@ -177,6 +212,7 @@ connection-facts l c e f =
     let v = within-true 1 (l .levels) (c .level) e in
     let F = figures-facts l c f in
     let A = average-facts c (F .average) in
+    let K = kind-facts c (F .kind) in
     record {
       low-level = v .0;
       high-level = v .1;
@@ -186,11 +222,13 @@ connection-facts l c e f =
       burst-le = A .burst-le;
       window-le = A .window-le;
       gap-le-reach = A .gap-le-reach;
+      allowance-le = K .allowance-le;
+      no-average = K .none-stamped;
     }
 
 -- ---- the reservation, the cost and the sum
 
-pub reservation-is : (l : Link) (c : Connection) → reservation l c ≡ count c (bound l (c .level))
+pub reservation-is : (l : Link) (c : Connection) → reservation l c ≡ count c (c .allowance + bound l (c .level))
 unfolding reservation
 reservation-is l c = refl
 

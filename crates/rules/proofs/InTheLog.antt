@@ -5,7 +5,7 @@ use mathlib.Core.Path.{_≡_, refl, sym, ap, _∙_, subst}
 use mathlib.Core.Bool.{Bool, true, false, cond}
 use mathlib.Core.Logic.{_⊎_, inl, inr, ⊎-elim}
 use mathlib.Core.List.{List, [], _∷_, _++_}
-use mathlib.Core.Option.{none, some}
+use mathlib.Core.Option.{Option, none, some}
 use lib.Dec.{eqb}
 use lib.ListN.{length, getElem?, length-append}
 use borrow.Author.Tests.{eqb-true, eqb-false}
@@ -57,20 +57,20 @@ module _ (c : ℕ) (level : c ≡ notice-number → ⊥) where
     other-more r q n e = none-more r (ap (of c) e ∙ of-snoc-other c acc q n)
 
     -- one more
-    one-more : (len tag : ℕ) → Goes-on (logged h (offer c len tag) (done (offer c len tag) s)) → In-log (logged h (offer c len tag) (done (offer c len tag) s)) (bs ++ bound-of s c ∷ [])
-    one-more len tag on = record {
-      as-many = length-append bs (bound-of s c ∷ []) ∙ ap (λ (n : ℕ). n + 1) (L .as-many) ∙ sym (ap length more ∙ length-append (of c acc) (packet s c len tag ∷ []));
-      each = λ i p b k m. go i p b (find-last (of c acc) (packet s c len tag) i p (ap (λ (l : List Packet). getElem? l i) (sym more) ∙ k)) (find-last bs (bound-of s c) i b m) k;
+    one-more : (len tag : ℕ) (st : Option ℕ) → Goes-on (logged h (offer c len tag st) (done (offer c len tag st) s)) → In-log (logged h (offer c len tag st) (done (offer c len tag st) s)) (bs ++ bound-of s c ∷ [])
+    one-more len tag st on = record {
+      as-many = length-append bs (bound-of s c ∷ []) ∙ ap (λ (n : ℕ). n + 1) (L .as-many) ∙ sym (ap length more ∙ length-append (of c acc) (packet s c len tag st ∷ []));
+      each = λ i p b k m. go i p b (find-last (of c acc) (packet s c len tag st) i p (ap (λ (l : List Packet). getElem? l i) (sym more) ∙ k)) (find-last bs (bound-of s c) i b m) k;
     }
       where
-        more : of c (acc ++ packet s c len tag ∷ []) ≡ of c acc ++ packet s c len tag ∷ []
-        more = of-snoc-same c acc (packet s c len tag) refl
+        more : of c (acc ++ packet s c len tag st ∷ []) ≡ of c acc ++ packet s c len tag st ∷ []
+        more = of-snoc-same c acc (packet s c len tag st) refl
 
         go : (i : ℕ) (p : Packet) (b : ℕ)
-            → (getElem? (of c acc) i ≡ some p) ⊎ ((i ≡ length (of c acc)) × (packet s c len tag ≡ p))
+            → (getElem? (of c acc) i ≡ some p) ⊎ ((i ≡ length (of c acc)) × (packet s c len tag st ≡ p))
             → (getElem? bs i ≡ some b) ⊎ ((i ≡ length bs) × (bound-of s c ≡ b))
-            → getElem? (of c (acc ++ packet s c len tag ∷ [])) i ≡ some p
-            → Either c i p level b (logged h (offer c len tag) (done (offer c len tag) s))
+            → getElem? (of c (acc ++ packet s c len tag st ∷ [])) i ≡ some p
+            → Either c i p level b (logged h (offer c len tag st) (done (offer c len tag st) s))
         go i p b (inl e) (inl f) k = on i p b (L .each i p b e f)
         go i p b (inl e) (inr f) k = absurd (omega (arith, find-below (of c acc) i p e, f .0, L .as-many))
         go i p b (inr e) (inl f) k = absurd (omega (arith, find-below bs i b f, e .0, L .as-many))
@@ -89,22 +89,22 @@ module _ (c : ℕ) (level : c ≡ notice-number → ⊥) where
     done-logged tick on = none-more (logged h tick (done tick s)) refl on
     done-logged (notice len tag) on =
         other-more (logged h (notice len tag) (done (notice len tag) s)) (notice-packet (record { len = len; tag = tag; arrival = s .clock })) (λ e. level (sym e)) refl on
-    done-logged (offer d len tag) on = go (eqb d c) refl
+    done-logged (offer d len tag st) on = go (eqb d c) refl
       where
-        go : (t : Bool) → eqb d c ≡ t → In-log (logged h (offer d len tag) (done (offer d len tag) s)) (push bs (cond t (some (bound-of s c)) none))
-        go false e = other-more (logged h (offer d len tag) (done (offer d len tag) s)) (packet s d len tag) (eqb-false d c e) refl on
+        go : (t : Bool) → eqb d c ≡ t → In-log (logged h (offer d len tag st) (done (offer d len tag st) s)) (push bs (cond t (some (bound-of s c)) none))
+        go false e = other-more (logged h (offer d len tag st) (done (offer d len tag st) s)) (packet s d len tag st) (eqb-false d c e) refl on
         go true e =
-            subst (λ (j : ℕ). Goes-on (logged h (offer j len tag) (done (offer j len tag) s)) → In-log (logged h (offer j len tag) (done (offer j len tag) s)) (bs ++ bound-of s c ∷ []))
-            (sym (eqb-true d c e)) (one-more len tag) on
+            subst (λ (j : ℕ). Goes-on (logged h (offer j len tag st) (done (offer j len tag st) s)) → In-log (logged h (offer j len tag st) (done (offer j len tag st) s)) (bs ++ bound-of s c ∷ []))
+            (sym (eqb-true d c e)) (one-more len tag st) on
 
     refused-logged : (k : Call) (v : ℕ) → Goes-on (logged h k (refused k s (suc v))) → In-log (logged h k (refused k s (suc v))) (push bs (sender-bound c k s (refused k s (suc v))))
     refused-logged (link l) v on = none-more (logged h (link l) (refused (link l) s (suc v))) refl on
     refused-logged (admit x) v on = none-more (logged h (admit x) (refused (admit x) s (suc v))) refl on
-    refused-logged (offer d len tag) v on = go (eqb d c)
+    refused-logged (offer d len tag st) v on = go (eqb d c)
       where
-        go : (t : Bool) → In-log (logged h (offer d len tag) (refused (offer d len tag) s (suc v))) (push bs (cond t none none))
-        go true = none-more (logged h (offer d len tag) (refused (offer d len tag) s (suc v))) refl on
-        go false = none-more (logged h (offer d len tag) (refused (offer d len tag) s (suc v))) refl on
+        go : (t : Bool) → In-log (logged h (offer d len tag st) (refused (offer d len tag st) s (suc v))) (push bs (cond t none none))
+        go true = none-more (logged h (offer d len tag st) (refused (offer d len tag st) s (suc v))) refl on
+        go false = none-more (logged h (offer d len tag st) (refused (offer d len tag st) s (suc v))) refl on
     refused-logged (notice len tag) v on = none-more (logged h (notice len tag) (refused (notice len tag) s (suc v))) refl on
     refused-logged (close d) v on = none-more (logged h (close d) (refused (close d) s (suc v))) refl on
     refused-logged tick v on = none-more (logged h tick (refused tick s (suc v))) refl on

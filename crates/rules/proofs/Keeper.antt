@@ -8,15 +8,15 @@ use mathlib.Core.Logic.{_⊎_, inl, inr, ⊎-elim}
 use mathlib.Core.List.{List, [], _∷_, _++_, map, append-assoc, append-nil}
 use mathlib.Core.Option.{Option, none, some}
 use lib.Dec.{eqb}
-use lib.ListN.{length}
+use lib.ListN.{length, List·getD-eq-default}
 use borrow.Author.Tests.{eqb-true, eq-eqb}
 use Rattle.rules.specs.Words.{within, push}
-use Rattle.rules.specs.Limits.{clock-end, notice-number}
-use Rattle.rules.specs.Model.{Connection, Past, Packet, State, Call, link, admit, offer, notice, close, tick, Answer, nth, figures, notice-packet}
-use Rattle.rules.specs.Admission.{owned, stands, reservation}
+use Rattle.rules.specs.Limits.{clock-end, notice-number, max-connections}
+use Rattle.rules.specs.Model.{Connection, no-connection, Past, Packet, State, Call, link, admit, offer, notice, close, tick, Answer, nth, figures, notice-packet}
+use Rattle.rules.specs.Admission.{owned, stands, stamped, reservation}
 use Rattle.rules.specs.Service.{next-eligibility, Spaced, of, eligibilities, ticked}
 use Rattle.rules.specs.SoundState.{Sound}
-use Rattle.rules.specs.Calls.{verdict, eligibility-now, packet, marked, done, refused, settle, answer}
+use Rattle.rules.specs.Calls.{heard, verdict, eligibility-now, packet, marked, done, refused, settle, answer}
 use Rattle.rules.specs.Runs.{History, while-owned, taken, after, run-from, nothing-yet, run, allowed, offer-tick, offer-ticks-from, offer-ticks, Keeps-its-word}
 use Rattle.rules.proofs.Lists.{All, all-map, all-init}
 use Rattle.rules.proofs.Sums.{split, same, cond-is}
@@ -26,9 +26,10 @@ use Rattle.rules.proofs.Notices.{of-none}
 use Rattle.rules.proofs.Spacing.{next-is-now, spaced-nil, spaced-front, spaced-before}
 use Rattle.rules.proofs.Standing.{stands-owned, nth-old, kept-figures, swept-owner}
 use Rattle.rules.proofs.Line.{tick-leaves}
-use Rattle.rules.proofs.Verdicts.{settled, admit-done, offer-done, tick-done}
+use Rattle.rules.proofs.Verdicts.{settled, heard-parts, heard-intro, admit-done, offer-done, tick-done}
 use Rattle.rules.proofs.Invariant.{Invariant, facts-of, clock-le-end}
 use Rattle.rules.proofs.KeptBySweep.{of-filter}
+use Rattle.rules.proofs.SoundKept.{fresh-figures}
 use Rattle.rules.proofs.Every.{keeps, invariant}
 use Rattle.rules.proofs.Room.{room, welcome}
 
@@ -65,7 +66,7 @@ module _ (c : ℕ) (s : State) (S : Sound s) (o : owned (s .connections) c ≡ t
   done-stays (admit x) e n =
       let d = admit-done s x e in
       nth-old (s .connections) x (omega (arith, S .with-one (d .set) .orderly .numbers, d .free)) c o
-  done-stays (offer d len tag) e n = refl
+  done-stays (offer d len tag st) e n = refl
   done-stays (notice len tag) e n = refl
   done-stays (close d) e n = let k = swept-owner (marked s d) c n in kept-figures (marked s d) c (k .0) (k .1)
   done-stays tick e n =
@@ -75,15 +76,36 @@ module _ (c : ℕ) (s : State) (S : Sound s) (o : owned (s .connections) c ≡ t
   pub owner-stays : (k : Call) → owned (answer k s .next .connections) c ≡ true → figures (answer k s .next) c ≡ figures s c
   owner-stays k = settled (λ a. owned (a .next .connections) c ≡ true → figures (a .next) c ≡ figures s c) k s (verdict k s) (done-stays k) (λ v n. refl)
 
+-- a number without an owner has no figures, and is of the first kind
+pub free-figures : (s : State) → Sound s → (c : ℕ) → owned (s .connections) c ≡ false → figures s c ≡ no-connection
+free-figures s S c o =
+    ⊎-elim
+    (λ z. subst (λ (r : State). figures r c ≡ no-connection) (sym (S .with-no-link z)) (fresh-figures c))
+    (λ n.
+    let O = S .with-one n .orderly in
+    ⊎-elim (λ l. List·getD-eq-default (s .connections) no-connection {n = c} (omega (arith, O .numbers))) (λ l. O .free-blank c l o .no-figures) (split max-connections c))
+    (same (s .link .levels) 0)
+
+free-kind : stamped no-connection ≡ false
+unfolding stamped
+free-kind = refl
+
+pub kind-before : (c : ℕ) (s : State) → Sound s → (k : Call) → owned (answer k s .next .connections) c ≡ true → stamped (figures (answer k s .next) c) ≡ false → stamped (figures s c) ≡ false
+kind-before c s S k o f = go (owned (s .connections) c) refl
+  where
+    go : (b : Bool) → owned (s .connections) c ≡ b → stamped (figures s c) ≡ false
+    go true b = subst (λ (x : Connection). stamped x ≡ false) (owner-stays c s S b k o) f
+    go false b = ap stamped (free-figures s S c b) ∙ free-kind
+
 -- an offer that counts is one to a connection that stands
 pub offer-stands : (c : ℕ) (s : State) (k : Call) (t : ℕ) → offer-tick c s k ≡ some t → stands s c ≡ true
 offer-stands c s (link l) t e = absurd (none-some e)
 offer-stands c s (admit x) t e = absurd (none-some e)
-offer-stands c s (offer d len tag) t e = go (eqb d c && allowed s c len) refl e
+offer-stands c s (offer d len tag st) t e = go (eqb d c && allowed s c len st) refl e
   where
-    go : (b : Bool) → (eqb d c && allowed s c len) ≡ b → cond b (some (s .clock)) none ≡ some t → stands s c ≡ true
+    go : (b : Bool) → (eqb d c && allowed s c len st) ≡ b → cond b (some (s .clock)) none ≡ some t → stands s c ≡ true
     go false q e = absurd (none-some e)
-    go true q e = and-true (stands s c) (within 1 (figures s c .size) len) (and-true (eqb d c) (allowed s c len) q .1) .0
+    go true q e = heard-parts s c st (and-true (heard s c st) (within 1 (figures s c .size) len) (and-true (eqb d c) (allowed s c len st) q .1) .0) .0
 offer-stands c s (notice len tag) t e = absurd (none-some e)
 offer-stands c s (close d) t e = absurd (none-some e)
 offer-stands c s tick t e = absurd (none-some e)
@@ -109,7 +131,7 @@ module _ (c : ℕ) (level : c ≡ notice-number → ⊥) where
   abbrev pub All-taken : State → List Packet → List ℕ → Type 0
   All-taken s ps ts = (eligibilities c ps ≡ ts) ⊎ At-end s ts
 
-  module _ (h : History) (I : Invariant h) (ts : List ℕ) (A : All-taken (h .now) (h .present) ts) where
+  module _ (h : History) (I : Invariant h) (ts : List ℕ) (A : All-taken (h .now) (h .present) ts) (first-kind : stamped (figures (h .now) c) ≡ false) where
     open History h using (now as s, present as acc)
 
     -- by an answer, before a number that is freed takes its packets along
@@ -123,28 +145,28 @@ module _ (c : ℕ) (level : c ≡ notice-number → ⊥) where
     refused-taken : (k : Call) (v : ℕ) → Taken-by k (refused k s (suc v)) ts
     refused-taken (link l) v = A
     refused-taken (admit x) v = A
-    refused-taken (offer d len tag) v = A
+    refused-taken (offer d len tag st) v = A
     refused-taken (notice len tag) v = A
     refused-taken (close d) v = A
     refused-taken tick v = A
 
     -- an offer to another line, or of a length that is not allowed
-    other-offer : (d len tag : ℕ) → (d ≡ c → allowed s c len ≡ false) → Taken-by (offer d len tag) (answer (offer d len tag) s) ts
-    other-offer d len tag f =
-        settled (λ a. Taken-by (offer d len tag) a ts) (offer d len tag) s (verdict (offer d len tag) s)
-        (λ e. placed-other e (same d c)) (refused-taken (offer d len tag))
+    other-offer : (d len tag : ℕ) (st : Option ℕ) → (d ≡ c → allowed s c len st ≡ false) → Taken-by (offer d len tag st) (answer (offer d len tag st) s) ts
+    other-offer d len tag st f =
+        settled (λ a. Taken-by (offer d len tag st) a ts) (offer d len tag st) s (verdict (offer d len tag st) s)
+        (λ e. placed-other e (same d c)) (refused-taken (offer d len tag st))
       where
-        placed-other : verdict (offer d len tag) s ≡ 0 → (d ≡ c) ⊎ (d ≡ c → ⊥) → Taken-by (offer d len tag) (done (offer d len tag) s) ts
+        placed-other : verdict (offer d len tag st) s ≡ 0 → (d ≡ c) ⊎ (d ≡ c → ⊥) → Taken-by (offer d len tag st) (done (offer d len tag st) s) ts
         placed-other e (inl i) =
-            let D = offer-done s d len tag e in
-            never (sym (f i) ∙ subst (λ (j : ℕ). allowed s j len ≡ true) i (and-intro (stands s d) (within 1 (figures s d .size) len) (D .standing) (within-intro 1 (figures s d .size) len (D .some-len) (D .len-le))))
-        placed-other e (inr i) = untouched (done (offer d len tag) s .next) (acc ++ packet s d len tag ∷ []) (eligibilities-snoc-other c acc (packet s d len tag) i) (λ z. z)
+            let D = offer-done s d len tag st e in
+            never (sym (f i) ∙ subst (λ (j : ℕ). allowed s j len st ≡ true) i (and-intro (heard s d st) (within 1 (figures s d .size) len) (heard-intro s d st (D .standing) (D .suited)) (within-intro 1 (figures s d .size) len (D .some-len) (D .len-le))))
+        placed-other e (inr i) = untouched (done (offer d len tag st) s .next) (acc ++ packet s d len tag st ∷ []) (eligibilities-snoc-other c acc (packet s d len tag st) i) (λ z. z)
 
     -- ---- an offer of its own
 
-    module _ (len tag : ℕ) (ok : allowed s c len ≡ true) (word : Spaced (figures s c) (ts ++ s .clock ∷ [])) where
+    module _ (len tag : ℕ) (ok : allowed s c len none ≡ true) (word : Spaced (figures s c) (ts ++ s .clock ∷ [])) where
       standing : stands s c ≡ true
-      standing = and-true (stands s c) (within 1 (figures s c .size) len) ok .0
+      standing = heard-parts s c none (and-true (heard s c none) (within 1 (figures s c .size) len) ok .0) .0
 
       -- no offer came at this tick before, so all were accepted
       pub all-accepted : eligibilities c acc ≡ ts
@@ -164,51 +186,57 @@ module _ (c : ℕ) (level : c ≡ notice-number → ⊥) where
       word-accepted : Spaced (figures s c) (eligibilities c acc ++ s .clock ∷ [])
       word-accepted = subst (λ (es : List ℕ). Spaced (figures s c) (es ++ s .clock ∷ [])) (sym all-accepted) word
 
-      pub on-arrival : eligibility-now s c ≡ s .clock
+      pub on-arrival : eligibility-now s c none ≡ s .clock
       on-arrival =
           ap (λ (p : Past). next-eligibility (figures s c) p (s .clock)) (I .steady .regular .remembered c (stands-owned s c standing))
           ∙ next-is-now (figures s c) (facts-of s (I .sound) .each c (stands-owned s c standing) .burst-le) (eligibilities c acc) (s .clock) word-accepted
 
       pub has-room : length (of c (s .held)) < reservation (s .link) (figures s c)
-      has-room = room h I c standing word-accepted
+      has-room = room h I c (s .clock) standing word-accepted (omega arith) (omega arith)
 
       -- accepted while the clock runs; at its end refused, and none comes after it
-      own-offer : Taken-by (offer c len tag) (answer (offer c len tag) s) (ts ++ s .clock ∷ [])
+      own-offer : Taken-by (offer c len tag none) (answer (offer c len tag none) s) (ts ++ s .clock ∷ [])
       own-offer = go (split clock-end (s .clock))
         where
-          go : (clock-end ≤ s .clock) ⊎ (s .clock < clock-end) → Taken-by (offer c len tag) (answer (offer c len tag) s) (ts ++ s .clock ∷ [])
+          go : (clock-end ≤ s .clock) ⊎ (s .clock < clock-end) → Taken-by (offer c len tag none) (answer (offer c len tag none) s) (ts ++ s .clock ∷ [])
           go (inr running) =
-              subst (λ (v : ℕ). Taken-by (offer c len tag) (settle (offer c len tag) s v) (ts ++ s .clock ∷ [])) (sym (welcome h I c len tag ok has-room running))
+              subst (λ (v : ℕ). Taken-by (offer c len tag none) (settle (offer c len tag none) s v) (ts ++ s .clock ∷ [])) (sym (welcome h I c len tag none ok has-room refl running))
               (inl
-              (eligibilities-snoc-same c acc (packet s c len tag) refl
+              (eligibilities-snoc-same c acc (packet s c len tag none) refl
               ∙ ap (λ (e : ℕ). eligibilities c acc ++ e ∷ []) on-arrival
               ∙ ap (λ (es : List ℕ). es ++ s .clock ∷ []) all-accepted))
           go (inl ended) =
               let e : s .clock ≡ clock-end = omega (arith, clock-le-end s (I .sound)) in
-              settled (λ a. Taken-by (offer c len tag) a (ts ++ s .clock ∷ [])) (offer c len tag) s (verdict (offer c len tag) s)
-              (λ z. absurd (omega (arith, offer-done s c len tag z .running)))
+              settled (λ a. Taken-by (offer c len tag none) a (ts ++ s .clock ∷ [])) (offer c len tag none) s (verdict (offer c len tag none) s)
+              (λ z. absurd (omega (arith, offer-done s c len tag none z .running)))
               (λ v. inr (record { ended = e; earlier = ts; last-at-end = ap (λ (t : ℕ). ts ++ t ∷ []) e }))
 
     -- ---- any call
 
-    any-offer : (d len tag : ℕ) → ((eqb d c && allowed s c len) ≡ true → Spaced (figures s c) (ts ++ s .clock ∷ [])) → Taken-by (offer d len tag) (answer (offer d len tag) s) (push ts (offer-tick c s (offer d len tag)))
-    any-offer d len tag word = go (eqb d c && allowed s c len) refl word
+    any-offer : (d len tag : ℕ) (st : Option ℕ) → ((eqb d c && allowed s c len st) ≡ true → Spaced (figures s c) (ts ++ s .clock ∷ []))
+        → Taken-by (offer d len tag st) (answer (offer d len tag st) s) (push ts (offer-tick c s (offer d len tag st)))
+    any-offer d len tag st word = go (eqb d c && allowed s c len st) refl word
       where
-        go : (b : Bool) → (eqb d c && allowed s c len) ≡ b
+        go : (b : Bool) → (eqb d c && allowed s c len st) ≡ b
             → (b ≡ true → Spaced (figures s c) (ts ++ s .clock ∷ []))
-            → Taken-by (offer d len tag) (answer (offer d len tag) s) (push ts (cond b (some (s .clock)) none))
-        go false e w = other-offer d len tag (λ i. subst (λ (t : Bool). (t && allowed s c len) ≡ false) (eq-eqb d c i) e)
+            → Taken-by (offer d len tag st) (answer (offer d len tag st) s) (push ts (cond b (some (s .clock)) none))
+        go false e w = other-offer d len tag st (λ i. subst (λ (t : Bool). (t && allowed s c len st) ≡ false) (eq-eqb d c i) e)
         go true e w =
-            let k = and-true (eqb d c) (allowed s c len) e in
-            subst (λ (j : ℕ). Taken-by (offer j len tag) (answer (offer j len tag) s) (ts ++ s .clock ∷ [])) (sym (eqb-true d c (k .0))) (own-offer len tag (k .1) (w refl))
+            let k = and-true (eqb d c) (allowed s c len st) e in
+            subst (λ (j : ℕ). Taken-by (offer j len tag st) (answer (offer j len tag st) s) (ts ++ s .clock ∷ [])) (sym (eqb-true d c (k .0))) (own st (k .1))
+          where
+            -- a connection of the first kind hears no stamp
+            own : (st : Option ℕ) → allowed s c len st ≡ true → Taken-by (offer c len tag st) (answer (offer c len tag st) s) (ts ++ s .clock ∷ [])
+            own none ok = own-offer len tag ok (w refl)
+            own (some e) ok = never (sym first-kind ∙ heard-parts s c (some e) (and-true (heard s c (some e)) (within 1 (figures s c .size) len) ok .0) .1)
 
     by-call : (k : Call) → ((t : ℕ) → offer-tick c s k ≡ some t → Spaced (figures s c) (ts ++ t ∷ [])) → Taken-by k (answer k s) (push ts (offer-tick c s k))
     by-call (link l) word =
         settled (λ a. Taken-by (link l) a ts) (link l) s (verdict (link l) s) (λ _. untouched (done (link l) s .next) acc refl (λ z. z)) (refused-taken (link l))
     by-call (admit x) word =
         settled (λ a. Taken-by (admit x) a ts) (admit x) s (verdict (admit x) s) (λ _. untouched (done (admit x) s .next) acc refl (λ z. z)) (refused-taken (admit x))
-    by-call (offer d len tag) word =
-        any-offer d len tag (λ e. word (s .clock) (cond-is (some (s .clock)) none e))
+    by-call (offer d len tag st) word =
+        any-offer d len tag st (λ e. word (s .clock) (cond-is (some (s .clock)) none e))
     by-call (notice len tag) word =
         settled (λ a. Taken-by (notice len tag) a ts) (notice len tag) s (verdict (notice len tag) s)
         (λ _.
@@ -268,12 +296,12 @@ module _ (c : ℕ) (level : c ≡ notice-number → ⊥) where
       this : (t : ℕ) → offer-tick c (run ks .now) k ≡ some t → owned (run ks .now .connections) c ≡ true → Spaced (figures (run ks .now) c) (offer-ticks c ks ++ t ∷ [])
       this t e b = subst (λ (x : Connection). Spaced x (offer-ticks c ks ++ t ∷ [])) (alike b) (subst (λ (u : Option ℕ). Spaced (figures (after (run ks) k .now) c) (push (offer-ticks c ks) u)) e now)
 
-  pub all-taken : (ks : List Call) → Keeps-its-word c ks → All-taken (run ks .now) (run ks .present) (offer-ticks c ks)
-  all-taken = from-end (λ ks. Keeps-its-word c ks → All-taken (run ks .now) (run ks .present) (offer-ticks c ks)) (λ _. inl refl) one
+  pub all-taken : (ks : List Call) → stamped (figures (run ks .now) c) ≡ false → Keeps-its-word c ks → All-taken (run ks .now) (run ks .present) (offer-ticks c ks)
+  all-taken = from-end (λ ks. stamped (figures (run ks .now) c) ≡ false → Keeps-its-word c ks → All-taken (run ks .now) (run ks .present) (offer-ticks c ks)) (λ _ _. inl refl) one
     where
-      one : (ks : List Call) (k : Call) → (Keeps-its-word c ks → All-taken (run ks .now) (run ks .present) (offer-ticks c ks))
-          → Keeps-its-word c (ks ++ k ∷ []) → All-taken (run (ks ++ k ∷ []) .now) (run (ks ++ k ∷ []) .present) (offer-ticks c (ks ++ k ∷ []))
-      one ks k ih word =
+      one : (ks : List Call) (k : Call) → (stamped (figures (run ks .now) c) ≡ false → Keeps-its-word c ks → All-taken (run ks .now) (run ks .present) (offer-ticks c ks))
+          → stamped (figures (run (ks ++ k ∷ []) .now) c) ≡ false → Keeps-its-word c (ks ++ k ∷ []) → All-taken (run (ks ++ k ∷ []) .now) (run (ks ++ k ∷ []) .present) (offer-ticks c (ks ++ k ∷ []))
+      one ks k ih kind word =
           subst (λ (h : History). All-taken (h .now) (h .present) (offer-ticks c (ks ++ k ∷ []))) (sym (run-last ks k))
           (subst (All-taken (after (run ks) k .now) (after (run ks) k .present)) (sym (ticks-last c ks k)) (go (owned (after (run ks) k .now .connections) c) refl))
         where
@@ -289,5 +317,6 @@ module _ (c : ℕ) (level : c ≡ notice-number → ⊥) where
               → All-taken (after (run ks) k .now) (after (run ks) k .present) (while-owned (after (run ks) k .now) c (push (offer-ticks c ks) (offer-tick c (run ks .now) k)))
           go true o =
               let W = word-before ks k o word in
-              any-call (run ks) (invariant ks) (offer-ticks c ks) (ih (W .so-far)) k (λ _. W .this-one)
+              let was = kind-before c (run ks .now) (invariant ks .sound) k o (subst (λ (h : History). stamped (figures (h .now) c) ≡ false) (run-last ks k) kind) in
+              any-call (run ks) (invariant ks) (offer-ticks c ks) (ih was (W .so-far)) was k (λ _. W .this-one)
           go false o = freed o

@@ -5,7 +5,7 @@ use mathlib.Core.Path.{_≡_, refl, sym, ap, _∙_, subst}
 use mathlib.Core.Bool.{true}
 use mathlib.Core.Logic.{_⊎_, inl, inr}
 use mathlib.Core.List.{List, [], _∷_, _++_, map, append-assoc}
-use mathlib.Core.Option.{none, some}
+use mathlib.Core.Option.{Option, none, some}
 use lib.ListN.{length, getD, set}
 use lib.Seq.{getD-set-same, getD-set-other}
 use borrow.Author.Tests.{ne-eqb}
@@ -13,7 +13,7 @@ use Rattle.rules.specs.Words.{upto}
 use Rattle.rules.specs.Limits.{notice-number, max-remembered}
 use Rattle.rules.specs.Model.{Past, no-past, Packet, State, past, figures, notice-packet, with-connections, with-held}
 use Rattle.rules.specs.Admission.{owned, burst, cost}
-use Rattle.rules.specs.Service.{next-eligibility, remember, Spaced, of, eligibilities, first, level-of}
+use Rattle.rules.specs.Service.{earliest, remember, Spaced, of, eligibilities, first, level-of}
 use Rattle.rules.specs.SoundState.{Fits, In-service}
 use Rattle.rules.specs.Calls.{eligibility-now, packet, placed}
 use Rattle.rules.specs.Runs.{History, in-hub}
@@ -22,7 +22,8 @@ use Rattle.rules.proofs.Sums.{same, cond-is, upto-yes}
 use Rattle.rules.proofs.Rows.{first-append, of-append, eligibilities-snoc-same, eligibilities-snoc-other}
 use Rattle.rules.proofs.Notices.{first-behind, either-order}
 use Rattle.rules.proofs.Memory.{memory, memory-snoc}
-use Rattle.rules.proofs.Spacing.{not-before, next-spaced}
+use Rattle.rules.proofs.Spacing.{snoc-spaced}
+use Rattle.rules.proofs.Stamps.{Timely, timely}
 use Rattle.rules.proofs.Standing.{stands-owned, stands-below}
 use Rattle.rules.proofs.Line.{left-same}
 use Rattle.rules.proofs.Verdicts.{Offer-done}
@@ -85,13 +86,13 @@ module _ (s : State) (acc : List Packet) (p : Packet) (hs : List Past) (level : 
 
 -- ---- the packets accepted
 
-module _ (s : State) (acc : List Packet) (c len tag : ℕ) (entry : c < length (s .pasts)) (R : Regular s acc) (D : Offer-done s c len)
-    (few : burst (figures s c) ≤ max-remembered) where
+module _ (s : State) (acc : List Packet) (c len tag : ℕ) (st : Option ℕ) (entry : c < length (s .pasts)) (R : Regular s acc) (D : Offer-done s c len st)
+    (few : burst (figures s c) ≤ max-remembered) (T : Timely (figures s c) (past s c) (s .clock) (eligibility-now s c st)) where
   p : Packet
-  p = packet s c len tag
+  p = packet s c len tag st
 
   new : Past
-  new = remember (past s c) (eligibility-now s c)
+  new = remember (past s c) (eligibility-now s c st)
 
   below : owned (s .connections) c ≡ true
   below = stands-owned s c (D .standing)
@@ -101,8 +102,8 @@ module _ (s : State) (acc : List Packet) (c len tag : ℕ) (entry : c < length (
   spaced-placed d l (inl e) =
       subst (λ (j : ℕ). Spaced (figures s j) (eligibilities j (acc ++ p ∷ []))) e
       (rw (eligibilities-snoc-same c acc p refl)
-      (subst (λ (h : Past). Spaced (figures s c) (eligibilities c acc ++ next-eligibility (figures s c) h (s .clock) ∷ [])) (sym (R .remembered c below))
-      (next-spaced (figures s c) few (eligibilities c acc) (s .clock) (R .spaced c below))))
+      (snoc-spaced (figures s c) few (eligibilities c acc) (eligibility-now s c st) (R .spaced c below)
+      (subst (λ (h : Past). earliest (figures s c) h ≤ eligibility-now s c st) (R .remembered c below) (T .paced .0))))
   spaced-placed d l (inr e) = rw (eligibilities-snoc-other d acc p e) (R .spaced d l)
 
   remembered-placed : (d : ℕ) → owned (s .connections) d ≡ true → (c ≡ d) ⊎ (c ≡ d → ⊥) → getD (set (s .pasts) c new) d no-past ≡ memory (eligibilities d (acc ++ p ∷ []))
@@ -110,15 +111,15 @@ module _ (s : State) (acc : List Packet) (c len tag : ℕ) (entry : c < length (
   remembered-placed d l (inl e) =
       subst (λ (j : ℕ). getD (set (s .pasts) c new) j no-past ≡ memory (eligibilities j (acc ++ p ∷ []))) e
       (getD-set-same (s .pasts) c new no-past entry
-      ∙ ap (λ (h : Past). remember h (eligibility-now s c)) (R .remembered c below)
-      ∙ sym (memory-snoc (eligibilities c acc) (eligibility-now s c))
+      ∙ ap (λ (h : Past). remember h (eligibility-now s c st)) (R .remembered c below)
+      ∙ sym (memory-snoc (eligibilities c acc) (eligibility-now s c st))
       ∙ ap memory (sym (eligibilities-snoc-same c acc p refl)))
   remembered-placed d l (inr e) =
       getD-set-other (s .pasts) c d new no-past (λ i. e (sym i))
       ∙ R .remembered d l
       ∙ ap memory (sym (eligibilities-snoc-other d acc p e))
 
-  placed-regular : Regular (placed s c len tag) (acc ++ packet s c len tag ∷ [])
+  placed-regular : Regular (placed s c len tag st) (acc ++ packet s c len tag st ∷ [])
   unfolding p new
   placed-regular = record {
     fit = all-snoc (Fits (s .connections)) acc p (R .fit) (record { owner = below; some-len = D .some-len; len-le = D .len-le });
@@ -130,12 +131,12 @@ module _ (s : State) (acc : List Packet) (c len tag : ℕ) (entry : c < length (
 module _ (h : History) (I : Invariant h) where
   open History h using (now as s, accepted as all, departed as gone, present as acc)
 
-  pub placed-keeps : (c len tag : ℕ) → c < length (s .pasts) → Offer-done s c len
-      → Steady (all ++ packet s c len tag ∷ []) gone (acc ++ packet s c len tag ∷ []) (placed s c len tag)
-  placed-keeps c len tag e D = record {
-    regular = placed-regular s acc c len tag e (I .steady .regular) D few-burst;
+  pub placed-keeps : (c len tag : ℕ) (st : Option ℕ) → c < length (s .pasts) → Offer-done s c len st
+      → Steady (all ++ packet s c len tag st ∷ []) gone (acc ++ packet s c len tag st ∷ []) (placed s c len tag st)
+  placed-keeps c len tag st e D = record {
+    regular = placed-regular s acc c len tag st e (I .steady .regular) D few-burst in-step;
     line = behind-line s acc p hs level (I .steady .line);
-    busy = λ m low high. behind-busy s acc p hs level m (not-before (figures s c) (past s c) (s .clock)) (I .steady .line) (I .steady .busy m low high);
+    busy = λ m low high. behind-busy s acc p hs level m (in-step .not-before) (I .steady .line) (I .steady .busy m low high);
     conserved = λ d.
         of-append d all (p ∷ [])
         ∙ ap (λ (l : List Packet). l ++ of d (p ∷ [])) (I .steady .conserved d)
@@ -144,10 +145,10 @@ module _ (h : History) (I : Invariant h) where
   }
     where
       p : Packet
-      p = packet s c len tag
+      p = packet s c len tag st
 
       hs : List Past
-      hs = set (s .pasts) c (remember (past s c) (eligibility-now s c))
+      hs = set (s .pasts) c (remember (past s c) (eligibility-now s c st))
 
       level : c ≡ notice-number → ⊥
       level i = omega (arith, stands-below s c (D .standing), connections-few s (I .sound))
@@ -155,14 +156,17 @@ module _ (h : History) (I : Invariant h) where
       few-burst : burst (figures s c) ≤ max-remembered
       few-burst = facts-of s (I .sound) .each c (stands-owned s c (D .standing)) .burst-le
 
+      in-step : Timely (figures s c) (past s c) (s .clock) (eligibility-now s c st)
+      in-step = timely (s .link) (figures s c) (past s c) (s .clock) st (facts-of s (I .sound) .each c (stands-owned s c (D .standing))) (D .suited) (D .in-time)
+
       -- the new packet stands before the notices, which bear another number
-      waits : (d : ℕ) → of d (in-hub s) ++ of d (packet s c len tag ∷ []) ≡ of d (in-hub (placed s c len tag))
+      waits : (d : ℕ) → of d (in-hub s) ++ of d (packet s c len tag st ∷ []) ≡ of d (in-hub (placed s c len tag st))
       waits d =
-          let new = packet s c len tag ∷ [] in
+          let new = packet s c len tag st ∷ [] in
           let ns = map notice-packet (s .notices) in
           ap (λ (l : List Packet). l ++ of d new) (of-append d (s .held) ns)
           ∙ append-assoc (of d (s .held)) (of d ns) (of d new)
-          ∙ ap (λ (l : List Packet). of d (s .held) ++ l) (either-order d (packet s c len tag) (s .notices) level)
+          ∙ ap (λ (l : List Packet). of d (s .held) ++ l) (either-order d (packet s c len tag st) (s .notices) level)
           ∙ sym (append-assoc (of d (s .held)) (of d new) (of d ns))
           ∙ ap (λ (l : List Packet). l ++ of d ns) (sym (of-append d (s .held) new))
           ∙ sym (of-append d (s .held ++ new) ns)

@@ -9,6 +9,7 @@ pub mod Count
 pub mod Queue
 pub mod Standing
 pub mod LevelTest
+pub mod Stamps
 pub mod Scan
 pub mod Choice
 pub mod Verdicts
@@ -35,8 +36,11 @@ pub mod Through
 pub mod InTheLog
 pub mod Bounds
 pub mod Room
+pub mod Lower
 pub mod Keeper
 pub mod Alone
+pub mod OwnLine
+pub mod AloneStamped
 pub mod NoticesLast
 pub mod Fields
 pub mod WithoutSilence
@@ -44,7 +48,9 @@ pub mod WithoutAverage
 pub mod Reached
 pub mod Closing
 pub mod ByOwner
+pub mod SecondKind
 pub mod Results
+pub mod TwoHubs
 pub mod Quick
 pub mod Examples
 pub mod WorkedLimits

@@ -58,6 +58,18 @@ module _ {A : Type 0} where
   sub-snoc a (skip y s) = skip y (sub-snoc a s)
   sub-snoc a (keep x s) = keep x (sub-snoc a s)
 
+  pub sub-more : {xs ys : List A} (zs : List A) → Sub xs ys → Sub xs (ys ++ zs)
+  sub-more [] nil = nil
+  sub-more (z ∷ zs) nil = skip z (sub-more zs nil)
+  sub-more zs (skip y s) = skip y (sub-more zs s)
+  sub-more zs (keep x s) = keep x (sub-more zs s)
+
+  pub sub-trans : {xs ys zs : List A} → Sub xs ys → Sub ys zs → Sub xs zs
+  sub-trans s nil = s
+  sub-trans s (skip z t) = skip z (sub-trans s t)
+  sub-trans (skip y s) (keep x t) = skip x (sub-trans s t)
+  sub-trans (keep y s) (keep x t) = keep x (sub-trans s t)
+
   pub sub-refl : (xs : List A) → Sub xs xs
   sub-refl [] = nil
   sub-refl (x ∷ xs) = keep x (sub-refl xs)

@@ -3,6 +3,7 @@
 use Prim.Native.Nat.{ℕ, zero, suc, _+_, _*_, _-_, _≤_, _<_, max}
 use native.Mathlib.Omega.{arith}
 use mathlib.Core.Path.{_≡_, refl, sym, ap, _∙_, subst}
+use mathlib.Core.Bool.{Bool, true, false, cond}
 use mathlib.Core.Logic.{_⊎_, inl, inr}
 use mathlib.Core.List.{List, [], _∷_, _++_}
 use mathlib.Core.Option.{Option, none, some}
@@ -10,10 +11,10 @@ use lib.ListN.{length, take, drop, getElem?, length-drop}
 use borrow.Author.Tests.{ne-eqb, eq-eqb}
 use Rattle.rules.specs.Limits.{max-remembered}
 use Rattle.rules.specs.Model.{Link, Connection, Past, no-past}
-use Rattle.rules.specs.Admission.{burst}
+use Rattle.rules.specs.Admission.{burst, stamped}
 use Rattle.rules.specs.Service.{nth-before, ticks-after, earliest, next-eligibility, remember, remember-all, Spaced-behind, Spaced}
 use Rattle.rules.specs.SoundState.{in-order, departed-of, reach, Near-by, Beyond, Queue}
-use Rattle.rules.specs.SoundTest.{far-as, latest}
+use Rattle.rules.specs.SoundTest.{far-as, latest-by-gap, latest}
 use Rattle.rules.proofs.Lists.{All, Pairs, all-map, all-every}
 use Rattle.rules.proofs.Sums.{split, cond-is}
 use Rattle.rules.proofs.Figures.{Connection-facts}
@@ -23,9 +24,9 @@ use Rattle.rules.proofs.Spacing.{earliest-is, earliest-fewer, earliest-
 -- ---- how late an eligibility may be behind those in h
 
 module _ (c : Connection) where
-  latest-is : (t : ℕ) (h : Past) → latest c t h ≡ max (ticks-after (c .gap) (nth-before 1 h)) (far-as (t + reach c) (c .window) (nth-before (burst c) h))
-  unfolding latest
-  latest-is t h = refl
+  by-gap-is : (t : ℕ) (h : Past) → latest-by-gap c t h ≡ max (ticks-after (c .gap) (nth-before 1 h)) (far-as (t + reach c) (c .window) (nth-before (burst c) h))
+  unfolding latest-by-gap
+  by-gap-is t h = refl
 
   -- with an average, a packet is held back by a window at most
   reach-window : (i : ℕ) → burst c ≡ suc i → reach c ≡ c .window
@@ -39,22 +40,22 @@ module _ (c : Connection) where
       go (suc i) e = omega (arith, reach-window i e)
 
   -- as early as the rules allow is not too late
-  earliest-latest : (t : ℕ) (h : Past) → earliest c h ≤ latest c t h
-  earliest-latest t h = omega (arith, earliest-is c h, latest-is t h, go (nth-before (burst c) h))
+  earliest-by-gap : (t : ℕ) (h : Past) → earliest c h ≤ latest-by-gap c t h
+  earliest-by-gap t h = omega (arith, earliest-is c h, by-gap-is t h, go (nth-before (burst c) h))
     where
       go : (o : Option ℕ) → ticks-after (c .window) o ≤ far-as (t + reach c) (c .window) o
       go none = omega arith
       go (some a) = omega arith
 
   -- where the n-th before is known they are the same; else the clock counts
-  latest-known : (t : ℕ) (h : Past) (a : ℕ) → nth-before (burst c) h ≡ some a → latest c t h ≡ earliest c h
-  latest-known t h a e = omega (arith, earliest-is c h, latest-is t h, ap (far-as (t + reach c) (c .window)) e, ap (ticks-after (c .window)) e)
+  by-gap-known : (t : ℕ) (h : Past) (a : ℕ) → nth-before (burst c) h ≡ some a → latest-by-gap c t h ≡ earliest c h
+  by-gap-known t h a e = omega (arith, earliest-is c h, by-gap-is t h, ap (far-as (t + reach c) (c .window)) e, ap (ticks-after (c .window)) e)
 
-  pub latest-unknown : (t : ℕ) (h : Past) → nth-before (burst c) h ≡ none → latest c t h ≡ max (t + reach c) (ticks-after (c .gap) (nth-before 1 h))
-  latest-unknown t h e = omega (arith, latest-is t h, ap (far-as (t + reach c) (c .window)) e)
+  pub by-gap-unknown : (t : ℕ) (h : Past) → nth-before (burst c) h ≡ none → latest-by-gap c t h ≡ max (t + reach c) (ticks-after (c .gap) (nth-before 1 h))
+  by-gap-unknown t h e = omega (arith, by-gap-is t h, ap (far-as (t + reach c) (c .window)) e)
 
-  latest-later : (t : ℕ) (h : Past) → latest c t h ≤ latest c (t + 1) h
-  latest-later t h = omega (arith, latest-is t h, latest-is (t + 1) h, go (nth-before (burst c) h))
+  by-gap-later : (t : ℕ) (h : Past) → latest-by-gap c t h ≤ latest-by-gap c (t + 1) h
+  by-gap-later t h = omega (arith, by-gap-is t h, by-gap-is (t + 1) h, go (nth-before (burst c) h))
     where
       go : (o : Option ℕ) → far-as (t + reach c) (c .window) o ≤ far-as (t + 1 + reach c) (c .window) o
       go none = omega arith
@@ -78,9 +79,9 @@ module _ (c : Connection) where
         go zero e = omega arith
         go (suc i) e = at i e (forgets-at (λ a. a ≤ t) m k F i)
 
-  latest-fewer : c .gap ≤ reach c → (t : ℕ) (m k : Past) → Forgets (λ a. a ≤ t) m k → latest c t m ≤ latest c t k
-  latest-fewer g t m [] F =
-      omega (arith, latest-is t m, latest-is t [], far-fewer t m [] F, first m F, nothing (burst c))
+  by-gap-fewer : c .gap ≤ reach c → (t : ℕ) (m k : Past) → Forgets (λ a. a ≤ t) m k → latest-by-gap c t m ≤ latest-by-gap c t k
+  by-gap-fewer g t m [] F =
+      omega (arith, by-gap-is t m, by-gap-is t [], far-fewer t m [] F, first m F, nothing (burst c))
     where
       first : (m : Past) → All (λ a. a ≤ t) m → ticks-after (c .gap) (nth-before 1 m) ≤ t + reach c
       first [] h = omega arith
@@ -89,8 +90,8 @@ module _ (c : Connection) where
       nothing : (n : ℕ) → far-as (t + reach c) (c .window) (nth-before n []) ≡ t + reach c
       nothing zero = refl
       nothing (suc n) = refl
-  latest-fewer g t [] (a ∷ k) F = absurd F
-  latest-fewer g t (b ∷ m) (a ∷ k) F = omega (arith, latest-is t (b ∷ m), latest-is t (a ∷ k), far-fewer t (b ∷ m) (a ∷ k) F, F .0)
+  by-gap-fewer g t [] (a ∷ k) F = absurd F
+  by-gap-fewer g t (b ∷ m) (a ∷ k) F = omega (arith, by-gap-is t (b ∷ m), by-gap-is t (a ∷ k), far-fewer t (b ∷ m) (a ∷ k) F, F .0)
 
   -- no later than a gap or a window after the last of all
   ticks-le : (x u n : ℕ) (h : Past) → All (λ e. e ≤ u) h → ticks-after x (nth-before n h) ≤ u + x
@@ -99,12 +100,53 @@ module _ (c : Connection) where
   ticks-le x u (suc zero) (e ∷ h) a = omega (arith, a .0)
   ticks-le x u (suc (suc i)) (e ∷ h) a = ticks-le x u (suc i) h (a .1)
 
-  latest-le : (far t u : ℕ) (h : Past) → c .gap ≤ far → c .window ≤ far → t ≤ u → All (λ e. e ≤ u) h → latest c t h ≤ u + far
-  latest-le far t u h g w l a = omega (arith, latest-is t h, ticks-le (c .gap) u 1 h a, go (nth-before (burst c) h) (ticks-le (c .window) u (burst c) h a))
+  by-gap-le : (far t u : ℕ) (h : Past) → c .gap ≤ far → c .window ≤ far → t ≤ u → All (λ e. e ≤ u) h → latest-by-gap c t h ≤ u + far
+  by-gap-le far t u h g w l a = omega (arith, by-gap-is t h, ticks-le (c .gap) u 1 h a, go (nth-before (burst c) h) (ticks-le (c .window) u (burst c) h a))
     where
       go : (o : Option ℕ) → ticks-after (c .window) o ≤ u + c .window → far-as (t + reach c) (c .window) o ≤ u + far
       go none q = omega (arith, reach-le far g w)
       go (some b) q = omega arith
+
+-- ---- .. and of either kind
+
+module _ (c : Connection) where
+  latest-first : (t : ℕ) (h : Past) → stamped c ≡ false → latest c t h ≡ latest-by-gap c t h
+  unfolding latest
+  latest-first t h e = cond-is (t + c .allowance) (latest-by-gap c t h) e
+
+  pub latest-second : (t : ℕ) (h : Past) → stamped c ≡ true → latest c t h ≡ t + c .allowance
+  unfolding latest
+  latest-second t h e = cond-is (t + c .allowance) (latest-by-gap c t h) e
+
+  earliest-latest : (t : ℕ) (h : Past) → stamped c ≡ false → earliest c h ≤ latest c t h
+  earliest-latest t h e = omega (arith, latest-first t h e, earliest-by-gap c t h)
+
+  latest-known : (t : ℕ) (h : Past) (a : ℕ) → stamped c ≡ false → nth-before (burst c) h ≡ some a → latest c t h ≡ earliest c h
+  latest-known t h a s e = latest-first t h s ∙ by-gap-known c t h a e
+
+  pub latest-unknown : (t : ℕ) (h : Past) → stamped c ≡ false → nth-before (burst c) h ≡ none → latest c t h ≡ max (t + reach c) (ticks-after (c .gap) (nth-before 1 h))
+  latest-unknown t h s e = latest-first t h s ∙ by-gap-unknown c t h e
+
+  latest-later : (t : ℕ) (h : Past) → latest c t h ≤ latest c (t + 1) h
+  latest-later t h = go (stamped c) refl
+    where
+      go : (b : Bool) → stamped c ≡ b → latest c t h ≤ latest c (t + 1) h
+      go true e = omega (arith, latest-second t h e, latest-second (t + 1) h e)
+      go false e = omega (arith, latest-first t h e, latest-first (t + 1) h e, by-gap-later c t h)
+
+  latest-fewer : c .gap ≤ reach c → (t : ℕ) (m k : Past) → Forgets (λ a. a ≤ t) m k → latest c t m ≤ latest c t k
+  latest-fewer g t m k F = go (stamped c) refl
+    where
+      go : (b : Bool) → stamped c ≡ b → latest c t m ≤ latest c t k
+      go true e = omega (arith, latest-second t m e, latest-second t k e)
+      go false e = omega (arith, latest-first t m e, latest-first t k e, by-gap-fewer c g t m k F)
+
+  latest-le : (far t u : ℕ) (h : Past) → c .gap ≤ far → c .window ≤ far → c .allowance ≤ far → t ≤ u → All (λ e. e ≤ u) h → latest c t h ≤ u + far
+  latest-le far t u h g w a l k = go (stamped c) refl
+    where
+      go : (b : Bool) → stamped c ≡ b → latest c t h ≤ u + far
+      go true e = omega (arith, latest-second t h e)
+      go false e = omega (arith, latest-first t h e, by-gap-le c far t u h g w l k)
 
 -- ---- one step: an eligibility e behind what is remembered
 
@@ -127,31 +169,34 @@ pub record Kept-past (c : Connection) (t : ℕ) (h : Past) (es : List ℕ) : Typ
 module _ (c : Connection) (few : burst c ≤ max-remembered) (t : ℕ) where
   module _ (m : List ℕ) (k : Past) (A : Agrees m k) where
     latest-same : latest c t k ≡ latest c t m
-    unfolding latest
+    unfolding latest latest-by-gap
     latest-same =
+        ap (λ (n : ℕ). cond (stamped c) (t + c .allowance) n) (
         ap (λ (o : Option ℕ). max (ticks-after (c .gap) o) (far-as (t + reach c) (c .window) (nth-before (burst c) k))) (same-before c few m k A 1 (omega arith))
-        ∙ ap (λ (o : Option ℕ). max (ticks-after (c .gap) (nth-before 1 m)) (far-as (t + reach c) (c .window) o)) (same-before c few m k A (burst c) few)
+        ∙ ap (λ (o : Option ℕ). max (ticks-after (c .gap) (nth-before 1 m)) (far-as (t + reach c) (c .window) o)) (same-before c few m k A (burst c) few))
 
-    near-pace : (e : ℕ) → earliest c m ≤ e → (t < e → Near-by c t m e (nth-before (burst c) m)) → Pace c t k e
+    near-pace : (e : ℕ) → earliest c m ≤ e → (t < e → Near-by c t m e (stamped c) (nth-before (burst c) m)) → Pace c t k e
     near-pace e l f = (omega (arith, earliest-same c few m k A), omega (arith, latest-same, not-late (split e t)))
       where
-        at : (o : Option ℕ) → nth-before (burst c) m ≡ o → Near-by c t m e o → e ≤ latest c t m
-        at none i n = omega (arith, latest-unknown c t m i)
-        at (some a) i n = omega (arith, latest-known c t m a i)
+        at : (b : Bool) → stamped c ≡ b → (o : Option ℕ) → nth-before (burst c) m ≡ o → Near-by c t m e b o → e ≤ latest c t m
+        at true s o i n = omega (arith, latest-second c t m s)
+        at false s none i n = omega (arith, latest-unknown c t m s i)
+        at false s (some a) i n = omega (arith, latest-known c t m a s i)
 
         not-late : (e ≤ t) ⊎ (t < e) → e ≤ max t (latest c t m)
         not-late (inl h) = omega arith
-        not-late (inr h) = omega (arith, at (nth-before (burst c) m) refl (f h))
+        not-late (inr h) = omega (arith, at (stamped c) refl (nth-before (burst c) m) refl (f h))
 
-    pace-near : (e : ℕ) → Pace c t k e → (earliest c m ≤ e) × (t < e → Near-by c t m e (nth-before (burst c) m))
-    pace-near e p = (low, λ h. at (nth-before (burst c) m) refl h)
+    pace-near : (e : ℕ) → Pace c t k e → (earliest c m ≤ e) × (t < e → Near-by c t m e (stamped c) (nth-before (burst c) m))
+    pace-near e p = (low, λ h. at (stamped c) refl (nth-before (burst c) m) refl h)
       where
         low : earliest c m ≤ e
         low = omega (arith, earliest-same c few m k A, p .0)
 
-        at : (o : Option ℕ) → nth-before (burst c) m ≡ o → t < e → Near-by c t m e o
-        at none i h = omega (arith, latest-unknown c t m i, latest-same, p .1)
-        at (some a) i h = omega (arith, latest-known c t m a i, latest-same, p .1, low)
+        at : (b : Bool) → stamped c ≡ b → (o : Option ℕ) → nth-before (burst c) m ≡ o → t < e → Near-by c t m e b o
+        at true s o i h = omega (arith, latest-second c t m s, latest-same, p .1)
+        at false s none i h = omega (arith, latest-unknown c t m s i, latest-same, p .1)
+        at false s (some a) i h = omega (arith, latest-known c t m a s i, latest-same, p .1, low)
 
   clauses-chain : (m : List ℕ) (k : Past) → Agrees m k → (es : List ℕ) → Spaced-behind c m es → Beyond c t m es → Chain c t k es
   clauses-chain m k A [] s b = tt
@@ -287,18 +332,18 @@ module _ (c : Connection) (t : ℕ) where
   chain-snoc m [] f k p = (p, tt)
   chain-snoc m (e ∷ es) f k p = (k .0, chain-snoc (remember m e) es f (k .1) p)
 
-  -- the next eligibility keeps the pace
-  next-paced : (h : Past) → Pace c t h (next-eligibility c h t)
-  next-paced h = (omega (arith, next-is c h t), omega (arith, next-is c h t, earliest-latest c t h))
+  -- of the first kind the next eligibility keeps the pace
+  pub next-paced : (h : Past) → stamped c ≡ false → Pace c t h (next-eligibility c h t)
+  next-paced h s = (omega (arith, next-is c h t), omega (arith, next-is c h t, earliest-latest c t h s))
 
-  pub chained-snoc : (h : Past) (es : List ℕ) → Chained c t h es → Chained c t (remember h (next-eligibility c h t)) (es ++ next-eligibility c h t ∷ [])
-  chained-snoc h es q = record {
+  pub chained-snoc : (h : Past) (es : List ℕ) (f : ℕ) → Pace c t h f → Chained c t h es → Chained c t (remember h f) (es ++ f ∷ [])
+  chained-snoc h es f p q = record {
     old = q .old;
     few = q .few;
-    kept = remember-all-snoc (q .old) es (next-eligibility c h t) ∙ ap (λ (m : Past). remember m (next-eligibility c h t)) (q .kept);
+    kept = remember-all-snoc (q .old) es f ∙ ap (λ (m : Past). remember m f) (q .kept);
     back = q .back;
     gone = q .gone;
-    chain = chain-snoc (q .old) es (next-eligibility c h t) (q .chain) (subst (λ (m : Past). Pace c t m (next-eligibility c h t)) (sym (q .kept)) (next-paced h));
+    chain = chain-snoc (q .old) es f (q .chain) (subst (λ (m : Past). Pace c t m f) (sym (q .kept)) p);
   }
 
   -- a connection with no packet yet accepted
@@ -307,11 +352,11 @@ module _ (c : Connection) (t : ℕ) where
 
 -- ---- how far an eligibility can lie beyond the clock: for each row no further than a gap and a window
 
-module _ (c : Connection) (far t : ℕ) (gap-le : c .gap ≤ far) (window-le : c .window ≤ far) where
+module _ (c : Connection) (far t : ℕ) (gap-le : c .gap ≤ far) (window-le : c .window ≤ far) (allowance-le : c .allowance ≤ far) where
   far-from : (u : ℕ) (m : Past) (es : List ℕ) → t ≤ u → All (λ e. e ≤ u) m → Chain c t m es → All (λ e. e ≤ u + length es * far) es
   far-from u m [] l a k = tt
   far-from u m (e ∷ es) l a k =
-      let i : e ≤ u + far = omega (arith, k .0 .1, latest-le c far t u m gap-le window-le l a) in (
+      let i : e ≤ u + far = omega (arith, k .0 .1, latest-le c far t u m gap-le window-le allowance-le l a) in (
         omega arith,
         all-map (λ f r. omega arith) es
             (far-from (u + far) (remember m e) es (omega arith) (all-remember (λ f. f ≤ u + far) m e (all-map (λ f r. omega arith) m a) i) (k .1)),
@@ -323,4 +368,4 @@ module _ (c : Connection) (far t : ℕ) (gap-le : c .gap ≤ far) (window-le : c
       (k, subst (All (λ e. e ≤ t + length es * far)) (q .kept) (all-remember-all (λ e. e ≤ t + length es * far) es (q .old) (all-map (λ e r. omega arith) (q .old) (q .gone)) k))
 
   pub next-near : (u : ℕ) (h : Past) → t ≤ u → All (λ e. e ≤ u) h → next-eligibility c h t ≤ u + far
-  next-near u h l a = omega (arith, next-is c h t, earliest-latest c t h, latest-le c far t u h gap-le window-le l a)
+  next-near u h l a = omega (arith, next-is c h t, earliest-by-gap c t h, by-gap-le c far t u h gap-le window-le l a)

@@ -11,12 +11,12 @@ use lib.ListN.{length, getD, replicate, length-set, length-replicate}
 use Rattle.rules.specs.Words.{tabulate, first-number, push}
 use Rattle.rules.specs.Limits.{max-connections}
 use Rattle.rules.specs.Model.{Connection, Past, State, Call, link, admit, offer, notice, close, tick, Answer, no-connection, no-past, fresh, with-connections, with-closed}
-use Rattle.rules.specs.Admission.{stands, largest-bound}
+use Rattle.rules.specs.Admission.{largest-bound}
 use Rattle.rules.specs.Service.{ticked, charge-over, expired, swept-connections, swept-pasts, swept-marks, swept}
 use Rattle.rules.specs.SoundState.{Sound}
 use Rattle.rules.specs.SoundTest.{sound}
-use Rattle.rules.specs.Calls.{causes, verdicts, verdict, marked, accepted, done, refused-number, refused, settle, answer}
-use Rattle.rules.specs.Runs.{Departure, History, while-owned, logged, after, run-from, nothing-yet, run, Exchange, exchange, exchanges-from, exchanges}
+use Rattle.rules.specs.Calls.{causes, heard, verdicts, verdict, marked, accepted, done, refused-number, refused, settle, answer}
+use Rattle.rules.specs.Runs.{Departure, History, while-owned, leaving, departure-of, departing, own-departures-from, own-departures, logged, after, run-from, nothing-yet, run, Exchange, exchange, exchanges-from, exchanges}
 use Rattle.rules.specs.Examples.{Seen, Case, sums-at, reservations-at, seen}
 use Rattle.rules.specs.WorkedLimits.{Outcome, Trial, outcome}
 use Rattle.rules.proofs.Lists.{All}
@@ -99,7 +99,7 @@ then a s = record { verdict = a .verdict; number = a .number; short = a .short; 
 abbrev pub quick-done : Call → State → Answer
 quick-done (link l) s = done (link l) s
 quick-done (admit x) s = done (admit x) s
-quick-done (offer c len tag) s = done (offer c len tag) s
+quick-done (offer c len tag st) s = done (offer c len tag st) s
 quick-done (notice len tag) s = done (notice len tag) s
 quick-done (close c) s = accepted 0 (quick-swept (marked s c))
 quick-done tick s = then (ticked s) (quick-swept (ticked s .next))
@@ -114,7 +114,7 @@ quick-answer k s = quick-settle k s (first-number (causes k s))
 done-is : (k : Call) (s : State) → Numbered s → done k s ≡ quick-done k s
 done-is (link l) s N = refl
 done-is (admit x) s N = refl
-done-is (offer c len tag) s N = refl
+done-is (offer c len tag st) s N = refl
 done-is (notice len tag) s N = refl
 done-is (close c) s N = ap (accepted 0) (swept-is (marked s c) (marked-numbered s c N))
 done-is tick s N = ap (then (ticked s)) (swept-is (ticked s .next) (ticked-numbered s N))
@@ -184,13 +184,13 @@ quick-all (x ∷ xs) = ap (λ (y : Seen). y ∷ map seen xs) (quick-same x) ∙ 
 -- ---- what a connection asks and is told
 
 -- the exchange of an offer that gets the answer a
-abbrev exchanged : ℕ → State → ℕ → ℕ → Answer → Exchange
-exchanged c s len tag a = record { asked = record { at = s .clock; len = len; tag = tag }; verdict = a .verdict; eligibility = a .number }
+abbrev exchanged : ℕ → State → ℕ → ℕ → Option ℕ → Answer → Exchange
+exchanged c s len tag st a = record { asked = record { at = s .clock; len = len; tag = tag; stamp = st }; verdict = a .verdict; eligibility = a .number }
 
 abbrev pub quick-exchange : ℕ → State → Call → Option Exchange
 quick-exchange c s (link l) = none
 quick-exchange c s (admit x) = none
-quick-exchange c s (offer d len tag) = cond (eqb d c && stands s c) (some (exchanged c s len tag (quick-answer (offer d len tag) s))) none
+quick-exchange c s (offer d len tag st) = cond (eqb d c && heard s c st) (some (exchanged c s len tag st (quick-answer (offer d len tag st) s))) none
 quick-exchange c s (notice len tag) = none
 quick-exchange c s (close d) = none
 quick-exchange c s tick = none
@@ -198,7 +198,7 @@ quick-exchange c s tick = none
 exchange-is : (c : ℕ) (s : State) (k : Call) → sound s ≡ true → exchange c s k ≡ quick-exchange c s k
 exchange-is c s (link l) e = refl
 exchange-is c s (admit x) e = refl
-exchange-is c s (offer d len tag) e = ap (λ (a : Answer). cond (eqb d c && stands s c) (some (exchanged c s len tag a)) none) (quick-is (offer d len tag) s e)
+exchange-is c s (offer d len tag st) e = ap (λ (a : Answer). cond (eqb d c && heard s c st) (some (exchanged c s len tag st a)) none) (quick-is (offer d len tag st) s e)
 exchange-is c s (notice len tag) e = refl
 exchange-is c s (close d) e = refl
 exchange-is c s tick e = refl
@@ -218,6 +218,28 @@ exchanges-are c h es (k ∷ ks) S =
 
 pub quick-exchanges : (c : ℕ) (ks : List Call) → exchanges c ks ≡ quick-exchanges-from c nothing-yet [] ks
 quick-exchanges c ks = exchanges-are c nothing-yet [] ks fresh-sound
+
+-- ---- what leaves of a connection
+
+abbrev pub quick-departures-from : ℕ → History → List Departure → List Call → List Departure
+quick-departures-from c h ds [] = ds
+quick-departures-from c h ds (k ∷ ks) =
+    let a = quick-answer k (h .now) in
+    quick-departures-from c (logged h k a) (while-owned (a .next) c (push ds (departure-of c (leaving (h .now) (a .departed))))) ks
+
+departures-are : (c : ℕ) (h : History) (ds : List Departure) (ks : List Call) → Sound (h .now) → own-departures-from c h ds ks ≡ quick-departures-from c h ds ks
+departures-are c h ds [] S = refl
+departures-are c h ds (k ∷ ks) S =
+    departures-are c (after h k) (while-owned (after h k .now) c (push ds (departing c (h .now) k))) ks (kept k (h .now) S)
+    ∙ ap (λ (a : Answer). quick-departures-from c (logged h k a) (while-owned (a .next) c (push ds (departure-of c (leaving (h .now) (a .departed))))) ks)
+    (quick-is k (h .now) (exact (h .now) .1 S))
+
+pub quick-departures : (c : ℕ) (ks : List Call) → own-departures c ks ≡ quick-departures-from c nothing-yet [] ks
+quick-departures c ks = departures-are c nothing-yet [] ks fresh-sound
+
+-- the state after a run
+pub quick-now : (ks : List Call) → run ks .now ≡ quick-from nothing-yet ks .now
+quick-now ks = ap (λ (h : History). h .now) (quick-run ks nothing-yet fresh-sound)
 
 -- ---- a call on a state that is made by hand
 

@@ -3,28 +3,28 @@ use Prim.Native.Nat.{ℕ, zero, suc, _+_, _≤_, _<_}
 use native.Mathlib.Omega.{arith}
 use mathlib.Core.Path.{_≡_, refl, sym, ap, _∙_, subst}
 use mathlib.Core.Bool.{Bool, true, false, cond, not}
-use mathlib.Core.Logic.{_⊎_, inl, inr}
+use mathlib.Core.Logic.{_⊎_, inl, inr, _↔_}
 use mathlib.Core.List.{List, [], _∷_, _++_, map}
-use mathlib.Core.Option.{none, some}
+use mathlib.Core.Option.{Option, none, some}
 use lib.Dec.{leb, eqb}
 use lib.ListN.{length, getElem?, length-append}
-use borrow.Author.Tests.{eq-eqb, ne-eqb, eqb-false, leb-false}
+use borrow.Author.Tests.{not-true, eq-eqb, ne-eqb, eqb-false, leb-false}
 use Rattle.rules.specs.Words.{within}
 use Rattle.rules.specs.Limits.{clock-end, max-notices, notice-number}
 use Rattle.rules.specs.Model.{Connection, Packet, State, Call, link, admit, offer, notice, close, tick, no-short, figures}
-use Rattle.rules.specs.Admission.{owned, joining, stands, reservation, level-test}
-use Rattle.rules.specs.Service.{Spaced, of, started}
+use Rattle.rules.specs.Admission.{owned, joining, stands, stamped, reservation, level-test}
+use Rattle.rules.specs.Service.{suits, Spaced, of, started}
 use Rattle.rules.specs.SoundState.{Sound}
 use Rattle.rules.specs.SoundTest.{sound}
-use Rattle.rules.specs.Calls.{causes, verdicts, verdict, eligibility-now, packet, done, refused-number, settle, answer}
+use Rattle.rules.specs.Calls.{causes, heard, verdicts, verdict, eligibility-now, packet, done, refused-number, settle, answer}
 use Rattle.rules.specs.Runs.{Departure, History, logged, after, run-from, nothing-yet, run, departures, in-hub, bound-of, allowed, offer-ticks, Keeps-its-word, Exchange, exchanges, own-answer}
-use Rattle.rules.specs.Promises.{Demand-1-refusals, Test-is-exact, Verdict-1-exactly, No-link-means-zero, Sound-is-kept, Runs-are-sound, Rows-fit, Notices-fit, Notices-come-last, Fifteen-after-thirteen, Names-the-lowest, Level-test-tells, Short-is-told, Units-are-missing, Units-fit, Sums-fit, Eligibilities-fit, Charges-fit, Answers-fit, Conservation, Conservation-since, Conservation-by-owner, Left-by, Demand-3-first, Demand-3-in-the-log, Each-has-a-bound, Demand-3-second, Told-by-its-own, Bed-nine-and-bed-ten, Counted, Spacing-says, No-window-holds-more, The-count-is-reached, The-count-never-falls, Without-average, Without-silence, Close-is-refused, Closed-gets-10, Closed-or-freed, Freed-by-the-tick, Charge-lasts, Lowest-number-is-given}
+use Rattle.rules.specs.Promises.{Demand-1-refusals, Test-is-exact, Verdict-1-exactly, No-link-means-zero, Sound-is-kept, Runs-are-sound, Rows-fit, Notices-fit, Notices-come-last, Fifteen-after-thirteen, Names-the-lowest, Level-test-tells, Short-is-told, Units-are-missing, Units-fit, Sums-fit, Eligibilities-fit, Charges-fit, Answers-fit, Conservation, Conservation-since, Conservation-by-owner, Left-by, Demand-3-first, Demand-3-in-the-log, Each-has-a-bound, Demand-3-second, Told-by-its-own, Bed-nine-and-bed-ten, Counted, Spacing-says, No-window-holds-more, The-count-is-reached, The-count-never-falls, Without-average, Without-silence, Close-is-refused, Closed-gets-10, Closed-or-freed, Freed-by-the-tick, Charge-lasts, Lowest-number-is-given, First-kind, Second-kind, Level-test-counts-alike, Ten-exactly, No-cause, Seventeen-exactly, No-finish-before, Demand-3-for-stamps, Stamps-told-by-their-own, Bed-nine-and-bed-ten-with-stamps}
 use Rattle.rules.proofs.Sums.{same, cond-is}
 use Rattle.rules.proofs.Tests.{and-true, and-intro, not-true-false, never-number}
 use Rattle.rules.proofs.Lists.{All, all-map}
 use Rattle.rules.proofs.Rows.{of-append, length-map}
 use Rattle.rules.proofs.Standing.{stands-owned, stands-below}
-use Rattle.rules.proofs.Verdicts.{causes-from-2, settled, refused-leaves, short-refused, offer-done}
+use Rattle.rules.proofs.Verdicts.{causes-from-2, settled, heard-parts, refused-leaves, short-refused, offer-done}
 use Rattle.rules.proofs.SoundExact.{exact}
 use Rattle.rules.proofs.SoundKept.{kept}
 use Rattle.rules.proofs.Invariant.{connections-few}
@@ -43,15 +43,18 @@ use Rattle.rules.proofs.NoticesLast.{none-eligible}
 use Rattle.rules.proofs.Fields.{unit-done, unit-short, short-fits, answer-fits}
 use Rattle.rules.proofs.Shortage.{tells, names, sums-le, reserved-most}
 use Rattle.rules.proofs.Room.{not-for-room, welcome}
+use Rattle.rules.proofs.Lower.{low}
 use Rattle.rules.proofs.Keeper.{run-append, All-taken, all-taken, Word-before, word-before, on-arrival, has-room}
 use Rattle.rules.proofs.Alone.{Own, own-ticks, told-by-own, ticks-are-own, no-exchanges, own-answers}
+use Rattle.rules.proofs.AloneStamped.{told-with-stamps, alike-with-stamps}
+use Rattle.rules.proofs.SecondKind.{first-as-before, second-as-asked, test-alike, ten, seventeen, no-cause-false, stamp-room, stamp-taken}
 
 -- ---- demand 1
 
 done-verdict : (k : Call) (s : State) → done k s .verdict ≡ 0
 done-verdict (link l) s = refl
 done-verdict (admit x) s = refl
-done-verdict (offer c len tag) s = refl
+done-verdict (offer c len tag st) s = refl
 done-verdict (notice len tag) s = refl
 done-verdict (close c) s = refl
 done-verdict tick s = unit-done (started s) (started s .to-go)
@@ -81,7 +84,7 @@ verdict-1-exactly k s = (to, from)
     to : answer k s .verdict ≡ 1 → Sound s → ⊥
     to e S =
         never-number 1 (verdicts k s)
-        (λ _. ap not (exact s .1 S), all-map {P = λ r. (2 ≤ r .0) × (r .0 ≤ 16)} {Q = λ r. r .0 ≡ 1 → r .1 ≡ false} (λ r n i. absurd (omega arith)) (causes k s) (causes-from-2 k s))
+        (λ _. ap not (exact s .1 S), all-map {P = λ r. (2 ≤ r .0) × (r .0 ≤ 17)} {Q = λ r. r .0 ≡ 1 → r .1 ≡ false} (λ r n i. absurd (omega arith)) (causes k s) (causes-from-2 k s))
         (omega arith) (sym (answer-verdict k s) ∙ e)
 
     from : (Sound s → ⊥) → answer k s .verdict ≡ 1
@@ -148,13 +151,13 @@ short-is-told k s = (λ n. go k (verdict k s) (λ e. n (answer-verdict k s ∙ e
     go : (k : Call) (v : ℕ) → (v ≡ 8 → ⊥) → settle k s v .short ≡ no-short
     go (link l) zero n = refl
     go (admit x) zero n = refl
-    go (offer c len tag) zero n = refl
+    go (offer c len tag st) zero n = refl
     go (notice len tag) zero n = refl
     go (close c) zero n = refl
     go tick zero n = unit-short (started s) (started s .to-go)
     go (link l) (suc v) n = refl
     go (admit x) (suc v) n = cond-is (level-test (s .link) (joining (s .connections) x)) no-short (ne-eqb (suc v) 8 n)
-    go (offer c len tag) (suc v) n = refl
+    go (offer c len tag st) (suc v) n = refl
     go (notice len tag) (suc v) n = refl
     go (close c) (suc v) n = refl
     go tick (suc v) n = refl
@@ -195,14 +198,14 @@ find-here [] y ys = refl
 find-here (x ∷ xs) y ys = find-here xs y ys
 
 -- an accepted offer and any calls after it
-module _ (earlier : List Call) (c len tag : ℕ) (yes : verdict (offer c len tag) (run earlier .now) ≡ 0) where
+module _ (earlier : List Call) (c len tag : ℕ) (st : Option ℕ) (yes : verdict (offer c len tag st) (run earlier .now) ≡ 0) where
   open History (run earlier) using (now as s, accepted as acc, departed as gone)
 
   abbrev it : Call
-  it = offer c len tag
+  it = offer c len tag st
 
   level : c ≡ notice-number → ⊥
-  level e = omega (arith, stands-below s c (offer-done s c len tag yes .standing), connections-few s (invariant earlier .sound))
+  level e = omega (arith, stands-below s c (offer-done s c len tag st yes .standing), connections-few s (invariant earlier .sound))
 
   then : History
   then = after (run earlier) it
@@ -211,7 +214,7 @@ module _ (earlier : List Call) (c len tag : ℕ) (yes : verdict (offer c len tag
   then-is = ap (λ (v : ℕ). logged (run earlier) it (settle it s v)) yes
 
   -- it waits, behind all of its number that were accepted before
-  waits-first : Waits c (length (of c acc)) (packet s c len tag) level (bound-of s c) (logged (run earlier) it (done it s))
+  waits-first : Waits c (length (of c acc)) (packet s c len tag st) level (bound-of s c) (logged (run earlier) it (done it s))
   waits-first = record {
     later-on =
         omega (
@@ -221,9 +224,9 @@ module _ (earlier : List Call) (c len tag : ℕ) (yes : verdict (offer c len tag
           length-map (λ (d : Departure). d .what) (departures c gone),
         );
     is-there =
-        ap (λ (l : List Packet). getElem? l (length (of c acc))) (of-append c acc (packet s c len tag ∷ []))
-        ∙ ap (λ (l : List Packet). getElem? (of c acc ++ l) (length (of c acc))) (cond-is (packet s c len tag ∷ []) [] (eq-eqb c c refl))
-        ∙ find-here (of c acc) (packet s c len tag) [];
+        ap (λ (l : List Packet). getElem? l (length (of c acc))) (of-append c acc (packet s c len tag st ∷ []))
+        ∙ ap (λ (l : List Packet). getElem? (of c acc ++ l) (length (of c acc))) (cond-is (packet s c len tag st ∷ []) [] (eq-eqb c c refl))
+        ∙ find-here (of c acc) (packet s c len tag st) [];
     still-bound = refl;
   }
 
@@ -231,21 +234,21 @@ module _ (earlier : List Call) (c len tag : ℕ) (yes : verdict (offer c len tag
     end : run (earlier ++ it ∷ later) ≡ run-from (after (run earlier) it) later
     end = run-append earlier (it ∷ later) nothing-yet
 
-    all-through : Either c (length (of c acc)) (packet s c len tag) level (bound-of s c) (run (earlier ++ it ∷ later))
+    all-through : Either c (length (of c acc)) (packet s c len tag st) level (bound-of s c) (run (earlier ++ it ∷ later))
     all-through =
-        subst (Either c (length (of c acc)) (packet s c len tag) level (bound-of s c)) (sym end)
-        (either-through c (length (of c acc)) (packet s c len tag) level (bound-of s c) later (after (run earlier) it) (keeps (run earlier) it (invariant earlier))
-        (subst (Either c (length (of c acc)) (packet s c len tag) level (bound-of s c)) (sym then-is) (inr waits-first)))
+        subst (Either c (length (of c acc)) (packet s c len tag st) level (bound-of s c)) (sym end)
+        (either-through c (length (of c acc)) (packet s c len tag st) level (bound-of s c) later (after (run earlier) it) (keeps (run earlier) it (invariant earlier))
+        (subst (Either c (length (of c acc)) (packet s c len tag st) level (bound-of s c)) (sym then-is) (inr waits-first)))
 
-    left-in-time : eligibility-now s c + bound-of s c ≤ run (earlier ++ it ∷ later) .now .clock
-        → Left-by (run (earlier ++ it ∷ later)) c (length (of c acc)) (packet s c len tag) (eligibility-now s c + bound-of s c)
+    left-in-time : eligibility-now s c st + bound-of s c ≤ run (earlier ++ it ∷ later) .now .clock
+        → Left-by (run (earlier ++ it ∷ later)) c (length (of c acc)) (packet s c len tag st) (eligibility-now s c st + bound-of s c)
     left-in-time over =
-        let G = over-left c (length (of c acc)) (packet s c len tag) level (bound-of s c) (run (earlier ++ it ∷ later)) (invariant (earlier ++ it ∷ later)) all-through over in
+        let G = over-left c (length (of c acc)) (packet s c len tag st) level (bound-of s c) (run (earlier ++ it ∷ later)) (invariant (earlier ++ it ∷ later)) all-through over in
         record { finish = G .0; is-departure = G .1; in-time = G .2 }
 
 pub demand-3-first : Demand-3-first
-demand-3-first earlier later c len tag e over =
-    left-in-time earlier c len tag (sym (answer-verdict (offer c len tag) (run earlier .now)) ∙ e) later over
+demand-3-first earlier later c len tag st e over =
+    left-in-time earlier c len tag st (sym (answer-verdict (offer c len tag st) (run earlier .now)) ∙ e) later over
 
 pub demand-3-in-the-log : Demand-3-in-the-log
 demand-3-in-the-log ks c i p d level e f over =
@@ -257,69 +260,72 @@ each-has-a-bound ks c level = in-the-log c level ks .as-many
 
 -- ---- the second sentence
 
-module _ (earlier : List Call) (c len tag : ℕ) (word : Keeps-its-word c (earlier ++ offer c len tag ∷ [])) (ok : allowed (run earlier .now) c len ≡ true) where
+module _ (earlier : List Call) (c len tag : ℕ) (word : Keeps-its-word c (earlier ++ offer c len tag none ∷ [])) (ok : allowed (run earlier .now) c len none ≡ true) where
   open History (run earlier) using (now as s, accepted as acc)
 
   standing : stands s c ≡ true
-  standing = and-true (stands s c) (within 1 (figures s c .size) len) ok .0
+  standing = heard-parts s c none (and-true (heard s c none) (within 1 (figures s c .size) len) ok .0) .0
+
+  of-first-kind : stamped (figures s c) ≡ false
+  of-first-kind = not-true (stamped (figures s c)) (heard-parts s c none (and-true (heard s c none) (within 1 (figures s c .size) len) ok .0) .1)
 
   no-notice : c ≡ notice-number → ⊥
   no-notice e = omega (arith, stands-below s c standing, connections-few s (invariant earlier .sound))
 
   -- an offer frees nobody
-  owner-after : owned (answer (offer c len tag) s .next .connections) c ≡ true
-  owner-after = settled (λ a. owned (a .next .connections) c ≡ true) (offer c len tag) s (verdict (offer c len tag) s) (λ _. stands-owned s c standing) (λ _. stands-owned s c standing)
+  owner-after : owned (answer (offer c len tag none) s .next .connections) c ≡ true
+  owner-after = settled (λ a. owned (a .next .connections) c ≡ true) (offer c len tag none) s (verdict (offer c len tag none) s) (λ _. stands-owned s c standing) (λ _. stands-owned s c standing)
 
   -- the offers before this one and this one keep the spacing of c
-  kept-so-far : Word-before c no-notice earlier (offer c len tag)
-  kept-so-far = word-before c no-notice earlier (offer c len tag) owner-after word
+  kept-so-far : Word-before c no-notice earlier (offer c len tag none)
+  kept-so-far = word-before c no-notice earlier (offer c len tag none) owner-after word
 
   spaced : Spaced (figures s c) (offer-ticks c earlier ++ s .clock ∷ [])
-  spaced = kept-so-far .this-one (s .clock) (cond-is (some (s .clock)) none (and-intro (eqb c c) (allowed s c len) (eq-eqb c c refl) ok))
+  spaced = kept-so-far .this-one (s .clock) (cond-is (some (s .clock)) none (and-intro (eqb c c) (allowed s c len none) (eq-eqb c c refl) ok))
 
   taken-so-far : All-taken c no-notice s (run earlier .present) (offer-ticks c earlier)
-  taken-so-far = all-taken c no-notice earlier (kept-so-far .so-far)
+  taken-so-far = all-taken c no-notice earlier of-first-kind (kept-so-far .so-far)
 
-  arrival : eligibility-now s c ≡ s .clock
-  arrival = on-arrival c no-notice (run earlier) (invariant earlier) (offer-ticks c earlier) taken-so-far len tag ok spaced
+  arrival : eligibility-now s c none ≡ s .clock
+  arrival = on-arrival c no-notice (run earlier) (invariant earlier) (offer-ticks c earlier) taken-so-far of-first-kind len tag ok spaced
 
   free-place : length (of c (s .held)) < reservation (s .link) (figures s c)
-  free-place = has-room c no-notice (run earlier) (invariant earlier) (offer-ticks c earlier) taken-so-far len tag ok spaced
+  free-place = has-room c no-notice (run earlier) (invariant earlier) (offer-ticks c earlier) taken-so-far of-first-kind len tag ok spaced
 
-  welcomed : s .clock < clock-end → verdict (offer c len tag) s ≡ 0
-  welcomed running = welcome (run earlier) (invariant earlier) c len tag ok free-place running
+  welcomed : s .clock < clock-end → verdict (offer c len tag none) s ≡ 0
+  welcomed running = welcome (run earlier) (invariant earlier) c len tag none ok free-place refl running
 
-  leaves : s .clock < clock-end → (later : List Call) → s .clock + bound-of s c ≤ run (earlier ++ offer c len tag ∷ later) .now .clock
-      → Left-by (run (earlier ++ offer c len tag ∷ later)) c (length (of c acc)) (record { connection = c; len = len; tag = tag; arrival = s .clock; eligibility = s .clock }) (s .clock + bound-of s c)
+  leaves : s .clock < clock-end → (later : List Call) → s .clock + bound-of s c ≤ run (earlier ++ offer c len tag none ∷ later) .now .clock
+      → Left-by (run (earlier ++ offer c len tag none ∷ later)) c (length (of c acc)) (record { connection = c; len = len; tag = tag; arrival = s .clock; eligibility = s .clock }) (s .clock + bound-of s c)
   leaves running later over =
       subst
-      (λ (e : ℕ). Left-by (run (earlier ++ offer c len tag ∷ later)) c (length (of c acc)) (record { connection = c; len = len; tag = tag; arrival = s .clock; eligibility = e }) (e + bound-of s c))
-      arrival (left-in-time earlier c len tag (welcomed running) later (omega (arith, arrival)))
+      (λ (e : ℕ). Left-by (run (earlier ++ offer c len tag none ∷ later)) c (length (of c acc)) (record { connection = c; len = len; tag = tag; arrival = s .clock; eligibility = e }) (e + bound-of s c))
+      arrival (left-in-time earlier c len tag none (welcomed running) later (omega (arith, arrival)))
 
 pub demand-3-second : Demand-3-second
 demand-3-second earlier later c len tag word ok = record {
-  never-for-room = λ e. not-for-room (run earlier) (invariant earlier) c len tag ok (free-place earlier c len tag word ok) (sym (answer-verdict (offer c len tag) (run earlier .now)) ∙ e);
-  accepted = λ running. answer-verdict (offer c len tag) (run earlier .now) ∙ welcomed earlier c len tag word ok running;
+  never-for-room = λ e. not-for-room (run earlier) (invariant earlier) c len tag none ok (free-place earlier c len tag word ok) refl (sym (answer-verdict (offer c len tag none) (run earlier .now)) ∙ e);
+  accepted = λ running. answer-verdict (offer c len tag none) (run earlier .now) ∙ welcomed earlier c len tag word ok running;
   on-arrival = λ running.
-      ap (λ (v : ℕ). settle (offer c len tag) (run earlier .now) v .number) (welcomed earlier c len tag word ok running) ∙ arrival earlier c len tag word ok;
+      ap (λ (v : ℕ). settle (offer c len tag none) (run earlier .now) v .number) (welcomed earlier c len tag word ok running) ∙ arrival earlier c len tag word ok;
   in-time = λ running over. leaves earlier c len tag word ok running later over;
 }
 
 -- ---- bed nine and bed ten
 
 pub told-by-its-own : Told-by-its-own
-told-by-its-own ks c word = go (same c notice-number)
+told-by-its-own ks c kind word = go (same c notice-number)
   where
     go : (c ≡ notice-number) ⊎ (c ≡ notice-number → ⊥) → All (Own (figures (run ks .now) c)) (exchanges c ks)
     go (inl n) = subst (All (Own (figures (run ks .now) c))) (sym (no-exchanges c ks (subst (λ (j : ℕ). owned (run ks .now .connections) j ≡ false) (sym n) (no-owner (run ks .now) (invariant ks .sound))))) tt
-    go (inr level) = told-by-own c level ks word
+    go (inr level) = told-by-own c level ks kind word
 
 pub bed-nine-and-bed-ten : Bed-nine-and-bed-ten
-bed-nine-and-bed-ten ks ms c d alike asked word =
-    own-answers x (exchanges c ks) (told-by-its-own ks c word)
+bed-nine-and-bed-ten ks ms c d alike asked kind word =
+    own-answers x (exchanges c ks) (told-by-its-own ks c kind word)
     ∙ ap (map (own-answer x)) asked
     ∙ ap (λ (y : Connection). map (own-answer y) (map (λ (e : Exchange). e .asked) (exchanges d ms))) alike
-    ∙ sym (own-answers (figures (run ms .now) d) (exchanges d ms) (told-by-its-own ms d word-there))
+    ∙ sym (own-answers (figures (run ms .now) d) (exchanges d ms) (told-by-its-own ms d (subst (λ (y : Connection). stamped y ≡ false) alike kind) word-there))
   where
     x : Connection
     x = figures (run ks .now) c
@@ -366,7 +372,7 @@ pub close-is-refused : Close-is-refused
 close-is-refused c s S linked = refusals c s S linked
 
 pub closed-gets-10 : Closed-gets-10
-closed-gets-10 s c len tag S e = tens s S c e len tag
+closed-gets-10 s c len tag st S e = tens s S c e len tag st
 
 pub closed-or-freed : Closed-or-freed
 closed-or-freed c s v = closes c s v
@@ -379,3 +385,44 @@ charge-lasts k s c S e = lasts s S c e k
 
 pub lowest-number-is-given : Lowest-number-is-given
 lowest-number-is-given x s v = lowest-given x s v
+
+-- ---- a second hub behind the first
+
+pub first-kind : First-kind
+first-kind c k a = first-as-before c k a
+
+pub second-kind : Second-kind
+second-kind c P = second-as-asked c P
+
+pub level-test-counts-alike : Level-test-counts-alike
+level-test-counts-alike l cs = test-alike l cs
+
+pub ten-exactly : Ten-exactly
+ten-exactly c len tag st s S linked =
+    subst (λ (v : ℕ). v ≡ 10 ↔ ((stands s c ≡ true) × (suits (figures s c) st ≡ true) → ⊥)) (sym (answer-verdict (offer c len tag st) s)) (ten c len tag st s S linked)
+
+pub seventeen-exactly : Seventeen-exactly
+seventeen-exactly c len tag stamp s S linked =
+    subst
+    (λ (v : ℕ). v ≡ 17 ↔ ((allowed s c len (some stamp) ≡ true) × (length (of c (s .held)) < reservation (s .link) (figures s c)) × (s .clock < clock-end) × (No-cause s c stamp → ⊥)))
+    (sym (answer-verdict (offer c len tag (some stamp)) s)) (seventeen c len tag stamp s S linked)
+
+pub no-finish-before : No-finish-before
+no-finish-before ks = low ks
+
+pub demand-3-for-stamps : Demand-3-for-stamps
+demand-3-for-stamps earlier later c len tag stamp ok n =
+    let no = no-cause-false (run earlier .now) c stamp n in
+    record {
+      never-for-room = λ e.
+          not-for-room (run earlier) (invariant earlier) c len tag (some stamp) ok (stamp-room earlier c len tag stamp ok no) no (sym (answer-verdict (offer c len tag (some stamp)) (run earlier .now)) ∙ e);
+      accepted = λ running. answer-verdict (offer c len tag (some stamp)) (run earlier .now) ∙ stamp-taken earlier c len tag stamp ok no running;
+      eligible = λ running. ap (λ (v : ℕ). settle (offer c len tag (some stamp)) (run earlier .now) v .number) (stamp-taken earlier c len tag stamp ok no running);
+      in-time = λ running over. left-in-time earlier c len tag (some stamp) (stamp-taken earlier c len tag stamp ok no running) later over;
+    }
+
+pub stamps-told-by-their-own : Stamps-told-by-their-own
+stamps-told-by-their-own ks c second word = told-with-stamps ks c second word
+
+pub bed-nine-and-bed-ten-with-stamps : Bed-nine-and-bed-ten-with-stamps
+bed-nine-and-bed-ten-with-stamps ks ms c d alike asked second word = alike-with-stamps ks ms c d alike asked second word

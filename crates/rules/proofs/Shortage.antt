@@ -10,7 +10,7 @@ use lib.Dec.{leb}
 use lib.ListN.{length}
 use borrow.Author.Tests.{eqb-true, eq-eqb}
 use Rattle.rules.specs.Words.{upto, sum}
-use Rattle.rules.specs.Limits.{max-largest, max-silence, max-bound, max-connections}
+use Rattle.rules.specs.Limits.{max-largest, max-silence, max-bound, max-allowance, max-connections}
 use Rattle.rules.specs.Model.{Link, Connection, Short, nth}
 use Rattle.rules.specs.Admission.{link-within, level-within, figures-within, free-number, joining, bound, count, cost, load, reservation, reserved, level-sum, short-from, level-test}
 use Rattle.rules.specs.Promises.{Names-the-lowest, No-level-fails, own-term}
@@ -120,11 +120,17 @@ module _ (l : Link) (cs : List Connection) (e : link-within l ≡ true) (few : l
       (λ c i. le-trans (upto-le (nth cs c .level) m (count (nth cs c) (bound l m) * cost l (nth cs c .size))) (term-le l (nth cs c) m e (f c i .1) p q)) in
       omega (arith, sum-is l cs m, le-trans k (mul-le-mul-right most few), F .largest-max, F .silence-max)
 
-  pub reserved-most : reserved l cs ≤ max-connections * max-bound
-  reserved-most = le-trans (sum-most (length cs) max-bound (λ c. reservation l (nth cs c)) one) (mul-le-mul-right max-bound few)
+  pub reserved-most : reserved l cs ≤ max-connections * (max-allowance + max-bound)
+  reserved-most = le-trans (sum-most (length cs) (max-allowance + max-bound) (λ c. reservation l (nth cs c)) one) (mul-le-mul-right (max-allowance + max-bound) few)
     where
-      one : (c : ℕ) → c < length cs → reservation l (nth cs c) ≤ max-bound
+      one : (c : ℕ) → c < length cs → reservation l (nth cs c) ≤ max-allowance + max-bound
       one c i =
           let x : Connection = nth cs c in
           let G = connection-facts l x (f c i .0) (f c i .1) in
-          omega (arith, reservation-is l x, count-le x (bound l (x .level)) (G .some-gap), link-facts l e .bound-le (x .level) (G .low-level) (G .high-level))
+          omega (
+            arith,
+            reservation-is l x,
+            count-le x (x .allowance + bound l (x .level)) (G .some-gap),
+            G .allowance-le,
+            link-facts l e .bound-le (x .level) (G .low-level) (G .high-level),
+          )

@@ -52,16 +52,20 @@ same-entries (suc n) (x ∷ xs) a d e h =
     let r : xs ≡ replicate n a = same-entries n xs a d (omega arith) (λ c l. h (suc c) (omega arith)) in
     cc
 
-blank-connection : (a b c d e : ℕ) → a ≡ 0 → b ≡ 0 → c ≡ 0 → d ≡ 0 → e ≡ 0 → _≡_ {A = Connection} (record { level = a; gap = b; size = c; window = d; average = e }) no-connection
-blank-connection a b c d e i j k l m = rw (i, j, k, l, m)
+blank-connection : (a b c d e f g : ℕ) → a ≡ 0 → b ≡ 0 → c ≡ 0 → d ≡ 0 → e ≡ 0 → f ≡ 0 → g ≡ 0
+    → _≡_ {A = Connection} (record { level = a; gap = b; size = c; window = d; average = e; kind = f; allowance = g }) no-connection
+blank-connection a b c d e f g i j k l m n o = rw (i, j, k, l, m, n, o)
 
 blank-true : (x : Connection) → blank x ≡ true → x ≡ no-connection
 blank-true x h =
     let a = and-true (eqb (x .level) 0) _ h in
     let b = and-true (eqb (x .gap) 0) _ (a .1) in
     let c = and-true (eqb (x .size) 0) _ (b .1) in
-    let d = and-true (eqb (x .window) 0) (eqb (x .average) 0) (c .1) in
-    blank-connection (x .level) (x .gap) (x .size) (x .window) (x .average) (eqb-true _ 0 (a .0)) (eqb-true _ 0 (b .0)) (eqb-true _ 0 (c .0)) (eqb-true _ 0 (d .0)) (eqb-true _ 0 (d .1))
+    let d = and-true (eqb (x .window) 0) _ (c .1) in
+    let e = and-true (eqb (x .average) 0) _ (d .1) in
+    let f = and-true (eqb (x .kind) 0) (eqb (x .allowance) 0) (e .1) in
+    blank-connection (x .level) (x .gap) (x .size) (x .window) (x .average) (x .kind) (x .allowance)
+    (eqb-true _ 0 (a .0)) (eqb-true _ 0 (b .0)) (eqb-true _ 0 (c .0)) (eqb-true _ 0 (d .0)) (eqb-true _ 0 (e .0)) (eqb-true _ 0 (f .0)) (eqb-true _ 0 (f .1))
 
 free-true : (s : State) (c : ℕ) → free-sound s c ≡ true → Free-number s c
 free-true s c h =

@@ -5,6 +5,7 @@ use mathlib.Core.Path.{_≡_, refl, sym, ap, _∙_, subst}
 use mathlib.Core.Bool.{true, false, true≢false}
 use mathlib.Core.Logic.{_⊎_, inl, inr, ⊎-elim}
 use mathlib.Core.List.{List, [], _∷_, _++_}
+use mathlib.Core.Option.{Option}
 use lib.ListN.{length, length-append, length-replicate, getD-replicate, List·getD-eq-default}
 use lib.Seq.{getD-set-other}
 use Rattle.rules.specs.Model.{Link, Connection, no-connection, no-past, Notice, State, Call, link, admit, offer, notice, close, tick, fresh, nth, past, figures, closed-at, first-notice}
@@ -98,15 +99,15 @@ module _ (s : State) (T : Sound-with-link s) (x : Connection) (D : Admit-done s 
 
 -- ---- an offer: it leaves the closed ones alone
 
-sound-offered : (s : State) (T : Sound-with-link s) (c len tag : ℕ) (D : Offer-done s c len) → Sound-with-link (placed s c len tag)
-sound-offered s T c len tag D = record { orderly = sound-placed s (T .orderly) c len tag D; charged = λ d l. go d l (same c d) }
+sound-offered : (s : State) (T : Sound-with-link s) (c len tag : ℕ) (st : Option ℕ) (D : Offer-done s c len st) → Sound-with-link (placed s c len tag st)
+sound-offered s T c len tag st D = record { orderly = sound-placed s (T .orderly) c len tag st D; charged = λ d l. go d l (same c d) }
   where
-    go : (d : ℕ) → d < max-connections → (c ≡ d) ⊎ (c ≡ d → ⊥) → expired (placed s c len tag) d ≡ false
-    go d l (inl e) = open-unexpired (placed s c len tag) d (ap (closed-at s) (sym e) ∙ stands-open s c (D .standing))
-    go d l (inr e) = same-past d l (getD-set-other (s .pasts) c d (remember (past s c) (eligibility-now s c)) no-past (λ i. e (sym i)))
+    go : (d : ℕ) → d < max-connections → (c ≡ d) ⊎ (c ≡ d → ⊥) → expired (placed s c len tag st) d ≡ false
+    go d l (inl e) = open-unexpired (placed s c len tag st) d (ap (closed-at s) (sym e) ∙ stands-open s c (D .standing))
+    go d l (inr e) = same-past d l (getD-set-other (s .pasts) c d (remember (past s c) (eligibility-now s c st)) no-past (λ i. e (sym i)))
       where
-        same-past : (d : ℕ) → d < max-connections → past (placed s c len tag) d ≡ past s d → expired (placed s c len tag) d ≡ false
-        same-past d l k = expired-same s (placed s c len tag) d refl refl refl k ∙ T .charged d l
+        same-past : (d : ℕ) → d < max-connections → past (placed s c len tag st) d ≡ past s d → expired (placed s c len tag st) d ≡ false
+        same-past d l k = expired-same s (placed s c len tag st) d refl refl refl k ∙ T .charged d l
 
 -- ---- a notice
 
@@ -231,7 +232,7 @@ done-sound (link l) s S e =
     subst (λ (r : State). Sound (linked r l)) (sym (S .with-no-link (d .unset)))
     (linked-sound (linked fresh l) (λ z. omega (arith, link-facts l (d .link-in) .some-level)) (sound-first l (d .link-in)))
 done-sound (admit x) s S e = let d = admit-done s x e in linked-sound (joined s x) (d .set) (sound-joined s (S .with-one (d .set)) x d)
-done-sound (offer c len tag) s S e = let d = offer-done s c len tag e in linked-sound (done (offer c len tag) s .next) (d .set) (sound-offered s (S .with-one (d .set)) c len tag d)
+done-sound (offer c len tag st) s S e = let d = offer-done s c len tag st e in linked-sound (done (offer c len tag st) s .next) (d .set) (sound-offered s (S .with-one (d .set)) c len tag st d)
 done-sound (notice len tag) s S e = let d = notice-done s len tag e in linked-sound (noted s len tag) (d .set) (sound-noted s (S .with-one (d .set)) len tag d)
 done-sound (close c) s S e =
     let d = close-done s c e in

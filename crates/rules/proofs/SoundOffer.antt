@@ -5,6 +5,7 @@ use mathlib.Core.Path.{_≡_, refl, sym, ap, _∙_, subst}
 use mathlib.Core.Bool.{true, false, true≢false}
 use mathlib.Core.Logic.{_⊎_, inl, inr, ⊎-elim}
 use mathlib.Core.List.{[], _∷_, _++_}
+use mathlib.Core.Option.{Option}
 use lib.ListN.{length, getD, set, length-append, length-set}
 use lib.Seq.{getD-set-same, getD-set-other}
 use Rattle.rules.specs.Model.{Past, no-past, Packet, State, past, figures, closed-at}
@@ -15,24 +16,27 @@ use Rattle.rules.specs.Calls.{eligibility-now, packet, placed}
 use Rattle.rules.proofs.Lists.{all-snoc}
 use Rattle.rules.proofs.Sums.{same}
 use Rattle.rules.proofs.Rows.{first-append, of-snoc-same, of-snoc-other, eligibilities-snoc-same, eligibilities-snoc-other}
-use Rattle.rules.proofs.Spacing.{not-before}
+use Rattle.rules.proofs.Stamps.{Timely, timely}
 use Rattle.rules.proofs.Standing.{owned-below, stands-owned, stands-open}
-use Rattle.rules.proofs.SoundTick.{regulated}
+use Rattle.rules.proofs.SoundTick.{facts, regulated}
 use Rattle.rules.proofs.Queue.{queue-chained, chained-queue, chained-snoc}
 use Rattle.rules.proofs.Verdicts.{Offer-done}
 
-module _ (s : State) (S : Orderly s) (c len tag : ℕ) (D : Offer-done s c len) where
+module _ (s : State) (S : Orderly s) (c len tag : ℕ) (st : Option ℕ) (D : Offer-done s c len st) where
   below : owned (s .connections) c ≡ true
   below = stands-owned s c (D .standing)
 
   entry : c < length (s .pasts)
   entry = omega (arith, S .one-past-each, S .numbers, owned-below (s .connections) c below)
 
+  in-step : Timely (figures s c) (past s c) (s .clock) (eligibility-now s c st)
+  in-step = timely (s .link) (figures s c) (past s c) (s .clock) st (facts s S c below) (D .suited) (D .in-time)
+
   new : Past
-  new = remember (past s c) (eligibility-now s c)
+  new = remember (past s c) (eligibility-now s c st)
 
   p : Packet
-  p = packet s c len tag
+  p = packet s c len tag st
 
   queue-placed : (d : ℕ) → owned (s .connections) d ≡ true → (c ≡ d) ⊎ (c ≡ d → ⊥)
       → Queue (figures s d) (s .clock) (getD (set (s .pasts) c new) d no-past) (eligibilities d (s .held ++ p ∷ []))
@@ -40,8 +44,8 @@ module _ (s : State) (S : Orderly s) (c len tag : ℕ) (D : Offer-done s c len) 
   queue-placed d l (inl e) =
       subst (λ (j : ℕ). Queue (figures s j) (s .clock) (getD (set (s .pasts) c new) j no-past) (eligibilities j (s .held ++ p ∷ []))) e
       (rw (eligibilities-snoc-same c (s .held) p refl, getD-set-same (s .pasts) c new no-past entry)
-      (chained-queue (figures s c) (regulated s S c below) (s .clock) new (eligibilities c (s .held) ++ eligibility-now s c ∷ [])
-      (chained-snoc (figures s c) (s .clock) (past s c) (eligibilities c (s .held)) (queue-chained (figures s c) (regulated s S c below) (s .clock) (past s c) (eligibilities c (s .held)) (S .queue c below)))))
+      (chained-queue (figures s c) (regulated s S c below) (s .clock) new (eligibilities c (s .held) ++ eligibility-now s c st ∷ [])
+      (chained-snoc (figures s c) (s .clock) (past s c) (eligibilities c (s .held)) (eligibility-now s c st) (in-step .paced) (queue-chained (figures s c) (regulated s S c below) (s .clock) (past s c) (eligibilities c (s .held)) (S .queue c below)))))
   queue-placed d l (inr e) =
       rw (eligibilities-snoc-other d (s .held) p e, getD-set-other (s .pasts) c d new no-past (λ i. e (sym i))) (S .queue d l)
 
@@ -56,16 +60,16 @@ module _ (s : State) (S : Orderly s) (c len tag : ℕ) (D : Offer-done s c len) 
       (omega (arith, D .room, ap length (of-snoc-same c (s .held) p refl), length-append (of c (s .held)) (p ∷ [])))
   room-placed d l (inr e) = omega (arith, S .room d l, ap length (of-snoc-other d (s .held) p e))
 
-  behind : In-service s → In-service (placed s c len tag)
+  behind : In-service s → In-service (placed s c len tag st)
   behind r = record {
     it = r .it;
-    is-first = first-append (s .serving) (s .held) (packet s c len tag ∷ []) (r .it) (r .is-first);
+    is-first = first-append (s .serving) (s .held) (packet s c len tag st ∷ []) (r .it) (r .is-first);
     eligible = r .eligible;
     some-to-go = r .some-to-go;
     to-go-le = r .to-go-le;
   }
 
-  pub sound-placed : Orderly (placed s c len tag)
+  pub sound-placed : Orderly (placed s c len tag st)
   unfolding new p
   sound-placed = record {
     link-in = S .link-in;
@@ -81,7 +85,7 @@ module _ (s : State) (S : Orderly s) (c len tag : ℕ) (D : Offer-done s c len) 
     reserved-le = S .reserved-le;
     clock-le = S .clock-le;
     fit = all-snoc (Fits (s .connections)) (s .held) p (S .fit) (record { owner = below; some-len = D .some-len; len-le = D .len-le });
-    dated = all-snoc (Dated (s .clock)) (s .held) p (S .dated) (record { arrived = omega arith; not-before = not-before (figures s c) (past s c) (s .clock) });
+    dated = all-snoc (Dated (s .clock)) (s .held) p (S .dated) (record { arrived = omega arith; not-before = in-step .not-before });
     room = λ d l. room-placed d l (same c d);
     queue = λ d l. queue-placed d l (same c d);
     few-notices = S .few-notices;

@@ -149,6 +149,10 @@ module _ (c : Connection) where
     of-memory es = earliest-same c few (reverseAux es []) (memory es) (agrees-all es [] [] (λ i l. refl))
 
     -- the spacing is kept
+    pub snoc-spaced : (es : List ℕ) (f : ℕ) → Spaced c es → earliest c (memory es) ≤ f → Spaced c (es ++ f ∷ [])
+    unfolding Spaced
+    snoc-spaced es f s l = behind-snoc [] es f s (omega (arith, of-memory es))
+
     pub next-spaced : (es : List ℕ) (now : ℕ) → Spaced c es → Spaced c (es ++ next-eligibility c (memory es) now ∷ [])
     unfolding Spaced
     next-spaced es now s = behind-snoc [] es (next-eligibility c (memory es) now) s (omega (arith, next-is c (memory es) now, of-memory es))

@@ -154,7 +154,7 @@ module _ (c i : ℕ) (p : Packet) (level : c ≡ notice-number → ⊥) (d : ℕ
         let O = I .sound .with-one (a .set) .orderly in
         stays-same (logged h (admit x) (done (admit x) s) .present) (done (admit x) s .next)
         (ap (λ (y : Connection). bound (s .link) (y .level)) (nth-old (s .connections) x (omega (arith, O .numbers, a .free)) c (its-owner c i p level d h I W O)))
-    done-on (offer b len tag) e K = waits-on (packet s b len tag ∷ []) (logged h (offer b len tag) (done (offer b len tag) s) .present) (done (offer b len tag) s .next) refl
+    done-on (offer b len tag st) e K = waits-on (packet s b len tag st ∷ []) (logged h (offer b len tag st) (done (offer b len tag st) s) .present) (done (offer b len tag st) s .next) refl
     done-on (notice len tag) e K =
         waits-on (notice-packet (record { len = len; tag = tag; arrival = s .clock }) ∷ []) (logged h (notice len tag) (done (notice len tag) s) .present) (done (notice len tag) s .next) refl
     done-on (close b) e K = stays-same (logged h (close b) (done (close b) s) .present) (swept (marked s b)) (closes (same b c))
@@ -176,7 +176,7 @@ module _ (c i : ℕ) (p : Packet) (level : c ≡ notice-number → ⊥) (d : ℕ
     refused-on : (k : Call) (v : ℕ) → Either c i p level d (logged h k (refused k s (suc v)))
     refused-on (link l) v = stays-same (logged h (link l) (refused (link l) s (suc v)) .present) s refl
     refused-on (admit x) v = stays-same (logged h (admit x) (refused (admit x) s (suc v)) .present) s refl
-    refused-on (offer b len tag) v = stays-same (logged h (offer b len tag) (refused (offer b len tag) s (suc v)) .present) s refl
+    refused-on (offer b len tag st) v = stays-same (logged h (offer b len tag st) (refused (offer b len tag st) s (suc v)) .present) s refl
     refused-on (notice len tag) v = stays-same (logged h (notice len tag) (refused (notice len tag) s (suc v)) .present) s refl
     refused-on (close b) v = stays-same (logged h (close b) (refused (close b) s (suc v)) .present) s refl
     refused-on tick v = stays-same (logged h tick (refused tick s (suc v)) .present) s refl

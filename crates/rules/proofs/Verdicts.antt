@@ -4,17 +4,18 @@ use native.Mathlib.Omega.{arith}
 use mathlib.Core.Path.{_≡_, refl}
 use mathlib.Core.Bool.{Bool, true, false, cond, not}
 use mathlib.Core.List.{List, [], _∷_}
+use mathlib.Core.Option.{Option}
 use lib.Dec.{leb, ltb, eqb}
 use lib.ListN.{length}
 use borrow.Author.Tests.{eqb-true, eqb-false, leb-false, ltb-false, not-false, not-true}
 use Rattle.rules.specs.Limits.{max-connections, max-reserved, clock-end, max-notices}
-use Rattle.rules.specs.Model.{Link, Connection, State, Call, link, admit, offer, notice, close, tick, Answer, figures}
+use Rattle.rules.specs.Model.{Link, Connection, State, Call, link, admit, offer, notice, close, tick, Answer, past, figures}
 use Rattle.rules.specs.Admission.{link-within, level-within, figures-within, free-number, joining, stands, reservation, reserved, passes}
-use Rattle.rules.specs.Service.{of}
+use Rattle.rules.specs.Service.{suits, untimely-by, of}
 use Rattle.rules.specs.SoundTest.{sound}
-use Rattle.rules.specs.Calls.{causes, verdicts, verdict, done, refused, settle}
+use Rattle.rules.specs.Calls.{causes, heard, verdicts, verdict, done, refused, settle}
 use Rattle.rules.proofs.Lists.{All, all-map}
-use Rattle.rules.proofs.Tests.{passed, within-true}
+use Rattle.rules.proofs.Tests.{passed, and-true, and-intro, within-true}
 
 -- an answer is what is done at verdict 0, or a refusal
 pub settled : (Q : Answer → Type 0) (k : Call) (s : State) (v : ℕ) → (v ≡ 0 → Q (done k s)) → ((w : ℕ) → Q (refused k s (suc w))) → Q (settle k s v)
@@ -39,10 +40,10 @@ none-holds v (r ∷ rs) h = go (eqb (r .0) v) (none-holds v rs (h .1))
     go false k = k
 
 -- the numbers of the causes
-pub causes-from-2 : (k : Call) (s : State) → All (λ r. (2 ≤ r .0) × (r .0 ≤ 16)) (causes k s)
+pub causes-from-2 : (k : Call) (s : State) → All (λ r. (2 ≤ r .0) × (r .0 ≤ 17)) (causes k s)
 causes-from-2 (link l) s = omega arith
 causes-from-2 (admit x) s = omega arith
-causes-from-2 (offer c len tag) s = omega arith
+causes-from-2 (offer c len tag st) s = omega arith
 causes-from-2 (notice len tag) s = omega arith
 causes-from-2 (close c) s = omega arith
 causes-from-2 tick s = omega arith
@@ -50,7 +51,7 @@ causes-from-2 tick s = omega arith
 -- at verdict 0 the test of no row holds
 not-given : (k : Call) (s : State) → verdict k s ≡ 0 → (v : ℕ) → test-of v (verdicts k s) ≡ false
 unfolding verdicts
-not-given k s e v = none-holds v (verdicts k s) (passed (verdicts k s) (omega arith, all-map {P = λ r. (2 ≤ r .0) × (r .0 ≤ 16)} {Q = λ r. 0 < r .0} (λ r n. omega arith) (causes k s) (causes-from-2 k s)) e)
+not-given k s e v = none-holds v (verdicts k s) (passed (verdicts k s) (omega arith, all-map {P = λ r. (2 ≤ r .0) × (r .0 ≤ 17)} {Q = λ r. 0 < r .0} (λ r n. omega arith) (causes k s) (causes-from-2 k s)) e)
 
 -- the state is sound
 pub given-sound : (k : Call) (s : State) → verdict k s ≡ 0 → sound s ≡ true
@@ -116,26 +117,39 @@ short-refused s x e =
     go false false false false false false true e = absurd (omega arith)
     go false false false false false false false e = absurd (omega arith)
 
-pub record Offer-done (s : State) (c len : ℕ) : Type 0 where
+pub heard-parts : (s : State) (c : ℕ) (st : Option ℕ) → heard s c st ≡ true → (stands s c ≡ true) × (suits (figures s c) st ≡ true)
+unfolding heard
+heard-parts s c st e = and-true (stands s c) (suits (figures s c) st) e
+
+pub heard-intro : (s : State) (c : ℕ) (st : Option ℕ) → stands s c ≡ true → suits (figures s c) st ≡ true → heard s c st ≡ true
+unfolding heard
+heard-intro s c st e f = and-intro (stands s c) (suits (figures s c) st) e f
+
+pub record Offer-done (s : State) (c len : ℕ) (st : Option ℕ) : Type 0 where
   pub set : s .link .levels ≡ 0 → ⊥
   pub standing : stands s c ≡ true
+  pub suited : suits (figures s c) st ≡ true
   pub some-len : 1 ≤ len
   pub len-le : len ≤ figures s c .size
   pub room : length (of c (s .held)) < reservation (s .link) (figures s c)
   pub running : s .clock < clock-end
+  pub in-time : untimely-by (figures s c) (past s c) (s .clock) st ≡ false
 
-pub offer-done : (s : State) (c len tag : ℕ) → verdict (offer c len tag) s ≡ 0 → Offer-done s c len
+pub offer-done : (s : State) (c len tag : ℕ) (st : Option ℕ) → verdict (offer c len tag st) s ≡ 0 → Offer-done s c len st
 unfolding verdicts
-offer-done s c len tag e =
-    let w = within-true 1 (figures s c .size) len (not-false _ (not-given (offer c len tag) s e 11)) in
-    let r = not-given (offer c len tag) s e 12 in
+offer-done s c len tag st e =
+    let w = within-true 1 (figures s c .size) len (not-false _ (not-given (offer c len tag st) s e 11)) in
+    let r = not-given (offer c len tag st) s e 12 in
+    let k = heard-parts s c st (not-false _ (not-given (offer c len tag st) s e 10)) in
     record {
-      set = eqb-false _ _ (not-given (offer c len tag) s e 2);
-      standing = not-false _ (not-given (offer c len tag) s e 10);
+      set = eqb-false _ _ (not-given (offer c len tag st) s e 2);
+      standing = k .0;
+      suited = k .1;
       some-len = w .0;
       len-le = w .1;
       room = omega (arith, leb-false);
-      running = leb-false _ _ (not-given (offer c len tag) s e 13);
+      running = leb-false _ _ (not-given (offer c len tag st) s e 13);
+      in-time = not-given (offer c len tag st) s e 17;
     }
 
 pub record Notice-done (s : State) (len : ℕ) : Type 0 where

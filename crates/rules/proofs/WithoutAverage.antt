@@ -8,11 +8,11 @@ use mathlib.Core.List.{List, [], _∷_, _++_}
 use mathlib.Core.Option.{Option, none, some}
 use lib.Dec.{eqb}
 use lib.ListN.{length, drop, getElem?}
-use borrow.Author.Tests.{eq-eqb}
+use borrow.Author.Tests.{ne-eqb, eq-eqb}
 use Rattle.rules.specs.Words.{within}
 use Rattle.rules.specs.Limits.{max-gap, max-remembered}
 use Rattle.rules.specs.Model.{Link, Connection, Past}
-use Rattle.rules.specs.Admission.{burst, average-within, figures-within, count}
+use Rattle.rules.specs.Admission.{burst, stamped, average-within, figures-within, count}
 use Rattle.rules.specs.Service.{nth-before, ticks-after, earliest, next-eligibility, remember, remember-all, Spaced-behind, Spaced}
 use Rattle.rules.specs.SoundState.{departed-of, reach, Near-by, Beyond, Queue}
 use Rattle.rules.specs.SoundTest.{latest}
@@ -129,11 +129,15 @@ module _ (c : Connection) (P : Plain c) where
   earliest-plain : (h : List ℕ) → earliest c h ≡ ticks-after (c .gap) (nth-before 1 h)
   earliest-plain h = omega (arith, earliest-is c h, ap (λ (n : ℕ). ticks-after (c .window) (nth-before n h)) none-at-once)
 
+  first-kind : stamped c ≡ false
+  unfolding stamped
+  first-kind = ne-eqb (c .kind) 1 (λ e. omega (arith, P .2))
+
   latest-plain : (t : ℕ) (h : Past) → latest c t h ≡ max (t + c .gap) (ticks-after (c .gap) (nth-before 1 h))
   latest-plain t h =
       omega (
         arith,
-        latest-unknown c t h (ap (λ (n : ℕ). nth-before n h) none-at-once),
+        latest-unknown c t h first-kind (ap (λ (n : ℕ). nth-before n h) none-at-once),
         cond-is (c .gap) (c .window) (eq-eqb (burst c) 0 none-at-once),
       )
 
@@ -149,7 +153,7 @@ module _ (c : Connection) (P : Plain c) where
 
   plain-figures : (l : Link) → figures-within l c ≡ base-figures-within l c
   unfolding figures-within
-  plain-figures l = rw (eq-eqb (c .window) 0 (P .0), eq-eqb (c .average) 0 (P .1)) (go (within 1 max-gap (c .gap)) (within 1 (l .largest) (c .size)))
+  plain-figures l = rw (eq-eqb (c .window) 0 (P .0), eq-eqb (c .average) 0 (P .1), eq-eqb (c .kind) 0 (P .2), eq-eqb (c .allowance) 0 (P .3)) (go (within 1 max-gap (c .gap)) (within 1 (l .largest) (c .size)))
     where
       go : (a b : Bool) → (a && (b && true)) ≡ (a && b)
       go true true = refl
@@ -177,9 +181,10 @@ module _ (c : Connection) (P : Plain c) where
         first (b ∷ m) a = omega (arith, a .0)
 
     -- and back: what document 01 says of the rows beyond the clock is what the rules ask
-    plain-near : (m : List ℕ) (e : ℕ) → e ≤ max (t + c .gap) (ticks-after (c .gap) (nth-before 1 m)) → t < e → Near-by c t m e (nth-before (burst c) m)
+    plain-near : (m : List ℕ) (e : ℕ) → e ≤ max (t + c .gap) (ticks-after (c .gap) (nth-before 1 m)) → t < e → Near-by c t m e (stamped c) (nth-before (burst c) m)
     plain-near m e l k =
-        subst (Near-by c t m e) (sym (ap (λ (n : ℕ). nth-before n m) none-at-once)) (omega (arith, cond-is (c .gap) (c .window) (eq-eqb (burst c) 0 none-at-once)))
+        subst (λ (b : Bool). Near-by c t m e b (nth-before (burst c) m)) (sym first-kind)
+        (subst (Near-by c t m e false) (sym (ap (λ (n : ℕ). nth-before n m) none-at-once)) (omega (arith, cond-is (c .gap) (c .window) (eq-eqb (burst c) 0 none-at-once))))
 
     steps-beyond : (m : List ℕ) (a : ℕ) (es : List ℕ) → In-steps (c .gap) a es → Beyond c t (a ∷ m) es
     steps-beyond m a [] k = tt

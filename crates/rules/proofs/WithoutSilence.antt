@@ -78,7 +78,7 @@ module _ (s : State) (z : s .link .silence ≡ 0) where
   done-silent : Sound s → (k : Call) → done k s .next .silent ≡ 0
   done-silent S (link l) = now-silent S
   done-silent S (admit x) = now-silent S
-  done-silent S (offer c len tag) = now-silent S
+  done-silent S (offer c len tag st) = now-silent S
   done-silent S (notice len tag) = now-silent S
   done-silent S (close c) = now-silent S
   done-silent S tick = omega (arith, tick-silent, now-silent S)

@@ -1,12 +1,12 @@
 -- Who may come in: the limits, the window count, the reservation and the level test.
--- Document 01, "Link, connections, places" and "The level test"; document 02, R-2, R-4, R-6 and R-8.
+-- Document 01, "Link, connections, places" and "The level test"; document 02, R-2, R-4, R-6, R-8 and R-9.
 use Prim.Native.Nat.{ℕ, zero, suc, _+_, _*_, _-_, _/_, _%_, min}
 use mathlib.Core.Bool.{Bool, true, false, cond, not, _&&_, _||_}
 use mathlib.Core.List.{List, [], _∷_}
 use lib.Dec.{leb, eqb}
 use lib.ListN.{length, getD, set}
 use Rattle.rules.specs.Words.{within, upto, sum}
-use Rattle.rules.specs.Limits.{max-levels, max-largest, max-silence, max-bound, max-gap, max-window, max-burst}
+use Rattle.rules.specs.Limits.{max-levels, max-largest, max-silence, max-bound, max-gap, max-window, max-burst, max-allowance}
 use Rattle.rules.specs.Model.{Link, Connection, State, Short, no-short, nth, closed-at}
 
 -- ---- "Link, connections, places"
@@ -42,9 +42,19 @@ average-within c =
     (eqb (c .window) 0 && eqb (c .average) 0)
     || (leb (c .window) max-window && (leb (c .gap) (c .average) && (eqb (c .window % c .average) 0 && within 1 max-burst (burst c))))
 
--- .. gap X from 1 to its limit, size from 1 to S, and the average
+-- a connection of the second kind, by stamps: each of its offers brings one (document 02, R-9). The first kind is regulated by its gap
+unfoldable pub stamped : Connection → Bool
+stamped c = eqb (c .kind) 1
+
+-- the first kind has no allowance, and an average or none; the second has an allowance a up to its limit, and no average (document 02, R-9)
+abbrev pub kind-within : Connection → Bool
+kind-within c =
+    (eqb (c .kind) 0 && (eqb (c .allowance) 0 && average-within c))
+    || (eqb (c .kind) 1 && (leb (c .allowance) max-allowance && (eqb (c .window) 0 && eqb (c .average) 0)))
+
+-- .. gap X from 1 to its limit, size from 1 to S, and what its kind asks
 unfoldable pub figures-within : Link → Connection → Bool
-figures-within l c = within 1 max-gap (c .gap) && (within 1 (l .largest) (c .size) && average-within c)
+figures-within l c = within 1 max-gap (c .gap) && (within 1 (l .largest) (c .size) && kind-within c)
 
 -- whether number c has an owner, one that stands or one that is closed and still charged; a free number has no level
 unfoldable pub owned : List Connection → ℕ → Bool
@@ -84,9 +94,10 @@ average-count c w = w / c .window * burst c + min (burst c) (rounded-up (w % c .
 unfoldable pub count : Connection → ℕ → ℕ
 count c w = cond (eqb (burst c) 0) (rounded-up w (c .gap)) (min (rounded-up w (c .gap)) (average-count c w))
 
--- Reservation: the count within d of the connection's level, in packets
+-- Reservation: the count within d of the connection's level, in packets; of the second kind within a + d, as a packet may come a ticks before it is
+-- eligible (document 02, R-9). The first kind has no allowance: a is 0
 unfoldable pub reservation : Link → Connection → ℕ
-reservation l c = count c (bound l (c .level))
+reservation l c = count c (c .allowance + bound l (c .level))
 
 -- all reservations together
 abbrev pub reserved : Link → List Connection → ℕ

@@ -1,16 +1,20 @@
--- The six calls: their verdicts as one table, and what each does where the verdict is 0. Document 01, "Verdict numbers"; document 02, R-1 and R-8.
+-- The six calls: their verdicts as one table, and what each does where the verdict is 0. Document 01, "Verdict numbers"; document 02, R-1, R-8 and R-9.
 use Prim.Native.Nat.{ℕ, zero, suc}
-use mathlib.Core.Bool.{Bool, true, cond, not}
+use mathlib.Core.Bool.{Bool, true, cond, not, _&&_}
 use mathlib.Core.List.{List, [], _∷_, _++_}
-use mathlib.Core.Option.{none}
+use mathlib.Core.Option.{Option, none}
 use lib.Dec.{leb, ltb, eqb}
 use lib.ListN.{length, set}
 use Rattle.rules.specs.Words.{within, first-number}
 use Rattle.rules.specs.Limits.{max-connections, max-reserved, clock-end, max-notices, no-connection-number}
 use Rattle.rules.specs.Model.{Link, Connection, Packet, State, Call, link, admit, offer, notice, close, tick, Short, no-short, Answer, past, figures, with-link, with-connections, with-closed, with-held, with-notices}
 use Rattle.rules.specs.Admission.{link-within, level-within, figures-within, free-number, joining, stands, reservation, reserved, level-test, passes}
-use Rattle.rules.specs.Service.{next-eligibility, remember, of, ticked, swept, sweeping}
+use Rattle.rules.specs.Service.{suits, eligibility-by, untimely-by, remember, of, ticked, swept, sweeping}
 use Rattle.rules.specs.SoundTest.{sound}
+
+-- an offer is heard by number c if c stands, and is of the second kind exactly where the offer brings a stamp (document 02, R-9)
+unfoldable pub heard : State → ℕ → Option ℕ → Bool
+heard s c st = stands s c && suits (figures s c) st
 
 -- ---- the table "Verdict numbers", call by call, each in the document's order: number, given exactly when
 
@@ -42,14 +46,17 @@ causes (admit x) s =
     ∷ (8, not (passes (s .link) (joining (s .connections) x)))
     -- reservations would pass their limit
     ∷ (9, ltb max-reserved (reserved (s .link) (joining (s .connections) x))) ∷ []
-causes (offer c len tag) s =
+causes (offer c len tag st) s =
     no-link-set s
-    ∷ no-such-connection s c
+    -- no such connection; a stamp to one of the first kind, or none to one of the second (document 02, R-9)
+    ∷ (10, not (heard s c st))
     -- length 0 or above the connection's size
     ∷ (11, not (within 1 (figures s c .size) len))
     -- it holds as many packets as its reservation
     ∷ (12, leb (reservation (s .link) (figures s c)) (length (of c (s .held))))
-    ∷ clock-ended s ∷ []
+    ∷ clock-ended s
+    -- its stamp, or the eligibility that it gives, is out of time (document 02, R-9)
+    ∷ (17, untimely-by (figures s c) (past s c) (s .clock) st) ∷ []
 causes (notice len tag) s =
     no-link-set s
     -- length 0 or above S
@@ -80,18 +87,18 @@ linked s l = with-link s l
 abbrev pub joined : State → Connection → State
 joined s x = with-connections s (joining (s .connections) x) (s .pasts)
 
--- the eligibility of an offer to connection c now
-abbrev pub eligibility-now : State → ℕ → ℕ
-eligibility-now s c = next-eligibility (figures s c) (past s c) (s .clock)
+-- the eligibility of an offer to connection c now, by its stamp if it brings one
+abbrev pub eligibility-now : State → ℕ → Option ℕ → ℕ
+eligibility-now s c st = eligibility-by (figures s c) (past s c) (s .clock) st
 
-abbrev pub packet : State → ℕ → ℕ → ℕ → Packet
-packet s c len tag = record { connection = c; len = len; tag = tag; arrival = s .clock; eligibility = eligibility-now s c }
+abbrev pub packet : State → ℕ → ℕ → ℕ → Option ℕ → Packet
+packet s c len tag st = record { connection = c; len = len; tag = tag; arrival = s .clock; eligibility = eligibility-now s c st }
 
-abbrev pub placed : State → ℕ → ℕ → ℕ → State
-placed s c len tag =
+abbrev pub placed : State → ℕ → ℕ → ℕ → Option ℕ → State
+placed s c len tag st =
     with-held
-    (with-connections s (s .connections) (set (s .pasts) c (remember (past s c) (eligibility-now s c))))
-    (s .held ++ packet s c len tag ∷ [])
+    (with-connections s (s .connections) (set (s .pasts) c (remember (past s c) (eligibility-now s c st))))
+    (s .held ++ packet s c len tag st ∷ [])
 
 -- a notice behind the others
 abbrev pub noted : State → ℕ → ℕ → State
@@ -108,7 +115,7 @@ accepted n s = record { verdict = 0; number = n; short = no-short; departed = no
 abbrev pub done : Call → State → Answer
 done (link l) s = accepted 0 (linked s l)
 done (admit x) s = accepted (free-number (s .connections)) (joined s x)
-done (offer c len tag) s = accepted (eligibility-now s c) (placed s c len tag)
+done (offer c len tag st) s = accepted (eligibility-now s c st) (placed s c len tag st)
 done (notice len tag) s = accepted (s .clock) (noted s len tag)
 done (close c) s = accepted 0 (swept (marked s c))
 done tick s = sweeping (ticked s)
@@ -117,7 +124,7 @@ done tick s = sweeping (ticked s)
 abbrev pub refused-number : Call → ℕ
 refused-number (link l) = 0
 refused-number (admit x) = no-connection-number
-refused-number (offer c len tag) = 0
+refused-number (offer c len tag st) = 0
 refused-number (notice len tag) = 0
 refused-number (close c) = 0
 refused-number tick = 0
@@ -126,7 +133,7 @@ refused-number tick = 0
 abbrev pub refused-short : Call → State → ℕ → Short
 refused-short (link l) s v = no-short
 refused-short (admit x) s v = cond (eqb v 8) (level-test (s .link) (joining (s .connections) x)) no-short
-refused-short (offer c len tag) s v = no-short
+refused-short (offer c len tag st) s v = no-short
 refused-short (notice len tag) s v = no-short
 refused-short (close c) s v = no-short
 refused-short tick s v = no-short

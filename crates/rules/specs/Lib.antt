@@ -1,4 +1,4 @@
--- Read in this order: Words, Limits, Model, Admission, Service, SoundState, SoundTest, Calls, Runs, WithoutAverage, Promises, Examples, WorkedLimits.
+-- Read in this order: Words, Limits, Model, Admission, Service, SoundState, SoundTest, Calls, Runs, WithoutAverage, Promises, TwoHubs, Examples, WorkedLimits.
 pub mod Words
 pub mod Limits
 pub mod Model
@@ -10,5 +10,6 @@ pub mod Calls
 pub mod Runs
 pub mod WithoutAverage
 pub mod Promises
+pub mod TwoHubs
 pub mod Examples
 pub mod WorkedLimits

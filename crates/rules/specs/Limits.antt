@@ -24,6 +24,10 @@ max-burst = 16
 abbrev pub max-remembered : ℕ
 max-remembered = 16
 
+-- document 02, R-9: ticks of an allowance
+abbrev pub max-allowance : ℕ
+max-allowance = 65_535
+
 -- document 02, R-4: ticks of silence after each packet
 abbrev pub max-silence : ℕ
 max-silence = 64

@@ -1,5 +1,5 @@
 -- What the rules speak of: the state of a hub, the calls on it and their answers. Document 01, "Link, connections, places"; document 02, R-1,
--- R-2, R-4, R-6 and R-8.
+-- R-2, R-4, R-6, R-8 and R-9.
 use Prim.Native.Nat.{ℕ}
 use mathlib.Core.Bool.{Bool, false}
 use mathlib.Core.List.{List, [], _∷_}
@@ -32,11 +32,12 @@ pub record State : Type 0 where
   pub to-go : ℕ
   pub silent : ℕ
 
--- the six calls; an offer names its connection, its length and its tag, a notice its length and its tag, a close its connection
+-- the six calls; an offer names its connection, its length, its tag and, if it brings one, its stamp: its eligibility at the hub before (document 02, R-9);
+-- a notice names its length and its tag, a close its connection
 pub data Call : Type 0 where
   link : Link → Call
   admit : Connection → Call
-  offer : ℕ → ℕ → ℕ → Call
+  offer : ℕ → ℕ → ℕ → Option ℕ → Call
   notice : ℕ → ℕ → Call
   close : ℕ → Call
   tick : Call
@@ -58,7 +59,7 @@ abbrev pub no-link : Link
 no-link = record { levels = 0; largest = 0; silence = 0; bounds = replicate max-levels 0 }
 
 abbrev pub no-connection : Connection
-no-connection = record { level = 0; gap = 0; size = 0; window = 0; average = 0 }
+no-connection = record { level = 0; gap = 0; size = 0; window = 0; average = 0; kind = 0; allowance = 0 }
 
 abbrev pub no-past : Past
 no-past = []

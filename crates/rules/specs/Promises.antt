@@ -4,19 +4,19 @@ use mathlib.Core.Path.{_≡_}
 use mathlib.Core.Bool.{Bool, true, false, cond, _&&_}
 use mathlib.Core.Logic.{_↔_}
 use mathlib.Core.List.{List, [], _∷_, _++_, map}
-use mathlib.Core.Option.{none, some}
+use mathlib.Core.Option.{Option, none, some}
 use lib.Dec.{leb}
 use lib.ListN.{length, getElem?, drop}
 use Rattle.rules.specs.Words.{within, upto, sum, All}
-use Rattle.rules.specs.Limits.{max-levels, max-largest, max-silence, max-bound, max-connections, max-reserved, clock-end, beyond-32-bits, max-notices, notice-number}
+use Rattle.rules.specs.Limits.{max-levels, max-largest, max-silence, max-bound, max-allowance, max-connections, max-reserved, clock-end, beyond-32-bits, max-notices, notice-number}
 use Rattle.rules.specs.Model.{Link, Connection, Past, Packet, State, Call, link, admit, offer, notice, close, tick, Short, no-short, Answer, fresh, no-past, nth, past, figures, closed-at}
-use Rattle.rules.specs.Admission.{rising, cost, link-within, level-within, burst, figures-within, owned, stands, joining, bound, largest-bound, count, reserved, level-sum, level-test}
-use Rattle.rules.specs.Service.{next-eligibility, Spaced, of, started, ticked, charge-over}
+use Rattle.rules.specs.Admission.{rising, cost, link-within, level-within, burst, stamped, average-within, figures-within, owned, stands, joining, bound, largest-bound, rounded-up, count, reservation, reserved, level-sum, level-test}
+use Rattle.rules.specs.Service.{nth-before, next-eligibility, suits, Spaced, of, started, ticked, charge-over}
 use Rattle.rules.specs.SoundState.{Queue, Sound}
-use Rattle.rules.specs.SoundTest.{sound}
-use Rattle.rules.specs.Calls.{answer, refused-number, eligibility-now, packet}
+use Rattle.rules.specs.SoundTest.{latest-by-gap, latest, sound}
+use Rattle.rules.specs.Calls.{heard, answer, refused-number, eligibility-now, packet}
 use Rattle.rules.specs.WithoutAverage.{Plain, Apart, in-ticks, base-figures-within, base-count, base-eligibility, Base-spaced, Base-queue, Memory-kept}
-use Rattle.rules.specs.Runs.{History, run, departures, in-hub, bound-of, sender-bounds, allowed, Keeps-its-word, Exchange, exchanges, own-answer}
+use Rattle.rules.specs.Runs.{Departure, History, run, departures, in-hub, bound-of, sender-bounds, allowed, Keeps-its-word, Exchange, exchanges, own-answer, own-stamp-answers}
 
 -- ---- demand 1: any call on any state ends with an answer or a numbered refusal (`answer` is a function); a refused call changes nothing
 
@@ -64,12 +64,16 @@ Notices-come-last = (s : State) → Sound s → s .to-go ≡ 0 → started s .se
 abbrev pub Fifteen-after-thirteen : Type 0
 Fifteen-after-thirteen = (len tag : ℕ) (s : State) → answer (notice len tag) s .verdict ≡ 15 → s .clock < clock-end
 
--- each eligibility that can arise fits 32 bits: those held, those remembered, and the next of each connection
+-- each eligibility that can arise fits 32 bits: those held, those remembered, the next of each connection, and of one with an allowance the sum with any stamp
+-- that is not later than the present tick
 abbrev pub Eligibilities-fit : Type 0
 Eligibilities-fit =
     (s : State) → Sound s
     → All (λ p. p .eligibility < beyond-32-bits) (s .held)
-    × ((c : ℕ) → All (λ e. e < beyond-32-bits) (past s c) × (eligibility-now s c < beyond-32-bits))
+    × ((c : ℕ)
+    → All (λ e. e < beyond-32-bits) (past s c)
+    × (eligibility-now s c none < beyond-32-bits)
+    × ((stamp : ℕ) → stamp ≤ s .clock → eligibility-now s c (some stamp) < beyond-32-bits))
 
 -- .. and so does each time at which a charge can end (document 02, R-8)
 abbrev pub Charges-fit : Type 0
@@ -125,7 +129,7 @@ Units-fit =
     × (answer (admit x) s .short .units ≤ max-bound * (max-largest + max-silence))
 
 -- over any connections within the limits, as many as may stand, whether they pass the tests or not (document 02, R-7): a level's sum is at most 13,841,205,312, which
--- is within 34 bits, and all reservations together are at most 6,553,600
+-- is within 34 bits, and all reservations together are at most 19,660,600
 abbrev pub Sums-fit : Type 0
 Sums-fit =
     (l : Link) (cs : List Connection)
@@ -133,14 +137,14 @@ Sums-fit =
     → length cs ≤ max-connections
     → ((c : ℕ) → c < length cs → (level-within l (nth cs c) ≡ true) × (figures-within l (nth cs c) ≡ true))
     → ((m : ℕ) → 1 ≤ m → m ≤ l .levels → level-sum l cs m ≤ max-connections * (max-bound * (max-largest + max-silence)) + (max-largest + max-silence))
-    × (reserved l cs ≤ max-connections * max-bound)
+    × (reserved l cs ≤ max-connections * (max-allowance + max-bound))
 
 -- an answer's numbers fit the fields of its record (document 01, "Trace and answer records"), whatever the call: one byte of verdict and of level, one of a connection's
 -- number, four of units, of an eligibility, of an arrival and of a finish, which is the clock then. A departed packet's tag is as it was offered (`Conservation`)
 abbrev pub number-limit : Call → ℕ
 number-limit (link l) = beyond-32-bits
 number-limit (admit x) = 256
-number-limit (offer c len tag) = beyond-32-bits
+number-limit (offer c len tag st) = beyond-32-bits
 number-limit (notice len tag) = beyond-32-bits
 number-limit (close c) = beyond-32-bits
 number-limit tick = beyond-32-bits
@@ -200,11 +204,11 @@ pub record Left-by (h : History) (c i : ℕ) (p : Packet) (deadline : ℕ) : Typ
 -- the packet was accepted; a later owner of the number does not count
 abbrev pub Demand-3-first : Type 0
 Demand-3-first =
-    (earlier later : List Call) (c len tag : ℕ)
-    → answer (offer c len tag) (run earlier .now) .verdict ≡ 0
-    → eligibility-now (run earlier .now) c + bound-of (run earlier .now) c ≤ run (earlier ++ offer c len tag ∷ later) .now .clock
-    → Left-by (run (earlier ++ offer c len tag ∷ later)) c (length (of c (run earlier .accepted))) (packet (run earlier .now) c len tag)
-    (eligibility-now (run earlier .now) c + bound-of (run earlier .now) c)
+    (earlier later : List Call) (c len tag : ℕ) (st : Option ℕ)
+    → answer (offer c len tag st) (run earlier .now) .verdict ≡ 0
+    → eligibility-now (run earlier .now) c st + bound-of (run earlier .now) c ≤ run (earlier ++ offer c len tag st ∷ later) .now .clock
+    → Left-by (run (earlier ++ offer c len tag st ∷ later)) c (length (of c (run earlier .accepted))) (packet (run earlier .now) c len tag st)
+    (eligibility-now (run earlier .now) c st + bound-of (run earlier .now) c)
 
 -- .. and the same in the form of the log: the i-th accepted packet of number c, and the bound of the connection that sent it
 abbrev pub Demand-3-in-the-log : Type 0
@@ -220,43 +224,46 @@ Demand-3-in-the-log =
 abbrev pub Each-has-a-bound : Type 0
 Each-has-a-bound = (ks : List Call) (c : ℕ) → (c ≡ notice-number → ⊥) → length (sender-bounds c ks) ≡ length (of c (run ks .accepted))
 
--- ---- demand 3, second sentence: a connection that keeps its word is never refused for room and leaves within the bound of its arrival.
+-- ---- demand 3, second sentence: a connection that keeps its word is never refused for room and leaves within the bound of its arrival. It speaks of the first
+-- kind; of the second `Demand-3-for-stamps` does (document 02, R-9).
 -- Any calls `earlier`, an offer of c of allowed length, any calls `later`; c has kept its word up to this offer
 
 pub record Kept-promise (earlier later : List Call) (c len tag : ℕ) : Type 0 where
-  pub never-for-room : answer (offer c len tag) (run earlier .now) .verdict ≡ 12 → ⊥
-  pub accepted : run earlier .now .clock < clock-end → answer (offer c len tag) (run earlier .now) .verdict ≡ 0
-  pub on-arrival : run earlier .now .clock < clock-end → answer (offer c len tag) (run earlier .now) .number ≡ run earlier .now .clock
+  pub never-for-room : answer (offer c len tag none) (run earlier .now) .verdict ≡ 12 → ⊥
+  pub accepted : run earlier .now .clock < clock-end → answer (offer c len tag none) (run earlier .now) .verdict ≡ 0
+  pub on-arrival : run earlier .now .clock < clock-end → answer (offer c len tag none) (run earlier .now) .number ≡ run earlier .now .clock
   pub in-time : run earlier .now .clock < clock-end
-      → run earlier .now .clock + bound-of (run earlier .now) c ≤ run (earlier ++ offer c len tag ∷ later) .now .clock
-      → Left-by (run (earlier ++ offer c len tag ∷ later)) c (length (of c (run earlier .accepted)))
+      → run earlier .now .clock + bound-of (run earlier .now) c ≤ run (earlier ++ offer c len tag none ∷ later) .now .clock
+      → Left-by (run (earlier ++ offer c len tag none ∷ later)) c (length (of c (run earlier .accepted)))
       (record { connection = c; len = len; tag = tag; arrival = run earlier .now .clock; eligibility = run earlier .now .clock })
       (run earlier .now .clock + bound-of (run earlier .now) c)
 
 abbrev pub Demand-3-second : Type 0
 Demand-3-second =
     (earlier later : List Call) (c len tag : ℕ)
-    → Keeps-its-word c (earlier ++ offer c len tag ∷ [])
-    → allowed (run earlier .now) c len ≡ true
+    → Keeps-its-word c (earlier ++ offer c len tag none ∷ [])
+    → allowed (run earlier .now) c len none ≡ true
     → Kept-promise earlier later c len tag
 
 -- ---- bed nine and bed ten (document 02, R-3): nothing that another connection does changes what a connection that keeps its word is told
 
--- in any run, each answer to a connection that keeps its word is the one that its own figures and its own offer decide. It speaks of the present owner of a
--- number, standing or charged: of a freed number nothing is noted (document 02, R-8)
+-- in any run, each answer to a connection of the first kind that keeps its word is the one that its own figures and its own offer decide. It speaks of the
+-- present owner of a number, standing or charged: of a freed number nothing is noted (document 02, R-8)
 abbrev pub Told-by-its-own : Type 0
 Told-by-its-own =
     (ks : List Call) (c : ℕ)
+    → stamped (figures (run ks .now) c) ≡ false
     → Keeps-its-word c ks
     → All (λ (e : Exchange). e ≡ own-answer (figures (run ks .now) c) (e .asked)) (exchanges c ks)
 
--- so in any two runs a connection with the same figures and the same offers at the same ticks is told the same, whatever its number in each. That the links are
+-- so in any two runs such a connection with the same figures and the same offers at the same ticks is told the same, whatever its number in each. That the links are
 -- the same and that it was accepted at the same tick need not even be asked
 abbrev pub Bed-nine-and-bed-ten : Type 0
 Bed-nine-and-bed-ten =
     (ks ms : List Call) (c d : ℕ)
     → figures (run ks .now) c ≡ figures (run ms .now) d
     → map (λ e. e .asked) (exchanges c ks) ≡ map (λ e. e .asked) (exchanges d ms)
+    → stamped (figures (run ks .now) c) ≡ false
     → Keeps-its-word c ks
     → exchanges c ks ≡ exchanges d ms
 
@@ -338,7 +345,7 @@ Close-is-refused =
 -- an offer to a closed number, and another close of it, get 10
 abbrev pub Closed-gets-10 : Type 0
 Closed-gets-10 =
-    (s : State) (c len tag : ℕ) → Sound s → closed-at s c ≡ true → (answer (offer c len tag) s .verdict ≡ 10) × (answer (close c) s .verdict ≡ 10)
+    (s : State) (c len tag : ℕ) (st : Option ℕ) → Sound s → closed-at s c ≡ true → (answer (offer c len tag st) s .verdict ≡ 10) × (answer (close c) s .verdict ≡ 10)
 
 -- closed in r and still charged: it counts in the tests, the reservations and the numbers with the figures that it had in s
 pub record Still-charged (s : State) (c : ℕ) (r : State) : Type 0 where
@@ -378,3 +385,110 @@ pub record Lowest-free (s : State) (x : Connection) (n : ℕ) (r : State) : Type
 abbrev pub Lowest-number-is-given : Type 0
 Lowest-number-is-given =
     (x : Connection) (s : State) → answer (admit x) s .verdict ≡ 0 → Lowest-free s x (answer (admit x) s .number) (answer (admit x) s .next)
+
+-- ---- a second hub behind the first (document 02, R-9): connections of the second kind. The first sentence of demand 3 is theirs too (`Demand-3-first`)
+
+-- a connection of the first kind is as it was: its limits, its reservation, how late its rows may be in a sound state, and who hears an offer without a
+-- stamp. Its count, its spacing and its next eligibility do not look at the kind
+abbrev pub First-kind : Type 0
+First-kind =
+    (c : Connection) → c .kind ≡ 0 → c .allowance ≡ 0
+    → ((l : Link) → figures-within l c ≡ (base-figures-within l c && average-within c))
+    × ((l : Link) → reservation l c ≡ count c (bound l (c .level)))
+    × ((t : ℕ) (h : Past) → latest c t h ≡ latest-by-gap c t h)
+    × ((s : State) (n : ℕ) → figures s n ≡ c → (heard s n none ≡ stands s n) × ((stamp : ℕ) → heard s n (some stamp) ≡ false))
+
+-- a connection of the second kind
+abbrev pub Second : Connection → Type 0
+Second c = (c .kind ≡ 1) × (c .window ≡ 0) × (c .average ≡ 0)
+
+-- its limits; its count, window / X rounded up; its reservation, (a + d) / X rounded up; its spacing; and its rows in a sound state: at most the allowance
+-- beyond the clock, beside what is asked of the memory, which says that all rise by X
+abbrev pub Second-kind : Type 0
+Second-kind =
+    (c : Connection) → Second c
+    → ((l : Link) → figures-within l c ≡ (base-figures-within l c && leb (c .allowance) max-allowance))
+    × ((w : ℕ) → count c w ≡ base-count c w)
+    × ((l : Link) → reservation l c ≡ rounded-up (c .allowance + bound l (c .level)) (c .gap))
+    × ((es : List ℕ) → Spaced c es ↔ Base-spaced c es)
+    × ((t : ℕ) (h : Past) (es : List ℕ) → Queue c t h es ↔ (Memory-kept c t h es × All (λ e. e ≤ t + c .allowance) es))
+
+-- the same connection regulated by its gap
+abbrev pub by-its-gap : Connection → Connection
+by-its-gap c = record { level = c .level; gap = c .gap; size = c .size; window = c .window; average = c .average; kind = 0; allowance = 0 }
+
+-- the level test counts both kinds alike: it says the same with each connection regulated by its gap
+abbrev pub Level-test-counts-alike : Type 0
+Level-test-counts-alike = (l : Link) (cs : List Connection) → level-test l cs ≡ level-test l (map by-its-gap cs)
+
+-- verdict 10 of an offer, on a sound state with a link: exactly for a number that does not stand, for a stamp to the first kind, and for none to the second
+abbrev pub Ten-exactly : Type 0
+Ten-exactly =
+    (c len tag : ℕ) (st : Option ℕ) (s : State) → Sound s → (s .link .levels ≡ 0 → ⊥)
+    → answer (offer c len tag st) s .verdict ≡ 10 ↔ ((stands s c ≡ true) × (suits (figures s c) st ≡ true) → ⊥)
+
+-- "eligibility is that stamp plus a"
+abbrev pub stamp-plus : State → ℕ → ℕ → ℕ
+stamp-plus s c stamp = stamp + figures s c .allowance
+
+-- no cause of 17 applies to an offer with this stamp to c now: the stamp is not later than the present tick, the sum is not before it, and it is X or more after
+-- the last eligibility, if there is one
+pub record No-cause (s : State) (c stamp : ℕ) : Type 0 where
+  pub not-later : stamp ≤ s .clock
+  pub not-over : s .clock ≤ stamp-plus s c stamp
+  pub gap-after : (last : ℕ) → nth-before 1 (past s c) ≡ some last → last + figures s c .gap ≤ stamp-plus s c stamp
+
+-- verdict 17, on a sound state with a link: exactly where a cause applies, and neither 10, 11, 12 nor 13 is given
+abbrev pub Seventeen-exactly : Type 0
+Seventeen-exactly =
+    (c len tag stamp : ℕ) (s : State) → Sound s → (s .link .levels ≡ 0 → ⊥)
+    → answer (offer c len tag (some stamp)) s .verdict ≡ 17
+    ↔ ((allowed s c len (some stamp) ≡ true)
+    × (length (of c (s .held)) < reservation (s .link) (figures s c))
+    × (s .clock < clock-end)
+    × (No-cause s c stamp → ⊥))
+
+-- no packet of a connection leaves before its eligibility plus its length
+abbrev pub No-finish-before : Type 0
+No-finish-before =
+    (ks : List Call)
+    → All (λ (d : Departure). (d .what .connection ≡ notice-number → ⊥) → d .what .eligibility + d .what .len ≤ d .finish) (run ks .departed)
+
+-- in place of the second sentence of demand 3: an offer of allowed length to which no cause of 17 applies is never refused for room; while the clock runs it is
+-- accepted, with the stamp plus the allowance as its eligibility, and it leaves within the bound of that. Any calls `earlier`, the offer, any calls `later`
+pub record Stamp-promise (earlier later : List Call) (c len tag stamp : ℕ) : Type 0 where
+  pub never-for-room : answer (offer c len tag (some stamp)) (run earlier .now) .verdict ≡ 12 → ⊥
+  pub accepted : run earlier .now .clock < clock-end → answer (offer c len tag (some stamp)) (run earlier .now) .verdict ≡ 0
+  pub eligible : run earlier .now .clock < clock-end
+      → answer (offer c len tag (some stamp)) (run earlier .now) .number ≡ stamp-plus (run earlier .now) c stamp
+  pub in-time : run earlier .now .clock < clock-end
+      → stamp-plus (run earlier .now) c stamp + bound-of (run earlier .now) c ≤ run (earlier ++ offer c len tag (some stamp) ∷ later) .now .clock
+      → Left-by (run (earlier ++ offer c len tag (some stamp) ∷ later)) c (length (of c (run earlier .accepted)))
+      (record { connection = c; len = len; tag = tag; arrival = run earlier .now .clock; eligibility = stamp-plus (run earlier .now) c stamp })
+      (stamp-plus (run earlier .now) c stamp + bound-of (run earlier .now) c)
+
+abbrev pub Demand-3-for-stamps : Type 0
+Demand-3-for-stamps =
+    (earlier later : List Call) (c len tag stamp : ℕ)
+    → allowed (run earlier .now) c len (some stamp) ≡ true
+    → No-cause (run earlier .now) c stamp
+    → Stamp-promise earlier later c len tag stamp
+
+-- bed nine and bed ten for these (document 02, R-3), where the offers of allowed length come a gap apart, whatever their stamps: each answer is the one that its
+-- own figures and its own offers so far decide, so in any two runs one with the same figures and the same offers at the same ticks is told the same. Offers
+-- closer than the gap can be told apart (`Examples`, `stamps-broken-calls`)
+abbrev pub Stamps-told-by-their-own : Type 0
+Stamps-told-by-their-own =
+    (ks : List Call) (c : ℕ)
+    → stamped (figures (run ks .now) c) ≡ true
+    → Keeps-its-word c ks
+    → exchanges c ks ≡ own-stamp-answers (figures (run ks .now) c) no-past (map (λ e. e .asked) (exchanges c ks))
+
+abbrev pub Bed-nine-and-bed-ten-with-stamps : Type 0
+Bed-nine-and-bed-ten-with-stamps =
+    (ks ms : List Call) (c d : ℕ)
+    → figures (run ks .now) c ≡ figures (run ms .now) d
+    → map (λ e. e .asked) (exchanges c ks) ≡ map (λ e. e .asked) (exchanges d ms)
+    → stamped (figures (run ks .now) c) ≡ true
+    → Keeps-its-word c ks
+    → exchanges c ks ≡ exchanges d ms

@@ -6,10 +6,10 @@ use mathlib.Core.Option.{Option, none, some}
 use lib.Dec.{leb, eqb}
 use Rattle.rules.specs.Words.{within, filter, push}
 use Rattle.rules.specs.Limits.{clock-end, notice-number}
-use Rattle.rules.specs.Model.{Connection, Packet, State, Call, link, admit, offer, notice, close, tick, Answer, fresh, figures, notice-packet}
-use Rattle.rules.specs.Admission.{owned, stands, bound}
-use Rattle.rules.specs.Service.{Spaced}
-use Rattle.rules.specs.Calls.{answer}
+use Rattle.rules.specs.Model.{Connection, Past, Packet, State, Call, link, admit, offer, notice, close, tick, Answer, fresh, figures, notice-packet}
+use Rattle.rules.specs.Admission.{owned, bound}
+use Rattle.rules.specs.Service.{eligibility-by, untimely-by, remember-all, Spaced}
+use Rattle.rules.specs.Calls.{heard, answer}
 
 pub record Departure : Type 0 where
   pub what : Packet
@@ -35,7 +35,7 @@ if-done (suc v) x = none
 abbrev pub taken : Call → State → Answer → Option Packet
 taken (link l) s a = none
 taken (admit x) s a = none
-taken (offer c len tag) s a = if-done (a .verdict) (record { connection = c; len = len; tag = tag; arrival = s .clock; eligibility = a .number })
+taken (offer c len tag st) s a = if-done (a .verdict) (record { connection = c; len = len; tag = tag; arrival = s .clock; eligibility = a .number })
 taken (notice len tag) s a =
     if-done (a .verdict) (record { connection = notice-number; len = len; tag = tag; arrival = s .clock; eligibility = a .number })
 taken (close c) s a = none
@@ -73,6 +73,21 @@ abbrev pub departures : ℕ → List Departure → List Departure
 departures c [] = []
 departures c (d ∷ ds) = cond (eqb (d .what .connection) c) (d ∷ departures c ds) (departures c ds)
 
+-- .. of those, the ones of its present owner: a number that is freed takes its former owner's along (document 02, R-8)
+abbrev pub departure-of : ℕ → Option Departure → Option Departure
+departure-of c none = none
+departure-of c (some d) = cond (eqb (d .what .connection) c) (some d) none
+
+abbrev pub departing : ℕ → State → Call → Option Departure
+departing c s k = departure-of c (leaving s (answer k s .departed))
+
+abbrev pub own-departures-from : ℕ → History → List Departure → List Call → List Departure
+own-departures-from c h ds [] = ds
+own-departures-from c h ds (k ∷ ks) = own-departures-from c (after h k) (while-owned (after h k .now) c (push ds (departing c (h .now) k))) ks
+
+abbrev pub own-departures : ℕ → List Call → List Departure
+own-departures c ks = own-departures-from c nothing-yet [] ks
+
 -- the packets that wait in the hub, notices among them
 abbrev pub in-hub : State → List Packet
 in-hub s = s .held ++ map notice-packet (s .notices)
@@ -85,7 +100,7 @@ bound-of s c = bound (s .link) (figures s c .level)
 abbrev pub sender-bound : ℕ → Call → State → Answer → Option ℕ
 sender-bound c (link l) s a = none
 sender-bound c (admit x) s a = none
-sender-bound c (offer d len tag) s a = cond (eqb d c) (if-done (a .verdict) (bound-of s c)) none
+sender-bound c (offer d len tag st) s a = cond (eqb d c) (if-done (a .verdict) (bound-of s c)) none
 sender-bound c (notice len tag) s a = none
 sender-bound c (close d) s a = none
 sender-bound c tick s a = none
@@ -100,15 +115,15 @@ sender-bounds c ks = sender-bounds-from c nothing-yet [] ks
 
 -- ---- a connection that keeps its word
 
--- an offer to c of allowed length; one given 10 is no connection's offer ("Verdict numbers")
-abbrev pub allowed : State → ℕ → ℕ → Bool
-allowed s c len = stands s c && within 1 (figures s c .size) len
+-- an offer to c that c hears, of allowed length; one given 10 is no connection's offer ("Verdict numbers")
+abbrev pub allowed : State → ℕ → ℕ → Option ℕ → Bool
+allowed s c len st = heard s c st && within 1 (figures s c .size) len
 
 -- the tick of such an offer
 abbrev pub offer-tick : ℕ → State → Call → Option ℕ
 offer-tick c s (link l) = none
 offer-tick c s (admit x) = none
-offer-tick c s (offer d len tag) = cond (eqb d c && allowed s c len) (some (s .clock)) none
+offer-tick c s (offer d len tag st) = cond (eqb d c && allowed s c len st) (some (s .clock)) none
 offer-tick c s (notice len tag) = none
 offer-tick c s (close d) = none
 offer-tick c s tick = none
@@ -127,11 +142,12 @@ Keeps-its-word c ks = Spaced (figures (run ks .now) c) (offer-ticks c ks)
 
 -- ---- what a connection asks and is told (document 02, R-3)
 
--- an offer to connection c while it stands: the tick, the length, the tag
+-- an offer to connection c while it stands: the tick, the length, the tag, and the stamp that it brings, if it is of the second kind
 pub record Asked : Type 0 where
   pub at : ℕ
   pub len : ℕ
   pub tag : ℕ
+  pub stamp : Option ℕ
 
 -- .. and what it is told
 pub record Exchange : Type 0 where
@@ -142,12 +158,12 @@ pub record Exchange : Type 0 where
 abbrev pub exchange : ℕ → State → Call → Option Exchange
 exchange c s (link l) = none
 exchange c s (admit x) = none
-exchange c s (offer d len tag) =
-    cond (eqb d c && stands s c)
+exchange c s (offer d len tag st) =
+    cond (eqb d c && heard s c st)
     (some (record {
-      asked = record { at = s .clock; len = len; tag = tag };
-      verdict = answer (offer d len tag) s .verdict;
-      eligibility = answer (offer d len tag) s .number;
+      asked = record { at = s .clock; len = len; tag = tag; stamp = st };
+      verdict = answer (offer d len tag st) s .verdict;
+      eligibility = answer (offer d len tag st) s .number;
     }))
     none
 exchange c s (notice len tag) = none
@@ -169,3 +185,24 @@ own-answer x a = record {
   verdict = cond (within 1 (x .size) (a .len)) (cond (leb clock-end (a .at)) 13 0) 11;
   eligibility = cond (within 1 (x .size) (a .len)) (cond (leb clock-end (a .at)) 0 (a .at)) 0;
 }
+
+-- the eligibilities that some exchanges give, in order
+abbrev pub given : List Exchange → List ℕ
+given [] = []
+given (e ∷ es) = cond (eqb (e .verdict) 0) (e .eligibility ∷ given es) (given es)
+
+-- what a connection of the second kind is told whose offers keep its gap (document 02, R-3 and R-9): its own figures, its own offer and what it was given before
+-- decide. h: what is remembered of that. A wrong length: 11; at the clock's end: 13; a cause of 17: 17; else accepted, eligible the allowance after the stamp
+abbrev pub own-stamp-answer : Connection → Past → Asked → Exchange
+own-stamp-answer x h a = record {
+  asked = a;
+  verdict = cond (within 1 (x .size) (a .len)) (cond (leb clock-end (a .at)) 13 (cond (untimely-by x h (a .at) (a .stamp)) 17 0)) 11;
+  eligibility =
+      cond (within 1 (x .size) (a .len))
+      (cond (leb clock-end (a .at)) 0 (cond (untimely-by x h (a .at) (a .stamp)) 0 (eligibility-by x h (a .at) (a .stamp))))
+      0;
+}
+
+abbrev pub own-stamp-answers : Connection → Past → List Asked → List Exchange
+own-stamp-answers x h [] = []
+own-stamp-answers x h (a ∷ qs) = own-stamp-answer x h a ∷ own-stamp-answers x (remember-all h (given (own-stamp-answer x h a ∷ []))) qs

@@ -1,6 +1,6 @@
--- When a packet may go, which goes next, and one tick of the line. Document 01, "Eligibility" and "One tick"; document 02, R-1, R-4, R-6 and R-8.
+-- When a packet may go, which goes next, and one tick of the line. Document 01, "Eligibility" and "One tick"; document 02, R-1, R-4, R-6, R-8 and R-9.
 use Prim.Native.Nat.{ℕ, zero, suc, _+_, _-_, _≤_, max}
-use mathlib.Core.Bool.{Bool, true, false, cond, _&&_, _||_}
+use mathlib.Core.Bool.{Bool, true, false, cond, not, _&&_, _||_}
 use mathlib.Core.List.{List, [], _∷_, map}
 use mathlib.Core.Option.{Option, none, some}
 use lib.Dec.{leb, ltb, eqb}
@@ -8,7 +8,7 @@ use lib.ListN.{getElem?, take}
 use Rattle.rules.specs.Words.{tabulate}
 use Rattle.rules.specs.Limits.{max-connections, notice-number, max-remembered}
 use Rattle.rules.specs.Model.{Connection, Past, Packet, Notice, State, Answer, no-short, no-connection, no-past, past, figures, closed-at, notice-packet, with-connections, with-closed, with-clock, with-held, with-notices, with-line}
-use Rattle.rules.specs.Admission.{cost, burst, largest-bound}
+use Rattle.rules.specs.Admission.{cost, burst, stamped, largest-bound}
 
 -- ---- "Eligibility"
 
@@ -29,6 +29,26 @@ earliest c h = max (ticks-after (c .gap) (nth-before 1 h)) (ticks-after (c .wind
 -- a packet is eligible on arrival, or at the earliest tick that the rules allow where that is later
 unfoldable pub next-eligibility : Connection → Past → ℕ → ℕ
 next-eligibility c h now = max now (earliest c h)
+
+-- an offer suits a connection's kind: it brings a stamp exactly where the connection is of the second kind (document 02, R-9)
+abbrev pub suits : Connection → Option ℕ → Bool
+suits c none = not (stamped c)
+suits c (some stamp) = stamped c
+
+-- the eligibility of an offer: "that stamp plus a", where it brings one
+abbrev pub eligibility-by : Connection → Past → ℕ → Option ℕ → ℕ
+eligibility-by c h now none = next-eligibility c h now
+eligibility-by c h now (some stamp) = stamp + c .allowance
+
+-- "verdict 17: the stamp is later than the present tick, the sum is before the present tick, or it is less than X after the last eligibility", which a first
+-- packet does not have
+unfoldable pub untimely : Connection → Past → ℕ → ℕ → Bool
+untimely c h now stamp = ltb now stamp || (ltb (stamp + c .allowance) now || ltb (stamp + c .allowance) (ticks-after (c .gap) (nth-before 1 h)))
+
+-- .. of an offer without a stamp there is nothing to ask
+abbrev pub untimely-by : Connection → Past → ℕ → Option ℕ → Bool
+untimely-by c h now none = false
+untimely-by c h now (some stamp) = untimely c h now stamp
 
 -- what is remembered once a packet with the eligibility e is accepted
 unfoldable pub remember : Past → ℕ → Past

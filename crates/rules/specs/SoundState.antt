@@ -1,8 +1,8 @@
 -- A sound state, clause by clause. Document 01, "A sound state"; its first clause, the length of the places table, is the table's own and stands with
--- the code. The clauses on notices, on the silence, on what is remembered and on closed numbers: docs/RULES-AFTER-BASE.md, R-1, R-4, R-6 and R-8.
+-- the code. The clauses on notices, on the silence, on what is remembered and on closed numbers: docs/RULES-AFTER-BASE.md, R-1, R-4, R-6, R-8 and R-9.
 use Prim.Native.Nat.{ℕ, _+_, _≤_, _<_, max}
 use mathlib.Core.Path.{_≡_}
-use mathlib.Core.Bool.{true, false, cond}
+use mathlib.Core.Bool.{Bool, true, false, cond}
 use mathlib.Core.Logic.{_⊎_}
 use mathlib.Core.List.{List, [], _∷_}
 use mathlib.Core.Option.{Option, none, some}
@@ -11,7 +11,7 @@ use lib.ListN.{length, drop}
 use Rattle.rules.specs.Words.{All}
 use Rattle.rules.specs.Limits.{max-connections, max-reserved, clock-end, max-notices, notice-number, max-remembered}
 use Rattle.rules.specs.Model.{Link, Connection, Past, Packet, Notice, State, no-connection, no-past, fresh, nth, past, figures, closed-at, first-notice}
-use Rattle.rules.specs.Admission.{link-within, level-within, figures-within, owned, bound, burst, reservation, reserved, level-sum}
+use Rattle.rules.specs.Admission.{link-within, level-within, figures-within, owned, bound, burst, stamped, reservation, reserved, level-sum}
 use Rattle.rules.specs.Service.{nth-before, ticks-after, earliest, remember-all, Spaced, of, eligibilities, first, expired}
 
 -- ---- the held rows, each by itself
@@ -43,15 +43,17 @@ abbrev pub reach : Connection → ℕ
 reach c = cond (eqb (burst c) 0) (c .gap) (c .window)
 
 -- an eligibility e beyond the clock, behind those in h: the least that both rules allow if the n-th packet before is held or remembered, else at most the
--- greater of I past the clock and X past the one before. Without an average: at most the greater of X past the clock and X past the one before
-abbrev pub Near-by : Connection → ℕ → List ℕ → ℕ → Option ℕ → Type 0
-Near-by c t h e none = e ≤ max (t + reach c) (ticks-after (c .gap) (nth-before 1 h))
-Near-by c t h e (some a) = e ≡ earliest c h
+-- greater of I past the clock and X past the one before. Without an average: at most the greater of X past the clock and X past the one before.
+-- Of the second kind (document 02, R-9): at most the allowance beyond the clock
+abbrev pub Near-by : Connection → ℕ → List ℕ → ℕ → Bool → Option ℕ → Type 0
+Near-by c t h e true o = e ≤ t + c .allowance
+Near-by c t h e false none = e ≤ max (t + reach c) (ticks-after (c .gap) (nth-before 1 h))
+Near-by c t h e false (some a) = e ≡ earliest c h
 
 -- each of es that lies beyond the clock, behind those in h
 abbrev pub Beyond : Connection → ℕ → List ℕ → List ℕ → Type 0
 Beyond c t h [] = Unit {0}
-Beyond c t h (e ∷ es) = (t < e → Near-by c t h e (nth-before (burst c) h)) × Beyond c t (e ∷ h) es
+Beyond c t h (e ∷ es) = (t < e → Near-by c t h e (stamped c) (nth-before (burst c) h)) × Beyond c t (e ∷ h) es
 
 pub record Queue (c : Connection) (t : ℕ) (h : Past) (es : List ℕ) : Type 0 where
   -- at most 16 are remembered, the newest of them those of the last rows

@@ -9,7 +9,7 @@ use lib.ListN.{length}
 use Rattle.rules.specs.Words.{within, every, each}
 use Rattle.rules.specs.Limits.{max-levels, max-connections, max-reserved, clock-end, max-notices, notice-number, max-remembered}
 use Rattle.rules.specs.Model.{Link, Connection, Past, Packet, Notice, State, nth, past, figures, closed-at, first-notice}
-use Rattle.rules.specs.Admission.{link-within, level-within, figures-within, owned, largest-bound, burst, reservation, reserved, passes}
+use Rattle.rules.specs.Admission.{link-within, level-within, figures-within, owned, largest-bound, burst, stamped, reservation, reserved, passes}
 use Rattle.rules.specs.Service.{nth-before, ticks-after, earliest, remember-all, of, eligibilities, first, charge-over}
 use Rattle.rules.specs.SoundState.{departed-of, reach}
 
@@ -20,7 +20,7 @@ all-zero l = eqb (l .largest) 0 && (eqb (l .silence) 0 && (eqb (length (l .bound
 
 -- a free number: everything unused is zero
 abbrev pub blank : Connection → Bool
-blank c = eqb (c .level) 0 && (eqb (c .gap) 0 && (eqb (c .size) 0 && (eqb (c .window) 0 && eqb (c .average) 0)))
+blank c = eqb (c .level) 0 && (eqb (c .gap) 0 && (eqb (c .size) 0 && (eqb (c .window) 0 && (eqb (c .average) 0 && (eqb (c .kind) 0 && eqb (c .allowance) 0)))))
 
 abbrev pub free-sound : State → ℕ → Bool
 free-sound s c = blank (figures s c) && (eqb (length (past s c)) 0 && not (closed-at s c))
@@ -58,13 +58,16 @@ row-sound cs t p =
     && (within 1 (nth cs (p .connection) .size) (p .len) && (leb (p .arrival) t && leb (p .arrival) (p .eligibility)))
 
 -- how late an eligibility may be behind those in h: as early as the rules allow if the n-th before is known, else the greater of X past the one before and of
--- I (or X, where there is no average) past the clock t
+-- I (or X, where there is no average) past the clock t; of the second kind the allowance past the clock (document 02, R-9)
 abbrev pub far-as : ℕ → ℕ → Option ℕ → ℕ
 far-as far x none = far
 far-as far x (some a) = a + x
 
+unfoldable pub latest-by-gap : Connection → ℕ → Past → ℕ
+latest-by-gap c t h = max (ticks-after (c .gap) (nth-before 1 h)) (far-as (t + reach c) (c .window) (nth-before (burst c) h))
+
 unfoldable pub latest : Connection → ℕ → Past → ℕ
-latest c t h = max (ticks-after (c .gap) (nth-before 1 h)) (far-as (t + reach c) (c .window) (nth-before (burst c) h))
+latest c t h = cond (stamped c) (t + c .allowance) (latest-by-gap c t h)
 
 -- an eligibility e behind those in h: not too early, and not too late
 abbrev pub in-pace : Connection → ℕ → Past → ℕ → Bool

@@ -11,9 +11,9 @@ use Rattle.rules.specs.Model.{Link, Connection, Past}
 use Rattle.rules.specs.Service.{remember-all, Spaced}
 use Rattle.rules.specs.SoundState.{in-order, departed-of}
 
--- a connection without an average
+-- a connection of the first kind without an average
 abbrev pub Plain : Connection → Type 0
-Plain c = (c .window ≡ 0) × (c .average ≡ 0)
+Plain c = (c .window ≡ 0) × (c .average ≡ 0) × (c .kind ≡ 0) × (c .allowance ≡ 0)
 
 -- ---- the spacing of any two
 

@@ -4,9 +4,10 @@ use Prim.Native.Nat.{ℕ, _+_, _-_}
 use mathlib.Core.Path.{_≡_}
 use mathlib.Core.Bool.{true, false}
 use mathlib.Core.List.{List, [], _∷_, _++_, map}
+use mathlib.Core.Option.{none, some}
 use lib.ListN.{length, getD, replicate}
 use Rattle.rules.specs.Limits.{max-levels, max-connections}
-use Rattle.rules.specs.Model.{Link, Connection, Past, Packet, Notice, State, Call, link, offer, notice, close, tick, no-link, no-connection, no-past, fresh, with-closed}
+use Rattle.rules.specs.Model.{Link, Connection, Past, Packet, Notice, State, Call, link, admit, offer, notice, close, tick, no-link, no-connection, no-past, fresh, with-closed}
 use Rattle.rules.specs.Calls.{answer}
 use Rattle.rules.specs.Runs.{Departure, run-from}
 use Rattle.rules.specs.Examples.{line, average-line, gap-3}
@@ -40,7 +41,11 @@ wire levels largest silence bounds = record { levels = levels; largest = largest
 
 -- level, gap, size
 abbrev pub connection : ℕ → ℕ → ℕ → Connection
-connection level gap size = record { level = level; gap = gap; size = size; window = 0; average = 0 }
+connection level gap size = record { level = level; gap = gap; size = size; window = 0; average = 0; kind = 0; allowance = 0 }
+
+-- document 02, R-9: gap and allowance of one of the second kind, of level 1 and size 3
+abbrev pub by-stamps : ℕ → ℕ → Connection
+by-stamps gap allowance = record { level = 1; gap = gap; size = 3; window = 0; average = 0; kind = 1; allowance = allowance }
 
 -- an idle line at clock t; every number behind those given is free
 abbrev pub numbered : {A : Type 0} → List A → A → List A
@@ -106,6 +111,18 @@ abbrev pub all-charged : ℕ → State
 all-charged t =
     with-closed (idle t (wire 1 1 0 (300 ∷ [])) (replicate max-connections (connection 1 300 1)) (replicate max-connections (last-at 7)) [] [])
     (replicate max-connections true)
+
+-- link A and a line with stamps, of gap 5 and allowance 6, at clock t: reservation 16 / 5, rounded up. It holds none, one with the eligibility e, four
+abbrev pub stamps-none : ℕ → State
+stamps-none t = idle t wire-a (by-stamps 5 6 ∷ []) (no-past ∷ []) [] []
+
+abbrev pub stamps-one : ℕ → ℕ → State
+stamps-one t e = idle t wire-a (by-stamps 5 6 ∷ []) (last-at e ∷ []) (unit 0 71 t e ∷ []) []
+
+abbrev pub stamps-four : ℕ → State
+stamps-four t =
+    idle (t + 10) wire-a (by-stamps 5 6 ∷ []) (((t + 15) ∷ (t + 10) ∷ (t + 5) ∷ t ∷ []) ∷ [])
+    (unit 0 71 t t ∷ unit 0 72 t (t + 5) ∷ unit 0 73 t (t + 10) ∷ unit 0 74 t (t + 15) ∷ []) []
 
 -- link A and n notices of one unit, at clock t
 abbrev pub waits : ℕ → ℕ → State
@@ -196,15 +213,15 @@ admission-limits =
 abbrev pub service-limits : List Trial
 service-limits =
     -- a number that stands
-    gives (holds-none 7) (offer 0 1 73) 0 7
-    ∷ gives (holds-none 7) (offer 1 1 73) 10 0
+    gives (holds-none 7) (offer 0 1 73 none) 0 7
+    ∷ gives (holds-none 7) (offer 1 1 73 none) 10 0
     -- lengths from 1 to the connection's size, which is below S here
-    ∷ gives (holds-none 7) (offer 0 0 73) 11 0
-    ∷ gives (holds-none 7) (offer 0 3 73) 0 7
-    ∷ gives (holds-none 7) (offer 0 4 73) 11 0
+    ∷ gives (holds-none 7) (offer 0 0 73 none) 11 0
+    ∷ gives (holds-none 7) (offer 0 3 73 none) 0 7
+    ∷ gives (holds-none 7) (offer 0 4 73 none) 11 0
     -- as many packets as its reservation, 2
-    ∷ gives (holds-one 7) (offer 0 1 73) 0 12
-    ∷ gives (holds-two 7) (offer 0 1 73) 12 0
+    ∷ gives (holds-one 7) (offer 0 1 73 none) 0 12
+    ∷ gives (holds-two 7) (offer 0 1 73 none) 12 0
     -- of a notice from 1 to S
     ∷ gives (waits 7 0) (notice 0 73) 11 0
     ∷ gives (waits 7 0) (notice 1 73) 0 7
@@ -214,10 +231,10 @@ service-limits =
     ∷ gives (waits 7 63) (notice 1 73) 0 7
     ∷ gives (waits 7 64) (notice 1 73) 15 0
     -- the clock's end, which admissions don't ask for
-    ∷ gives (holds-none 3_999_999_999) (offer 0 1 73) 0 3_999_999_999
+    ∷ gives (holds-none 3_999_999_999) (offer 0 1 73 none) 0 3_999_999_999
     ∷ gives (holds-none 3_999_999_999) (notice 1 73) 0 3_999_999_999
     ∷ gives (holds-none 3_999_999_999) tick 0 0
-    ∷ gives (holds-none 4_000_000_000) (offer 0 1 73) 13 0
+    ∷ gives (holds-none 4_000_000_000) (offer 0 1 73 none) 13 0
     ∷ gives (holds-none 4_000_000_000) (notice 1 73) 13 0
     ∷ gives (holds-none 4_000_000_000) tick 13 0
     ∷ gives (idle 4_000_000_000 wire-a [] [] [] []) (line 1 10 4) 0 0
@@ -233,7 +250,7 @@ close-limits =
     ∷ gives (holds-one 7) (close 0) 16 0
     ∷ gives (holds-none 4_000_000_000) (close 0) 0 0
     -- closed and charged until 27: at 26 it gets 10, and its number is not given
-    ∷ gives (charged 26) (offer 0 1 73) 10 0
+    ∷ gives (charged 26) (offer 0 1 73 none) 10 0
     ∷ gives (charged 26) (close 0) 10 0
     ∷ gives (charged 26) (line 2 20 1) 0 1
     ∷ gives (charged 26) tick 0 0
@@ -243,13 +260,37 @@ close-limits =
     ∷ gives free-0 (line 2 20 1) 0 0
     ∷ []
 
+-- document 02, R-9: allowances and stamps
+abbrev pub stamp-limits : List Trial
+stamp-limits =
+    -- an allowance up to 65,535; reservations of 20,480 / 10 and 20,481 / 10, rounded up
+    gives (bare wire-a) (admit (by-stamps 100 65_535)) 0 0
+    ∷ gives (bare wire-a) (admit (by-stamps 100 65_536)) 6 255
+    ∷ gives (bare wire-a) (admit (by-stamps 10 20_470)) 0 0
+    ∷ gives (bare wire-a) (admit (by-stamps 10 20_471)) 9 255
+    -- a stamp to one of the second kind, none to one of the first
+    ∷ gives (stamps-none 7) (offer 0 1 73 none) 10 0
+    ∷ gives (holds-none 7) (offer 0 1 73 (some 7)) 10 0
+    -- a stamp up to the present tick
+    ∷ gives (stamps-none 7) (offer 0 1 73 (some 7)) 0 13
+    ∷ gives (stamps-none 7) (offer 0 1 73 (some 8)) 17 0
+    -- a sum from the present tick on
+    ∷ gives (stamps-none 7) (offer 0 1 73 (some 1)) 0 7
+    ∷ gives (stamps-none 7) (offer 0 1 73 (some 0)) 17 0
+    -- 5 after the last eligibility
+    ∷ gives (stamps-one 7 7) (offer 0 1 73 (some 6)) 0 12
+    ∷ gives (stamps-one 7 7) (offer 0 1 73 (some 5)) 17 0
+    -- it is held until its eligibility, on an idle line too: 6 beyond the clock
+    ∷ gives (stamps-one 7 13) tick 0 0
+    ∷ []
+
 -- states that are not sound: number 1 first
 abbrev pub not-sound : List Trial
 not-sound =
     -- with no link everything is zero; 1 before 2, at every call
     gives (idle 1 no-link [] [] [] []) (link (wire 1 1 0 (1 ∷ []))) 1 0
     ∷ gives (idle 1 no-link [] [] [] []) (line 1 10 4) 1 255
-    ∷ gives (idle 1 no-link [] [] [] []) (offer 0 1 73) 1 0
+    ∷ gives (idle 1 no-link [] [] [] []) (offer 0 1 73 none) 1 0
     ∷ gives (idle 1 no-link [] [] [] []) (notice 1 73) 1 0
     ∷ gives (idle 1 no-link [] [] [] []) (close 0) 1 0
     ∷ gives (idle 1 no-link [] [] [] []) tick 1 0
@@ -257,6 +298,8 @@ not-sound =
     ∷ gives (holds-none 4_000_000_001) tick 1 0
     -- a charge that is over (document 02, R-8)
     ∷ gives (charged 27) tick 1 0
+    -- a packet farther than the allowance beyond the clock (document 02, R-9)
+    ∷ gives (stamps-one 7 14) tick 1 0
     ∷ []
 
 -- "Verdict numbers": otherwise the lowest that applies. Calls with several causes
@@ -264,7 +307,7 @@ abbrev pub causes : List Trial
 causes =
     -- 2 before 5, 10 and 11
     gives fresh (line 0 0 0) 2 255
-    ∷ gives fresh (offer 0 0 73) 2 0
+    ∷ gives fresh (offer 0 0 73 none) 2 0
     ∷ gives fresh (notice 0 73) 2 0
     ∷ gives fresh (close 0) 2 0
     ∷ gives fresh tick 2 0
@@ -277,9 +320,13 @@ causes =
     ∷ gives (many 200) (line 1 1 1) 7 255
     ∷ gives reserved-2040 (line 1 1 1) 8 255
     -- 10 before 11, 11 before 12, 12 before 13
-    ∷ gives (holds-two 7) (offer 1 0 73) 10 0
-    ∷ gives (holds-two 7) (offer 0 4 73) 11 0
-    ∷ gives (holds-two 4_000_000_000) (offer 0 1 73) 12 0
+    ∷ gives (holds-two 7) (offer 1 0 73 none) 10 0
+    ∷ gives (holds-two 7) (offer 0 4 73 none) 11 0
+    ∷ gives (holds-two 4_000_000_000) (offer 0 1 73 none) 12 0
+    -- document 02, R-9: 10 before 11, 12 and 13 before 17
+    ∷ gives (stamps-none 7) (offer 0 0 73 none) 10 0
+    ∷ gives (stamps-four 7) (offer 0 1 75 (some 18)) 12 0
+    ∷ gives (stamps-none 4_000_000_000) (offer 0 1 73 (some 4_000_000_001)) 13 0
     -- 11 before 13, 13 before 15
     ∷ gives (waits 4_000_000_000 0) (notice 5 73) 11 0
     ∷ gives (waits 4_000_000_000 64) (notice 1 73) 13 0
@@ -302,4 +349,6 @@ abbrev pub As-worked : List Trial → Type 0
 As-worked rows = map outcome rows ≡ map (λ (x : Trial). x .expected) rows
 
 abbrev pub Worked-limits : Type 0
-Worked-limits = As-worked link-limits × As-worked admission-limits × As-worked service-limits × As-worked close-limits × As-worked not-sound × As-worked causes × As-worked ties
+Worked-limits =
+    As-worked link-limits × As-worked admission-limits × As-worked service-limits × As-worked close-limits × As-worked stamp-limits × As-worked not-sound
+    × As-worked causes × As-worked ties

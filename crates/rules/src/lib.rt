@@ -9,13 +9,16 @@ pub struct Link {
     pub bounds: [u32; 8],
 }
 
-// The same section: a connection as it was admitted. Document 02, R-6: its averaging window and its average gap, both 0 where it has none.
+// The same section: a connection as it was admitted. Document 02, R-6: its averaging window and its average gap, both 0 where it has none. R-9: its kind, 0
+// where its packets are spaced by its gap, 1 where each brings a stamp; and its allowance, 0 of the first kind.
 pub struct Connection {
     pub level: u32,
     pub gap: u32,
     pub size: u32,
     pub window: u32,
     pub average: u32,
+    pub kind: u32,
+    pub allowance: u32,
 }
 
 // The same section: a held packet.

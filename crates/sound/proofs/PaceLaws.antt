@@ -17,10 +17,10 @@ use Rattle.rules.specs.declared.Packet.{Packet}
 use Rattle.rules.specs.Words.{All, every}
 use Rattle.rules.specs.Limits.{max-connections, max-reserved, max-remembered}
 use Rattle.rules.specs.Model.{Past, nth, no-past}
-use Rattle.rules.specs.Admission.{burst, owned, largest-bound, reservation}
+use Rattle.rules.specs.Admission.{burst, stamped, owned, largest-bound, reservation}
 use Rattle.rules.specs.Service.{earliest, nth-before, ticks-after, remember, remember-all, of, eligibilities, charge-over}
 use Rattle.rules.specs.SoundState.{departed-of}
-use Rattle.rules.specs.SoundTest.{latest, in-pace, departed-by, paced, left-in-time, left-sound, same-numbers, before-pass, behind-pass, closed-sound}
+use Rattle.rules.specs.SoundTest.{latest-by-gap, latest, in-pace, departed-by, paced, left-in-time, left-sound, same-numbers, before-pass, behind-pass, closed-sound}
 use Rattle.rules.proofs.Lists.{all-at, all-from, all-set}
 use Rattle.rules.proofs.Memory.{remember-few, remember-all-snoc}
 use Rattle.rules.proofs.Rows.{of-snoc-same, of-snoc-other, eligibilities-snoc-same, eligibilities-snoc-other}
@@ -196,12 +196,6 @@ is-known m (suc n) z l k =
 pub within-same : (l : Link) (members t : List ℕ) (f : ℕ → Past) → Remembers members t f → Within l (connections-in members) → Within l (connections-in t)
 within-same l members t f R W = subst (λ (cs : List Connection). Within l cs) (sym (R .same)) W
 
--- an owner has a gap
-pub some-gap : (l : Link) (t : List ℕ) (c : ℕ) (x : Connection) → Within l (connections-in t) → x ≡ nth (connections-in t) c → (x .level ≡ 0 → ⊥) → 1 ≤ x .gap
-some-gap l t c x W e n =
-    let o = level-owned (connections-in t) c (λ z. n (ap (λ (y : Connection). y .level) e ∙ z)) in
-    omega (arith, ap (λ (y : Connection). y .gap) e, figure-limits l (nth (connections-in t) c) (W .figures-in c o) .some-gap)
-
 pub names-same : (members t places : List ℕ) (f : ℕ → Past) → Remembers members t f → Names members places → Names t places
 names-same members t places f R N = subst (λ (cs : List Connection). (k : ℕ) → k < length (rows places) → owned cs (row-at places k .connection) ≡ true) (sym (R .same)) N
 
@@ -294,24 +288,34 @@ module _ (h : Hub) (t : List ℕ) (c n : ℕ) (x : Connection) (i : x ≡ nth (c
 
 -- ---- the pass
 
--- how late: three cases
+-- how late by the gap: three cases
 module _ (c : Connection) (t : ℕ) (h : Past) (a : ℕ) (e : a ≡ ticks-after (c .gap) (nth-before 1 h)) where
-  pub latest-plain : burst c ≡ 0 → max a (t + c .gap) ≡ latest c t h
-  unfolding latest
+  pub latest-plain : burst c ≡ 0 → max a (t + c .gap) ≡ latest-by-gap c t h
+  unfolding latest-by-gap
   latest-plain z = rw (e, z)
 
-  pub latest-unknown : (burst c ≡ 0 → ⊥) → nth-before (burst c) h ≡ none → max a (t + c .window) ≡ latest c t h
-  unfolding latest
+  pub latest-unknown : (burst c ≡ 0 → ⊥) → nth-before (burst c) h ≡ none → max a (t + c .window) ≡ latest-by-gap c t h
+  unfolding latest-by-gap
   latest-unknown n z = rw (e, z, ne-eqb (burst c) 0 n)
 
-  pub latest-known : (b v : ℕ) → nth-before (burst c) h ≡ some v → b ≡ ticks-after (c .window) (nth-before (burst c) h) → max a b ≡ latest c t h
-  unfolding latest
+  pub latest-known : (b v : ℕ) → nth-before (burst c) h ≡ some v → b ≡ ticks-after (c .window) (nth-before (burst c) h) → max a b ≡ latest-by-gap c t h
+  unfolding latest-by-gap
   latest-known b v z g = rw (e, g, z)
 
-pub latest-by-known : (m : Member) (t a b : ℕ) → a ≡ ticks-after (m .gap) (nth-before 1 (past-of m)) → (n : ℕ) → n ≡ burst (connection-of m) → (n ≡ 0 → ⊥) → n ≤ m .known → n ≤ length (m .ticks)
-    → b ≡ ticks-after (m .window) (nth-before n (past-of m)) → max a b ≡ latest (connection-of m) t (past-of m)
+pub latest-by-known : (m : Member) (t a b : ℕ) → a ≡ ticks-after (m .figures .gap) (nth-before 1 (past-of m)) → (n : ℕ) → n ≡ burst (connection-of m) → (n ≡ 0 → ⊥) → n ≤ m .known → n ≤ length (m .ticks)
+    → b ≡ ticks-after (m .figures .window) (nth-before n (past-of m)) → max a b ≡ latest-by-gap (connection-of m) t (past-of m)
 latest-by-known m t a b e n f z k l g =
-    latest-known (connection-of m) t (past-of m) a e b _ (ap (λ (i : ℕ). nth-before i (past-of m)) (sym f) ∙ is-known m n z k l) (g ∙ ap (λ (i : ℕ). ticks-after (m .window) (nth-before i (past-of m))) f)
+    latest-known (connection-of m) t (past-of m) a e b _ (ap (λ (i : ℕ). nth-before i (past-of m)) (sym f) ∙ is-known m n z k l) (g ∙ ap (λ (i : ℕ). ticks-after (m .figures .window) (nth-before i (past-of m))) f)
+
+-- how late, by its kind
+module _ (c : Connection) (t : ℕ) (h : Past) where
+  pub latest-stamped : stamped c ≡ true → t + c .allowance ≡ latest c t h
+  unfolding latest
+  latest-stamped e = rw e
+
+  pub latest-gap : stamped c ≡ false → latest-by-gap c t h ≡ latest c t h
+  unfolding latest
+  latest-gap e = rw e
 
 module _ (t places : List ℕ) (clock i : ℕ) (h : i < length (rows places)) where
   abbrev passed : List Packet
@@ -471,15 +475,15 @@ module _ (h : Hub) (t : Tables) (names : Names (t .members) (t .places)) (seen :
 -- ---- those that are closed
 
 -- number c, by its mark
-module _ (h : Hub) (t : List ℕ) (c n : ℕ) (l : c < max-connections) (mark : ℕ) (e : mark ≡ getD (row-in member-width t c) 5 0) where
+module _ (h : Hub) (t : List ℕ) (c n : ℕ) (l : c < max-connections) (mark : ℕ) (e : mark ≡ getD (row-in member-width t c) 7 0) where
   pub not-closed : mark ≡ 0 → true ≡ closed-with h t n c
   not-closed z =
-      sym (ap (λ (b : Bool). not b || (eqb n 0 && not (charge-over (largest-bound (h .link)) (h .clock) (past-in t c)))) (closed-is t c l ∙ ap not (eq-eqb (getD (row-in member-width t c) 5 0) 0 (sym e ∙ z))))
+      sym (ap (λ (b : Bool). not b || (eqb n 0 && not (charge-over (largest-bound (h .link)) (h .clock) (past-in t c)))) (closed-is t c l ∙ ap not (eq-eqb (getD (row-in member-width t c) 7 0) 0 (sym e ∙ z))))
 
   module _ (m : mark ≡ 0 → ⊥) where
     marked : closed-with h t n c ≡ (eqb n 0 && not (charge-over (largest-bound (h .link)) (h .clock) (past-in t c)))
     marked =
-        ap (λ (b : Bool). not b || (eqb n 0 && not (charge-over (largest-bound (h .link)) (h .clock) (past-in t c)))) (closed-is t c l ∙ ap not (ne-eqb (getD (row-in member-width t c) 5 0) 0 (λ z. m (e ∙ z))))
+        ap (λ (b : Bool). not b || (eqb n 0 && not (charge-over (largest-bound (h .link)) (h .clock) (past-in t c)))) (closed-is t c l ∙ ap not (ne-eqb (getD (row-in member-width t c) 7 0) 0 (λ z. m (e ∙ z))))
 
     pub holds-one : (n ≡ 0 → ⊥) → false ≡ closed-with h t n c
     holds-one k = fails (eqb n 0) _ (ne-eqb n 0 k) ∙ sym marked

@@ -146,11 +146,15 @@ blank-true x h =
     let a = and-true (eqb (x .level) 0) _ h in
     let b = and-true (eqb (x .gap) 0) _ (a .1) in
     let c = and-true (eqb (x .size) 0) _ (b .1) in
-    let d = and-true (eqb (x .window) 0) (eqb (x .average) 0) (c .1) in
-    made (x .level) (x .gap) (x .size) (x .window) (x .average) (eqb-true _ 0 (a .0)) (eqb-true _ 0 (b .0)) (eqb-true _ 0 (c .0)) (eqb-true _ 0 (d .0)) (eqb-true _ 0 (d .1))
+    let d = and-true (eqb (x .window) 0) _ (c .1) in
+    let e = and-true (eqb (x .average) 0) _ (d .1) in
+    let f = and-true (eqb (x .kind) 0) (eqb (x .allowance) 0) (e .1) in
+    made (x .level) (x .gap) (x .size) (x .window) (x .average) (x .kind) (x .allowance)
+    (eqb-true _ 0 (a .0)) (eqb-true _ 0 (b .0)) (eqb-true _ 0 (c .0)) (eqb-true _ 0 (d .0)) (eqb-true _ 0 (e .0)) (eqb-true _ 0 (f .0)) (eqb-true _ 0 (f .1))
   where
-    made : (a b c d e : ℕ) → a ≡ 0 → b ≡ 0 → c ≡ 0 → d ≡ 0 → e ≡ 0 → _≡_ {A = Connection} (record { level = a; gap = b; size = c; window = d; average = e }) no-connection
-    made a b c d e i j k l m = rw (i, j, k, l, m)
+    made : (a b c d e f g : ℕ) → a ≡ 0 → b ≡ 0 → c ≡ 0 → d ≡ 0 → e ≡ 0 → f ≡ 0 → g ≡ 0
+        → _≡_ {A = Connection} (record { level = a; gap = b; size = c; window = d; average = e; kind = f; allowance = g }) no-connection
+    made a b c d e f g i j k l m n o = rw (i, j, k, l, m, n, o)
 
 -- everything that a row stands for is nothing
 abbrev blank-row : Member → Bool
@@ -159,10 +163,10 @@ blank-row m = blank (connection-of m) && (eqb (length (past-of m)) 0 && not (clo
 module _ (r : List ℕ) (long : length r ≡ member-width) (shape : member-formed (member-of r) ≡ true) where
   zero-blank : zeros r ≡ true → blank-row (member-of r) ≡ true
   zero-blank z =
-      and-intro (blank (connection-of (member-of r))) _ (rw (zero-at r 0 z, zero-at r 2 z, zero-at r 1 z, zero-at r 3 z, zero-at r 4 z) refl)
+      and-intro (blank (connection-of (member-of r))) _ (rw (zero-at r 0 z, zero-at r 2 z, zero-at r 1 z, zero-at r 3 z, zero-at r 4 z, zero-at r 5 z, zero-at r 6 z) refl)
       (and-intro (eqb (length (past-of (member-of r))) 0) (not (closed-of (member-of r)))
-      (eq-eqb (length (past-of (member-of r))) 0 (ap (λ (k : ℕ). length (take k (member-of r .ticks))) (zero-at r 6 z)))
-      (ap (λ (b : Bool). not (not b)) (eq-eqb (getD r 5 0) 0 (zero-at r 5 z))))
+      (eq-eqb (length (past-of (member-of r))) 0 (ap (λ (k : ℕ). length (take k (member-of r .ticks))) (zero-at r 8 z)))
+      (ap (λ (b : Bool). not (not b)) (eq-eqb (getD r 7 0) 0 (zero-at r 7 z))))
 
   blank-zero : blank-row (member-of r) ≡ true → zeros r ≡ true
   blank-zero h = zeros-of r at
@@ -194,10 +198,12 @@ module _ (r : List ℕ) (long : length r ≡ member-width) (shape : member-forme
       at (suc (suc zero)) l = ap (λ (x : Connection). x .gap) figures
       at (suc (suc (suc zero))) l = ap (λ (x : Connection). x .window) figures
       at (suc (suc (suc (suc zero)))) l = ap (λ (x : Connection). x .average) figures
-      at (suc (suc (suc (suc (suc zero))))) l = eqb-true (m .mark) 0 (not-false _ (not-true _ (parts .2)))
-      at (suc (suc (suc (suc (suc (suc zero)))))) l = none
-      at (suc (suc (suc (suc (suc (suc (suc k))))))) l =
-          let e : suc (suc (suc (suc (suc (suc (suc k)))))) ≡ member-head + k = omega arith in
+      at (suc (suc (suc (suc (suc zero))))) l = ap (λ (x : Connection). x .kind) figures
+      at (suc (suc (suc (suc (suc (suc zero)))))) l = ap (λ (x : Connection). x .allowance) figures
+      at (suc (suc (suc (suc (suc (suc (suc zero))))))) l = eqb-true (m .mark) 0 (not-false _ (not-true _ (parts .2)))
+      at (suc (suc (suc (suc (suc (suc (suc (suc zero)))))))) l = none
+      at (suc (suc (suc (suc (suc (suc (suc (suc (suc k))))))))) l =
+          let e : suc (suc (suc (suc (suc (suc (suc (suc (suc k)))))))) ≡ member-head + k = omega arith in
           ap (λ (j : ℕ). getD r j 0) e ∙ sym (getD-drop member-head r k 0) ∙ zero-at (drop member-head r) k behind
 
 -- number c is free, as the rules' `free-sound` says of it

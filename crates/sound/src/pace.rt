@@ -9,7 +9,7 @@ ghost use Rattle.rules.specs.Words.{every};
 ghost use Rattle.rules.specs.Model.{nth};
 ghost use Rattle.rules.specs.Admission.{burst};
 ghost use Rattle.rules.specs.Service.{remember};
-ghost use Rattle.rules.specs.SoundTest.{latest, in-pace, paced, left-in-time, queues-sound, closed-sound};
+ghost use Rattle.rules.specs.SoundTest.{latest-by-gap, latest, in-pace, paced, left-in-time, queues-sound, closed-sound};
 ghost use Rattle.tables.specs.Places.{rows};
 ghost use Rattle.connections.specs.Members.{connection-of, past-of, connections-in, member-formed, rows-formed};
 ghost use Rattle.connections.specs.Within.{Within};
@@ -124,20 +124,32 @@ fn each_left_ok(h: Hub, table: &[u32], seen: &[u32]) -> bool
 
 // ---- the pass
 
-// How late the next eligibility may be.
+// How late the next eligibility may be, of a connection regulated by its gap.
+fn latest_by_gap(m: Member, clock: u32) -> u64
+    requires { ⌜ (m .known ≤ max-remembered) × (burst (connection-of m) ≤ max-remembered) ⌝ }
+    ensures { λ r. ⌜ r ≡ latest-by-gap (connection-of m) clock (past-of m) ⌝ }
+{
+    let x = m.figures;
+    let by_gap = after_nth(m, 0, 1, x.gap);
+    let n = connections::packets_in(x.window, x.average);
+    if n == 0 {
+        return greatest(by_gap, wide(clock) + wide(x.gap));
+    }
+    if m.known < n {
+        return greatest(by_gap, wide(clock) + wide(x.window));
+    }
+    greatest(by_gap, after_nth(m, 0, n, x.window))
+}
+
+// How late the next eligibility may be: by stamps, the allowance past the clock.
 fn latest_of(m: Member, clock: u32) -> u64
     requires { ⌜ (m .known ≤ max-remembered) × (burst (connection-of m) ≤ max-remembered) ⌝ }
     ensures { λ r. ⌜ r ≡ latest (connection-of m) clock (past-of m) ⌝ }
 {
-    let by_gap = after_nth(m, 0, 1, m.gap);
-    let n = connections::packets_in(m.window, m.average);
-    if n == 0 {
-        return greatest(by_gap, wide(clock) + wide(m.gap));
+    if connections::stamps::is_stamped(m.figures) {
+        return wide(clock) + wide(m.figures.allowance);
     }
-    if m.known < n {
-        return greatest(by_gap, wide(clock) + wide(m.window));
-    }
-    greatest(by_gap, after_nth(m, 0, n, m.window))
+    latest_by_gap(m, clock)
 }
 
 // Whether the eligibility e keeps the pace behind those that are remembered.
@@ -205,7 +217,7 @@ fn closed_ok(h: Hub, members: &[u32], c: usize, n: u32) -> bool
     requires { ⌜ (rows-formed (now members) ≡ true) × (c < max-connections) ⌝ }
     ensures { λ r. ⌜ r ≡ closed-with h (now (members .entry)) n c ⌝ }
 {
-    if connections::number(members, c, 5) == 0 {
+    if connections::number(members, c, connections::MARK) == 0 {
         return true;
     }
     if n != 0 {

@@ -38,7 +38,7 @@ fn first_of_all(members: &[u32]) -> u64
     while 0 < k {
         k -= 1;
         first = first_with(
-            number(members, k, 5),
+            number(members, k, connections::MARK),
             number(members, k, MEMBER_HEAD),
             first,
         );

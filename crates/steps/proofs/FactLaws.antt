@@ -17,7 +17,7 @@ use Rattle.service.specs.Quiet.{passed, quiet-ticks}
 use Rattle.service.proofs.QuietLaws.{quiets}
 use Rattle.fields.proofs.NumberLaws.{cond-by}
 use Rattle.traces.specs.declared.Record.{Record}
-use Rattle.traces.specs.declared.Record.the-variants.{Link as LinkRecord, Admit, Close, Offer, Notice, Ticks, Malformed}
+use Rattle.traces.specs.declared.Record.the-variants.{Link as LinkRecord, Admit, AdmitStamped, Close, Offer, OfferStamped, Notice, Ticks, Malformed}
 use Rattle.traces.specs.Trace.{longest-record}
 use Rattle.answers.specs.declared.Reply.the-variants.{Linked, Admitted, Closed, Offered, Noticed, Departed, Ticked, Broken}
 use Rattle.answers.specs.Answers.{answer-bytes, longest-answer}
@@ -52,8 +52,10 @@ waits-facts at q q′ h len last r k w g m =
 record-short : (r : Record) (k at : ℕ) (s : State) → length (record-next r k at s .bytes) ≤ longest-answer
 record-short (LinkRecord n m silence d1 d2 d3 d4 d5 d6 d7 d8) k at s = answer-short (Linked _)
 record-short (Admit a b d e f) k at s = answer-short (Admitted _ _ _ _)
+record-short (AdmitStamped a b d e) k at s = answer-short (Admitted _ _ _ _)
 record-short (Close a) k at s = answer-short (Closed _)
 record-short (Offer a b d) k at s = answer-short (Offered _ _)
+record-short (OfferStamped a b d e) k at s = answer-short (Offered _ _)
 record-short (Notice a b) k at s = answer-short (Noticed _ _)
 record-short (Ticks n) k at s = omega arith
 record-short Malformed k at s = answer-short (Broken at)
@@ -85,15 +87,19 @@ record-facts w k at s h len last r a e z l f m b = go w k e z l f
         → Facts (cursor-at at Reading h) len last r a
     go (LinkRecord n q silence d1 d2 d3 d4 d5 d6 d7 d8) zero d z i g = never (cc (z refl))
     go (Admit x y c p q) zero d z i g = never (cc (z refl))
+    go (AdmitStamped x y c p) zero d z i g = never (cc (z refl))
     go (Close x) zero d z i g = never (cc (z refl))
     go (Offer x y c) zero d z i g = never (cc (z refl))
+    go (OfferStamped x y c p) zero d z i g = never (cc (z refl))
     go (Notice x y) zero d z i g = never (cc (z refl))
     go (Ticks n) zero d z i g = never (cc (z refl))
     go (LinkRecord n q silence d1 d2 d3 d4 d5 d6 d7 d8) (suc j) d z i g =
         taken-facts at (suc j) h len last r a (omega arith) i g (short (LinkRecord n q silence d1 d2 d3 d4 d5 d6 d7 d8) (suc j) d) (rw d) (rw d) b (rw d (λ e. cc))
     go (Admit x y c p q) (suc j) d z i g = taken-facts at (suc j) h len last r a (omega arith) i g (short (Admit x y c p q) (suc j) d) (rw d) (rw d) b (rw d (λ e. cc))
+    go (AdmitStamped x y c p) (suc j) d z i g = taken-facts at (suc j) h len last r a (omega arith) i g (short (AdmitStamped x y c p) (suc j) d) (rw d) (rw d) b (rw d (λ e. cc))
     go (Close x) (suc j) d z i g = taken-facts at (suc j) h len last r a (omega arith) i g (short (Close x) (suc j) d) (rw d) (rw d) b (rw d (λ e. cc))
     go (Offer x y c) (suc j) d z i g = taken-facts at (suc j) h len last r a (omega arith) i g (short (Offer x y c) (suc j) d) (rw d) (rw d) b (rw d (λ e. cc))
+    go (OfferStamped x y c p) (suc j) d z i g = taken-facts at (suc j) h len last r a (omega arith) i g (short (OfferStamped x y c p) (suc j) d) (rw d) (rw d) b (rw d (λ e. cc))
     go (Notice x y) (suc j) d z i g = taken-facts at (suc j) h len last r a (omega arith) i g (short (Notice x y) (suc j) d) (rw d) (rw d) b (rw d (λ e. cc))
     go (Ticks n) (suc j) d z i g = taken-facts at (suc j) h len last r a (omega arith) i g (short (Ticks n) (suc j) d) (rw d) (rw d) b (rw d (λ e. cc))
     go Malformed j d z i g =

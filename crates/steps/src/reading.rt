@@ -1,9 +1,10 @@
 // A step where a record is read: its call is made and answered, its ticks begin, or it ends the log.
 ghost use mathlib.Core.Path.{_≡_};
-ghost use mathlib.Core.Bool.{true};
+ghost use mathlib.Core.Bool.{true, false};
 ghost use Prim.Native.Nat.{_-_, _≤_};
 ghost use lib.ListN.{length};
 ghost use Rattle.rules.specs.Model.{link, admit, offer, notice, close};
+ghost use Rattle.connections.specs.Stamps.{stamp-if};
 ghost use Rattle.state.specs.View.{given, before, after, sound-hub, view};
 ghost use Rattle.fields.specs.Formats.{over};
 ghost use Rattle.answers.specs.declared.Reply.the-variants.{Broken};
@@ -28,6 +29,15 @@ use state::Hub;
 use traces::Found;
 use traces::LONGEST_RECORD;
 use traces::Record;
+
+// What is offered: a stamp, where it brings one.
+struct Offering {
+    connection: u32,
+    len: u32,
+    tag: u32,
+    brings: bool,
+    stamp: u32,
+}
 
 // The record that the bytes start with, at offset `at` of the trace: malformed where it would end beyond the limit.
 fn read_at(s: &[u8], at: u32) -> Found
@@ -71,7 +81,7 @@ fn link_step(
     answered(at, told.hub, used, reply, out)
 }
 
-// `CN`, the same.
+// `CN` and `CS`, the same.
 fn admit_step(
     h: Hub,
     members: &mut [u32],
@@ -117,23 +127,57 @@ fn close_step(
     answered(at, told.hub, used, reply, out)
 }
 
-// `PK`, the same.
+// The offer of a `PK`, which brings no stamp.
+fn plain_offer(connection: u8, len: u16, tag: u32) -> Offering
+    ensures { λ r. ⌜ r ≡ record { connection = connection; len = len; tag = tag; brings = false; stamp = 0 } ⌝ }
+{
+    Offering {
+        connection: connection as u32,
+        len: len as u32,
+        tag: tag,
+        brings: false,
+        stamp: 0,
+    }
+}
+
+// The offer of a `PS`.
+fn stamped_offer(connection: u8, len: u16, tag: u32, stamp: u32) -> Offering
+    ensures { λ r. ⌜ r ≡ record { connection = connection; len = len; tag = tag; brings = true; stamp = stamp } ⌝ }
+{
+    Offering {
+        connection: connection as u32,
+        len: len as u32,
+        tag: tag,
+        brings: true,
+        stamp: stamp,
+    }
+}
+
+// `PK` and `PS`, the same.
 fn offer_step(
     h: Hub,
     members: &mut [u32],
     places: &mut [u32],
     notices: &[u32],
-    c: u32,
-    len: u32,
-    tag: u32,
+    p: Offering,
     at: u32,
     used: usize,
     out: &mut [u8],
 ) -> Stepped
     requires { ⌜ (sound-hub h (given members places notices) ≡ true) × (longest-answer ≤ length (now out)) ⌝ }
-    ensures { λ r. ⌜ Makes (call-next (offer c len tag) used at (view h (before members places notices))) r (after members places notices) 0 (now (out .entry)) (now (out .exit)) ⌝ }
+    ensures { λ r. ⌜ Makes (call-next (offer (p .connection) (p .len) (p .tag) (stamp-if (p .brings) (p .stamp))) used at (view h (before members places notices))) r (after members places notices) 0 (now (out .entry)) (now (out .exit)) ⌝ }
 {
-    let told = calls::offer_tested(h, members, places, notices, c, len, tag);
+    let told = calls::offer_tested(
+        h,
+        members,
+        places,
+        notices,
+        p.connection,
+        p.len,
+        p.tag,
+        p.brings,
+        p.stamp,
+    );
     let reply = Reply::Offered {
         verdict: low(told.verdict),
         eligibility: told.number,
@@ -245,6 +289,15 @@ fn record_step(
             let x = named::connection_named(level, gap, size, window, average);
             admit_step(h, members, places, notices, x, to, used, out)
         }
+        Record::AdmitStamped {
+            level,
+            gap,
+            size,
+            allowance,
+        } => {
+            let x = named::stamped_named(level, gap, size, allowance);
+            admit_step(h, members, places, notices, x, to, used, out)
+        }
         Record::Close { connection } => {
             let c = connection as u32;
             close_step(h, members, places, notices, c, to, used, out)
@@ -254,19 +307,17 @@ fn record_step(
             len,
             tag,
         } => {
-            let c = connection as u32;
-            offer_step(
-                h,
-                members,
-                places,
-                notices,
-                c,
-                len as u32,
-                tag,
-                to,
-                used,
-                out,
-            )
+            let p = plain_offer(connection, len, tag);
+            offer_step(h, members, places, notices, p, to, used, out)
+        }
+        Record::OfferStamped {
+            connection,
+            len,
+            tag,
+            stamp,
+        } => {
+            let p = stamped_offer(connection, len, tag, stamp);
+            offer_step(h, members, places, notices, p, to, used, out)
         }
         Record::Notice { len, tag } => notice_step(
             h,

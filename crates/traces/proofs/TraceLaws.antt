@@ -8,11 +8,11 @@ use native.Mathlib.Omega.{arith}
 use lib.ListN.{length, getD, take, drop, replicate, length-replicate}
 use Rattle.fields.specs.Numbers.{little, number, put-fields, get-fields, sum, Fit}
 use Rattle.fields.specs.Kinds.{bytes}
-use Rattle.traces.specs.Kinds.{LK, CN, CL, PK, NQ, TK}
+use Rattle.traces.specs.Kinds.{LK, CN, CS, CL, PK, PS, NQ, TK}
 use Rattle.fields.specs.Formats.{starts, read-kinds, laid}
 use Rattle.traces.specs.Trace.{trace, trace-table, longest-record, link-layout, trace-layout}
 use Rattle.fields.specs.Laws.{Written, Reads-back-what-is-written, Has-the-length-of}
-use Rattle.traces.specs.declared.Record.the-variants.{Link, Admit, Close, Offer, Notice, Ticks, Malformed}
+use Rattle.traces.specs.declared.Record.the-variants.{Link, Admit, AdmitStamped, Close, Offer, OfferStamped, Notice, Ticks, Malformed}
 use Rattle.fields.proofs.NumberLaws.{one-byte, length-get}
 use Rattle.fields.proofs.FormatLaws.{made-of, Fair, All-fair, two-letters, plain-fair, kind-back, length-bytes}
 use Rattle.fields.proofs.WindowLaws.{All-within}
@@ -59,8 +59,10 @@ pub trace-back : Reads-back-what-is-written trace
 unfolding read-kinds starts laid bytes
 trace-back (Link n s silence d1 d2 d3 d4 d5 d6 d7 d8) rest w = link-told n s silence d1 d2 d3 d4 d5 d6 d7 d8 rest w
 trace-back (Admit level gap size window average) rest w = kind-back CN (level ∷ gap ∷ size ∷ window ∷ average ∷ []) rest _ refl w refl refl
+trace-back (AdmitStamped level gap size allowance) rest w = kind-back CS (level ∷ gap ∷ size ∷ allowance ∷ []) rest _ refl w refl refl
 trace-back (Close connection) rest w = kind-back CL (connection ∷ []) rest _ refl w refl refl
 trace-back (Offer connection len tag) rest w = kind-back PK (connection ∷ len ∷ tag ∷ []) rest _ refl w refl refl
+trace-back (OfferStamped connection len tag stamp) rest w = kind-back PS (connection ∷ len ∷ tag ∷ stamp ∷ []) rest _ refl w refl refl
 trace-back (Notice len tag) rest w = kind-back NQ (len ∷ tag ∷ []) rest _ refl w refl refl
 trace-back (Ticks ticks) rest w = kind-back TK (ticks ∷ []) rest _ refl w refl refl
 trace-back Malformed rest w = absurd w
@@ -91,12 +93,18 @@ trace-fair = (
   (
     plain-fair CN (two-letters 0x43 0x4E (omega arith) (omega arith)) (λ b c. refl) (λ bs a. refl),
     (
-      plain-fair CL (two-letters 0x43 0x4C (omega arith) (omega arith)) (λ b c. refl) (λ bs a. refl),
+      plain-fair CS (two-letters 0x43 0x53 (omega arith) (omega arith)) (λ b c. refl) (λ bs a. refl),
       (
-        plain-fair PK (two-letters 0x50 0x4B (omega arith) (omega arith)) (λ b c. refl) (λ bs a. refl),
+        plain-fair CL (two-letters 0x43 0x4C (omega arith) (omega arith)) (λ b c. refl) (λ bs a. refl),
         (
-          plain-fair NQ (two-letters 0x4E 0x51 (omega arith) (omega arith)) (λ b c. refl) (λ bs a. refl),
-          (plain-fair TK (two-letters 0x54 0x4B (omega arith) (omega arith)) (λ b c. refl) (λ bs a. refl), tt),
+          plain-fair PK (two-letters 0x50 0x4B (omega arith) (omega arith)) (λ b c. refl) (λ bs a. refl),
+          (
+            plain-fair PS (two-letters 0x50 0x53 (omega arith) (omega arith)) (λ b c. refl) (λ bs a. refl),
+            (
+              plain-fair NQ (two-letters 0x4E 0x51 (omega arith) (omega arith)) (λ b c. refl) (λ bs a. refl),
+              (plain-fair TK (two-letters 0x54 0x4B (omega arith) (omega arith)) (λ b c. refl) (λ bs a. refl), tt),
+            ),
+          ),
         ),
       ),
     ),
@@ -109,8 +117,10 @@ trace-length (Link n s silence d1 d2 d3 d4 d5 d6 d7 d8) h =
     let ds = d1 ∷ d2 ∷ d3 ∷ d4 ∷ d5 ∷ d6 ∷ d7 ∷ d8 ∷ [] in
     ap (λ l. length (laid l)) (written-as n s silence ds (has-bytes n s silence ds h)) ∙ length-bytes LK (n ∷ s ∷ silence ∷ take n ds) ∙ sum-link n
 trace-length (Admit level gap size window average) h = length-bytes CN (level ∷ gap ∷ size ∷ window ∷ average ∷ [])
+trace-length (AdmitStamped level gap size allowance) h = length-bytes CS (level ∷ gap ∷ size ∷ allowance ∷ [])
 trace-length (Close connection) h = length-bytes CL (connection ∷ [])
 trace-length (Offer connection len tag) h = length-bytes PK (connection ∷ len ∷ tag ∷ [])
+trace-length (OfferStamped connection len tag stamp) h = length-bytes PS (connection ∷ len ∷ tag ∷ stamp ∷ [])
 trace-length (Notice len tag) h = length-bytes NQ (len ∷ tag ∷ [])
 trace-length (Ticks ticks) h = length-bytes TK (ticks ∷ [])
 trace-length Malformed h = absurd (omega arith)
@@ -128,7 +138,13 @@ trace-within = (
         λ b a. omega arith,
         (
           λ b a. omega arith,
-          (λ b a. omega arith, tt),
+          (
+            λ b a. omega arith,
+            (
+              λ b a. omega arith,
+              (λ b a. omega arith, tt),
+            ),
+          ),
         ),
       ),
     ),

@@ -1,12 +1,12 @@
--- Document 01, "Trace and answer records": the trace kinds of its table, in its order; and those of document 02, R-8 behind `CN` and R-1 behind `PK`.
--- `LK` as R-4 has it, `CN` as R-6. Each with the record that its numbers make.
+-- Document 01, "Trace and answer records": the trace kinds of its table, in its order; and those of document 02, R-9 and R-8 behind `CN`, R-9 and R-1
+-- behind `PK`. `LK` as R-4 has it, `CN` as R-6. Each with the record that its numbers make.
 use mathlib.Core.Bool.{_&&_}
 use mathlib.Core.List.{[], _∷_}
 use lib.ListN.{replicate}
 use lib.Dec.{leb}
 use Rattle.fields.specs.Kinds.{Kind, plain}
 use Rattle.traces.specs.declared.Record.{Record}
-use Rattle.traces.specs.declared.Record.the-variants.{Link, Admit, Close, Offer, Notice, Ticks}
+use Rattle.traces.specs.declared.Record.the-variants.{Link, Admit, AdmitStamped, Close, Offer, OfferStamped, Notice, Ticks}
 
 -- document 02, R-4, as docs/RULES-AFTER-BASE.md lays it out: "n (1), S (2), silence (1), then n bounds (2 each)"; document 01: "malformed means: .. an `LK` with
 -- n outside 1 to 8", and "bounds past n are read as 0": they are not among the numbers
@@ -23,6 +23,10 @@ LK =
 abbrev pub CN : Kind Record
 CN = plain (0x43 ∷ 0x4E ∷ []) (1 ∷ 2 ∷ 2 ∷ 2 ∷ 2 ∷ []) (λ x. Admit (x 0) (x 1) (x 2) (x 3) (x 4))
 
+-- document 02, R-9, as docs/RULES-AFTER-BASE.md lays it out: "level (1), gap (2), size (2), allowance (2)"
+abbrev pub CS : Kind Record
+CS = plain (0x43 ∷ 0x53 ∷ []) (1 ∷ 2 ∷ 2 ∷ 2 ∷ []) (λ x. AdmitStamped (x 0) (x 1) (x 2) (x 3))
+
 -- document 02, R-8, as docs/RULES-AFTER-BASE.md lays it out: "connection (1)"
 abbrev pub CL : Kind Record
 CL = plain (0x43 ∷ 0x4C ∷ []) (1 ∷ []) (λ x. Close (x 0))
@@ -30,6 +34,10 @@ CL = plain (0x43 ∷ 0x4C ∷ []) (1 ∷ []) (λ x. Close (x 0))
 -- "connection (1), length (2), tag (4)"
 abbrev pub PK : Kind Record
 PK = plain (0x50 ∷ 0x4B ∷ []) (1 ∷ 2 ∷ 4 ∷ []) (λ x. Offer (x 0) (x 1) (x 2))
+
+-- document 02, R-9, as docs/RULES-AFTER-BASE.md lays it out: "connection (1), length (2), tag (4), stamp (4)"
+abbrev pub PS : Kind Record
+PS = plain (0x50 ∷ 0x53 ∷ []) (1 ∷ 2 ∷ 4 ∷ 4 ∷ []) (λ x. OfferStamped (x 0) (x 1) (x 2) (x 3))
 
 -- document 02, R-1, as docs/RULES-AFTER-BASE.md lays it out: "length (2), tag (4)"
 abbrev pub NQ : Kind Record

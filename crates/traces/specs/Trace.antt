@@ -1,5 +1,6 @@
 -- Document 01, "Trace and answer records": the four trace kinds; and document 02, R-1: a fifth, the notice; R-4: the silence of a link; R-6: the
--- window and the average gap of a connection; R-8: a sixth, the close.
+-- window and the average gap of a connection; R-8: a sixth, the close; R-9: a seventh and an eighth, the admission of a connection by
+-- stamps and the offer with a stamp.
 use mathlib.Core.Bool.{Bool, cond, _&&_}
 use mathlib.Core.List.{List, [], _∷_}
 use mathlib.Core.Option.{Option, some, none}
@@ -10,9 +11,9 @@ use Rattle.fields.specs.Numbers.{sum}
 use Rattle.fields.specs.Kinds.{Kind}
 use Rattle.fields.specs.Drafts.{longest}
 use Rattle.fields.specs.Formats.{Format, read-kinds, laid}
-use Rattle.traces.specs.Kinds.{LK, CN, CL, PK, NQ, TK}
+use Rattle.traces.specs.Kinds.{LK, CN, CS, CL, PK, PS, NQ, TK}
 use Rattle.traces.specs.declared.Record.{Record}
-use Rattle.traces.specs.declared.Record.the-variants.{Link, Admit, Close, Offer, Notice, Ticks, Malformed}
+use Rattle.traces.specs.declared.Record.the-variants.{Link, Admit, AdmitStamped, Close, Offer, OfferStamped, Notice, Ticks, Malformed}
 use Rattle.traces.specs.declared.Found.{Found}
 
 -- Whether a link with these bounds is written: "one with n out of range or a bound past n not 0" is not.
@@ -27,15 +28,17 @@ link-layout n s silence ds = cond (link-written n ds) (some (LK, n ∷ s ∷ sil
 abbrev pub trace-layout : Record → Option (Kind Record × List ℕ)
 trace-layout (Link n s silence d1 d2 d3 d4 d5 d6 d7 d8) = link-layout n s silence (d1 ∷ d2 ∷ d3 ∷ d4 ∷ d5 ∷ d6 ∷ d7 ∷ d8 ∷ [])
 trace-layout (Admit level gap size window average) = some (CN, level ∷ gap ∷ size ∷ window ∷ average ∷ [])
+trace-layout (AdmitStamped level gap size allowance) = some (CS, level ∷ gap ∷ size ∷ allowance ∷ [])
 trace-layout (Close connection) = some (CL, connection ∷ [])
 trace-layout (Offer connection len tag) = some (PK, connection ∷ len ∷ tag ∷ [])
+trace-layout (OfferStamped connection len tag stamp) = some (PS, connection ∷ len ∷ tag ∷ stamp ∷ [])
 trace-layout (Notice len tag) = some (NQ, len ∷ tag ∷ [])
 trace-layout (Ticks ticks) = some (TK, ticks ∷ [])
 trace-layout Malformed = none
 
--- The format of traces: "the four trace kinds", the close behind the admission, and the notice behind the offer.
+-- The format of traces: "the four trace kinds", the admission by stamps and the close behind the admission, the offer with a stamp and the notice behind the offer.
 abbrev pub trace : Format Record
-trace = record { kinds = LK ∷ CN ∷ CL ∷ PK ∷ NQ ∷ TK ∷ []; layout = trace-layout }
+trace = record { kinds = LK ∷ CN ∷ CS ∷ CL ∷ PK ∷ PS ∷ NQ ∷ TK ∷ []; layout = trace-layout }
 
 -- What reading answers: nothing found is malformed, and takes no byte.
 abbrev pub found : Option (Record × ℕ) → Found
@@ -54,8 +57,10 @@ trace-bytes r = laid (trace .layout r)
 abbrev pub trace-table : Record → ℕ
 trace-table (Link n s silence d1 d2 d3 d4 d5 d6 d7 d8) = 6 + 2 * n
 trace-table (Admit level gap size window average) = 11
+trace-table (AdmitStamped level gap size allowance) = 9
 trace-table (Close connection) = 3
 trace-table (Offer connection len tag) = 9
+trace-table (OfferStamped connection len tag stamp) = 13
 trace-table (Notice len tag) = 8
 trace-table (Ticks ticks) = 4
 trace-table Malformed = 0

@@ -1,11 +1,13 @@
-// The trace records of document 01, "Trace and answer records", and of document 02, R-1, R-4, R-6 and R-8: their kinds as values, read and written.
+// The trace records of document 01, "Trace and answer records", and of document 02, R-1, R-4, R-6, R-8 and R-9: their kinds as values, read and written.
 mod link; // link.rt: links, of which one number says how many follow
 
 ghost use mathlib.Core.Path.{_≡_};
 ghost use mathlib.Core.Option.{none};
 ghost use lib.ListN.{length, drop};
+ghost use Rattle.fields.specs.Numbers.{number};
 ghost use Rattle.fields.specs.Formats.{whole, mark-among, fitting, over};
 ghost use Rattle.fields.specs.Drafts.{Holds};
+ghost use Rattle.traces.specs.declared.Record.the-variants.{AdmitStamped, OfferStamped};
 ghost use Rattle.traces.specs.Trace.{trace, found, read-trace, trace-bytes};
 use fields::Draft;
 use fields::read::four;
@@ -18,9 +20,13 @@ const LK: [u8; 2] = *b"LK";
 
 const CN: [u8; 2] = *b"CN";
 
+const CS: [u8; 2] = *b"CS";
+
 const CL: [u8; 2] = *b"CL";
 
 const PK: [u8; 2] = *b"PK";
+
+const PS: [u8; 2] = *b"PS";
 
 const NQ: [u8; 2] = *b"NQ";
 
@@ -51,6 +57,12 @@ pub enum Record {
         window: u16,
         average: u16,
     },
+    AdmitStamped {
+        level: u8,
+        gap: u16,
+        size: u16,
+        allowance: u16,
+    },
     Close {
         connection: u8,
     },
@@ -58,6 +70,12 @@ pub enum Record {
         connection: u8,
         len: u16,
         tag: u32,
+    },
+    OfferStamped {
+        connection: u8,
+        len: u16,
+        tag: u32,
+        stamp: u32,
     },
     Notice {
         len: u16,
@@ -104,13 +122,39 @@ fn mark_of(s: &[u8]) -> u16
 {
     let mark = known(s, TK, 0);
     let mark = known(s, NQ, mark);
+    let mark = known(s, PS, mark);
     let mark = known(s, PK, mark);
     let mark = known(s, CL, mark);
+    let mark = known(s, CS, mark);
     let mark = known(s, CN, mark);
     known(s, LK, mark)
 }
 
-// The record that the bytes start with: the marks are LK, CN, CL, PK, NQ and TK as numbers.
+// The numbers of a `CS`.
+fn admit_stamped(s: &[u8]) -> Record
+    ensures { λ r. ⌜ r ≡ AdmitStamped (number 1 (now (s .entry)) 2) (number 2 (now (s .entry)) 3) (number 2 (now (s .entry)) 5) (number 2 (now (s .entry)) 7) ⌝ }
+{
+    Record::AdmitStamped {
+        level: one(s, 2),
+        gap: two(s, 3),
+        size: two(s, 5),
+        allowance: two(s, 7),
+    }
+}
+
+// The numbers of a `PS`.
+fn offer_stamped(s: &[u8]) -> Record
+    ensures { λ r. ⌜ r ≡ OfferStamped (number 1 (now (s .entry)) 2) (number 2 (now (s .entry)) 3) (number 4 (now (s .entry)) 5) (number 4 (now (s .entry)) 9) ⌝ }
+{
+    Record::OfferStamped {
+        connection: one(s, 2),
+        len: two(s, 3),
+        tag: four(s, 5),
+        stamp: four(s, 9),
+    }
+}
+
+// The record that the bytes start with: the marks are LK, CN, CS, CL, PK, PS, NQ and TK as numbers.
 pub fn read(s: &[u8]) -> Found
     ensures { λ r. ⌜ r ≡ read-trace (now (s .entry)) ⌝ }
 {
@@ -128,6 +172,7 @@ pub fn read(s: &[u8]) -> Found
             };
             whole_of(s, 11, admit)
         }
+        0x5343 => whole_of(s, 9, admit_stamped(s)),
         0x4C43 => whole_of(s, 3, Record::Close { connection: first }),
         0x4B50 => {
             let offer = Record::Offer {
@@ -137,6 +182,7 @@ pub fn read(s: &[u8]) -> Found
             };
             whole_of(s, 9, offer)
         }
+        0x5350 => whole_of(s, 13, offer_stamped(s)),
         0x514E => {
             let notice = Record::Notice {
                 len: two(s, 2),
@@ -189,12 +235,24 @@ fn draft(r: Record) -> Draft
             .two(size)
             .two(window)
             .two(average),
+        Record::AdmitStamped {
+            level,
+            gap,
+            size,
+            allowance,
+        } => Draft::headed(CS, level).two(gap).two(size).two(allowance),
         Record::Close { connection } => Draft::headed(CL, connection),
         Record::Offer {
             connection,
             len,
             tag,
         } => Draft::headed(PK, connection).two(len).four(tag),
+        Record::OfferStamped {
+            connection,
+            len,
+            tag,
+            stamp,
+        } => Draft::headed(PS, connection).two(len).four(tag).four(stamp),
         Record::Notice { len, tag } => Draft::marked(NQ).two(len).four(tag),
         Record::Ticks { ticks } => Draft::marked(TK).two(ticks),
         Record::Malformed => Draft::empty(),

@@ -68,7 +68,7 @@ fn idle_behind_a_packet(script: &Script) -> Vec<u8> {
     idle
 }
 
-fn close_idle(script: &mut Script) {
+pub fn close_idle(script: &mut Script) {
     let mut idle = idle_behind_a_packet(script);
     if idle.is_empty() || script.random.once_in(3) {
         idle = self::idle(script);
@@ -78,14 +78,14 @@ fn close_idle(script: &mut Script) {
     }
 }
 
-fn close_any(script: &mut Script) {
+pub fn close_any(script: &mut Script) {
     if let Some((number, _)) = script.any_connection() {
         script.close(number);
     }
 }
 
 /// A number that most likely does not stand: charged, next to be given, past the last, any.
-fn odd_number(script: &mut Script) -> u8 {
+pub fn odd_number(script: &mut Script) -> u8 {
     let charged: Vec<u8> = script.hub().charged().map(|(number, _)| number).collect();
     let charged = script.random.one_of(&charged);
     let next = script.hub().next_number().unwrap_or(0);
@@ -100,7 +100,7 @@ fn odd_number(script: &mut Script) -> u8 {
     }
 }
 
-fn close_odd(script: &mut Script) {
+pub fn close_odd(script: &mut Script) {
     let number = odd_number(script);
     script.close(number);
 }
@@ -117,7 +117,7 @@ fn next_end(script: &Script) -> Option<Tick> {
 }
 
 /// A tick before a moment, at it, or a tick behind it, in one `TK` or in two.
-fn ticks_about(script: &mut Script, moment: Tick) {
+pub fn ticks_about(script: &mut Script, moment: Tick) {
     let moment = (moment + script.random.pick([0, 1, 1, 2])).saturating_sub(1);
     if script.random.once_in(2) {
         let left = moment.saturating_sub(script.clock());
@@ -128,7 +128,7 @@ fn ticks_about(script: &mut Script, moment: Tick) {
 }
 
 /// Few ticks at a time until a connection holds nothing, but not for ever.
-fn until_it_holds_nothing(script: &mut Script, number: u8) {
+pub fn until_it_holds_nothing(script: &mut Script, number: u8) {
     for _ in 0..100 {
         if script.hub().held_by(number) == 0 || script.clock() == CLOCK_END {
             return;

@@ -1,7 +1,7 @@
 //! Damaged traces: changed, cut, spliced and made-up bytes.
 
 use super::script::Script;
-use super::{closing, edges, notices, traffic};
+use super::{closing, edges, notices, stamps, traffic};
 use crate::random::Random;
 
 /// A mark and how many bytes follow it.
@@ -32,30 +32,59 @@ enum Of {
     Packets,
     Notices,
     Closes,
+    Stamps,
 }
 
 /// A record that came later, and its answer.
+#[derive(Clone, Copy)]
 struct Later {
     record: &'static [u8],
     marked: Marked,
     answer: Marked,
 }
 
+const NOTICES: [Later; 1] = [Later {
+    record: b"NQ\x01\x00\x07\x00\x00\x00",
+    marked: (b"NQ", 6),
+    answer: (b"NA", 5),
+}];
+
+const CLOSES: [Later; 1] = [Later {
+    record: b"CL\x00",
+    marked: (b"CL", 1),
+    answer: (b"CD", 1),
+}];
+
+const STAMPS: [Later; 2] = [
+    Later {
+        record: b"PS\x00\x01\x00\x07\x00\x00\x00\x03\x00\x00\x00",
+        marked: (b"PS", 11),
+        answer: (b"PA", 5),
+    },
+    Later {
+        record: b"CS\x01\x14\x00\x01\x00\x1E\x00",
+        marked: (b"CS", 7),
+        answer: (b"CA", 7),
+    },
+];
+
 impl Of {
-    fn later(self) -> Option<Later> {
+    fn later(self) -> &'static [Later] {
         match self {
-            Of::Packets => None,
-            Of::Notices => Some(Later {
-                record: b"NQ\x01\x00\x07\x00\x00\x00",
-                marked: (b"NQ", 6),
-                answer: (b"NA", 5),
-            }),
-            Of::Closes => Some(Later {
-                record: b"CL\x00",
-                marked: (b"CL", 1),
-                answer: (b"CD", 1),
-            }),
+            Of::Packets => &[],
+            Of::Notices => &NOTICES,
+            Of::Closes => &CLOSES,
+            Of::Stamps => &STAMPS,
         }
+    }
+
+    /// One of the records that came later, once in three times where there are any.
+    fn now_and_then_later(self, random: &mut Random) -> Option<Later> {
+        let later = self.later();
+        if later.is_empty() || !random.once_in(3) {
+            return None;
+        }
+        random.one_of(later)
     }
 }
 
@@ -124,18 +153,22 @@ pub fn bad_close(seed: u64, random: &mut Random, size: usize) -> Vec<u8> {
     bad_later(seed, random, size, Of::Closes)
 }
 
+/// The same for `PS` and `CS`, in traces with stamps.
+pub fn bad_stamp(seed: u64, random: &mut Random, size: usize) -> Vec<u8> {
+    bad_later(seed, random, size, Of::Stamps)
+}
+
 /// The cuts come at the end and, in other turns, between records, where the next bytes are read as
 /// the missing fields.
 fn bad_later(seed: u64, random: &mut Random, size: usize, of: Of) -> Vec<u8> {
     let mut trace = good_trace(random, size, of);
-    let later = match of.later() {
-        Some(later) => later,
-        None => return trace.bytes,
-    };
-    let mut inside = vec![answer_of(later.answer)];
-    inside.extend(wrong_marks(later.record));
-    inside.extend(cuts_of(later.record));
-    let at_the_end: Vec<Vec<u8>> = cuts_of(later.record).collect();
+    let (mut inside, mut at_the_end) = (Vec::new(), Vec::new());
+    for later in of.later() {
+        inside.push(answer_of(later.answer));
+        inside.extend(wrong_marks(later.record));
+        inside.extend(cuts_of(later.record));
+        at_the_end.extend(cuts_of(later.record));
+    }
     let turn = (seed % (inside.len() + at_the_end.len()) as u64) as usize;
     if let Some(record) = inside.get(turn) {
         let at = late_start(&trace, random);
@@ -160,6 +193,10 @@ pub fn damaged_closes(_seed: u64, random: &mut Random, size: usize) -> Vec<u8> {
     damaged(random, size, Of::Closes)
 }
 
+pub fn damaged_stamps(_seed: u64, random: &mut Random, size: usize) -> Vec<u8> {
+    damaged(random, size, Of::Stamps)
+}
+
 fn damaged(random: &mut Random, size: usize, of: Of) -> Vec<u8> {
     let mut trace = good_trace(random, size, of);
     for _ in 0..random.between(1, 2) {
@@ -175,6 +212,7 @@ fn good_trace(random: &mut Random, size: usize, of: Of) -> Trace {
         Of::Packets => good_packets(&mut script, random, size),
         Of::Notices => good_notices(&mut script, random, size),
         Of::Closes => good_closes(&mut script, random, size),
+        Of::Stamps => good_stamps(&mut script, random, size),
     }
     let (bytes, starts) = script.finish();
     Trace { bytes, starts, of }
@@ -204,6 +242,15 @@ fn good_closes(script: &mut Script, random: &mut Random, size: usize) {
         0 => closing::turns(script, size / 2),
         1 => closing::refusals(script, size),
         _ => closing::small(script, 2 * size),
+    }
+}
+
+fn good_stamps(script: &mut Script, random: &mut Random, size: usize) {
+    match random.between(0, 3) {
+        0 => stamps::relayed(script, size / 2),
+        1 => stamps::reopened(script, size / 8),
+        2 => stamps::small(script, 2 * size),
+        _ => stamps::mixed(script, size),
     }
 }
 
@@ -280,9 +327,9 @@ fn splice_anywhere(trace: &mut Trace, random: &mut Random, size: usize) {
 
 /// An answer record where a trace record should be.
 fn insert_answer(trace: &mut Trace, random: &mut Random) {
-    let marked = match trace.of.later() {
-        Some(later) if random.once_in(3) => later.answer,
-        _ => random.pick(ANSWERS),
+    let marked = match trace.of.now_and_then_later(random) {
+        Some(later) => later.answer,
+        None => random.pick(ANSWERS),
     };
     let answer = answer_of(marked);
     let at = late_start(trace, random);
@@ -350,9 +397,9 @@ fn change_a_mark(trace: &mut Trace, random: &mut Random) {
 fn only_noise(trace: &mut Trace, random: &mut Random) {
     let mut bytes = Vec::new();
     for _ in 0..random.between(1, 20) {
-        let (mark, fields): Marked = match trace.of.later() {
-            Some(later) if random.once_in(3) => later.marked,
-            _ => random.pick([(b"CN", 9), (b"PK", 7), (b"TK", 2), (b"LK", 6)]),
+        let (mark, fields): Marked = match trace.of.now_and_then_later(random) {
+            Some(later) => later.marked,
+            None => random.pick([(b"CN", 9), (b"PK", 7), (b"TK", 2), (b"LK", 6)]),
         };
         bytes.extend_from_slice(mark);
         for _ in 0..fields {

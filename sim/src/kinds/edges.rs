@@ -386,6 +386,7 @@ fn some_record(script: &mut Script) -> Vec<u8> {
             connection: 0,
             length: 1,
             tag: 7,
+            stamp: None,
         },
         _ => Record::Ticks { asked: 1 },
     };

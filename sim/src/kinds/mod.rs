@@ -9,6 +9,7 @@ mod notices;
 mod script;
 mod short;
 mod silence;
+mod stamps;
 mod traffic;
 
 use crate::random::Random;
@@ -29,7 +30,7 @@ pub struct Kind {
 }
 
 #[rustfmt::skip] // One line for each kind.
-pub const KINDS: [Kind; 43] = [
+pub const KINDS: [Kind; 53] = [
     Kind { name: "quiet", size: 60, maker: Maker::Scripted(traffic::quiet) },
     Kind { name: "flooded", size: 60, maker: Maker::Scripted(traffic::flooded) },
     Kind { name: "wild", size: 60, maker: Maker::Scripted(traffic::wild) },
@@ -73,6 +74,16 @@ pub const KINDS: [Kind; 43] = [
     Kind { name: "badclose", size: 20, maker: Maker::Bytes(damage::bad_close) },
     Kind { name: "closeend", size: 40, maker: Maker::Scripted(closing::end) },
     Kind { name: "closelimit", size: 40, maker: Maker::Scripted(closing::limit) },
+    Kind { name: "stamps", size: 120, maker: Maker::Scripted(stamps::mixed) },
+    Kind { name: "stamprelays", size: 80, maker: Maker::Scripted(stamps::relayed) },
+    Kind { name: "stampsmall", size: 400, maker: Maker::Scripted(stamps::small) },
+    Kind { name: "stampfull", size: 30, maker: Maker::Scripted(stamps::full) },
+    Kind { name: "stampfigures", size: 90, maker: Maker::Scripted(stamps::figures) },
+    Kind { name: "stampreopened", size: 12, maker: Maker::Scripted(stamps::reopened) },
+    Kind { name: "stampdamage", size: 30, maker: Maker::Bytes(damage::damaged_stamps) },
+    Kind { name: "badstamp", size: 20, maker: Maker::Bytes(damage::bad_stamp) },
+    Kind { name: "stampend", size: 40, maker: Maker::Scripted(stamps::end) },
+    Kind { name: "stamplimit", size: 40, maker: Maker::Scripted(stamps::limit) },
 ];
 
 impl Kind {

@@ -143,13 +143,18 @@ impl Script {
         (packets * average, average)
     }
 
-    /// An offer with a tag made up from the seed.
+    /// An offer without a stamp, with a tag made up from the seed.
     pub fn offer(&mut self, connection: u8, length: u16) -> u8 {
+        self.offer_with(connection, length, None)
+    }
+
+    pub fn offer_with(&mut self, connection: u8, length: u16, stamp: Option<u32>) -> u8 {
         let tag = self.random.number() as u32;
         self.put(Record::Packet {
             connection,
             length,
             tag,
+            stamp,
         })
     }
 
@@ -267,14 +272,31 @@ impl Script {
         }
     }
 
-    /// An offer of allowed length.
+    /// An offer of allowed length that suits: with a stamp that is timely, if any is, where the
+    /// connection is regulated by stamps.
     pub fn offer_good(&mut self, number: u8, connection: &Connection) -> u8 {
         let length = if self.random.once_in(2) {
             connection.size()
         } else {
             self.random.between16(1, connection.size())
         };
-        self.offer(number, length)
+        let stamp = connection.allowance().map(|_| {
+            let (first, last) = self.timely_stamps(number, connection);
+            let some = self.random.between(first, last);
+            self.random.pick([first, some, last]) as u32
+        });
+        self.offer_with(number, length, stamp)
+    }
+
+    /// The first and the last stamp that a packet may bring now; where the first is behind the
+    /// last there is none.
+    pub fn timely_stamps(&self, number: u8, connection: &Connection) -> (Tick, Tick) {
+        let allowance = Tick::from(connection.allowance().unwrap_or(0));
+        let gap = Tick::from(connection.gap());
+        let now = self.clock();
+        let last = self.hub().last_eligibility(number);
+        let earliest = last.map_or(now, |last| now.max(last + gap));
+        (earliest.saturating_sub(allowance), now)
     }
 
     /// Ticks until everything held and every notice must have gone; nothing is mixed in.
@@ -296,7 +318,8 @@ impl Script {
                 _ => return,
             };
             let window = waiting.average().map_or(0, |average| average.window());
-            let apart = u64::from(waiting.gap().max(window));
+            let ahead = window.max(waiting.allowance().unwrap_or(0));
+            let apart = u64::from(waiting.gap().max(ahead));
             let some = self.random.between(1, 1 + 2 * apart);
             self.ticks(some);
         }

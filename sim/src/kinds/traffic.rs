@@ -136,17 +136,22 @@ pub struct Keepers {
 impl Keepers {
     /// All connections but one start within their first gap.
     pub fn all_but(script: &mut Script, left_out: Option<u8>) -> Keepers {
+        let mut lines = script.standing();
+        lines.retain(|(number, _)| left_out != Some(*number));
+        Keepers::of(script, lines)
+    }
+
+    /// These connections do.
+    pub fn of(script: &mut Script, lines: Vec<(u8, Connection)>) -> Keepers {
         let mut all = Vec::new();
-        for (number, connection) in script.standing() {
-            if left_out != Some(number) {
-                let wait = script.random.between(0, u64::from(connection.gap()));
-                all.push(Keeper {
-                    number,
-                    connection,
-                    due: script.clock() + wait,
-                    offered: Recent::default(),
-                });
-            }
+        for (number, connection) in lines {
+            let wait = script.random.between(0, u64::from(connection.gap()));
+            all.push(Keeper {
+                number,
+                connection,
+                due: script.clock() + wait,
+                offered: Recent::default(),
+            });
         }
         Keepers { all }
     }

@@ -8,11 +8,14 @@ use sim::notices::NOTICE_NUMBER;
 use sim::record::{Answer, Record};
 use sim::replay::{Job, Pace};
 
-/// A connection from its admission on: the eligibilities of its packets in the order accepted.
+/// A connection from its admission on: the eligibilities and the lengths of its packets in the order
+/// accepted.
 #[derive(Clone, Debug)]
 pub struct Line {
+    pub number: u8,
     pub figures: Figures,
     pub eligibilities: Vec<u64>,
+    pub lengths: Vec<u16>,
     pub departed: usize,
     pub closed: bool,
 }
@@ -79,7 +82,8 @@ impl Told {
         free.map(|number| number as u8)
     }
 
-    /// Carries out a record and follows its answers; gives the last one.
+    /// Carries out a record and follows its answers; gives the last one. What departs is what was
+    /// accepted, in order, and never before its eligibility plus its length.
     pub fn carry_out(&mut self, record: Record) -> Answer {
         let (mut last, mut departed) = (None, Vec::new());
         let result: Result<(), ()> = self.job.carry_out(record, &mut |answer| {
@@ -94,6 +98,8 @@ impl Told {
             if departure.connection != NOTICE_NUMBER {
                 let line = self.line_of(departure.connection);
                 assert_eq!(departure.eligibility, line.eligibilities[line.departed]);
+                let length = u64::from(line.lengths[line.departed]);
+                assert!(departure.finish >= departure.eligibility + length);
                 line.departed += 1;
             }
         }
@@ -116,14 +122,23 @@ impl Told {
             (Record::Connection(figures), Answer::Connection { connection, .. }) => {
                 self.owners[usize::from(connection)] = Some(self.lines.len());
                 self.lines.push(Line {
+                    number: connection,
                     figures,
                     eligibilities: Vec::new(),
+                    lengths: Vec::new(),
                     departed: 0,
                     closed: false,
                 });
             }
-            (Record::Packet { connection, .. }, Answer::Packet { eligibility, .. }) => {
-                self.line_of(connection).eligibilities.push(eligibility);
+            (
+                Record::Packet {
+                    connection, length, ..
+                },
+                Answer::Packet { eligibility, .. },
+            ) => {
+                let line = self.line_of(connection);
+                line.eligibilities.push(eligibility);
+                line.lengths.push(length);
             }
             (Record::Close { connection }, _) => self.line_of(connection).closed = true,
             _ => {}

@@ -2,57 +2,43 @@ use Rattle.rules.specs.Model.{offer}
 use native.Mathlib.Omega.{arith}
 use Rattle.state.specs.View.{tables}
 use mathlib.Core.Path.{refl}
-use Rattle.state.proofs.SoundLaws as S
+use Rattle.connections.specs.Stamps.{stamp-if}
 use Rattle.calls.proofs.ActLaws as A
 use Rattle.calls.proofs.VerdictLaws as W
 use borrow.Author.Needs.{needs}
 use Rattle.calls.proofs.offer_tested.Statement.{statement}
 use Rattle.calls.proofs.offer_tested.Tie as tie
-use Rattle.calls.proofs.offer_tested.Reads as reads
-use Rattle.calls.proofs.offer_tested.Lts as lts
-use Rattle.calls.proofs.accept.Reads as accept-reads
-use Rattle.calls.proofs.verdicts.offer_verdict.Reads as offer-verdict-reads
-use Rattle.state.proofs.say.Reads as say-reads
 
--- src/lib.rt:104:9
 offer-verdict-requires : tie.Need-offer-verdict-requires
 offer-verdict-requires c κs = search needs
 
--- src/lib.rt:106:9
 say-requires : tie.Need-say-requires
 say-requires c κs = search needs
 
--- src/lib.rt:106:9
 same-length : tie.Need-same-length
 same-length c = search needs
 
--- src/lib.rt:106:9
 same-length-2 : tie.Need-same-length-2
 same-length-2 c = search needs
 
--- src/lib.rt:106:9
 returns : tie.Need-returns
 returns c =
     let z = c .before .before .before .before .before .before .before .before in
     let t = tables (z .args .members .now) (z .args .places .now) (z .args .notices .now) in
-    A.refused (z .args .h) t (z .pre) (offer (z .args .c) (z .args .len) (z .args .tag)) _ 0 _ (c .before .before .offer-verdict .ensures (z .args .tag)) (c .before .if1 .taken) refl refl (c .say .ensures)
+    A.refused (z .args .h) t (z .pre) (offer (z .args .c) (z .args .len) (z .args .tag) (stamp-if (z .args .brings) (z .args .stamp))) _ 0 _ (c .before .before .offer-verdict .ensures (z .args .tag)) (c .before .if1 .taken) refl refl (c .say .ensures)
 
--- src/lib.rt:108:5
 accept-requires : tie.Need-accept-requires
 accept-requires c κs =
     let z = c .before .before .before .before .before .before .before .before .before in
     let t = tables (z .args .members .now) (z .args .places .now) (z .args .notices .now) in
     (z .pre, W.zero-then _ _ (c .before .before .before .offer-verdict .ensures (z .args .tag)) (omega (arith, c .before .before .if1 .left)))
 
--- src/lib.rt:92:1
 same-length-3 : tie.Need-same-length-3
 same-length-3 c = search needs
 
--- src/lib.rt:92:1
 same-length-4 : tie.Need-same-length-4
 same-length-4 c = search needs
 
--- src/lib.rt:92:1
 returns-2 : tie.Need-returns-2
 returns-2 c = search needs
 

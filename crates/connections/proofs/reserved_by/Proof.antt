@@ -29,7 +29,7 @@ reserve-requires : tie.Need-reserve-requires Inv-loop μ-loop
 reserve-requires c κs =
     let a = c .before .before .before .before .args in
     let k = L.entry-limits (a .l) (connections-in (a .members .now)) (c .before .before .before .before .pre .3) (c .before .before .loop .i) (c .connection-at .result) (c .connection-at .ensures) in
-    (k .free-blank, k .owner-gap)
+    (k .free-blank, k .owner-gap, k .reach-fits)
 
 add-sum : tie.Need-add-sum Inv-loop μ-loop
 add-sum c = omega (arith, c .reserve .ensures .1, c .before .before .before .loop .inv .2)

@@ -11,14 +11,14 @@ bound-of-requires c κs = search needs
 load-of-requires : tie.Need-load-of-requires
 load-of-requires c κs =
     let a = c .before .before .args in
-    let k = L.link-limits (a .l) (c .before .before .pre .7 .link-in) .bounds-le (a .m) (search needs) in
+    let k = L.link-limits (a .l) (c .before .before .pre .7 .link-in) .bounds-le (a .m) in
     (search needs, search needs, search needs, omega (arith, c .bound-of .ensures), c .before .before .pre .7)
 
 share-requires : tie.Need-share-requires
 share-requires c κs =
     let a = c .before .before .before .args in
     let limits = L.link-limits (a .l) (c .before .before .before .pre .7 .link-in) in
-    let k = limits .bounds-le (a .m) (search needs) in
+    let k = limits .bounds-le (a .m) in
     (λ z. absurd (omega arith), λ n. search needs, omega (arith, c .before .bound-of .ensures), search needs, limits .silence-le)
 
 add-result : tie.Need-add-result

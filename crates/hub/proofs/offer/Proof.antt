@@ -1,5 +1,6 @@
 use borrow.Author.Tests.{not-true, not-false}
 use mathlib.Core.Path.{refl, sym, _∙_}
+use mathlib.Core.Option.{none}
 use Rattle.rules.specs.Model.{offer}
 use Rattle.state.specs.View.{tables}
 use Rattle.state.proofs.DoesLaws.{refuses-unsound}
@@ -28,7 +29,7 @@ returns : tie.Need-returns
 returns c =
     let z = c .before .before .before .before .before .before .before .before in
     let t = tables (z .args .members .now) (z .args .places .now) (z .args .notices .now) in
-    refuses-unsound (offer (z .args .c) (z .args .len) (z .args .tag)) (z .args .h) t (sym (c .before .before .is-sound .ensures) ∙ not-true _ (c .before .if1 .taken)) _ 0 refl (c .say .ensures)
+    refuses-unsound (offer (z .args .c) (z .args .len) (z .args .tag) none) (z .args .h) t (sym (c .before .before .is-sound .ensures) ∙ not-true _ (c .before .if1 .taken)) _ 0 refl (c .say .ensures)
 
 -- src/lib.rt:76:5
 offer-tested-requires : tie.Need-offer-tested-requires

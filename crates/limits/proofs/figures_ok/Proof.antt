@@ -15,11 +15,11 @@ returns-3 c = let a = c .before .before .before .before .before .before .args in
 returns-4 : tie.Need-returns-4
 returns-4 c = let a = c .before .before .before .before .before .before .before .before .before .args in L.size-high (a .l) (a .x) (search needs) (search needs) (search needs) (search needs)
 
-average-ok-requires : tie.Need-average-ok-requires
-average-ok-requires c κs = search needs
+kind-ok-requires : tie.Need-kind-ok-requires
+kind-ok-requires c κs = search needs
 
 returns-5 : tie.Need-returns-5
-returns-5 c = let a = c .before .before .before .before .before .before .before .before .before .before .args in L.average-rest (a .l) (a .x) (search needs) (search needs) (search needs) (search needs) (c .average-ok .result) (c .average-ok .ensures)
+returns-5 c = let a = c .before .before .before .before .before .before .before .before .before .before .args in L.kind-rest (a .l) (a .x) (search needs) (search needs) (search needs) (search needs) (c .kind-ok .result) (c .kind-ok .ensures)
 
 pub figures-ok-spec : {M : Type 1} → statement M
-figures-ok-spec = tie.close (tie.spec returns returns-2 returns-3 returns-4 average-ok-requires returns-5)
+figures-ok-spec = tie.close (tie.spec returns returns-2 returns-3 returns-4 kind-ok-requires returns-5)

@@ -1,5 +1,9 @@
-use lib.ListN.{length-drop}
-use Rattle.fields.proofs.PartLaws.{part-all, part-back}
+use Prim.Native.Nat.{ℕ}
+use mathlib.Core.List.{List}
+use Rattle.state.specs.View.{tables}
+use Rattle.steps.specs.Steps.{next}
+use Rattle.steps.specs.Tie.{point-of}
+use Rattle.replay.proofs.RunLaws.{on-parts}
 use borrow.Author.Needs.{needs}
 use Rattle.replay.proofs.step_at.Statement.{statement}
 use Rattle.replay.proofs.step_at.Tie as tie
@@ -41,9 +45,7 @@ returns : tie.Need-returns
 returns c =
     let a = c .before .before .before .before .before .before .before .before .before .before .before .before .before .before .before .before .before .before .before .args in
     let k = c .before .before .before .before .before .before .before .before .step-tested in
-    let d = rw (part-all (a .used) (a .window .now), part-all (a .wrote) (a .out .now)) at (k .ensures .0) in
-    let f = rw (part-all (a .used) (a .window .now), part-all (a .wrote) (a .out .now), length-drop (a .wrote) (a .out .now), length-drop (a .used) (a .window .now)) at (k .ensures .1) in
-    (record { answers = d .answers; tables = d .tables; room = part-back (a .wrote) (a .out .now) _ _ (d .room) }, f)
+    on-parts (λ (w : List ℕ). next (point-of (a .c) (tables (a .members .now) (a .places .now) (a .notices .now))) w (a .last)) (a .window .now) (a .out .now) (a .used) (a .wrote) (a .c) (a .last) (k .result) _ _ (k .ensures .0) (k .ensures .1)
 
 pub step-at-spec : {M : Type 1} → statement M
 step-at-spec =

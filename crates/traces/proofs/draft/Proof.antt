@@ -4,7 +4,7 @@ use native.Mathlib.Omega.{arith}
 use Rattle.fields.specs.Formats.{laid}
 use Rattle.fields.specs.Numbers.{sum}
 use Rattle.fields.proofs.DraftLaws.{done, before, drafted, drafted-behind}
-use Rattle.traces.specs.Kinds.{CN, CL, PK, NQ, TK}
+use Rattle.traces.specs.Kinds.{CN, CS, CL, PK, PS, NQ, TK}
 use borrow.Author.Needs.{needs}
 use Rattle.traces.proofs.draft.Statement.{statement}
 use Rattle.traces.proofs.draft.Tie as tie
@@ -39,38 +39,68 @@ enum-known-r-3 c = search needs
 headed-requires-2 : tie.Need-headed-requires-2
 headed-requires-2 c κs = search needs
 
+two-requires-5 : tie.Need-two-requires-5
+two-requires-5 c κs = search needs
+
+two-requires-6 : tie.Need-two-requires-6
+two-requires-6 c κs = search needs
+
+two-requires-7 : tie.Need-two-requires-7
+two-requires-7 c κs = search needs
+
 enum-known-r-4 : tie.Need-enum-known-r-4
 enum-known-r-4 c = search needs
 
 headed-requires-3 : tie.Need-headed-requires-3
 headed-requires-3 c κs = search needs
 
-two-requires-5 : tie.Need-two-requires-5
-two-requires-5 c κs = search needs
+enum-known-r-5 : tie.Need-enum-known-r-5
+enum-known-r-5 c = search needs
+
+headed-requires-4 : tie.Need-headed-requires-4
+headed-requires-4 c κs = search needs
+
+two-requires-8 : tie.Need-two-requires-8
+two-requires-8 c κs = search needs
 
 four-requires : tie.Need-four-requires
 four-requires c κs = search needs
 
-enum-known-r-5 : tie.Need-enum-known-r-5
-enum-known-r-5 c = search needs
+enum-known-r-6 : tie.Need-enum-known-r-6
+enum-known-r-6 c = search needs
 
-marked-requires : tie.Need-marked-requires
-marked-requires c κs = search needs
+headed-requires-5 : tie.Need-headed-requires-5
+headed-requires-5 c κs = search needs
 
-two-requires-6 : tie.Need-two-requires-6
-two-requires-6 c κs = search needs
+two-requires-9 : tie.Need-two-requires-9
+two-requires-9 c κs = search needs
 
 four-requires-2 : tie.Need-four-requires-2
 four-requires-2 c κs = search needs
 
-enum-known-r-6 : tie.Need-enum-known-r-6
-enum-known-r-6 c = search needs
+four-requires-3 : tie.Need-four-requires-3
+four-requires-3 c κs = search needs
+
+enum-known-r-7 : tie.Need-enum-known-r-7
+enum-known-r-7 c = search needs
+
+marked-requires : tie.Need-marked-requires
+marked-requires c κs = search needs
+
+two-requires-10 : tie.Need-two-requires-10
+two-requires-10 c κs = search needs
+
+four-requires-4 : tie.Need-four-requires-4
+four-requires-4 c κs = search needs
+
+enum-known-r-8 : tie.Need-enum-known-r-8
+enum-known-r-8 c = search needs
 
 marked-requires-2 : tie.Need-marked-requires-2
 marked-requires-2 c κs = search needs
 
-two-requires-7 : tie.Need-two-requires-7
-two-requires-7 c κs = search needs
+two-requires-11 : tie.Need-two-requires-11
+two-requires-11 c κs = search needs
 
 enum-told : tie.Need-enum-told
 enum-told c = search needs
@@ -90,23 +120,31 @@ returns-2 c =
 
 returns-3 : tie.Need-returns-3
 unfolding laid sum
-returns-3 c = rw (c .before .before .r3 .given .1) (drafted-behind CL _ _ (search needs) refl (c .headed2 .ensures) done (omega arith))
+returns-3 c = rw (c .before .before .before .before .before .r3 .given .1) (drafted-behind CS _ _ (search needs) refl (c .before .before .before .headed2 .ensures) (before (c .before .before .two5 .ensures) (before (c .before .two6 .ensures) (before (c .two7 .ensures) done))) (omega arith))
 
 returns-4 : tie.Need-returns-4
 unfolding laid sum
-returns-4 c = rw (c .before .before .before .before .r4 .given .1) (drafted-behind PK _ _ (search needs) refl (c .before .before .headed3 .ensures) (before (c .before .two5 .ensures) (before (c .four .ensures) done)) (omega arith))
+returns-4 c = rw (c .before .before .r4 .given .1) (drafted-behind CL _ _ (search needs) refl (c .headed3 .ensures) done (omega arith))
 
 returns-5 : tie.Need-returns-5
 unfolding laid sum
-returns-5 c = rw (c .before .before .before .before .r5 .given .1) (drafted NQ _ (c .before .before .marked .ensures) (before (c .before .two6 .ensures) (before (c .four2 .ensures) done)) (omega arith))
+returns-5 c = rw (c .before .before .before .before .r5 .given .1) (drafted-behind PK _ _ (search needs) refl (c .before .before .headed4 .ensures) (before (c .before .two8 .ensures) (before (c .four .ensures) done)) (omega arith))
 
 returns-6 : tie.Need-returns-6
 unfolding laid sum
-returns-6 c = rw (c .before .before .before .r6 .given .1) (drafted TK _ (c .before .marked2 .ensures) (before (c .two7 .ensures) done) (omega arith))
+returns-6 c = rw (c .before .before .before .before .before .r6 .given .1) (drafted-behind PS _ _ (search needs) refl (c .before .before .before .headed5 .ensures) (before (c .before .before .two9 .ensures) (before (c .before .four2 .ensures) (before (c .four3 .ensures) done))) (omega arith))
 
 returns-7 : tie.Need-returns-7
+unfolding laid sum
+returns-7 c = rw (c .before .before .before .before .r7 .given .1) (drafted NQ _ (c .before .before .marked .ensures) (before (c .before .two10 .ensures) (before (c .four4 .ensures) done)) (omega arith))
+
+returns-8 : tie.Need-returns-8
+unfolding laid sum
+returns-8 c = rw (c .before .before .before .r8 .given .1) (drafted TK _ (c .before .marked2 .ensures) (before (c .two11 .ensures) done) (omega arith))
+
+returns-9 : tie.Need-returns-9
 unfolding laid
-returns-7 c = rw (c .before .enum-told .given .1) (c .empty .ensures)
+returns-9 c = rw (c .before .enum-told .given .1) (c .empty .ensures)
 
 pub draft-spec : {M : Type 1} → statement M
 draft-spec =
@@ -122,17 +160,27 @@ draft-spec =
     two-requires-4
     enum-known-r-3
     headed-requires-2
+    two-requires-5
+    two-requires-6
+    two-requires-7
     enum-known-r-4
     headed-requires-3
-    two-requires-5
-    four-requires
     enum-known-r-5
-    marked-requires
-    two-requires-6
-    four-requires-2
+    headed-requires-4
+    two-requires-8
+    four-requires
     enum-known-r-6
+    headed-requires-5
+    two-requires-9
+    four-requires-2
+    four-requires-3
+    enum-known-r-7
+    marked-requires
+    two-requires-10
+    four-requires-4
+    enum-known-r-8
     marked-requires-2
-    two-requires-7
+    two-requires-11
     enum-told
     empty-requires
     returns
@@ -141,4 +189,6 @@ draft-spec =
     returns-4
     returns-5
     returns-6
-    returns-7)
+    returns-7
+    returns-8
+    returns-9)

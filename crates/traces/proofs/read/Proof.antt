@@ -34,8 +34,14 @@ two-requires-4 c κs = search needs
 whole-of-requires : tie.Need-whole-of-requires
 whole-of-requires c κs = search needs
 
+admit-stamped-requires : tie.Need-admit-stamped-requires
+admit-stamped-requires c κs = search needs
+
 whole-of-requires-2 : tie.Need-whole-of-requires-2
 whole-of-requires-2 c κs = search needs
+
+whole-of-requires-3 : tie.Need-whole-of-requires-3
+whole-of-requires-3 c κs = search needs
 
 two-requires-5 : tie.Need-two-requires-5
 two-requires-5 c κs = search needs
@@ -43,8 +49,14 @@ two-requires-5 c κs = search needs
 four-requires : tie.Need-four-requires
 four-requires c κs = search needs
 
-whole-of-requires-3 : tie.Need-whole-of-requires-3
-whole-of-requires-3 c κs = search needs
+whole-of-requires-4 : tie.Need-whole-of-requires-4
+whole-of-requires-4 c κs = search needs
+
+offer-stamped-requires : tie.Need-offer-stamped-requires
+offer-stamped-requires c κs = search needs
+
+whole-of-requires-5 : tie.Need-whole-of-requires-5
+whole-of-requires-5 c κs = search needs
 
 two-requires-6 : tie.Need-two-requires-6
 two-requires-6 c κs = search needs
@@ -52,14 +64,14 @@ two-requires-6 c κs = search needs
 four-requires-2 : tie.Need-four-requires-2
 four-requires-2 c κs = search needs
 
-whole-of-requires-4 : tie.Need-whole-of-requires-4
-whole-of-requires-4 c κs = search needs
+whole-of-requires-6 : tie.Need-whole-of-requires-6
+whole-of-requires-6 c κs = search needs
 
 two-requires-7 : tie.Need-two-requires-7
 two-requires-7 c κs = search needs
 
-whole-of-requires-5 : tie.Need-whole-of-requires-5
-whole-of-requires-5 c κs = search needs
+whole-of-requires-7 : tie.Need-whole-of-requires-7
+whole-of-requires-7 c κs = search needs
 
 nothing-requires : tie.Need-nothing-requires
 nothing-requires c κs = search needs
@@ -88,41 +100,57 @@ returns-2 c =
 returns-3 : tie.Need-returns-3
 unfolding read-numbered number read-kind get-fields sum
 returns-3 c =
-    let m = c .before .before .before .mark-of in
-    rw (numbered (trace .kinds) (c .before .before .before .before .before .args .s .now) (m .result) 0x4C43 trace-marks (m .ensures) (search needs))
-    (rw (c .whole-of2 .ensures, c .before .before .one .ensures))
+    let m = c .before .before .before .before .mark-of in
+    rw (numbered (trace .kinds) (c .before .before .before .before .before .before .args .s .now) (m .result) 0x5343 trace-marks (m .ensures) (search needs))
+    (rw (c .whole-of2 .ensures, c .before .admit-stamped .ensures))
 
 returns-4 : tie.Need-returns-4
 unfolding read-numbered number read-kind get-fields sum
 returns-4 c =
-    let m = c .before .before .before .before .before .mark-of in
-    rw (numbered (trace .kinds) (c .before .before .before .before .before .before .before .args .s .now) (m .result) 0x4B50 trace-marks (m .ensures) (search needs))
-    (rw (c .whole-of3 .ensures, c .before .before .before .before .one .ensures, c .before .before .two5 .ensures, c .before .four .ensures))
+    let m = c .before .before .before .mark-of in
+    rw (numbered (trace .kinds) (c .before .before .before .before .before .args .s .now) (m .result) 0x4C43 trace-marks (m .ensures) (search needs))
+    (rw (c .whole-of3 .ensures, c .before .before .one .ensures))
 
 returns-5 : tie.Need-returns-5
 unfolding read-numbered number read-kind get-fields sum
 returns-5 c =
     let m = c .before .before .before .before .before .mark-of in
-    rw (numbered (trace .kinds) (c .before .before .before .before .before .before .before .args .s .now) (m .result) 0x514E trace-marks (m .ensures) (search needs))
-    (rw (c .whole-of4 .ensures, c .before .before .two6 .ensures, c .before .four2 .ensures))
+    rw (numbered (trace .kinds) (c .before .before .before .before .before .before .before .args .s .now) (m .result) 0x4B50 trace-marks (m .ensures) (search needs))
+    (rw (c .whole-of4 .ensures, c .before .before .before .before .one .ensures, c .before .before .two5 .ensures, c .before .four .ensures))
 
 returns-6 : tie.Need-returns-6
 unfolding read-numbered number read-kind get-fields sum
 returns-6 c =
     let m = c .before .before .before .before .mark-of in
-    rw (numbered (trace .kinds) (c .before .before .before .before .before .before .args .s .now) (m .result) 0x4B54 trace-marks (m .ensures) (search needs))
-    (rw (c .whole-of5 .ensures, c .before .two7 .ensures))
+    rw (numbered (trace .kinds) (c .before .before .before .before .before .before .args .s .now) (m .result) 0x5350 trace-marks (m .ensures) (search needs))
+    (rw (c .whole-of5 .ensures, c .before .offer-stamped .ensures))
 
 returns-7 : tie.Need-returns-7
-unfolding read-numbered number
+unfolding read-numbered number read-kind get-fields sum
 returns-7 c =
+    let m = c .before .before .before .before .before .mark-of in
+    rw (numbered (trace .kinds) (c .before .before .before .before .before .before .before .args .s .now) (m .result) 0x514E trace-marks (m .ensures) (search needs))
+    (rw (c .whole-of6 .ensures, c .before .before .two6 .ensures, c .before .four2 .ensures))
+
+returns-8 : tie.Need-returns-8
+unfolding read-numbered number read-kind get-fields sum
+returns-8 c =
+    let m = c .before .before .before .before .mark-of in
+    rw (numbered (trace .kinds) (c .before .before .before .before .before .before .args .s .now) (m .result) 0x4B54 trace-marks (m .ensures) (search needs))
+    (rw (c .whole-of7 .ensures, c .before .two7 .ensures))
+
+returns-9 : tie.Need-returns-9
+unfolding read-numbered number
+returns-9 c =
     let m = c .before .before .before .mark-of in
     rw (
       numbered (trace .kinds) (c .before .before .before .before .before .args .s .now) (m .result) (m .result) trace-marks (m .ensures) refl,
       ne-eqb (m .result) 0x4B4C (search needs),
       ne-eqb (m .result) 0x4E43 (search needs),
+      ne-eqb (m .result) 0x5343 (search needs),
       ne-eqb (m .result) 0x4C43 (search needs),
       ne-eqb (m .result) 0x4B50 (search needs),
+      ne-eqb (m .result) 0x5350 (search needs),
       ne-eqb (m .result) 0x514E (search needs),
       ne-eqb (m .result) 0x4B54 (search needs),
     )
@@ -140,15 +168,19 @@ read-spec =
     two-requires-3
     two-requires-4
     whole-of-requires
+    admit-stamped-requires
     whole-of-requires-2
+    whole-of-requires-3
     two-requires-5
     four-requires
-    whole-of-requires-3
+    whole-of-requires-4
+    offer-stamped-requires
+    whole-of-requires-5
     two-requires-6
     four-requires-2
-    whole-of-requires-4
+    whole-of-requires-6
     two-requires-7
-    whole-of-requires-5
+    whole-of-requires-7
     nothing-requires
     returns
     returns-2
@@ -156,4 +188,6 @@ read-spec =
     returns-4
     returns-5
     returns-6
-    returns-7)
+    returns-7
+    returns-8
+    returns-9)

@@ -53,7 +53,7 @@ reserve-requires c κs =
     let t = tables (z .args .members .now) (z .args .places .now) (z .args .notices .now) in
     let none = W.zero-then _ _ (c .before .before .before .before .before .admit-refusal .ensures) (omega (arith, c .before .before .before .before .if1 .left)) in
     let g = W.admit-figures (z .args .h) t (z .pre .0) (z .args .x) (z .args .c) (z .pre .2) none in
-    ((λ e. absurd (omega (arith, g .0))), (λ n. g .1))
+    ((λ e. absurd (omega (arith, g .0))), (λ n. g .1), g .3)
 
 add-all : tie.Need-add-all
 add-all c = search needs

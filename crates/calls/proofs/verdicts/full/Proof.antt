@@ -5,7 +5,7 @@ use Rattle.calls.proofs.verdicts.full.Statement.{statement}
 use Rattle.calls.proofs.verdicts.full.Tie as tie
 
 reserve-requires : tie.Need-reserve-requires
-reserve-requires c κs = let s = c .before in ((λ e. absurd (omega (arith, s .pre .0))), (λ n. s .pre .1))
+reserve-requires c κs = let s = c .before in ((λ e. absurd (omega (arith, s .pre .0))), (λ n. s .pre .1), s .pre .2)
 
 held-by-requires : tie.Need-held-by-requires
 held-by-requires c κs = search needs

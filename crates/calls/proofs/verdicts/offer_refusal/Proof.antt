@@ -22,7 +22,7 @@ first-of-requires-3 c κs = search needs
 returns : tie.Need-returns
 returns c =
     let long = c .before .before .first-of .ensures ∙ ap (λ (b : Bool). cond b 11 0) (c .before .before .before .misfits .ensures) in
-    let unknown = c .before .first-of2 .ensures ∙ (λ i. cond (not (c .before .before .before .before .before .args .stands)) 10 (long i)) in
+    let unknown = c .before .first-of2 .ensures ∙ (λ i. cond (not (c .before .before .before .before .before .args .heard)) 10 (long i)) in
     c .first-of3 .ensures ∙ (λ i. cond (c .before .before .before .before .unset .ensures i) 2 (unknown i))
 
 pub offer-refusal-spec : {M : Type 1} → statement M

@@ -25,16 +25,16 @@ part-copy-start : tie.Need-part-copy-start
 part-copy-start c = search needs
 
 part-copy-end : tie.Need-part-copy-end
-part-copy-end c = let n : length (c .before .before .before .args .m .ticks) ≡ max-remembered = search needs in omega (arith, n)
+part-copy-end c = let n : length (c .before .before .before .before .args .m .ticks) ≡ max-remembered = search needs in omega (arith, n)
 
 copy-requires : tie.Need-copy-requires
-copy-requires c κs = let n : length (c .before .before .before .before .args .m .ticks) ≡ max-remembered = search needs in search needs
+copy-requires c κs = let n : length (c .before .before .before .before .before .args .m .ticks) ≡ max-remembered = search needs in search needs
 
 one-more-requires : tie.Need-one-more-requires
-one-more-requires c κs = W.formed-parts (c .before .before .before .before .before .before .args .m) (c .before .before .before .before .before .before .pre) .known-le
+one-more-requires c κs = W.formed-parts (c .before .before .before .before .before .before .before .args .m) (c .before .before .before .before .before .before .before .pre) .known-le
 
 returns : tie.Need-returns
-returns c = let a = c .before .before .before .before .before .before .before .args in R.remembering-is (a .m) (a .e) (search needs) (c .before .before .before .before .before .before .before .pre) _ _ (c .one-more .ensures) (c .before .before .copy .ensures ∙ R.shifted (a .m .ticks) (a .e) (search needs))
+returns c = let a = c .before .before .before .before .before .before .before .before .args in R.remembering-is (a .m) (a .e) (search needs) (c .before .before .before .before .before .before .before .before .pre) _ _ (c .one-more .ensures) (c .before .before .copy .ensures ∙ R.shifted (a .m .ticks) (a .e) (search needs))
 
 pub remembering-spec : {M : Type 1} → statement M
 remembering-spec =

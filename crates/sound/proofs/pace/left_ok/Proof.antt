@@ -1,4 +1,6 @@
 use Rattle.sound.proofs.PaceLaws as L
+use Rattle.connections.specs.Members.{connections-in}
+use Rattle.connections.proofs.FigureLaws as F
 use Rattle.connections.proofs.RegulatorLaws as G
 use Rattle.connections.proofs.WrittenLaws as W
 use native.Mathlib.Omega.{arith}
@@ -15,7 +17,8 @@ returns c = let s = c .before .before .before .before in L.nothing-asked (s .arg
 reserve-requires : tie.Need-reserve-requires
 reserve-requires c κs =
     let s = c .before .before .before .before in
-    (λ z. absurd (c .if1 .left z), L.some-gap (s .args .h .link) (s .args .table .now) (s .args .c) _ (s .pre .2) (c .before .before .connection-at .ensures))
+    let k = F.entry-limits (s .args .h .link) (connections-in (s .args .table .now)) (s .pre .2) (s .args .c) _ (c .before .before .connection-at .ensures) in
+    (k .free-blank, k .owner-gap, k .reach-fits)
 
 wide-requires : tie.Need-wide-requires
 wide-requires c κs = search needs

@@ -5,6 +5,7 @@ use Rattle.steps.proofs.CallLaws.{did-call}
 use mathlib.Core.Path.{ap, _∙_}
 use Prim.Native.Nat.{_%_}
 use Rattle.rules.specs.Model.{offer}
+use Rattle.connections.specs.Stamps.{stamp-if}
 use Rattle.answers.specs.declared.Reply.the-variants.{Offered}
 use Rattle.answers.proofs.WriteLaws.{offered-low}
 use borrow.Author.Needs.{needs}
@@ -35,9 +36,9 @@ returns c =
     let a = z .args in
     let k = c .before .before .before .before .before .before .before .before .before .offer-tested in
     let w = c .before .before .answered .ensures in
-    let v = c .before .before .before .before .low .ensures ∙ ap (λ (x : Told). x .verdict % 256) (told-as (offer (a .c) (a .len) (a .tag)) (a .h) (tables (a .members .now) (a .places .now) (a .notices .now)) (z .pre .0) _ _ (k .ensures)) in
-    let n = ap (λ (x : Told). x .number) (told-as (offer (a .c) (a .len) (a .tag)) (a .h) (tables (a .members .now) (a .places .now) (a .notices .now)) (z .pre .0) _ _ (k .ensures)) in
-    did-call (offer (a .c) (a .len) (a .tag)) (a .h) (tables (a .members .now) (a .places .now) (a .notices .now)) _ _ _ (k .result) (z .pre .0) (k .ensures) (a .at) (a .used) _ (Offered (c .before .before .before .before .low .result) (k .result .number)) _
+    let v = c .before .before .before .before .low .ensures ∙ ap (λ (x : Told). x .verdict % 256) (told-as (offer (a .p .connection) (a .p .len) (a .p .tag) (stamp-if (a .p .brings) (a .p .stamp))) (a .h) (tables (a .members .now) (a .places .now) (a .notices .now)) (z .pre .0) _ _ (k .ensures)) in
+    let n = ap (λ (x : Told). x .number) (told-as (offer (a .p .connection) (a .p .len) (a .p .tag) (stamp-if (a .p .brings) (a .p .stamp))) (a .h) (tables (a .members .now) (a .places .now) (a .notices .now)) (z .pre .0) _ _ (k .ensures)) in
+    did-call (offer (a .p .connection) (a .p .len) (a .p .tag) (stamp-if (a .p .brings) (a .p .stamp))) (a .h) (tables (a .members .now) (a .places .now) (a .notices .now)) _ _ _ (k .result) (z .pre .0) (k .ensures) (a .at) (a .used) _ (Offered (c .before .before .before .before .low .result) (k .result .number)) _
     (offered-low _ _ _ _ v n) (w .0) (w .1)
 
 pub offer-step-spec : {M : Type 1} → statement M

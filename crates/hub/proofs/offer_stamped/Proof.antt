@@ -1,0 +1,53 @@
+use borrow.Author.Tests.{not-true, not-false}
+use mathlib.Core.Path.{refl, sym, _∙_}
+use mathlib.Core.Option.{some}
+use Rattle.rules.specs.Model.{offer}
+use Rattle.state.specs.View.{tables}
+use Rattle.state.proofs.DoesLaws.{refuses-unsound}
+use borrow.Author.Needs.{needs}
+use Rattle.hub.proofs.offer_stamped.Statement.{statement}
+use Rattle.hub.proofs.offer_stamped.Tie as tie
+
+is-sound-requires : tie.Need-is-sound-requires
+is-sound-requires c κs = search needs
+
+say-requires : tie.Need-say-requires
+say-requires c κs = search needs
+
+same-length : tie.Need-same-length
+same-length c = search needs
+
+same-length-2 : tie.Need-same-length-2
+same-length-2 c = search needs
+
+returns : tie.Need-returns
+returns c =
+    let z = c .before .before .before .before .before .before .before .before in
+    let t = tables (z .args .members .now) (z .args .places .now) (z .args .notices .now) in
+    refuses-unsound (offer (z .args .c) (z .args .len) (z .args .tag) (some (z .args .stamp))) (z .args .h) t (sym (c .before .before .is-sound .ensures) ∙ not-true _ (c .before .if1 .taken)) _ 0 refl (c .say .ensures)
+
+offer-tested-requires : tie.Need-offer-tested-requires
+offer-tested-requires c κs = sym (c .before .before .before .is-sound .ensures) ∙ not-false _ (c .before .before .if1 .left)
+
+same-length-3 : tie.Need-same-length-3
+same-length-3 c = search needs
+
+same-length-4 : tie.Need-same-length-4
+same-length-4 c = search needs
+
+returns-2 : tie.Need-returns-2
+returns-2 c = search needs
+
+pub offer-stamped-spec : {M : Type 1} → statement M
+offer-stamped-spec =
+    tie.close
+    (tie.spec
+    is-sound-requires
+    say-requires
+    same-length
+    same-length-2
+    returns
+    offer-tested-requires
+    same-length-3
+    same-length-4
+    returns-2)
