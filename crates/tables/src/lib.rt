@@ -117,13 +117,29 @@ pub fn none(table: &[u32]) -> bool
     table[1] == 0
 }
 
-// The number of rows of a table with zeros behind them, by halving.
+// A number that the rows of a table with zeros behind them do not pass, by doubling: few rows are found quickly.
+fn reach(table: &[u32]) -> usize
+    requires { ⌜ now table ≡ table-of (length (now table)) (rows (now table)) ⌝ }
+    ensures { λ r. ⌜ (length (rows (now (table .entry))) ≤ r) × (5 * r ≤ length (now (table .entry))) ⌝ }
+{
+    let all = table.len() / PACKET_WIDTH;
+    let mut high: usize = 1;
+    while high < all {
+        if table[PACKET_WIDTH * high + 1] == 0 {
+            return high;
+        }
+        high = high + high;
+    }
+    all
+}
+
+// The number of rows of a table with zeros behind them, by doubling and halving.
 pub fn count(table: &[u32]) -> usize
     requires { ⌜ now table ≡ table-of (length (now table)) (rows (now table)) ⌝ }
     ensures { λ r. ⌜ r ≡ length (rows (now (table .entry))) ⌝ }
 {
     let mut low: usize = 0;
-    let mut high: usize = table.len() / PACKET_WIDTH;
+    let mut high = reach(table);
     while low < high {
         let mid = low + (high - low) / 2;
         if table[PACKET_WIDTH * mid + 1] == 0 {

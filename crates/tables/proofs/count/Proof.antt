@@ -2,7 +2,7 @@ use lib.ListN.{length}
 use Prim.Native.Nat.{_+_, _*_, _-_, _/_, _≤_}
 use native.Mathlib.Omega.{arith}
 use Rattle.tables.specs.Places.{rows}
-use Rattle.tables.proofs.PlacesLaws.{rows-end, used-below, unused-above}
+use Rattle.tables.proofs.PlacesLaws.{used-below, unused-above}
 use borrow.Author.Needs.{needs}
 use Rattle.tables.proofs.count.Statement.{statement}
 use Rattle.tables.proofs.count.Tie as tie
@@ -13,8 +13,11 @@ Inv-loop t low₀ high₀ low high = (low ≤ length (rows t)) × (length (rows 
 abbrev μ-loop : tie.MeasureT-loop
 μ-loop t low₀ high₀ low high = high - low
 
+reach-requires : tie.Need-reach-requires Inv-loop μ-loop
+reach-requires c κs = search needs
+
 loop-holds : tie.Need-loop-holds Inv-loop μ-loop
-loop-holds c = (omega arith, omega (arith, rows-end (c .args .table .now)), omega arith)
+loop-holds c = (omega arith, c .reach .ensures .0, c .reach .ensures .1)
 
 sub-mid : tie.Need-sub-mid Inv-loop μ-loop
 sub-mid c = search needs
@@ -38,7 +41,7 @@ loop-less : tie.Need-loop-less Inv-loop μ-loop
 loop-less c = search needs
 
 loop-again : tie.Need-loop-again Inv-loop μ-loop
-loop-again c = let l = c .before .before .before .loop in (l .inv .0, used-below (c .before .before .before .before .args .table .now) (l .low + (l .high - l .low) / 2) (c .if1 .taken), omega (arith, l .inv .2))
+loop-again c = let l = c .before .before .before .loop in (l .inv .0, used-below (c .before .before .before .before .before .before .args .table .now) (l .low + (l .high - l .low) / 2) (c .if1 .taken), omega (arith, l .inv .2))
 
 add-low : tie.Need-add-low Inv-loop μ-loop
 add-low c = search needs
@@ -47,7 +50,7 @@ loop-less-2 : tie.Need-loop-less-2 Inv-loop μ-loop
 loop-less-2 c = search needs
 
 loop-again-2 : tie.Need-loop-again-2 Inv-loop μ-loop
-loop-again-2 c = let l = c .before .before .before .loop in let k = unused-above (c .before .before .before .before .args .table .now) (l .low + (l .high - l .low) / 2) (c .before .before .before .before .pre) (c .if1 .left) in (omega arith, l .inv .1, l .inv .2)
+loop-again-2 c = let l = c .before .before .before .loop in let k = unused-above (c .before .before .before .before .before .before .args .table .now) (l .low + (l .high - l .low) / 2) (c .before .before .before .before .before .before .pre) (c .if1 .left) in (omega arith, l .inv .1, l .inv .2)
 
 returns : tie.Need-returns Inv-loop μ-loop
 returns c = let l = c .before .loop in omega (arith, l .inv .0, l .inv .1)
@@ -58,6 +61,7 @@ count-spec =
     (tie.spec
     Inv-loop
     μ-loop
+    reach-requires
     loop-holds
     sub-mid
     add-mid
