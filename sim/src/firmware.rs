@@ -1,7 +1,7 @@
 //! The questions of the firmware (section "Two questions from C firmware"; units by R-2,
 //! the silence in `LK` by R-4, averages in the rows by R-6, 200 rows by R-7).
 
-use crate::level_test::lowest_shortage;
+use crate::level_test::{lowest_shortage, sums};
 use crate::link::{Connection, Link, MOST_CONNECTIONS};
 use crate::owners;
 use crate::record::{whole_figures, Record};
@@ -22,7 +22,7 @@ pub fn next_eligibility(flag: u32, last: u32, gap: u32, now: u32) -> u64 {
 pub fn level_answer(link_bytes: &[u8], rows: &[u8]) -> u8 {
     match well_asked(link_bytes, rows) {
         Some((link, connections)) => {
-            lowest_shortage(&link, &connections).map_or(0, |short| short.level)
+            lowest_shortage(&link, &sums(&link, &connections)).map_or(0, |short| short.level)
         }
         None => NOT_TO_BE_ASKED,
     }
@@ -31,7 +31,7 @@ pub fn level_answer(link_bytes: &[u8], rows: &[u8]) -> u8 {
 /// The units that the level of question (b) is over; 0 where it answers 0 or 255.
 pub fn units_answer(link_bytes: &[u8], rows: &[u8]) -> u64 {
     well_asked(link_bytes, rows)
-        .and_then(|(link, connections)| lowest_shortage(&link, &connections))
+        .and_then(|(link, connections)| lowest_shortage(&link, &sums(&link, &connections)))
         .map_or(0, |short| short.units)
 }
 

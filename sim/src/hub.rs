@@ -1,31 +1,19 @@
 //! The state of the hub and its calls: link, admit, offer, offer of a notice, close, tick.
 
-use std::iter::once;
-
 use crate::departure::{Departure, Tick};
-use crate::level_test::lowest_shortage;
+use crate::level_test::{loads, lowest_shortage, with};
 use crate::link::{Connection, Figures, Link, MOST_RESERVED};
 use crate::notices::{Notice, Notices};
 use crate::owners::Owners;
+use crate::queues::{Queues, Started};
 use crate::verdict::Refusal;
 
 /// The clock begins at 0 and ends here (section "Link, connections, places").
 pub const CLOCK_END: Tick = 4_000_000_000;
 
-/// A held packet (section "Link, connections, places"), named by its row in the places.
-#[derive(Clone, Copy, Debug, PartialEq, Eq)]
-struct Held {
-    connection: u8,
-    level: u8,
-    length: u16,
-    tag: u32,
-    arrival: Tick,
-    eligibility: Tick,
-}
-
 /// What the output line is doing. A silence with no tick to go is an idle line.
 #[derive(Clone, Copy, Debug, PartialEq, Eq)]
-enum Line {
+pub(crate) enum Line {
     Idle,
     Serving { sent: Sent, units_to_go: u16 },
     Silent { ticks_to_go: u8 },
@@ -41,22 +29,22 @@ impl Line {
     }
 }
 
-/// What is in service: a held packet, named by its row, or the first notice.
+/// What is in service: the first packet of a connection, or the first notice.
 #[derive(Clone, Copy, Debug, PartialEq, Eq)]
-enum Sent {
-    Row(usize),
+pub(crate) enum Sent {
+    FirstOf(Started),
     FirstNotice,
 }
 
 /// The whole state.
 #[derive(Clone, Debug)]
 pub struct Hub {
-    link: Option<Link>,
-    owners: Owners,
-    places: Vec<Held>,
-    notices: Notices,
-    line: Line,
-    clock: Tick,
+    pub(crate) link: Option<Link>,
+    pub(crate) owners: Owners,
+    pub(crate) queues: Queues,
+    pub(crate) notices: Notices,
+    pub(crate) line: Line,
+    pub(crate) clock: Tick,
 }
 
 impl Default for Hub {
@@ -70,7 +58,7 @@ impl Hub {
         Hub {
             link: None,
             owners: Owners::default(),
-            places: Vec::new(),
+            queues: Queues::default(),
             notices: Notices::default(),
             line: Line::Idle,
             clock: 0,
@@ -115,10 +103,7 @@ impl Hub {
 
     /// How many packets a connection holds; one in service counts until its last unit has gone.
     pub fn held_by(&self, connection: u8) -> usize {
-        self.places
-            .iter()
-            .filter(|held| held.connection == connection)
-            .count()
+        self.queues.held_by(connection)
     }
 
     /// When a packet that is offered now without a stamp would be eligible; nothing for a number
@@ -162,15 +147,16 @@ impl Hub {
         let link = self.link()?;
         let newcomer = Connection::new(link, figures)?;
         let number = self.owners.lowest_free().ok_or(Refusal::NoNumberFree)?;
-        let counted = self.counted().chain(once(&newcomer));
-        if let Some(shortage) = lowest_shortage(link, counted.clone()) {
+        let loads = loads(link, &newcomer);
+        if let Some(shortage) = lowest_shortage(link, &with(self.owners.sums(), &loads)) {
             return Err(Refusal::LevelTest(shortage));
         }
-        let reserved: u64 = counted.map(|one| one.reservation(link)).sum();
-        if reserved > MOST_RESERVED {
+        let reservation = newcomer.reservation(link);
+        if self.owners.reserved() + reservation > MOST_RESERVED {
             return Err(Refusal::Reservations);
         }
-        self.owners.give(number, newcomer);
+        self.owners.give(number, newcomer, reservation, loads);
+        self.queues.make_room_for(number);
         Ok(number)
     }
 
@@ -181,6 +167,7 @@ impl Hub {
 
     /// Offers a packet that brings a stamp or none and gives its eligibility: verdicts 2, 10,
     /// 11, 12, 13, 17 in that order.
+    #[inline]
     pub fn offer_with(
         &mut self,
         connection: u8,
@@ -188,18 +175,18 @@ impl Hub {
         tag: u32,
         stamp: Option<Tick>,
     ) -> Result<Tick, Refusal> {
-        let link = *self.link()?;
+        self.link()?;
         let held = self.held_by(connection) as u64;
         let owner = self
             .owners
             .standing_at_mut(connection)
             .filter(|owner| owner.suits(stamp))
             .ok_or(Refusal::NoSuchConnection)?;
-        let terms = owner.connection;
+        let terms = &owner.connection;
         if !(1..=terms.size()).contains(&length) {
             return Err(Refusal::Length);
         }
-        if held >= terms.reservation(&link) {
+        if held >= owner.reservation {
             return Err(Refusal::ReservationFull);
         }
         if self.clock >= CLOCK_END {
@@ -208,20 +195,16 @@ impl Hub {
         let eligibility = owner
             .eligibility_of(self.clock, stamp)
             .ok_or(Refusal::Untimely)?;
+        let level = terms.level();
         owner.recent.remember(eligibility);
-        self.places.push(Held {
-            connection,
-            level: terms.level(),
-            length,
-            tag,
-            arrival: self.clock,
-            eligibility,
-        });
+        let times = (self.clock, eligibility);
+        self.queues.offer(connection, level, length, tag, times);
         Ok(eligibility)
     }
 
     /// Offers a notice and gives its eligibility, the present tick: verdicts 2, 11, 13, 15
     /// in that order.
+    #[inline]
     pub fn offer_notice(&mut self, length: u16, tag: u32) -> Result<Tick, Refusal> {
         let largest = self.link()?.largest();
         if !(1..=largest).contains(&length) {
@@ -261,6 +244,7 @@ impl Hub {
     }
 
     /// One tick (section "One tick"): verdicts 2 and 13.
+    #[inline]
     pub fn tick(&mut self) -> Result<Option<Departure>, Refusal> {
         let silence = self.link()?.silence();
         if self.clock >= CLOCK_END {
@@ -276,27 +260,18 @@ impl Hub {
 
     /// Step 1, on an idle line: the chosen packet starts; only where none is eligible the first
     /// notice.
+    #[inline]
     fn start_chosen(&mut self) {
-        let (sent, units_to_go) = match (self.chosen_row(), self.notices.first()) {
-            (Some(row), _) => (Sent::Row(row), self.places[row].length),
+        let (sent, units_to_go) = match (self.queues.start(self.clock), self.notices.first()) {
+            (Some(started), _) => (Sent::FirstOf(started), started.length),
             (None, Some(notice)) => (Sent::FirstNotice, notice.length),
             (None, None) => return,
         };
         self.line = Line::Serving { sent, units_to_go };
     }
 
-    /// Step 1: among the eligible, lowest level number, then earliest eligibility, then
-    /// earliest offered (the rows stand in the order offered).
-    fn chosen_row(&self) -> Option<usize> {
-        self.places
-            .iter()
-            .enumerate()
-            .filter(|(_, held)| held.eligibility <= self.clock)
-            .min_by_key(|(row, held)| (held.level, held.eligibility, *row))
-            .map(|(row, _)| row)
-    }
-
     /// Step 2: one unit goes; without one to go a tick of the silence runs.
+    #[inline]
     fn send_or_be_silent(&mut self, silence: u8) -> Option<Departure> {
         match self.line {
             Line::Idle => None,
@@ -310,6 +285,7 @@ impl Hub {
 
     /// Step 2: with its last unit the packet or the notice departs, and the whole silence is still
     /// to run.
+    #[inline]
     fn send_one_unit(&mut self, sent: Sent, units_to_go: u16, silence: u8) -> Option<Departure> {
         if units_to_go > 1 {
             self.line = Line::Serving {
@@ -321,25 +297,14 @@ impl Hub {
         self.line = Line::silent_for(silence);
         let finish = self.clock + 1;
         match sent {
-            Sent::Row(row) => Some(self.depart_row(row, finish)),
+            Sent::FirstOf(started) => self.queues.depart(started, finish),
             Sent::FirstNotice => self.notices.depart_first(finish),
-        }
-    }
-
-    /// Step 2: the row of a departed packet is removed and later rows move up.
-    fn depart_row(&mut self, row: usize, finish: Tick) -> Departure {
-        let held = self.places.remove(row);
-        Departure {
-            connection: held.connection,
-            tag: held.tag,
-            arrival: held.arrival,
-            eligibility: held.eligibility,
-            finish,
         }
     }
 
     /// Step 3, of one tick or of many quiet ones: numbers whose charge has come to its end are freed
     /// . No call comes between quiet ticks, so that nobody sees which of them freed a number.
+    #[inline]
     fn run_clock(&mut self, ticks: Tick) {
         self.clock += ticks;
         self.owners.free_ended(self.clock);
@@ -348,7 +313,8 @@ impl Hub {
     /// How many ticks from now on are sure to be quiet: in each of them the line either sends
     /// a unit that is not the last, or is silent, or stays idle because no held packet is eligible
     /// yet and no notice waits.
-    pub fn quiet_ticks(&self) -> Tick {
+    #[inline]
+    pub fn quiet_ticks(&mut self) -> Tick {
         if self.link.is_none() {
             return 0;
         }
@@ -362,12 +328,17 @@ impl Hub {
         quiet.min(to_the_end)
     }
 
-    fn ticks_until_one_is_eligible(&self) -> Option<Tick> {
-        let earliest = self.places.iter().map(|held| held.eligibility).min()?;
-        Some(earliest.saturating_sub(self.clock))
+    #[inline]
+    fn ticks_until_one_is_eligible(&mut self) -> Option<Tick> {
+        if !self.queues.none_eligible(self.clock) {
+            return Some(0);
+        }
+        let earliest = self.queues.next_eligible()?;
+        Some(earliest - self.clock)
     }
 
     /// Passes over ticks at once, never more than are quiet; gives how many it passed.
+    #[inline]
     pub fn pass_over(&mut self, at_most: Tick) -> Tick {
         let passed = at_most.min(self.quiet_ticks());
         match &mut self.line {

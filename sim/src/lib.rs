@@ -1,8 +1,8 @@
 //! A second opinion on the packet hub: the trace job of document 01 in ordinary Rust.
 //!
 //! Nothing here is shared with the hub's own library. Every rule names the section of
-//! document 01 that it follows, or the request of docs/RULES-AFTER-BASE.md. The simulator never tests its own state for soundness:
-//! a trace starts from an empty state, so verdict 1 cannot occur.
+//! document 01 that it follows, or the request of docs/RULES-AFTER-BASE.md. The simulator tests its own state for soundness
+//! only where it is asked to (`sound`): a trace starts from an empty state, so verdict 1 cannot occur.
 
 pub mod departure;
 pub mod firmware;
@@ -12,9 +12,11 @@ pub mod level_test;
 pub mod link;
 pub mod notices;
 pub mod owners;
+pub mod queues;
 pub mod random;
 pub mod recent;
 pub mod record;
 pub mod replay;
+pub mod sound;
 pub mod stats;
 pub mod verdict;

@@ -46,6 +46,11 @@ impl Link {
         })
     }
 
+    /// Whether it is within its limits, as one that was made is.
+    pub fn is_within(&self) -> bool {
+        Link::new(self.levels, self.largest, self.silence, self.bounds).is_some()
+    }
+
     /// n: levels are numbered 1 to n, level 1 most urgent.
     pub fn levels(&self) -> u8 {
         self.levels
@@ -181,6 +186,21 @@ impl Connection {
             average,
             allowance,
         })
+    }
+
+    /// Whether it is within the limits of its link, as one that was made is.
+    pub fn is_within(&self, link: &Link) -> bool {
+        let average = self.average;
+        let (window, packets) = average.map_or((0, 0), |one| (one.window, one.packets));
+        let figures = Figures {
+            level: self.level,
+            gap: self.gap,
+            size: self.size,
+            window,
+            average: window.checked_div(packets).unwrap_or(0),
+            allowance: self.allowance,
+        };
+        Connection::new(link, figures) == Ok(*self)
     }
 
     pub fn level(&self) -> u8 {

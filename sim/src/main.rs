@@ -10,6 +10,7 @@ use sim::stats::Stats;
 const USAGE: &str = "\
 sim                        trace on standard input, answers on standard output
 sim --plain                the same, every tick by itself
+sim --tested               the same, the state tested before each record
 sim --stats                trace on standard input, counts of verdicts and departures out
 sim --next FLAG LAST GAP NOW   next eligibility, four 32-bit numbers
 sim --level LINK ROWS      level question, both in hexadecimal ('-' is no bytes)
@@ -24,6 +25,7 @@ fn main() -> ExitCode {
     let result = match arguments.as_slice() {
         [] => replay(io::stdin().lock(), io::stdout().lock(), Pace::Passing),
         ["--plain"] => replay(io::stdin().lock(), io::stdout().lock(), Pace::Plain),
+        ["--tested"] => replay(io::stdin().lock(), io::stdout().lock(), Pace::Tested),
         ["--stats"] => Stats::of(io::stdin().lock()).and_then(|stats| say(&stats.table())),
         ["--next", numbers @ ..] => answer(next_question(numbers)),
         ["--level", link, rows] => answer(level_question(link, rows)),

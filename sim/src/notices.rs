@@ -29,6 +29,11 @@ impl Notices {
         self.waiting.len()
     }
 
+    /// All that wait, in order.
+    pub fn all(&self) -> impl Iterator<Item = &Notice> {
+        self.waiting.iter()
+    }
+
     pub fn are_full(&self) -> bool {
         self.count() >= MOST_NOTICES
     }

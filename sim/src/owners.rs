@@ -2,24 +2,32 @@
 //! it is closed, and closed it is charged until its number is freed. Eligibilities, by gaps and
 //! averages or by stamps (section R-9).
 
+use std::cmp::Reverse;
+use std::collections::BinaryHeap;
+
 use crate::departure::Tick;
-use crate::link::{Connection, MOST_CONNECTIONS};
+use crate::level_test::{add, Loads, Sums};
+use crate::link::{Connection, MOST_CONNECTIONS, MOST_LEVELS};
 use crate::recent::Recent;
 
 /// Where no charge runs, the next one to end.
 const NEVER: Tick = Tick::MAX;
 
-/// A connection that has a number, and the eligibilities of its last accepted packets.
+/// A connection that has a number, what it was admitted with, and the eligibilities of its last
+/// accepted packets.
 #[derive(Clone, Debug)]
 pub struct Owner {
     pub connection: Connection,
+    pub reservation: u64,
     pub recent: Recent,
+    loads: Loads,
     charge_end: Option<Tick>,
 }
 
 impl Owner {
     /// Eligibility of a packet that arrives now: a gap behind the last accepted one and, with an
     /// average, also I behind the n-th accepted one before it.
+    #[inline]
     pub fn next_eligibility(&self, arrival: Tick) -> Tick {
         let gap = Tick::from(self.connection.gap());
         let spaced = next_eligibility(self.recent.back(1), gap, arrival);
@@ -33,12 +41,14 @@ impl Owner {
     }
 
     /// Whether an offer with a stamp, or without one, is for a connection of this kind.
+    #[inline]
     pub fn suits(&self, stamp: Option<Tick>) -> bool {
         self.connection.allowance().is_some() == stamp.is_some()
     }
 
     /// Eligibility of a packet that arrives now and suits: by its stamp if it brings one, and nothing
     /// where that is untimely.
+    #[inline]
     pub fn eligibility_of(&self, arrival: Tick, stamp: Option<Tick>) -> Option<Tick> {
         match (self.connection.allowance(), stamp) {
             (Some(allowance), Some(stamp)) => self.timely(arrival, stamp, Tick::from(allowance)),
@@ -56,6 +66,15 @@ impl Owner {
         in_time.then_some(eligibility)
     }
 
+    pub fn loads(&self) -> &Loads {
+        &self.loads
+    }
+
+    /// Of one that is closed, the moment that frees its number.
+    pub fn charge_end(&self) -> Option<Tick> {
+        self.charge_end
+    }
+
     fn stands(&self) -> bool {
         self.charge_end.is_none()
     }
@@ -70,25 +89,35 @@ pub fn next_eligibility(last: Option<Tick>, gap: Tick, arrival: Tick) -> Tick {
     }
 }
 
-/// The numbers up to the highest that was ever given, each free or with its owner, and when the
-/// next charge ends.
+/// The numbers up to the highest that was ever given, each free or with its owner; what all owners
+/// add to the levels and have reserved, the charges by their ends, and the first of these. No number
+/// below `lowest` is free.
 #[derive(Clone, Debug)]
 pub struct Owners {
     numbers: Vec<Option<Owner>>,
+    sums: Sums,
+    reserved: u64,
+    charges: BinaryHeap<Reverse<(Tick, u8)>>,
     next_end: Tick,
+    lowest: usize,
 }
 
 impl Default for Owners {
     fn default() -> Self {
         Owners {
             numbers: Vec::new(),
+            sums: [0; MOST_LEVELS],
+            reserved: 0,
+            charges: BinaryHeap::new(),
             next_end: NEVER,
+            lowest: 0,
         }
     }
 }
 
 impl Owners {
-    fn all(&self) -> impl Iterator<Item = (u8, &Owner)> {
+    /// All owners with their numbers.
+    pub fn all(&self) -> impl Iterator<Item = (u8, &Owner)> {
         let numbered = |(number, owner): (usize, _)| (number as u8, owner);
         let owners = self.numbers.iter().enumerate().map(numbered);
         owners.filter_map(|(number, owner)| Some((number, owner.as_ref()?)))
@@ -113,34 +142,51 @@ impl Owners {
     }
 
     /// The owner of a number, if it stands.
+    #[inline]
     pub fn standing_at(&self, number: u8) -> Option<&Owner> {
         let owner = self.numbers.get(usize::from(number))?.as_ref();
         owner.filter(|owner| owner.stands())
     }
 
+    #[inline]
     pub fn standing_at_mut(&mut self, number: u8) -> Option<&mut Owner> {
         let owner = self.numbers.get_mut(usize::from(number))?.as_mut();
         owner.filter(|owner| owner.stands())
     }
 
+    /// The sums of all levels, without S.
+    pub fn sums(&self) -> &Sums {
+        &self.sums
+    }
+
+    /// The places of all reservations together.
+    pub fn reserved(&self) -> u64 {
+        self.reserved
+    }
+
     /// The number that is given next.
     pub fn lowest_free(&self) -> Option<u8> {
-        let free = self.numbers.iter().position(Option::is_none);
-        let number = free.unwrap_or(self.numbers.len());
+        let free = self.numbers[self.lowest..].iter().position(Option::is_none);
+        let number = free.map_or(self.numbers.len(), |free| self.lowest + free);
         (number < MOST_CONNECTIONS).then_some(number as u8)
     }
 
-    /// Gives a free number to a newcomer, who remembers nothing.
-    pub fn give(&mut self, number: u8, connection: Connection) {
+    /// Gives the lowest free number to a newcomer, who remembers nothing.
+    pub fn give(&mut self, number: u8, connection: Connection, reservation: u64, loads: Loads) {
         let owner = Some(Owner {
             connection,
+            reservation,
             recent: Recent::default(),
+            loads,
             charge_end: None,
         });
         match self.numbers.get_mut(usize::from(number)) {
             Some(free) => *free = owner,
             None => self.numbers.push(owner),
         }
+        add(&mut self.sums, &loads);
+        self.reserved += reservation;
+        self.lowest = usize::from(number) + 1;
     }
 
     /// Closes an owner that stands; its number is charged up to a moment.
@@ -148,21 +194,60 @@ impl Owners {
         if let Some(owner) = self.standing_at_mut(number) {
             owner.charge_end = Some(charge_end);
             self.next_end = self.next_end.min(charge_end);
+            self.charges.push(Reverse((charge_end, number)));
         }
     }
 
-    /// Frees every number whose charge is over; looks at them only where one is.
+    /// Frees every number whose charge is over; mostly none is.
+    #[inline]
     pub fn free_ended(&mut self, clock: Tick) {
-        if clock < self.next_end {
-            return;
+        while self.next_end <= clock {
+            self.free_first();
         }
-        self.next_end = NEVER;
-        for number in &mut self.numbers {
-            match number.as_ref().and_then(|owner| owner.charge_end) {
-                Some(charge_end) if charge_end <= clock => *number = None,
-                Some(charge_end) => self.next_end = self.next_end.min(charge_end),
-                None => {}
+    }
+
+    /// Frees the number whose charge ends first.
+    #[inline(never)]
+    fn free_first(&mut self) {
+        if let Some(Reverse((_, number))) = self.charges.pop() {
+            self.free(number);
+        }
+        self.next_end = self.charges.peek().map_or(NEVER, |Reverse((end, _))| *end);
+    }
+
+    fn free(&mut self, number: u8) {
+        let row = usize::from(number);
+        if let Some(owner) = self.numbers[row].take() {
+            for (sum, &load) in self.sums.iter_mut().zip(&owner.loads) {
+                *sum -= u64::from(load);
             }
+            self.reserved -= owner.reservation;
+            self.lowest = self.lowest.min(row);
         }
+    }
+
+    /// Whether everything kept beside the owners is theirs: the sums, the reservations, the charges
+    /// and that no number below `lowest` is free.
+    pub fn are_summed_up(&self) -> bool {
+        let (mut sums, mut reserved, mut charged) = ([0; MOST_LEVELS], 0, 0);
+        for owner in self.numbers.iter().flatten() {
+            add(&mut sums, &owner.loads);
+            reserved += owner.reservation;
+            charged += usize::from(!owner.stands());
+        }
+        let charge_of = |number: u8| self.numbers[usize::from(number)].as_ref()?.charge_end;
+        let charges_hold = |&Reverse((end, number)): &_| charge_of(number) == Some(end);
+        sums == self.sums
+            && reserved == self.reserved
+            && charged == self.charges.len()
+            && self.charges.iter().all(charges_hold)
+            && self.next_end
+                == self
+                    .charges
+                    .iter()
+                    .map(|one| one.0 .0)
+                    .min()
+                    .unwrap_or(NEVER)
+            && self.numbers[..self.lowest].iter().all(Option::is_some)
     }
 }

@@ -5,25 +5,42 @@ use crate::link::MOST_PER_WINDOW;
 
 const REMEMBERED: usize = MOST_PER_WINDOW as usize;
 
-/// The last 16 eligibilities, each in the place of the one that is 16 packets older.
+/// The last 16 eligibilities, each in the place of the one that is 16 packets older; four bytes
+/// hold one.
 #[derive(Clone, Debug, Default)]
 pub struct Recent {
-    ring: [Tick; REMEMBERED],
-    accepted: usize,
+    ring: [u32; REMEMBERED],
+    accepted: u32,
 }
 
 impl Recent {
     /// The eligibility that lies so many accepted packets back, 1 for the last one; nothing if there
     /// was none or if it is forgotten.
+    #[inline]
     pub fn back(&self, packets: usize) -> Option<Tick> {
-        let remembered = self.accepted.min(REMEMBERED);
-        (1..=remembered)
+        (1..=self.count())
             .contains(&packets)
-            .then(|| self.ring[(self.accepted - packets) % REMEMBERED])
+            .then(|| Tick::from(self.ring[(self.accepted as usize - packets) % REMEMBERED]))
     }
 
+    /// How many are remembered.
+    pub fn count(&self) -> usize {
+        (self.accepted as usize).min(REMEMBERED)
+    }
+
+    /// Whether all but the newest few lie so far behind what came so many packets before them.
+    pub fn are_apart(&self, newest: usize, packets: usize, ticks: Tick) -> bool {
+        let at = |back: usize| {
+            let place = (self.accepted as usize).wrapping_sub(back) % REMEMBERED;
+            Tick::from(self.ring[place])
+        };
+        let first_known = (self.count() + 1).saturating_sub(packets);
+        (newest + 1..first_known).all(|back| at(back + packets) + ticks <= at(back))
+    }
+
+    #[inline]
     pub fn remember(&mut self, eligibility: Tick) {
-        self.ring[self.accepted % REMEMBERED] = eligibility;
+        self.ring[self.accepted as usize % REMEMBERED] = eligibility as u32;
         self.accepted += 1;
     }
 }

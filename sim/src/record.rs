@@ -43,8 +43,25 @@ pub enum Record {
 
 impl Record {
     /// The record at the start of the bytes and its length; nothing if it is malformed.
+    #[inline(always)]
     pub fn read(bytes: &[u8]) -> Option<(Record, usize)> {
-        let mut fields = Fields { rest: bytes };
+        match bytes.get(..LONGEST_RECORD) {
+            Some(whole) => Record::read_whole(whole.try_into().ok()?),
+            None => Record::read_short(bytes),
+        }
+    }
+
+    /// The same of fewer bytes than the longest record has.
+    #[cold]
+    fn read_short(bytes: &[u8]) -> Option<(Record, usize)> {
+        let read = Record::read_whole(&padded(bytes));
+        read.filter(|&(_, length)| length <= bytes.len())
+    }
+
+    /// The same where there are bytes for the longest record.
+    #[inline(always)]
+    fn read_whole(bytes: &[u8; LONGEST_RECORD]) -> Option<(Record, usize)> {
+        let mut fields = Fields { bytes, taken: 0 };
         let record = match &fields.take::<2>()? {
             b"LK" => read_link(&mut fields)?,
             b"CN" => Record::Connection(read_figures(&mut fields)?),
@@ -73,7 +90,7 @@ impl Record {
             },
             _ => return None,
         };
-        Some((record, bytes.len() - fields.rest.len()))
+        Some((record, fields.taken))
     }
 
     /// Writes the record behind what is there already.
@@ -149,9 +166,12 @@ fn append_packet(out: &mut Vec<u8>, connection: u8, length: u16, tag: u32, stamp
 
 /// Whole figures as a `CN` has them behind its mark, and not a byte more.
 pub fn whole_figures(bytes: &[u8]) -> Option<Figures> {
-    let mut fields = Fields { rest: bytes };
+    let mut fields = Fields {
+        bytes: &padded(bytes),
+        taken: 0,
+    };
     let figures = read_figures(&mut fields)?;
-    fields.rest.is_empty().then_some(figures)
+    (fields.taken == bytes.len()).then_some(figures)
 }
 
 fn read_figures(fields: &mut Fields) -> Option<Figures> {
@@ -191,26 +211,40 @@ fn read_link(fields: &mut Fields) -> Option<Record> {
     })
 }
 
-/// The bytes of a record not taken yet; numbers are little-endian.
+/// Fewer bytes than the longest record has, and zeros behind them.
+fn padded(bytes: &[u8]) -> [u8; LONGEST_RECORD] {
+    let mut padded = [0; LONGEST_RECORD];
+    for (to, from) in padded.iter_mut().zip(bytes) {
+        *to = *from;
+    }
+    padded
+}
+
+/// The bytes that a record starts, and how many of them are taken; numbers are little-endian.
 struct Fields<'a> {
-    rest: &'a [u8],
+    bytes: &'a [u8; LONGEST_RECORD],
+    taken: usize,
 }
 
 impl Fields<'_> {
+    #[inline(always)]
     fn take<const N: usize>(&mut self) -> Option<[u8; N]> {
-        let taken = self.rest.get(..N)?.try_into().ok()?;
-        self.rest = &self.rest[N..];
-        Some(taken)
+        let taken = self.bytes.get(self.taken..self.taken + N)?;
+        self.taken += N;
+        taken.try_into().ok()
     }
 
+    #[inline(always)]
     fn one(&mut self) -> Option<u8> {
         self.take::<1>().map(|[byte]| byte)
     }
 
+    #[inline(always)]
     fn two(&mut self) -> Option<u16> {
         self.take().map(u16::from_le_bytes)
     }
 
+    #[inline(always)]
     fn four(&mut self) -> Option<u32> {
         self.take().map(u32::from_le_bytes)
     }
@@ -264,6 +298,7 @@ impl Answer {
     }
 
     /// Writes the answer behind what is there already.
+    #[inline]
     pub fn append_to(&self, out: &mut Vec<u8>) {
         match *self {
             Answer::Link { verdict } => out.extend_from_slice(&[b'L', b'A', verdict]),
@@ -279,17 +314,11 @@ impl Answer {
             Answer::Packet {
                 verdict,
                 eligibility,
-            } => {
-                out.extend_from_slice(&[b'P', b'A', verdict]);
-                append_tick(out, eligibility);
-            }
+            } => append_accepted(out, [b'P', b'A', verdict], eligibility),
             Answer::Notice {
                 verdict,
                 eligibility,
-            } => {
-                out.extend_from_slice(&[b'N', b'A', verdict]);
-                append_tick(out, eligibility);
-            }
+            } => append_accepted(out, [b'N', b'A', verdict], eligibility),
             Answer::Departed(departure) => append_departure(out, &departure),
             Answer::Ticks { verdict, done } => {
                 out.extend_from_slice(&[b'T', b'A', verdict]);
@@ -312,16 +341,26 @@ fn append_shortage(out: &mut Vec<u8>, short: Option<Shortage>) {
 }
 
 fn append_departure(out: &mut Vec<u8>, departure: &Departure) {
-    out.extend_from_slice(&[b'D', b'P', departure.connection]);
-    out.extend_from_slice(&departure.tag.to_le_bytes());
-    append_tick(out, departure.arrival);
-    append_tick(out, departure.eligibility);
-    append_tick(out, departure.finish);
+    let mut bytes = [0; 19];
+    bytes[..3].copy_from_slice(&[b'D', b'P', departure.connection]);
+    bytes[3..7].copy_from_slice(&departure.tag.to_le_bytes());
+    bytes[7..11].copy_from_slice(&four_bytes(departure.arrival));
+    bytes[11..15].copy_from_slice(&four_bytes(departure.eligibility));
+    bytes[15..].copy_from_slice(&four_bytes(departure.finish));
+    out.extend_from_slice(&bytes);
 }
 
-/// Four bytes. No tick of a run needs more: an accepted offer is made before the clock's end,
+/// An offer's answer: mark and verdict, then the eligibility.
+fn append_accepted(out: &mut Vec<u8>, head: [u8; 3], eligibility: Tick) {
+    let mut bytes = [0; 7];
+    bytes[..3].copy_from_slice(&head);
+    bytes[3..].copy_from_slice(&four_bytes(eligibility));
+    out.extend_from_slice(&bytes);
+}
+
+/// No tick of a run needs more: an accepted offer is made before the clock's end,
 /// and its eligibility is less than 65,536 beyond, by a stamp as well, which is never later than the
 /// offer.
-fn append_tick(out: &mut Vec<u8>, tick: Tick) {
-    out.extend_from_slice(&tick.to_le_bytes()[..4]);
+fn four_bytes(tick: Tick) -> [u8; 4] {
+    (tick as u32).to_le_bytes()
 }

@@ -13,6 +13,9 @@ pub const SIZE_LIMIT: u64 = 16_777_216;
 
 const BLOCK: usize = 1 << 16;
 
+/// Behind so many bytes of answers there is room for one more in a block.
+const MOST_KEPT: usize = BLOCK - 32;
+
 /// How ticks are run.
 #[derive(Clone, Copy, Debug, PartialEq, Eq)]
 pub enum Pace {
@@ -20,6 +23,8 @@ pub enum Pace {
     Plain,
     /// Ticks in which nothing starts and nothing departs are passed over at once.
     Passing,
+    /// The same, and the state is tested before each record.
+    Tested,
 }
 
 /// The hub and the way its ticks are run.
@@ -41,33 +46,43 @@ impl Job {
         &self.hub
     }
 
+    /// Whether the state is sound, where it is tested.
+    #[inline]
+    pub fn stands_the_test(&self) -> bool {
+        self.pace != Pace::Tested || self.hub.is_sound()
+    }
+
     /// Carries out one record and hands over its answers in order.
+    #[inline(always)]
     pub fn carry_out<E>(
         &mut self,
         record: Record,
         hand_over: &mut impl FnMut(Answer) -> Result<(), E>,
     ) -> Result<(), E> {
-        let answer = match record {
+        match record {
             Record::Link {
                 levels,
                 largest,
                 silence,
                 bounds,
-            } => self.set_link(Link::new(levels, largest, silence, bounds)),
-            Record::Connection(figures) => self.admit(figures),
-            Record::Close { connection } => self.close(connection),
+            } => hand_over(self.set_link(Link::new(levels, largest, silence, bounds))),
+            Record::Connection(figures) => hand_over(self.admit(figures)),
+            Record::Close { connection } => hand_over(self.close(connection)),
             Record::Packet {
                 connection,
                 length,
                 tag,
                 stamp,
-            } => self.offer(connection, length, tag, stamp),
-            Record::Notice { length, tag } => self.offer_notice(length, tag),
-            Record::Ticks { asked } => self.run_ticks(asked, hand_over)?,
-        };
-        hand_over(answer)
+            } => hand_over(self.offer(connection, length, tag, stamp)),
+            Record::Notice { length, tag } => hand_over(self.offer_notice(length, tag)),
+            Record::Ticks { asked } => {
+                let answer = self.run_ticks(asked, hand_over)?;
+                hand_over(answer)
+            }
+        }
     }
 
+    #[inline]
     fn set_link(&mut self, link: Option<Link>) -> Answer {
         let result = self.hub.set_link(link);
         Answer::Link {
@@ -75,6 +90,7 @@ impl Job {
         }
     }
 
+    #[inline]
     fn admit(&mut self, figures: Figures) -> Answer {
         let result = self.hub.admit(figures);
         let short = match result {
@@ -88,6 +104,7 @@ impl Job {
         }
     }
 
+    #[inline]
     fn close(&mut self, connection: u8) -> Answer {
         let result = self.hub.close(connection);
         Answer::Closed {
@@ -95,6 +112,7 @@ impl Job {
         }
     }
 
+    #[inline]
     fn offer(&mut self, connection: u8, length: u16, tag: u32, stamp: Option<u32>) -> Answer {
         let stamp = stamp.map(Tick::from);
         let result = self.hub.offer_with(connection, length, tag, stamp);
@@ -104,6 +122,7 @@ impl Job {
         }
     }
 
+    #[inline]
     fn offer_notice(&mut self, length: u16, tag: u32) -> Answer {
         let result = self.hub.offer_notice(length, tag);
         Answer::Notice {
@@ -113,6 +132,7 @@ impl Job {
     }
 
     /// `TK`: the asked ticks one by one, stopping at the first refused one.
+    #[inline]
     fn run_ticks<E>(
         &mut self,
         asked: u16,
@@ -123,10 +143,9 @@ impl Job {
         }
         let mut done = 0;
         while done < asked {
-            let passed = self.pass_over(asked - done);
-            done += passed;
-            if passed > 0 {
-                continue;
+            done += self.pass_over(asked - done);
+            if done == asked {
+                break;
             }
             match self.hub.tick() {
                 Ok(Some(departure)) => hand_over(Answer::Departed(departure))?,
@@ -148,10 +167,11 @@ impl Job {
         Answer::Ticks { verdict, done: 0 }
     }
 
+    #[inline]
     fn pass_over(&mut self, at_most: u16) -> u16 {
         match self.pace {
             Pace::Plain => 0,
-            Pace::Passing => self.hub.pass_over(Tick::from(at_most)) as u16,
+            Pace::Passing | Pace::Tested => self.hub.pass_over(Tick::from(at_most)) as u16,
         }
     }
 }
@@ -186,10 +206,8 @@ impl<R: Read> Window<R> {
     }
 
     /// Reads on until a whole record is in sight or the input has ended.
+    #[cold]
     fn fill(&mut self) -> io::Result<()> {
-        if self.to - self.from >= LONGEST_RECORD || self.input_ended {
-            return Ok(());
-        }
         self.block.copy_within(self.from..self.to, 0);
         self.to -= self.from;
         self.from = 0;
@@ -206,8 +224,11 @@ impl<R: Read> Window<R> {
 
     /// Takes the next record. Bytes beyond the size limit belong to no record, but one of them
     /// being there is enough for a malformed record at the limit.
+    #[inline(always)]
     fn next(&mut self) -> io::Result<Next> {
-        self.fill()?;
+        if self.to - self.from < LONGEST_RECORD && !self.input_ended {
+            self.fill()?;
+        }
         let in_sight = &self.block[self.from..self.to];
         if in_sight.is_empty() {
             return Ok(Next::End);
@@ -234,7 +255,10 @@ pub fn walk(
     loop {
         match window.next()? {
             Next::End => return Ok(()),
-            Next::Record(record) => job.carry_out(record, hand_over)?,
+            Next::Record(record) if job.stands_the_test() => job.carry_out(record, hand_over)?,
+            Next::Record(_) => {
+                return Err(io::Error::new(io::ErrorKind::Other, "not a sound state"))
+            }
             Next::Malformed => {
                 let offset = window.offset as u32;
                 return hand_over(Answer::Malformed { offset });
@@ -243,16 +267,22 @@ pub fn walk(
     }
 }
 
+#[cold]
+fn write_out(block: &mut Vec<u8>, output: &mut impl Write) -> io::Result<()> {
+    output.write_all(block)?;
+    block.clear();
+    Ok(())
+}
+
 /// Runs a trace and writes its answers in blocks.
 pub fn replay(input: impl Read, mut output: impl Write, pace: Pace) -> io::Result<()> {
     let mut block = Vec::with_capacity(BLOCK);
     walk(input, pace, &mut |answer| {
         answer.append_to(&mut block);
-        if block.len() >= BLOCK - LONGEST_RECORD {
-            output.write_all(&block)?;
-            block.clear();
+        match block.len() {
+            0..=MOST_KEPT => Ok(()),
+            _ => write_out(&mut block, &mut output),
         }
-        Ok(())
     })?;
     output.write_all(&block)?;
     output.flush()

@@ -5,7 +5,7 @@ mod told;
 
 use sim::hub::CLOCK_END;
 use sim::kinds::{Kind, KINDS};
-use sim::level_test::lowest_shortage;
+use sim::level_test::{lowest_shortage, sums};
 use sim::link::{Connection, Figures, Link, MOST_RESERVED};
 use sim::record::{Answer, Record};
 use told::{records, Line, Told};
@@ -88,7 +88,7 @@ impl Foreseen {
             self.met.all_owned += usize::from(any_charged);
             return 7;
         }
-        let passes = |all: &[Connection]| lowest_shortage(link, all).is_none();
+        let passes = |all: &[Connection]| lowest_shortage(link, &sums(link, all)).is_none();
         let fits = |all: &[Connection]| {
             all.iter().map(|one| one.reservation(link)).sum::<u64>() <= MOST_RESERVED
         };

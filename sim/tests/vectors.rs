@@ -1,4 +1,4 @@
-//! Every trace with worked answers, in both paces. The folder can be named in VECTORS.
+//! Every trace with worked answers, in every pace. The folder can be named in VECTORS.
 
 use std::fs;
 use std::path::PathBuf;
@@ -25,7 +25,7 @@ fn every_vector() {
         }
         let trace = fs::read(&path).expect("a trace");
         let expected = fs::read(path.with_extension("answers")).expect("its answers");
-        for pace in [Pace::Plain, Pace::Passing] {
+        for pace in [Pace::Plain, Pace::Passing, Pace::Tested] {
             let given = answers(&trace, pace).expect("answers");
             assert!(given == expected, "{} {pace:?}", path.display());
         }

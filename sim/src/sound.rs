@@ -1,0 +1,289 @@
+//! The test of the state (section "A sound state"; docs/RULES-AFTER-BASE.md: notices by R-1, the
+//! silence by R-4, averages by R-6, closes by R-8, stamps by R-9). What is kept beside the state's own
+//! numbers, so that no call counts anew, is tested with them.
+
+use std::collections::VecDeque;
+
+use crate::departure::Tick;
+use crate::hub::{Hub, Line, Sent, CLOCK_END};
+use crate::level_test::{loads, lowest_shortage};
+use crate::link::{Connection, Link, MOST_PER_WINDOW, MOST_RESERVED};
+use crate::notices::MOST_NOTICES;
+use crate::owners::Owner;
+use crate::queues::Held;
+
+impl Hub {
+    /// Whether the state is sound.
+    pub fn is_sound(&self) -> bool {
+        match &self.link {
+            None => self.is_unused(),
+            Some(link) => {
+                self.clock <= CLOCK_END
+                    && link.is_within()
+                    && self.owners_are_sound(link)
+                    && self.notices_are_sound(link)
+                    && self.line_is_sound(link)
+                    && self.firsts_are_sound()
+            }
+        }
+    }
+
+    /// With no link set there is nothing.
+    fn is_unused(&self) -> bool {
+        self.clock == 0
+            && self.line == Line::Idle
+            && self.notices.count() == 0
+            && self.owners.all().next().is_none()
+            && self.queues.is_empty()
+    }
+
+    /// Each owner by itself, then the level tests and the reservations of all.
+    fn owners_are_sound(&self, link: &Link) -> bool {
+        let mut held = 0;
+        let mut is_sound = |(number, owner)| {
+            held += self.queues.held_by(number);
+            self.owner_is_sound(link, number, owner)
+        };
+        self.owners.all().all(&mut is_sound)
+            && held == self.queues.count()
+            && self.owners.are_summed_up()
+            && lowest_shortage(link, self.owners.sums()).is_none()
+            && self.owners.reserved() <= MOST_RESERVED
+    }
+
+    fn owner_is_sound(&self, link: &Link, number: u8, owner: &Owner) -> bool {
+        let connection = &owner.connection;
+        let rows = self.queues.of(number);
+        let sequence = Sequence { owner, rows };
+        connection.is_within(link)
+            && owner.reservation == connection.reservation(link)
+            && *owner.loads() == loads(link, connection)
+            && rows.len() as u64 <= owner.reservation
+            && self.charge_is_sound(link, owner, rows.len())
+            && sequence.ends_with_the_rows()
+            && sequence.left_in_time(self.clock)
+            && sequence.rows_are_sound(self.clock)
+    }
+
+    /// A closed connection has sent and holds nothing, and its charge is not over.
+    fn charge_is_sound(&self, link: &Link, owner: &Owner, held: usize) -> bool {
+        let bound = Tick::from(link.largest_bound());
+        let over = owner.recent.back(1).map(|last| last + bound);
+        owner.charge_end().map_or(true, |charge_end| {
+            held == 0 && Some(charge_end) == over && self.clock < charge_end
+        })
+    }
+
+    fn notices_are_sound(&self, link: &Link) -> bool {
+        let fits = |length| (1..=link.largest()).contains(&length);
+        let mut all = self.notices.all();
+        self.notices.count() <= MOST_NOTICES
+            && all.all(|notice| fits(notice.length) && notice.arrival <= self.clock)
+    }
+
+    /// What is in service has 1 to its length units to go; a packet is eligible.
+    fn line_is_sound(&self, link: &Link) -> bool {
+        let (sent, units_to_go) = match self.line {
+            Line::Idle => return true,
+            Line::Silent { ticks_to_go } => return (1..=link.silence()).contains(&ticks_to_go),
+            Line::Serving { sent, units_to_go } => (sent, units_to_go),
+        };
+        let length = match sent {
+            Sent::FirstNotice => self.notices.first().map(|notice| notice.length),
+            Sent::FirstOf(started) => {
+                let first = self.queues.first_of(started.connection);
+                let eligible = |held: &&Held| Tick::from(held.eligibility) <= self.clock;
+                let length = first.filter(eligible).map(|held| held.length);
+                length.filter(|&length| length == started.length)
+            }
+        };
+        length.map_or(false, |length| (1..=length).contains(&units_to_go))
+    }
+
+    /// The first packets are kept in order, under their connections' levels.
+    fn firsts_are_sound(&self) -> bool {
+        let level_of = |number| Some(self.connection(number)?.level());
+        let in_service = match self.line {
+            Line::Serving {
+                sent: Sent::FirstOf(started),
+                ..
+            } => Some(started),
+            _ => None,
+        };
+        let number = in_service.map(|started| started.connection);
+        in_service.map_or(true, |one| level_of(one.connection) == Some(one.level))
+            && self.queues.are_sound(number, self.clock, level_of)
+    }
+}
+
+/// What a connection has sent, as far as it remembers, and its rows, which are the newest of it.
+struct Sequence<'a> {
+    owner: &'a Owner,
+    rows: &'a VecDeque<Held>,
+}
+
+impl Sequence<'_> {
+    /// The newest that are remembered are the rows' own; all 16 are, where there are more rows.
+    fn ends_with_the_rows(&self) -> bool {
+        let remembered = &self.owner.recent;
+        let (count, held) = (remembered.count(), self.rows.len());
+        let own = |back: usize| remembered.back(back) == self.before(held, back);
+        (held <= count || count == usize::from(MOST_PER_WINDOW))
+            && (1..count.min(held) + 1).all(own)
+    }
+
+    /// The eligibility that lies so many packets before a row; nothing where there was none or it is
+    /// forgotten.
+    fn before(&self, row: usize, back: usize) -> Option<Tick> {
+        match row.checked_sub(back) {
+            Some(row) => Some(Tick::from(self.rows[row].eligibility)),
+            None => self.owner.recent.back(self.rows.len() + back - row),
+        }
+    }
+
+    /// What has left keeps both rules, and lies at or before the clock.
+    fn left_in_time(&self, clock: Tick) -> bool {
+        let (recent, connection) = (&self.owner.recent, &self.owner.connection);
+        let held = self.rows.len();
+        let newest = recent.back(held + 1);
+        newest.map_or(true, |newest| newest <= clock)
+            && recent.are_apart(held, 1, Tick::from(connection.gap()))
+            && connection.average().map_or(true, |average| {
+                let packets = usize::from(average.packets());
+                recent.are_apart(held, packets, Tick::from(average.window()))
+            })
+    }
+
+    /// The rows in order: each by itself, and behind those before it.
+    fn rows_are_sound(&self, clock: Tick) -> bool {
+        let connection = &self.owner.connection;
+        let mut last = self.before(0, 1);
+        self.rows.iter().enumerate().all(|(row, held)| {
+            let (arrival, tick) = (Tick::from(held.arrival), Tick::from(held.eligibility));
+            let nth = |packets| self.before(row, packets);
+            let in_pace = earliest(connection, last, nth) <= tick
+                && (tick <= clock || tick <= latest(connection, last, nth, clock));
+            last = Some(tick);
+            (1..=connection.size()).contains(&held.length)
+                && arrival <= clock
+                && arrival <= tick
+                && in_pace
+        })
+    }
+}
+
+/// A gap behind the last one, if there is one.
+fn spaced(connection: &Connection, last: Option<Tick>) -> Tick {
+    last.map_or(0, |last| last + Tick::from(connection.gap()))
+}
+
+/// The earliest eligibility that both rules allow behind the last one and the n-th before.
+fn earliest(
+    connection: &Connection,
+    last: Option<Tick>,
+    nth: impl Fn(usize) -> Option<Tick>,
+) -> Tick {
+    let spaced = spaced(connection, last);
+    connection.average().map_or(spaced, |average| {
+        let nth = nth(usize::from(average.packets()));
+        nth.map_or(spaced, |nth| spaced.max(nth + Tick::from(average.window())))
+    })
+}
+
+/// The latest of a row beyond the clock: by stamps a past the clock; else the earliest, where the
+/// n-th before it is known, and what the clock allows where it is not.
+fn latest(
+    connection: &Connection,
+    last: Option<Tick>,
+    nth: impl Fn(usize) -> Option<Tick>,
+    clock: Tick,
+) -> Tick {
+    if let Some(allowance) = connection.allowance() {
+        return clock + Tick::from(allowance);
+    }
+    let spaced = spaced(connection, last);
+    match connection.average() {
+        None => spaced.max(clock + Tick::from(connection.gap())),
+        Some(average) => {
+            let window = Tick::from(average.window());
+            let from = nth(usize::from(average.packets())).unwrap_or(clock);
+            spaced.max(from + window)
+        }
+    }
+}
+
+#[cfg(test)]
+mod tests {
+    use super::*;
+    use crate::link::Figures;
+
+    /// Two levels, three connections of each kind, a packet in service and others held, a notice.
+    fn busy() -> Hub {
+        let mut hub = Hub::new();
+        let link = Link::new(2, 8, 2, [60, 120, 0, 0, 0, 0, 0, 0]);
+        hub.set_link(link).expect("a link");
+        let kinds = [
+            Figures::plain(1, 20, 2),
+            Figures::plain(2, 20, 2).with_average(80, 40),
+            Figures::plain(2, 30, 2).by_stamps(10),
+        ];
+        for figures in kinds {
+            hub.admit(figures).expect("admitted");
+        }
+        for connection in [0, 0, 0, 1, 1, 1] {
+            hub.offer(connection, 2, 7).expect("accepted");
+        }
+        hub.offer_with(2, 2, 7, Some(0)).expect("accepted");
+        hub.offer_notice(8, 7).expect("accepted");
+        hub.tick().expect("a tick");
+        hub
+    }
+
+    #[test]
+    fn a_run_stays_sound() {
+        let mut hub = busy();
+        for _ in 0..400 {
+            assert!(hub.is_sound(), "at {}", hub.clock());
+            hub.tick().expect("a tick");
+        }
+        for connection in 0..3 {
+            hub.close(connection).expect("closed");
+            assert!(hub.is_sound());
+        }
+        assert!(Hub::new().is_sound());
+    }
+
+    #[test]
+    fn what_is_broken_is_not_sound() {
+        fn remember(hub: &mut Hub, number: u8, eligibility: Tick) {
+            let owner = hub.owners.standing_at_mut(number).expect("an owner");
+            owner.recent.remember(eligibility);
+        }
+        let breaks: [fn(&mut Hub); 12] = [
+            |hub| hub.clock = CLOCK_END + 1,
+            |hub| hub.link = None,
+            |hub| hub.link = Link::new(1, 8, 2, [60, 0, 0, 0, 0, 0, 0, 0]),
+            |hub| hub.link = Link::new(2, 8, 0, [60, 121, 0, 0, 0, 0, 0, 0]),
+            |hub| hub.line = Line::Idle,
+            |hub| hub.line = Line::Silent { ticks_to_go: 3 },
+            |hub| hub.owners.standing_at_mut(0).expect("an owner").reservation += 1,
+            |hub| hub.owners.close(0, 500),
+            |hub| remember(hub, 0, 60),
+            |hub| hub.queues.offer(0, 1, 2, 7, (1, 60)),
+            |hub| {
+                hub.queues.offer(2, 2, 2, 7, (1, 42));
+                remember(hub, 2, 42);
+            },
+            |hub| {
+                hub.queues.offer(0, 1, 3, 7, (1, 60));
+                remember(hub, 0, 60);
+            },
+        ];
+        for (place, broken) in breaks.iter().enumerate() {
+            let mut hub = busy();
+            assert!(hub.is_sound());
+            broken(&mut hub);
+            assert!(!hub.is_sound(), "number {place}");
+        }
+    }
+}
