@@ -1,4 +1,4 @@
-// One step of a replay on a hub that has been tested: at most one answer record. Document 01, "Trace and answer records" and "One tick"; document 02, R-1 and R-8.
+// One step of a replay on a hub that has been tested: at most one answer record. Document 01, "Trace and answer records" and "One tick"; document 02, R-1, R-8 and R-9.
 mod reading; // reading.rt: a record is read, and its call is made or its ticks begin
 mod ticking; // ticking.rt: the ticks of a `TK`
 
