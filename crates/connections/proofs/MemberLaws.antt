@@ -1,5 +1,5 @@
 -- Laws of the table of connections: a row, what is read of the table by number, and a row or one of the two numbers behind the rows put into it.
-use mathlib.Core.Path.{_≡_, refl, sym, ap, _∙_}
+use mathlib.Core.Path.{_≡_, refl, sym, ap, _∙_, subst}
 use mathlib.Core.Bool.{false, not, Bool·not-not}
 use mathlib.Core.List.{List, [], _∷_, _++_, map, append-assoc, append-nil}
 use Prim.Native.Nat.{ℕ, zero, suc, _+_, _*_, _-_, _≤_, _<_}
@@ -17,7 +17,7 @@ use Rattle.rules.proofs.Standing.{level-free}
 use Rattle.tables.specs.Table.{row-in, rows-in, numbers, write}
 use Rattle.tables.proofs.TableLaws.{numbers-all, length-numbers, length-rows, made-at, write-rows, length-write, put-at, first-back}
 use Rattle.connections.specs.declared.Member.{Member}
-use Rattle.connections.specs.Members.{member-head, member-width, rows-end, members-length, figures-row, row-of, member-of, no-member, member-in, put-member, members-in, connection-of, past-of, closed-of, connections-in, pasts-in, closed-in, used-in, first-in, written-rows}
+use Rattle.connections.specs.Members.{member-head, member-width, rows-end, members-length, figures-row, row-of, member-of, no-member, member-in, put-member, members-in, members-are, connection-of, past-of, closed-of, connections-in, pasts-in, closed-in, used-in, first-in, written-rows}
 
 -- ---- a row
 
@@ -85,16 +85,14 @@ put-parts t at m e =
 -- ---- what is read, by number
 
 pub length-members : (t : List ℕ) → length (members-in t) ≡ max-connections
-unfolding members-in
-length-members t = length-map (rows-in member-width max-connections t) member-of ∙ length-rows member-width max-connections t
+length-members t = ap length (members-are t) ∙ length-map (rows-in member-width max-connections t) member-of ∙ length-rows member-width max-connections t
 
 rows-long : (rs : List (List ℕ)) → All Long (map member-of rs)
 rows-long [] = tt
 rows-long (r ∷ rs) = (length-numbers max-remembered (drop member-head r), rows-long rs)
 
 pub all-long : (t : List ℕ) → All Long (members-in t)
-unfolding members-in
-all-long t = rows-long (rows-in member-width max-connections t)
+all-long t = subst (All Long) (sym (members-are t)) (rows-long (rows-in member-width max-connections t))
 
 module _ (t : List ℕ) where
   pub connections-length : length (connections-in t) ≡ max-connections
@@ -118,8 +116,7 @@ module _ (t : List ℕ) (c : ℕ) where
 
   module _ (h : c < max-connections) where
     pub member-is : getD (members-in t) c no-member ≡ member-in t c
-    unfolding members-in
-    member-is = made-at member-width max-connections member-of t c h
+    member-is = ap (λ (ms : List Member). getD ms c no-member) (members-are t) ∙ made-at member-width max-connections member-of t c h
 
     pub connection-is : nth (connections-in t) c ≡ connection-of (member-in t c)
     connection-is = nth-member ∙ ap connection-of member-is
@@ -165,10 +162,11 @@ module _ (t : List ℕ) (e : length t ≡ members-length) where
       ∙ ap (λ (l : List ℕ). used-in t ∷ l) (drop-cons t (rows-end + 1) 0 (omega arith) ∙ ap (λ (l : List ℕ). first-in t ∷ l) (drop-of-length-le t {i = members-length} (omega arith)))
 
   pub rows-written : t ≡ written-rows (members-in t) (used-in t) (first-in t)
-  unfolding members-in written-rows
+  unfolding written-rows
   rows-written =
       sym
-      (ap (λ (l : List ℕ). write row-of (map member-of (rows-in member-width max-connections t)) ++ l) (sym behind)
+      (ap (λ (ms : List Member). write row-of ms ++ used-in t ∷ first-in t ∷ []) (members-are t)
+      ∙ ap (λ (l : List ℕ). write row-of (map member-of (rows-in member-width max-connections t)) ++ l) (sym behind)
       ∙ write-rows member-width member-of row-of row-back max-connections t (omega arith))
 
 -- a row put in place of another
@@ -216,5 +214,5 @@ module _ (ms : List Member) (u f : ℕ) (e : length ms ≡ max-connections) wher
   all-again (n ∷ ns) h = (row-again n (h .0), all-again ns (h .1))
 
   pub members-back : All Long ms → members-in (written-rows ms u f) ≡ ms
-  unfolding members-in written-rows
-  members-back h = first-back member-width row-of (λ m. refl) member-of max-connections ms (u ∷ f ∷ []) e (all-again ms h)
+  unfolding written-rows
+  members-back h = members-are (written-rows ms u f) ∙ first-back member-width row-of (λ m. refl) member-of max-connections ms (u ∷ f ∷ []) e (all-again ms h)

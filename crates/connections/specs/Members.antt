@@ -1,6 +1,7 @@
 -- The table of connections: a row for each number, with level, size, gap, averaging window, average gap, kind, allowance, a mark, how many eligibilities are remembered, and these,
 -- newest first; and behind the rows two numbers that sum them up. Document 01 leaves its form open; docs/RULES-AFTER-BASE.md, R-6, R-8 and R-9, has it.
 use Prim.Native.Nat.{ℕ, zero, suc, _+_, _*_, min}
+use mathlib.Core.Path.{_≡_, refl}
 use mathlib.Core.Bool.{Bool, cond, not, _&&_}
 use mathlib.Core.List.{List, [], _∷_, _++_, map}
 use lib.Dec.{eqb, leb}
@@ -57,9 +58,13 @@ member-in t i = member-of (row-in member-width t i)
 abbrev pub put-member : List ℕ → ℕ → Member → List ℕ
 put-member t i m = sets t (member-width * i) (row-of m)
 
--- the rows by number: number c is row c, and a free one is all zero
-unfoldable pub members-in : List ℕ → List Member
+-- the rows by number: number c is row c, and a free one is all zero. Other files go by the equation: opened where a proof fails, it would be written out row by row
+pub members-in : List ℕ → List Member
 members-in t = map member-of (rows-in member-width max-connections t)
+
+pub members-are : (t : List ℕ) → members-in t ≡ map member-of (rows-in member-width max-connections t)
+unfolding members-in
+members-are t = refl
 
 -- ---- what they stand for
 
