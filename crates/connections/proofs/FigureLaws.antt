@@ -4,7 +4,7 @@ use mathlib.Core.Bool.{true, _&&_, _||_}
 use mathlib.Core.List.{List, [], _∷_}
 use mathlib.Core.Logic.{⊎-elim}
 use Prim.Native.Nat.{ℕ, zero, suc, _+_, _*_, _-_, _/_, _%_, _≤_, _<_, min}
-use native.Mathlib.Nat.{mul-le-mul-right, mul-le-mul-left, le-trans, pos-of-div-pos}
+use native.Mathlib.Nat.{le-div-iff-mul-le, div-lt-iff-lt-mul, div-add-mod', mod-lt, mul-le-mul-right, mul-le-mul-left, le-trans, pos-of-div-pos}
 use native.Mathlib.Omega.{arith}
 use native.Mathlib.Numerals.{add-one}
 use lib.Dec.{leb, eqb}
@@ -21,22 +21,26 @@ use Rattle.rules.proofs.Sums.{same, upto-yes, upto-no, upto-le, cond-is}
 use Rattle.rules.proofs.Standing.{level-owned, level-free}
 use Rattle.rules.proofs.Figures.{few-at-once, reservation-is, sum-is}
 use Rattle.rules.proofs.Count.{rounded-up-le, count-plain, count-average, count-none}
-use Rattle.connections.specs.Within.{Within, Sums-with, share-of, most-share}
+use Rattle.connections.specs.Within.{Within, Sums-with, bound-in, share-of, most-share}
 use Rattle.connections.proofs.OwnerLaws.{sum-joining}
 
 -- ---- bounds
 
-pub bound-low : (l : Link) (m : ℕ) → m < 1 → 0 ≡ bound l m
-bound-low l zero h = refl
-bound-low l (suc m) h = absurd (omega arith)
+pub bound-low : (ds : List ℕ) (m : ℕ) → m < 1 → 0 ≡ bound-in ds m
+bound-low ds zero h = refl
+bound-low ds (suc m) h = absurd (omega arith)
 
-pub bound-high : (l : Link) (m : ℕ) → length (l .bounds) ≡ max-levels → max-levels < m → 0 ≡ bound l m
-bound-high l zero e h = refl
-bound-high l (suc m) e h = sym (List·getD-eq-default (l .bounds) 0 {n = m} (omega arith))
+pub bound-high : (ds : List ℕ) (m : ℕ) → length ds ≡ max-levels → max-levels < m → 0 ≡ bound-in ds m
+bound-high ds zero e h = refl
+bound-high ds (suc m) e h = sym (List·getD-eq-default ds 0 {n = m} (omega arith))
 
-pub bound-at : (l : Link) (m : ℕ) → 1 ≤ m → getD (l .bounds) (m - 1) 0 ≡ bound l m
-bound-at l zero h = absurd (omega arith)
-bound-at l (suc m) h = let e : suc m - 1 ≡ m = omega arith in rw e
+pub bound-at : (ds : List ℕ) (m : ℕ) → 1 ≤ m → getD ds (m - 1) 0 ≡ bound-in ds m
+bound-at ds zero h = absurd (omega arith)
+bound-at ds (suc m) h = let e : suc m - 1 ≡ m = omega arith in rw e
+
+pub bound-is : (l : Link) (m : ℕ) → bound-in (l .bounds) m ≡ bound l m
+bound-is l zero = refl
+bound-is l (suc m) = refl
 
 rising-high : (low n : ℕ) (ds : List ℕ) → rising low n ds ≡ true → (k : ℕ) → getD ds k 0 ≤ max-bound
 rising-high low zero [] e k = omega (arith, List·getD-eq-default {A = ℕ} [] 0 {n = k} (omega arith))
@@ -98,9 +102,25 @@ figure-limits l x e =
 
 -- ---- counts and shares
 
--- what the code divides, rounded up, is no more than what is divided
-pub divided-up : (w x a b c : ℕ) → a ≡ w → b ≡ x → c ≡ x → 1 ≤ x → ((a + (b - 1)) / c ≡ rounded-up w x) × ((a + (b - 1)) / c ≤ w)
-divided-up w x a b c e f g h = rw (e, f, g) (refl, rounded-up-le w x h)
+-- a quotient, rounded up: the quotient where nothing is left, else one more
+module _ (w x : ℕ) (h : 1 ≤ x) where
+  pub divides-up : w % x ≡ 0 → (w / x ≡ rounded-up w x) × (w / x ≤ w)
+  divides-up e = let k : w / x ≡ rounded-up w x = omega (arith, least-of, most-of) in (k, omega (arith, k, rounded-up-le w x h))
+    where
+      least-of : w / x ≤ rounded-up w x
+      least-of = le-div-iff-mul-le h .1 (omega (arith, div-add-mod' w x))
+
+      most-of : rounded-up w x < suc (w / x)
+      most-of = div-lt-iff-lt-mul h .1 (omega (arith, div-add-mod' w x))
+
+  pub rest-up : (w % x ≡ 0 → ⊥) → (w / x + 1 ≡ rounded-up w x) × (w / x + 1 ≤ w)
+  rest-up n = let k : w / x + 1 ≡ rounded-up w x = omega (arith, least-of, most-of) in (k, omega (arith, k, rounded-up-le w x h))
+    where
+      least-of : suc (w / x) ≤ rounded-up w x
+      least-of = le-div-iff-mul-le h .1 (omega (arith, div-add-mod' w x, n))
+
+      most-of : rounded-up w x < suc (suc (w / x))
+      most-of = div-lt-iff-lt-mul h .1 (omega (arith, div-add-mod' w x, mod-lt w h))
 
 pub burst-is : (x : Connection) → x .window / x .average ≡ burst x
 unfolding burst
@@ -142,6 +162,28 @@ share-free l m d = omega (arith, upto-le 0 m (count no-connection d * cost l 0),
 
 pub reservation-free : (l : Link) → reservation l no-connection ≡ 0
 reservation-free l = reservation-is l no-connection ∙ count-none (0 + bound l 0)
+
+-- .. and reserves nothing
+pub none-free : (x : Connection) (w : ℕ) → x ≡ no-connection → 0 ≡ count x w
+none-free x w e = sym (ap (λ (y : Connection). count y w) e ∙ count-none w)
+
+-- an owner has a gap, and a free number has none
+pub free-by-gap : (x : Connection) → (x .level ≡ 0 → x ≡ no-connection) → ((x .level ≡ 0 → ⊥) → 1 ≤ x .gap) → x .gap ≡ 0 → x ≡ no-connection
+free-by-gap x blank some z = ⊎-elim blank (λ n. absurd (omega (arith, some n))) (same (x .level) 0)
+
+pub owner-by-gap : (x : Connection) → (x .level ≡ 0 → x ≡ no-connection) → (x .gap ≡ 0 → ⊥) → 1 ≤ x .level
+owner-by-gap x blank n = ⊎-elim (λ z. absurd (n (ap (λ (y : Connection). y .gap) (blank z)))) (λ k. omega (arith, k)) (same (x .level) 0)
+
+-- the reservation of a connection of a link with these bounds
+abbrev pub reservation-in : List ℕ → Connection → ℕ
+reservation-in ds x = count x (x .allowance + bound-in ds (x .level))
+
+pub reserved-is : (l : Link) (cs : List Connection) (n : ℕ) → sum n (λ (k : ℕ). reservation-in (l .bounds) (nth cs k)) ≡ sum n (λ (k : ℕ). reservation l (nth cs k))
+reserved-is l cs zero = refl
+reserved-is l cs (suc n) =
+    let x = nth cs n in
+    let e : reservation-in (l .bounds) x ≡ reservation l x = ap (λ (d : ℕ). count x (x .allowance + d)) (bound-is l (x .level)) ∙ sym (reservation-is l x) in
+    omega (arith, e, reserved-is l cs n)
 
 -- ---- sums
 

@@ -1,6 +1,7 @@
 pub mod MemberLaws
 pub mod OwnerLaws
 pub mod FigureLaws
+pub mod SumLaws
 pub mod WrittenLaws
 pub mod RegulatorLaws
 pub mod ClosingLaws

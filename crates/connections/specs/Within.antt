@@ -1,12 +1,13 @@
 -- What the sums over connections rely on: every figure within its limits, so that nothing is lost in 64 bits; and what they add up to.
-use Prim.Native.Nat.{ℕ, _+_, _*_, _≤_}
+use Prim.Native.Nat.{ℕ, zero, suc, _+_, _*_, _<_, _≤_}
 use mathlib.Core.Path.{_≡_}
 use mathlib.Core.Bool.{true, false, cond}
 use mathlib.Core.List.{List, [], _∷_}
 use lib.Dec.{eqb}
+use lib.ListN.{getD}
 use Rattle.rules.specs.declared.Link.{Link}
 use Rattle.rules.specs.declared.Connection.{Connection}
-use Rattle.rules.specs.Limits.{max-largest, max-silence, max-bound}
+use Rattle.rules.specs.Limits.{max-largest, max-silence, max-bound, max-connections}
 use Rattle.rules.specs.Model.{Past, no-connection, nth}
 use Rattle.rules.specs.Words.{upto}
 use Rattle.rules.specs.Admission.{link-within, figures-within, owned, bound, count, cost, load, level-sum}
@@ -23,6 +24,23 @@ share-of l m d x = upto (x .level) m (count x d * cost l (x .size))
 
 abbrev pub most-share : ℕ
 most-share = max-bound * (max-largest + max-silence)
+
+-- of a link's bounds that of level m
+abbrev pub bound-in : List ℕ → ℕ → ℕ
+bound-in ds zero = 0
+bound-in ds (suc m) = getD ds m 0
+
+-- the sums of all levels, side by side, level 1 at place 0: the share of a connection in that at place k
+abbrev pub share-at : Link → Connection → ℕ → ℕ
+share-at l x k = share-of l (suc k) (bound l (suc k)) x
+
+-- .. sums to which the shares of a connection were added
+abbrev pub Added : Link → Connection → List ℕ → List ℕ → Type 0
+Added l x before after = (k : ℕ) → k < l .levels → (getD after k 0 ≡ getD before k 0 + share-at l x k) × (share-at l x k ≤ most-share)
+
+-- .. and those over all connections
+abbrev pub Loads : Link → List Connection → List ℕ → Type 0
+Loads l cs sums = (k : ℕ) → k < l .levels → (getD sums k 0 ≡ load l cs (suc k) (bound l (suc k))) × (getD sums k 0 ≤ max-connections * most-share)
 
 -- the sums of the connections js are those of cs with the share of a newcomer x
 abbrev pub Sums-with : Link → List Connection → Connection → List Connection → Type 0

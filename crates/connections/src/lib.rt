@@ -6,18 +6,18 @@ pub mod stamps; // stamps.rt: offers that bring a stamp, and connections that wa
 ghost use mathlib.Core.Path.{_≡_};
 ghost use mathlib.Core.Bool.{true, false, not, _&&_};
 ghost use mathlib.Core.List.{List};
-ghost use Prim.Native.Nat.{_+_, _*_, _-_, _/_, _<_, _≤_, min, max};
-ghost use lib.ListN.{length, getD, set, drop};
+ghost use Prim.Native.Nat.{ℕ, _+_, _*_, _-_, _/_, _<_, _≤_, min, max};
+ghost use lib.ListN.{length, getD, set, drop, replicate};
 ghost use lib.Seq.{sets};
 ghost use Rattle.rules.specs.declared.Connection.{Connection as Figures};
-ghost use Rattle.rules.specs.Limits.{max-largest, max-silence, max-bound, max-connections, beyond-32-bits};
+ghost use Rattle.rules.specs.Limits.{max-levels, max-largest, max-silence, max-bound, max-connections, beyond-32-bits};
 ghost use Rattle.rules.specs.Model.{no-short, nth, no-past, no-connection};
-ghost use Rattle.rules.specs.Admission.{bound, burst, rounded-up, average-count, count, reservation, reserved, cost, load, level-test, owned, free-number, joining};
+ghost use Rattle.rules.specs.Admission.{link-within, bound, burst, rounded-up, average-count, count, reservation, reserved, cost, level-test, owned, free-number, joining};
 ghost use Rattle.rules.specs.Service.{remember};
 ghost use Rattle.limits.specs.Zeros.{zeros};
 ghost use Rattle.tables.specs.Table.{row-in};
 ghost use Rattle.connections.specs.Members.{member-width, rows-end, members-length, member-in, figures-row, put-member, connection-of, connections-in, pasts-in, closed-in, used-by, used-in, first-in, written-table, written-members, rows-formed, members-formed};
-ghost use Rattle.connections.specs.Within.{Within, Sums-with, most-share, share-of};
+ghost use Rattle.connections.specs.Within.{Within, Sums-with, Added, Loads, bound-in, most-share, share-of};
 use limits::MAX_CONNECTIONS;
 use limits::MAX_LEVELS;
 use limits::MAX_REMEMBERED;
@@ -257,9 +257,10 @@ pub(crate) fn wide(x: u32) -> u64
     x as u64
 }
 
-// The delay bound of a level; 0 where there is none.
-pub fn bound_of(l: Link, level: u32) -> u32
-    ensures { λ r. ⌜ r ≡ bound l level ⌝ }
+// Of a link's bounds that of a level; 0 where there is none.
+fn bound_in(bounds: &[u32], level: u32) -> u32
+    requires { ⌜ length (now bounds) ≡ max-levels ⌝ }
+    ensures { λ r. ⌜ r ≡ bound-in (now (bounds .entry)) level ⌝ }
 {
     if level < 1 {
         return 0;
@@ -268,7 +269,15 @@ pub fn bound_of(l: Link, level: u32) -> u32
         return 0;
     }
     let k = (level - 1) as usize;
-    l.bounds[k]
+    bounds[k]
+}
+
+// The delay bound of a level; 0 where there is none.
+pub fn bound_of(l: Link, level: u32) -> u32
+    ensures { λ r. ⌜ r ≡ bound l level ⌝ }
+{
+    let bounds = l.bounds;
+    bound_in(&bounds, level)
 }
 
 // w / x, rounded up.
@@ -276,7 +285,11 @@ fn quotient_up(w: u32, x: u32) -> u64
     requires { ⌜ 1 ≤ x ⌝ }
     ensures { λ r. ⌜ (r ≡ rounded-up w x) × (r ≤ w) ⌝ }
 {
-    (wide(w) + (wide(x) - 1)) / wide(x)
+    let whole = wide(w / x);
+    if w % x == 0 {
+        return whole;
+    }
+    whole + 1
 }
 
 fn least(a: u64, b: u64) -> u64
@@ -320,16 +333,25 @@ pub fn count_in(x: Connection, w: u32) -> u64
     least(most, average_in(x, n, w))
 }
 
+// The places reserved for a connection of a link with these bounds; none for a free number, which has no gap.
+fn reserve_in(bounds: &[u32], x: Connection) -> u64
+    requires { ⌜ (x .level ≡ 0 → x ≡ no-connection) × ((x .level ≡ 0 → ⊥) → 1 ≤ x .gap) × (length (now bounds) ≡ max-levels) × (x .allowance + bound-in (now bounds) (x .level) < beyond-32-bits) ⌝ }
+    ensures { λ r. ⌜ (r ≡ count x (x .allowance + bound-in (now (bounds .entry)) (x .level))) × (r < beyond-32-bits) ⌝ }
+{
+    if x.gap == 0 {
+        return 0;
+    }
+    let d = bound_in(bounds, x.level);
+    count_in(x, x.allowance + d)
+}
+
 // The places reserved for a connection; none for a free number.
 pub fn reserve(l: Link, x: Connection) -> u64
     requires { ⌜ (x .level ≡ 0 → x ≡ no-connection) × ((x .level ≡ 0 → ⊥) → 1 ≤ x .gap) × (x .allowance + bound l (x .level) < beyond-32-bits) ⌝ }
     ensures { λ r. ⌜ (r ≡ reservation l x) × (r < beyond-32-bits) ⌝ }
 {
-    if x.level == 0 {
-        return 0;
-    }
-    let d = bound_of(l, x.level);
-    count_in(x, x.allowance + d)
+    let bounds = l.bounds;
+    reserve_in(&bounds, x)
 }
 
 // What a packet costs the line, in ticks: a tick for each unit, and then the silence.
@@ -362,28 +384,45 @@ pub fn connection_at(members: &[u32], i: usize) -> Connection
     figures_at(members, i)
 }
 
-// The sum of level m over the connections, which have owners up to row n at most.
-fn load_of(l: Link, members: &[u32], n: usize, m: u32, d: u32) -> u64
-    requires { ⌜ (length (now members) ≡ members-length) × (used-by (connections-in (now members)) ≤ n) × (n ≤ max-connections) × (d ≤ max-bound) × Within l (connections-in (now members)) ⌝ }
-    ensures { λ r. ⌜ (r ≡ load l (connections-in (now (members .entry))) m d) × (r ≤ max-connections * most-share) ⌝ }
+// To the sum of each level from its own on the share of a connection; a free number, which has no gap, adds nothing.
+fn add_shares(l: Link, bounds: &[u32], x: Connection, sums: &mut [u64])
+    requires { ⌜ (x .level ≡ 0 → x ≡ no-connection) × ((x .level ≡ 0 → ⊥) → 1 ≤ x .gap) × (x .size ≤ max-largest) × (link-within l ≡ true) × (now bounds ≡ l .bounds) × (length (now bounds) ≡ max-levels) ⌝ }
+    requires { ⌜ (length (now sums) ≡ max-levels) × ((k : ℕ) → k < l .levels → getD (now sums) k 0 ≤ max-connections * most-share) ⌝ }
+    ensures { λ r. ⌜ Added l x (now (sums .entry)) (now (sums .exit)) ⌝ }
 {
-    let mut sum: u64 = 0;
-    let mut i: usize = 0;
-    while i < n {
-        let x = connection_at(members, i);
-        sum += share(l, x, m, d);
-        i += 1;
+    if x.gap == 0 {
+        return;
     }
-    sum
+    let cost = cost_of(x.size, l.silence);
+    let levels = l.levels as usize;
+    let mut k = (x.level - 1) as usize;
+    while k < levels {
+        sums[k] = sums[k] + count_in(x, bounds[k]) * cost;
+        k += 1;
+    }
 }
 
-// The sum of level m with a newcomer counted.
-fn sum_at(l: Link, members: &[u32], n: usize, x: Connection, m: u32) -> u64
-    requires { ⌜ (length (now members) ≡ members-length) × (used-by (connections-in (now members)) ≤ n) × (n ≤ max-connections) × (1 ≤ x .level) × (1 ≤ x .gap) × (x .size ≤ max-largest) × (m ≤ l .levels) × Within l (connections-in (now members)) ⌝ }
-    ensures { λ r. ⌜ r ≡ load l (connections-in (now (members .entry))) m (bound l m) + share-of l m (bound l m) x + cost l (l .largest) ⌝ }
+// To the sum of each level, none so far, the shares of the connections, which have owners up to row n at most.
+fn add_all(l: Link, bounds: &[u32], members: &[u32], n: usize, sums: &mut [u64])
+    requires { ⌜ (length (now members) ≡ members-length) × (used-by (connections-in (now members)) ≤ n) × (n ≤ max-connections) × Within l (connections-in (now members)) × (now bounds ≡ l .bounds) × (length (now bounds) ≡ max-levels) × (now sums ≡ replicate max-levels 0) ⌝ }
+    ensures { λ r. ⌜ Loads l (connections-in (now (members .entry))) (now (sums .exit)) ⌝ }
+{
+    let mut c: usize = 0;
+    while c < n {
+        let x = connection_at(members, c);
+        add_shares(l, bounds, x, sums);
+        c += 1;
+    }
+}
+
+// The sum of level m with a newcomer counted, from the sums without it.
+fn sum_at(l: Link, sums: &[u64], x: Connection, m: u32) -> u64
+    requires { ⌜ (length (now sums) ≡ max-levels) × (getD (now sums) (m - 1) 0 ≤ max-connections * most-share) × (1 ≤ m) × (m ≤ l .levels) × (1 ≤ x .level) × (1 ≤ x .gap) × (x .size ≤ max-largest) × (link-within l ≡ true) ⌝ }
+    ensures { λ r. ⌜ r ≡ getD (now (sums .entry)) (m - 1) 0 + share-of l m (bound l m) x + cost l (l .largest) ⌝ }
 {
     let d = bound_of(l, m);
-    load_of(l, members, n, m, d) + share(l, x, m, d) + cost_of(l.largest, l.silence)
+    let k = (m - 1) as usize;
+    sums[k] + share(l, x, m, d) + cost_of(l.largest, l.silence)
 }
 
 // No level is short.
@@ -398,10 +437,13 @@ pub fn level_test(l: Link, members: &[u32], n: usize, x: Connection) -> Short
     requires { ⌜ (length (now members) ≡ members-length) × (used-by (connections-in (now members)) ≤ n) × (n ≤ max-connections) × (1 ≤ x .level) × (1 ≤ x .gap) × (x .size ≤ max-largest) × Within l (connections-in (now members)) ⌝ }
     ensures { λ r. ⌜ ((js : List Figures) → Sums-with l (connections-in (now (members .entry))) x js → r ≡ level-test l js) ⌝ }
 {
+    let bounds = l.bounds;
+    let mut sums = [0u64; MAX_LEVELS as usize];
+    add_all(l, &bounds, members, n, &mut sums);
     let mut m: u32 = 1;
     while m <= l.levels {
         let d = bound_of(l, m);
-        let sum = sum_at(l, members, n, x, m);
+        let sum = sum_at(l, &sums, x, m);
         if wide(d) < sum {
             return Short {
                 level: m,
@@ -435,11 +477,12 @@ pub fn reserved_by(l: Link, members: &[u32], n: usize) -> u64
     requires { ⌜ (length (now members) ≡ members-length) × (used-by (connections-in (now members)) ≤ n) × (n ≤ max-connections) × Within l (connections-in (now members)) ⌝ }
     ensures { λ r. ⌜ (r ≡ reserved l (connections-in (now (members .entry)))) × (r ≤ max-connections * beyond-32-bits) ⌝ }
 {
+    let bounds = l.bounds;
     let mut sum: u64 = 0;
     let mut i: usize = 0;
     while i < n {
         let x = connection_at(members, i);
-        sum += reserve(l, x);
+        sum += reserve_in(&bounds, x);
         i += 1;
     }
     sum

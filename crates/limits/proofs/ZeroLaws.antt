@@ -1,14 +1,14 @@
 -- Laws of numbers that are all 0.
-use Prim.Native.Nat.{ℕ, zero, suc, _+_, _-_, _<_}
+use Prim.Native.Nat.{ℕ, zero, suc, _+_, _-_, _<_, _≤_}
 use native.Mathlib.Omega.{arith}
 use native.Mathlib.Numerals.{add-one}
-use mathlib.Core.Path.{_≡_, refl, ap, _∙_}
-use mathlib.Core.Bool.{true, false}
+use mathlib.Core.Path.{_≡_, refl, sym, ap, _∙_}
+use mathlib.Core.Bool.{Bool, true, false, _&&_}
 use mathlib.Core.List.{List, [], _∷_, _++_}
 use lib.Dec.{eqb}
 use borrow.Author.Tests.{eqb-true, eq-eqb, ne-eqb}
-use lib.ListN.{length, getD, take, drop, replicate, replicate-append-replicate}
-use lib.Seq.{drop-cons, drop-length}
+use lib.ListN.{length, getD, take, drop, replicate, replicate-append-replicate, take-append-drop}
+use lib.Seq.{drop-cons, drop-length, drop-drop, take-add}
 use Rattle.rules.proofs.Tests.{and-true, and-intro}
 use Rattle.limits.specs.Zeros.{zeros}
 
@@ -60,3 +60,53 @@ zeros-next t i h n = rw (add-one i, drop-cons t i 0 h, eq-eqb (getD t i 0) 0 n)
 
 pub zeros-end : (t : List ℕ) → true ≡ zeros (drop (length t) t)
 zeros-end t = rw (drop-length t)
+
+-- ---- some at a time
+
+zeros-append : (a b : List ℕ) → zeros (a ++ b) ≡ (zeros a && zeros b)
+zeros-append [] b = refl
+zeros-append (x ∷ a) b = go (eqb x 0) (zeros-append a b)
+  where
+    go : (h : Bool) → zeros (a ++ b) ≡ (zeros a && zeros b) → (h && zeros (a ++ b)) ≡ ((h && zeros a) && zeros b)
+    go true e = e
+    go false e = refl
+
+module _ (t : List ℕ) (i : ℕ) where
+  pub zeros-four : i + 4 ≤ length t → (eqb (getD t i 0) 0 && (eqb (getD t (i + 1) 0) 0 && (eqb (getD t (i + 2) 0) 0 && eqb (getD t (i + 3) 0) 0))) ≡ zeros (take 4 (drop i t))
+  zeros-four h =
+      let one : i + 1 ≡ suc i = omega arith in
+      let two : i + 2 ≡ suc (suc i) = omega arith in
+      let three : i + 3 ≡ suc (suc (suc i)) = omega arith in
+      rw (one, two, three, drop-cons t i 0 (omega arith), drop-cons t (suc i) 0 (omega arith), drop-cons t (suc (suc i)) 0 (omega arith), drop-cons t (suc (suc (suc i))) 0 (omega arith), last (getD t (suc (suc (suc i))) 0))
+    where
+      last : (x : ℕ) → (eqb x 0 && true) ≡ eqb x 0
+      last x = go (eqb x 0)
+        where
+          go : (b : Bool) → (b && true) ≡ b
+          go true = refl
+          go false = refl
+
+  zeros-block : (k n : ℕ) → zeros (take (k + n) (drop i t)) ≡ (zeros (take k (drop i t)) && zeros (take n (drop (i + k) t)))
+  zeros-block k n =
+      ap zeros (take-add k n (drop i t))
+      ∙ zeros-append (take k (drop i t)) (take n (drop k (drop i t)))
+      ∙ ap (λ (l : List ℕ). zeros (take k (drop i t)) && zeros (take n l)) (drop-drop k i t)
+
+  zeros-on : (k : ℕ) → zeros (drop i t) ≡ (zeros (take k (drop i t)) && zeros (drop (i + k) t))
+  zeros-on k =
+      ap zeros (sym (take-append-drop k (drop i t)))
+      ∙ zeros-append (take k (drop i t)) (drop k (drop i t))
+      ∙ ap (λ (l : List ℕ). zeros (take k (drop i t)) && zeros l) (drop-drop k i t)
+
+  -- k of them: one that is not 0, or none
+  pub block-stop : (k : ℕ) → zeros (take k (drop i t)) ≡ false → false ≡ zeros (drop i t)
+  block-stop k e = sym (zeros-on k ∙ ap (λ (b : Bool). b && zeros (drop (i + k) t)) e)
+
+  pub block-next : (k : ℕ) → zeros (take k (drop i t)) ≡ true → zeros (drop (i + k) t) ≡ zeros (drop i t)
+  block-next k e = sym (zeros-on k ∙ ap (λ (b : Bool). b && zeros (drop (i + k) t)) e)
+
+pub zeros-sixteen : (t : List ℕ) (i : ℕ) → (zeros (take 4 (drop i t)) && (zeros (take 4 (drop (i + 4) t)) && (zeros (take 4 (drop (i + 8) t)) && zeros (take 4 (drop (i + 12) t))))) ≡ zeros (take 16 (drop i t))
+zeros-sixteen t i =
+    let two : i + 4 + 4 ≡ i + 8 = omega arith in
+    let three : i + 8 + 4 ≡ i + 12 = omega arith in
+    rw (zeros-block t i 4 12, zeros-block t (i + 4) 4 8, two, zeros-block t (i + 8) 4 4, three)

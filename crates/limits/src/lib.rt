@@ -1,8 +1,8 @@
 // The limits of the code and the lengths of its tables, each once, and the tests of a link and of a connection against them. The limits of the rules stand in
 // `crates/rules/specs/Limits.antt`; the contracts of the code tie these to those.
 ghost use mathlib.Core.Path.{_≡_};
-ghost use Prim.Native.Nat.{_≤_};
-ghost use lib.ListN.{length, drop};
+ghost use Prim.Native.Nat.{_+_, _≤_};
+ghost use lib.ListN.{length, take, drop};
 ghost use Rattle.rules.specs.Limits.{max-levels};
 ghost use Rattle.rules.specs.Admission.{rising, link-within, level-within, average-within, kind-within, figures-within};
 ghost use Rattle.rules.specs.SoundTest.{connection-sound};
@@ -74,8 +74,24 @@ pub const PLACES: usize = PACKET_WIDTH * (MAX_RESERVED as usize);
 
 pub const NOTICES: usize = PACKET_WIDTH * MAX_NOTICES;
 
-// All numbers from `from` on are 0.
-pub fn zero_from(t: &[u32], from: usize) -> bool
+// The four numbers from i on are 0.
+fn four_zero(t: &[u32], i: usize) -> bool
+    requires { ⌜ i + 4 ≤ length (now t) ⌝ }
+    ensures { λ r. ⌜ r ≡ zeros (take 4 (drop i (now (t .entry)))) ⌝ }
+{
+    (t[i] == 0) & ((t[i + 1] == 0) & ((t[i + 2] == 0) & (t[i + 3] == 0)))
+}
+
+// The sixteen numbers from i on are 0.
+fn sixteen_zero(t: &[u32], i: usize) -> bool
+    requires { ⌜ i + 16 ≤ length (now t) ⌝ }
+    ensures { λ r. ⌜ r ≡ zeros (take 16 (drop i (now (t .entry)))) ⌝ }
+{
+    four_zero(t, i) & (four_zero(t, i + 4) & (four_zero(t, i + 8) & four_zero(t, i + 12)))
+}
+
+// All numbers from `from` on are 0, looked at one by one.
+fn zero_one_by_one(t: &[u32], from: usize) -> bool
     requires { ⌜ from ≤ length (now t) ⌝ }
     ensures { λ r. ⌜ r ≡ zeros (drop from (now (t .entry))) ⌝ }
 {
@@ -87,6 +103,21 @@ pub fn zero_from(t: &[u32], from: usize) -> bool
         i += 1;
     }
     true
+}
+
+// All numbers from `from` on are 0: sixteen at a time, and one by one where fewer are left.
+pub fn zero_from(t: &[u32], from: usize) -> bool
+    requires { ⌜ from ≤ length (now t) ⌝ }
+    ensures { λ r. ⌜ r ≡ zeros (drop from (now (t .entry))) ⌝ }
+{
+    let mut i: usize = from;
+    while 16 <= t.len() - i {
+        if !sixteen_zero(t, i) {
+            return false;
+        }
+        i += 16;
+    }
+    zero_one_by_one(t, i)
 }
 
 // ---- a link and a connection within their limits

@@ -1,13 +1,13 @@
 -- How a call made, and each kind of step of a `TK`, meet the contract of a step.
 use Prim.Native.Nat.{ℕ, _-_, _%_}
-use mathlib.Core.Path.{_≡_, refl, sym, ap, _∙_}
+use mathlib.Core.Path.{_≡_, refl, sym, ap, _∙_, subst}
 use mathlib.Core.Bool.{true, false, cond}
 use mathlib.Core.List.{List, []}
 use mathlib.Core.Option.{Option, none, some}
 use lib.ListN.{length}
 use borrow.Author.Tests.{eq-eqb, ne-eqb}
 use Rattle.rules.specs.declared.Packet.{Packet}
-use Rattle.rules.specs.Model.{Call, tick, Answer}
+use Rattle.rules.specs.Model.{State, Call, tick, Answer}
 use Rattle.rules.specs.Calls.{answer}
 use Rattle.state.specs.declared.Hub.{Hub}
 use Rattle.state.specs.declared.Told.{Told}
@@ -23,13 +23,16 @@ use Rattle.answers.specs.declared.Reply.{Reply}
 use Rattle.answers.specs.declared.Reply.the-variants.{Departed, Ticked}
 use Rattle.answers.specs.Answers.{answer-bytes}
 use Rattle.answers.proofs.WriteLaws.{ticked-low, departed-low}
-use Rattle.log.specs.Log.{departure, tick-log, all-done-verdict}
+use Rattle.traces.specs.declared.Record.{Record}
+use Rattle.log.specs.Log.{Asked, asks, departure, tick-log, all-done-verdict}
 use Rattle.steps.specs.declared.Phase.{Phase}
 use Rattle.steps.specs.declared.Status.{Status}
 use Rattle.steps.specs.declared.Phase.the-variants.{Reading, Ticking}
 use Rattle.steps.specs.declared.Status.the-variants.{GoOn}
 use Rattle.steps.specs.declared.Stepped.{Stepped}
-use Rattle.steps.specs.Steps.{point, goes, one-tick, tick-next}
+use Rattle.steps.specs.declared.reading.Wanted.{Wanted}
+use Rattle.steps.specs.Wants.{asks-as}
+use Rattle.steps.specs.Steps.{point, goes, asked-next, record-next, one-tick, tick-next}
 use Rattle.steps.specs.Tie.{cursor-at, told-log, Makes}
 
 -- ---- a call whose answer is written
@@ -48,6 +51,12 @@ pub did-kept : (h : Hub) (t : Tables) → sound-hub h t ≡ true → (at : ℕ) 
     → a ≡ record { cursor = cursor-at at f h; used = used; wrote = length bs; status = k } → o′ ≡ over bs o
     → Makes (record { point = point at f (view h t); used = used; bytes = bs; status = k }) a t 0 o o′
 did-kept h t ok at f used bs k a o o′ e r = record { answers = e; tables = tables-kept h t ok; room = r }
+
+-- ---- a step with what a record asks, as the code has it
+
+pub as-asked : (q : Wanted) (w : Record) (k at : ℕ) (s : State) (a : Stepped) (t : Tables) (o o′ : List ℕ) → asks-as q ≡ asks w
+    → Makes (asked-next (asks-as q) k at s) a t 0 o o′ → Makes (record-next w k at s) a t 0 o o′
+as-asked q w k at s a t o o′ e d = subst (λ (x : Asked). Makes (asked-next x k at s) a t 0 o o′) e d
 
 -- ---- a tick
 

@@ -2,12 +2,12 @@
 use Prim.Native.Nat.{ℕ, zero, suc, _+_, _-_, _<_, _≤_}
 use native.Mathlib.Omega.{arith}
 use mathlib.Core.Path.{_≡_, refl, sym, ap, _∙_, subst}
-use mathlib.Core.Bool.{Bool, true, false}
+use mathlib.Core.Bool.{Bool, true, false, cond}
 use mathlib.Core.List.{List, []}
 use mathlib.Core.Option.{Option, none, some}
 use lib.Dec.{ltb, eqb}
 use lib.ListN.{length}
-use borrow.Author.Tests.{eq-eqb, ne-eqb, lt-ltb, le-ltb, eqb-false}
+use borrow.Author.Tests.{eqb-false}
 use Rattle.rules.specs.declared.Packet.{Packet}
 use Rattle.rules.specs.Model.{State, tick}
 use Rattle.rules.specs.Calls.{answer}
@@ -153,21 +153,39 @@ module _ (at asked left : ℕ) (s : State) (h : Hub) (len : ℕ) (last : Bool) (
 -- ---- which case a step is
 
 module _ (at : ℕ) (s : State) (w : List ℕ) (last : Bool) where
-  pub next-end : last ≡ true → length w ≡ 0 → read-next at s w last ≡ still (point at Finished s) Done
+  pub next-end : cond last (eqb (length w) 0) false ≡ true → read-next at s w last ≡ still (point at Finished s) Done
   unfolding read-next
-  next-end l e = rw (l, eq-eqb (length w) 0 e)
+  next-end e = go last e
+    where
+      go : (b : Bool) → cond b (eqb (length w) 0) false ≡ true → read-next at s w b ≡ still (point at Finished s) Done
+      go true d = rw d
+      go false d = never d
 
-  pub next-more : last ≡ false → length w < longest-record → read-next at s w last ≡ still (point at Reading s) MoreBytes
+  pub next-more : cond last false (ltb (length w) longest-record) ≡ true → read-next at s w last ≡ still (point at Reading s) MoreBytes
   unfolding read-next
-  next-more l e = rw (l, lt-ltb (length w) longest-record e)
+  next-more e = go last e
+    where
+      go : (b : Bool) → cond b false (ltb (length w) longest-record) ≡ true → read-next at s w b ≡ still (point at Reading s) MoreBytes
+      go true d = never d
+      go false d = rw d
 
-  pub next-last : last ≡ true → (length w ≡ 0 → ⊥) → read-next at s w last ≡ found-next (read-at at w) at s
-  unfolding read-next
-  next-last l e = rw (l, ne-eqb (length w) 0 e)
+  -- only a window that is not the last is too short
+  pub more-mid : cond last false (ltb (length w) longest-record) ≡ true → last ≡ false
+  more-mid e = go last e
+    where
+      go : (b : Bool) → cond b false (ltb (length w) longest-record) ≡ true → b ≡ false
+      go true d = never d
+      go false d = refl
 
-  pub next-mid : last ≡ false → longest-record ≤ length w → read-next at s w last ≡ found-next (read-at at w) at s
+  pub next-found : cond last (eqb (length w) 0) false ≡ false → cond last false (ltb (length w) longest-record) ≡ false
+      → read-next at s w last ≡ found-next (read-at at w) at s
   unfolding read-next
-  next-mid l e = rw (l, le-ltb (length w) longest-record e)
+  next-found e f = go last e f
+    where
+      go : (b : Bool) → cond b (eqb (length w) 0) false ≡ false → cond b false (ltb (length w) longest-record) ≡ false
+          → read-next at s w b ≡ found-next (read-at at w) at s
+      go true d k = rw d
+      go false d k = rw k
 
 pub next-phase : (c : Cursor) (t : Tables) (w : List ℕ) (last : Bool) {f : Phase} → c .phase ≡ f
     → next (point-of c t) w last ≡ phase-next f (c .at) (point-of c t .state) w last

@@ -1,3 +1,4 @@
--- Read in this order: Steps, Tie.
+-- Read in this order: Steps, Tie, Wants.
 pub mod Steps
 pub mod Tie
+pub mod Wants

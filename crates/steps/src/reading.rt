@@ -1,19 +1,22 @@
 // A step where a record is read: its call is made and answered, its ticks begin, or it ends the log.
 ghost use mathlib.Core.Path.{_≡_};
-ghost use mathlib.Core.Bool.{true, false};
+ghost use mathlib.Core.Bool.{true, false, cond};
 ghost use Prim.Native.Nat.{_-_, _≤_};
+ghost use lib.Dec.{eqb, ltb};
 ghost use lib.ListN.{length};
 ghost use Rattle.rules.specs.Model.{link, admit, offer, notice, close};
 ghost use Rattle.connections.specs.Stamps.{stamp-if};
 ghost use Rattle.state.specs.View.{given, before, after, sound-hub, view};
 ghost use Rattle.fields.specs.Formats.{over};
+ghost use Rattle.traces.specs.Trace.{longest-record};
 ghost use Rattle.answers.specs.declared.Reply.the-variants.{Broken};
 ghost use Rattle.answers.specs.Answers.{answer-bytes, longest-answer};
-ghost use Rattle.log.specs.Log.{trace-limit, read-at};
+ghost use Rattle.log.specs.Log.{trace-limit, asks, read-at};
 ghost use Rattle.steps.specs.declared.Phase.the-variants.{Reading, Ticking, Finished};
 ghost use Rattle.steps.specs.declared.Status.the-variants.{GoOn, Done};
 ghost use Rattle.steps.specs.Steps.{call-next, found-next, read-next, weight};
 ghost use Rattle.steps.specs.Tie.{cursor-at, Makes, Facts};
+ghost use Rattle.steps.specs.Wants.{asks-as};
 use super::Cursor;
 use super::Phase;
 use super::Status;
@@ -37,6 +40,40 @@ struct Offering {
     tag: u32,
     brings: bool,
     stamp: u32,
+}
+
+// What a record asks: a call, with what it is made with; ticks; or the end, where it is malformed.
+enum Wanted {
+    ToLink {
+        levels: u8,
+        largest: u16,
+        silence: u8,
+        d1: u16,
+        d2: u16,
+        d3: u16,
+        d4: u16,
+        d5: u16,
+        d6: u16,
+        d7: u16,
+        d8: u16,
+    },
+    ToAdmit {
+        x: Connection,
+    },
+    ToClose {
+        c: u32,
+    },
+    ToOffer {
+        p: Offering,
+    },
+    ToNotice {
+        len: u32,
+        tag: u32,
+    },
+    ToTick {
+        ticks: u16,
+    },
+    ToEnd,
 }
 
 // The record that the bytes start with, at offset `at` of the trace: malformed where it would end beyond the limit.
@@ -245,6 +282,80 @@ fn begin_ticks(h: Hub, ticks: u16, at: u32, used: usize) -> Stepped
     }
 }
 
+// What a record asks. Two kinds of record ask for an admission, and two make an offer, so that each step stands in one place of the text and is compiled into the loop of steps.
+fn asked_by(what: Record) -> Wanted
+    ensures { λ r. ⌜ asks-as r ≡ asks what ⌝ }
+{
+    match what {
+        Record::Link {
+            levels,
+            largest,
+            silence,
+            d1,
+            d2,
+            d3,
+            d4,
+            d5,
+            d6,
+            d7,
+            d8,
+        } => Wanted::ToLink {
+            levels: levels,
+            largest: largest,
+            silence: silence,
+            d1: d1,
+            d2: d2,
+            d3: d3,
+            d4: d4,
+            d5: d5,
+            d6: d6,
+            d7: d7,
+            d8: d8,
+        },
+        Record::Admit {
+            level,
+            gap,
+            size,
+            window,
+            average,
+        } => Wanted::ToAdmit {
+            x: named::connection_named(level, gap, size, window, average),
+        },
+        Record::AdmitStamped {
+            level,
+            gap,
+            size,
+            allowance,
+        } => Wanted::ToAdmit {
+            x: named::stamped_named(level, gap, size, allowance),
+        },
+        Record::Close { connection } => Wanted::ToClose {
+            c: connection as u32,
+        },
+        Record::Offer {
+            connection,
+            len,
+            tag,
+        } => Wanted::ToOffer {
+            p: plain_offer(connection, len, tag),
+        },
+        Record::OfferStamped {
+            connection,
+            len,
+            tag,
+            stamp,
+        } => Wanted::ToOffer {
+            p: stamped_offer(connection, len, tag, stamp),
+        },
+        Record::Notice { len, tag } => Wanted::ToNotice {
+            len: len as u32,
+            tag: tag,
+        },
+        Record::Ticks { ticks } => Wanted::ToTick { ticks: ticks },
+        Record::Malformed => Wanted::ToEnd,
+    }
+}
+
 // A record read at offset `at`.
 fn record_step(
     f: Found,
@@ -262,8 +373,9 @@ fn record_step(
     let used = f.taken;
     let to = at + used as u32;
     let what = f.what;
-    match what {
-        Record::Link {
+    let wanted = asked_by(what);
+    match wanted {
+        Wanted::ToLink {
             levels,
             largest,
             silence,
@@ -279,63 +391,46 @@ fn record_step(
             let l = named::link_named(levels, largest, silence, d1, d2, d3, d4, d5, d6, d7, d8);
             link_step(h, members, places, notices, l, to, used, out)
         }
-        Record::Admit {
-            level,
-            gap,
-            size,
-            window,
-            average,
-        } => {
-            let x = named::connection_named(level, gap, size, window, average);
-            admit_step(h, members, places, notices, x, to, used, out)
-        }
-        Record::AdmitStamped {
-            level,
-            gap,
-            size,
-            allowance,
-        } => {
-            let x = named::stamped_named(level, gap, size, allowance);
-            admit_step(h, members, places, notices, x, to, used, out)
-        }
-        Record::Close { connection } => {
-            let c = connection as u32;
-            close_step(h, members, places, notices, c, to, used, out)
-        }
-        Record::Offer {
-            connection,
-            len,
-            tag,
-        } => {
-            let p = plain_offer(connection, len, tag);
-            offer_step(h, members, places, notices, p, to, used, out)
-        }
-        Record::OfferStamped {
-            connection,
-            len,
-            tag,
-            stamp,
-        } => {
-            let p = stamped_offer(connection, len, tag, stamp);
-            offer_step(h, members, places, notices, p, to, used, out)
-        }
-        Record::Notice { len, tag } => notice_step(
+        Wanted::ToAdmit { x } => admit_step(h, members, places, notices, x, to, used, out),
+        Wanted::ToClose { c } => close_step(h, members, places, notices, c, to, used, out),
+        Wanted::ToOffer { p } => offer_step(h, members, places, notices, p, to, used, out),
+        Wanted::ToNotice { len, tag } => notice_step(
             h,
             members,
             places,
             notices,
-            len as u32,
+            len,
             tag,
             to,
             used,
             out,
         ),
-        Record::Ticks { ticks } => begin_ticks(h, ticks, to, used),
-        Record::Malformed => broken_step(at, h, out),
+        Wanted::ToTick { ticks } => begin_ticks(h, ticks, to, used),
+        Wanted::ToEnd => broken_step(at, h, out),
     }
 }
 
-// A step where a record is to be read, at offset `at`.
+// Of a window of n bytes: the trace ends where it begins.
+fn ends(n: usize, last: bool) -> bool
+    ensures { λ r. ⌜ r ≡ cond last (eqb n 0) false ⌝ }
+{
+    if last {
+        return n == 0;
+    }
+    false
+}
+
+// Of a window of n bytes: the longest record may not be whole in it, and more is to come.
+fn lacks(n: usize, last: bool) -> bool
+    ensures { λ r. ⌜ r ≡ cond last false (ltb n longest-record) ⌝ }
+{
+    if last {
+        return false;
+    }
+    n < LONGEST_RECORD
+}
+
+// A step where a record is to be read, at offset `at`. The record is read and its step made in one place of the text, so that both are compiled into the loop of steps.
 pub(crate) fn read_step(
     at: u32,
     h: Hub,
@@ -350,13 +445,10 @@ pub(crate) fn read_step(
     ensures { λ r. ⌜ Makes (read-next at (view h (before members places notices)) (now (window .entry)) last) r (after members places notices) 0 (now (out .entry)) (now (out .exit)) ⌝ }
     ensures { λ r. ⌜ Facts (cursor-at at Reading h) (length (now (window .entry))) last (length (now (out .entry))) r ⌝ }
 {
-    if last {
-        if window.len() == 0 {
-            return waits(at, Phase::Finished, h, Status::Done);
-        }
-        return record_step(read_at(window, at), at, h, members, places, notices, out);
+    if ends(window.len(), last) {
+        return waits(at, Phase::Finished, h, Status::Done);
     }
-    if window.len() < LONGEST_RECORD {
+    if lacks(window.len(), last) {
         return waits(at, Phase::Reading, h, Status::MoreBytes);
     }
     record_step(read_at(window, at), at, h, members, places, notices, out)

@@ -1,3 +1,4 @@
 pub mod LinkLaws
+pub mod MarkNumbers
 pub mod TraceLaws
 pub mod Laws

@@ -11,11 +11,10 @@ ghost use Rattle.traces.specs.declared.Record.the-variants.{AdmitStamped
 ghost use Rattle.traces.specs.Trace.{trace, found, read-trace, trace-bytes};
 use fields::Draft;
 use fields::read::four;
-use fields::read::known;
 use fields::read::one;
 use fields::read::two;
 
-// The marks of the tables, compared on reading and written on writing.
+// The marks of the tables, as they are written; `read` has them as numbers.
 const LK: [u8; 2] = *b"LK";
 
 const CN: [u8; 2] = *b"CN";
@@ -116,18 +115,15 @@ pub(crate) fn whole_of(s: &[u8], size: usize, what: Record) -> Found
     }
 }
 
-// The mark that the bytes start with, as a number; 0 where it is none of a trace's.
+// The mark that the bytes start with, as a number, its first letter low; 0 where it is none of LK, CN, CS, CL, PK, PS, NQ and TK.
 fn mark_of(s: &[u8]) -> u16
     ensures { λ r. ⌜ r ≡ mark-among (trace .kinds) (now (s .entry)) ⌝ }
 {
-    let mark = known(s, TK, 0);
-    let mark = known(s, NQ, mark);
-    let mark = known(s, PS, mark);
-    let mark = known(s, PK, mark);
-    let mark = known(s, CL, mark);
-    let mark = known(s, CS, mark);
-    let mark = known(s, CN, mark);
-    known(s, LK, mark)
+    let mark = two(s, 0);
+    match mark {
+        0x4B4C | 0x4E43 | 0x5343 | 0x4C43 | 0x4B50 | 0x5350 | 0x514E | 0x4B54 => mark,
+        _ => 0,
+    }
 }
 
 // The numbers of a `CS`.

@@ -1,27 +1,17 @@
 use Rattle.connections.proofs.FigureLaws as L
-use native.Mathlib.Omega.{arith}
+use mathlib.Core.Path.{_∙_}
 use borrow.Author.Needs.{needs}
 use Rattle.connections.proofs.bound_of.Statement.{statement}
 use Rattle.connections.proofs.bound_of.Tie as tie
 
+slice-aggregate-bound-in : tie.Need-slice-aggregate-bound-in
+slice-aggregate-bound-in c = search needs
+
+bound-in-requires : tie.Need-bound-in-requires
+bound-in-requires c κs = search needs
+
 returns : tie.Need-returns
-returns c = let a = c .before .args in L.bound-low (a .t1) (a .level) (search needs)
-
-returns-2 : tie.Need-returns-2
-returns-2 c = let a = c .before .before .args in L.bound-high (a .t1) (a .level) (search needs) (search needs)
-
-cast-k : tie.Need-cast-k
-cast-k c = search needs
-
-mul-result : tie.Need-mul-result
-mul-result c = search needs
-
-element-copy-out-result : tie.Need-element-copy-out-result
-element-copy-out-result c = search needs
-
-returns-3 : tie.Need-returns-3
-returns-3 c = let a = c .before .before .before .args in L.bound-at (a .t1) (a .level) (omega arith)
+returns c = let a = c .before .before .before .args in c .bound-in .ensures ∙ L.bound-is (a .l) (a .level)
 
 pub bound-of-spec : {M : Type 1} → statement M
-bound-of-spec =
-    tie.close (tie.spec returns returns-2 cast-k mul-result element-copy-out-result returns-3)
+bound-of-spec = tie.close (tie.spec slice-aggregate-bound-in bound-in-requires returns)

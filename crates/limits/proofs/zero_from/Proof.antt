@@ -2,9 +2,10 @@ use Rattle.limits.proofs.ZeroLaws as L
 use Rattle.limits.specs.Zeros.{zeros}
 use lib.ListN.{length, drop}
 use Prim.Native.Nat.{_≤_, _-_}
-use mathlib.Core.Path.{_≡_, _∙_}
+use mathlib.Core.Path.{_≡_, sym, _∙_}
 use native.Mathlib.Omega.{arith}
 use borrow.Author.Needs.{needs}
+use borrow.Author.Tests.{not-true, not-false}
 use Rattle.limits.proofs.zero_from.Statement.{statement}
 use Rattle.limits.proofs.zero_from.Tie as tie
 
@@ -17,14 +18,17 @@ abbrev μ-loop : tie.MeasureT-loop
 loop-holds : tie.Need-loop-holds Inv-loop μ-loop
 loop-holds c = search needs
 
-mul-if1 : tie.Need-mul-if1 Inv-loop μ-loop
-mul-if1 c = search needs
+sub-loop : tie.Need-sub-loop Inv-loop μ-loop
+sub-loop c = search needs
 
-shared-slice-read-if1 : tie.Need-shared-slice-read-if1 Inv-loop μ-loop
-shared-slice-read-if1 c = search needs
+sixteen-zero-requires : tie.Need-sixteen-zero-requires Inv-loop μ-loop
+sixteen-zero-requires c κs = omega arith
 
 returns : tie.Need-returns Inv-loop μ-loop
-returns c = let a = c .before .before .before .before .args in let i = c .before .before .before .loop .i in L.zeros-stop (a .t .now) i (search needs) (c .if1 .taken) ∙ c .before .before .before .loop .inv .1
+returns c =
+    let a = c .before .before .before .before .before .args in
+    let i = c .before .before .before .loop .i in
+    L.block-stop (a .t .now) i 16 (sym (c .before .sixteen-zero .ensures) ∙ not-true _ (c .if1 .taken)) ∙ c .before .before .before .loop .inv .1
 
 add-i : tie.Need-add-i Inv-loop μ-loop
 add-i c = search needs
@@ -33,10 +37,16 @@ loop-less : tie.Need-loop-less Inv-loop μ-loop
 loop-less c = search needs
 
 loop-again : tie.Need-loop-again Inv-loop μ-loop
-loop-again c = let a = c .before .before .before .before .args in let i = c .before .before .before .loop .i in (search needs, L.zeros-next (a .t .now) i (search needs) (c .if1 .left) ∙ c .before .before .before .loop .inv .1)
+loop-again c =
+    let a = c .before .before .before .before .before .args in
+    let i = c .before .before .before .loop .i in
+    (omega arith, L.block-next (a .t .now) i 16 (sym (c .before .sixteen-zero .ensures) ∙ not-false _ (c .if1 .left)) ∙ c .before .before .before .loop .inv .1)
+
+zero-one-by-one-requires : tie.Need-zero-one-by-one-requires Inv-loop μ-loop
+zero-one-by-one-requires c κs = search needs
 
 returns-2 : tie.Need-returns-2 Inv-loop μ-loop
-returns-2 c = let a = c .before .before .args in let e : c .before .loop .i ≡ length (a .t .now) = omega arith in L.zeros-end (a .t .now) ∙ (rw e at (c .before .loop .inv .1))
+returns-2 c = c .zero-one-by-one .ensures ∙ c .before .before .loop .inv .1
 
 pub zero-from-spec : {M : Type 1} → statement M
 zero-from-spec =
@@ -45,10 +55,11 @@ zero-from-spec =
     Inv-loop
     μ-loop
     loop-holds
-    mul-if1
-    shared-slice-read-if1
+    sub-loop
+    sixteen-zero-requires
     returns
     add-i
     loop-less
     loop-again
+    zero-one-by-one-requires
     returns-2)

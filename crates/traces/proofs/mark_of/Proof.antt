@@ -1,57 +1,36 @@
--- `traces::mark_of` meets its contract: the marks are tried from the last of the table to the first.
-use Rattle.fields.specs.Formats.{mark-among}
+-- `traces::mark_of` meets its contract: the arm with the marks has each kind's number, and no other.
+use mathlib.Core.Path.{refl}
+use mathlib.Core.List.{List, [], _∷_}
+use Prim.Native.Nat.{ℕ}
+use native.Mathlib.Omega.{arith}
+use Rattle.fields.specs.Numbers.{number}
+use Rattle.fields.proofs.MarkLaws.{absent}
+use Rattle.traces.specs.Trace.{trace}
+use Rattle.traces.proofs.MarkNumbers.{lettered, one-of, all-known, all-listed, by-two, known, unknown}
 use borrow.Author.Needs.{needs}
 use Rattle.traces.proofs.mark_of.Statement.{statement}
 use Rattle.traces.proofs.mark_of.Tie as tie
 
-known-requires : tie.Need-known-requires
-known-requires c κs = search needs
+-- The numbers of that arm, from the least on: LK, PK, TK, CL, CN, NQ, CS, PS.
+abbrev numbers : List ℕ
+numbers = 0x4B4C ∷ 0x4B50 ∷ 0x4B54 ∷ 0x4C43 ∷ 0x4E43 ∷ 0x514E ∷ 0x5343 ∷ 0x5350 ∷ []
 
-known-requires-2 : tie.Need-known-requires-2
-known-requires-2 c κs = search needs
-
-known-requires-3 : tie.Need-known-requires-3
-known-requires-3 c κs = search needs
-
-known-requires-4 : tie.Need-known-requires-4
-known-requires-4 c κs = search needs
-
-known-requires-5 : tie.Need-known-requires-5
-known-requires-5 c κs = search needs
-
-known-requires-6 : tie.Need-known-requires-6
-known-requires-6 c κs = search needs
-
-known-requires-7 : tie.Need-known-requires-7
-known-requires-7 c κs = search needs
-
-known-requires-8 : tie.Need-known-requires-8
-known-requires-8 c κs = search needs
+two-requires : tie.Need-two-requires
+two-requires c κs = search needs
 
 returns : tie.Need-returns
-unfolding mark-among
+unfolding lettered all-known absent number
 returns c =
-    rw (
-      c .known8 .ensures,
-      c .before .known7 .ensures,
-      c .before .before .known6 .ensures,
-      c .before .before .before .known5 .ensures,
-      c .before .before .before .before .known4 .ensures,
-      c .before .before .before .before .before .known3 .ensures,
-      c .before .before .before .before .before .before .known2 .ensures,
-      c .before .before .before .before .before .before .before .known .ensures,
-    )
+    let s = c .before .before .before .args .s .now in
+    let g = c .before .before .shared-slice-known .given in
+    rw (by-two (trace .kinds) s refl (omega (arith, g 0)) (omega (arith, g 1)), ← c .before .two .ensures, known numbers (trace .kinds) (c .before .two .result) refl (c .match .keys1))
+
+returns-2 : tie.Need-returns-2
+unfolding lettered all-listed one-of absent number
+returns-2 c =
+    let s = c .before .before .before .args .s .now in
+    let g = c .before .before .shared-slice-known .given in
+    rw (by-two (trace .kinds) s refl (omega (arith, g 0)) (omega (arith, g 1)), ← c .before .two .ensures, unknown numbers (trace .kinds) (c .before .two .result) refl (c .match .rest .1))
 
 pub mark-of-spec : {M : Type 1} → statement M
-mark-of-spec =
-    tie.close
-    (tie.spec
-    known-requires
-    known-requires-2
-    known-requires-3
-    known-requires-4
-    known-requires-5
-    known-requires-6
-    known-requires-7
-    known-requires-8
-    returns)
+mark-of-spec = tie.close (tie.spec two-requires returns returns-2)

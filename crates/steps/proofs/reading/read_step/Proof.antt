@@ -1,17 +1,19 @@
-use Rattle.state.specs.View.{Tables, tables, given, before, after, written, sound-hub, view}
+use Rattle.state.specs.View.{tables, view}
 use Rattle.log.proofs.ReadLaws.{read-lies}
 use Rattle.steps.specs.declared.Phase.the-variants.{Reading, Finished}
 use Rattle.steps.specs.declared.Status.the-variants.{MoreBytes, Done}
 use Rattle.steps.proofs.CallLaws.{did-kept}
-use Rattle.steps.proofs.FactLaws.{waits-facts, record-facts, next-end, next-more, next-last, next-mid}
-use mathlib.Core.Path.{_≡_, refl}
-use mathlib.Core.Bool.{false}
+use Rattle.steps.proofs.FactLaws.{waits-facts, record-facts, next-end, next-more, more-mid, next-found}
+use mathlib.Core.Path.{refl, sym, _∙_}
 use mathlib.Core.List.{[]}
 use native.Mathlib.Omega.{arith}
 use lib.ListN.{length}
 use borrow.Author.Needs.{needs}
 use Rattle.steps.proofs.reading.read_step.Statement.{statement}
 use Rattle.steps.proofs.reading.read_step.Tie as tie
+
+ends-requires : tie.Need-ends-requires
+ends-requires c κs = search needs
 
 waits-requires : tie.Need-waits-requires
 waits-requires c κs = search needs
@@ -20,10 +22,29 @@ returns : tie.Need-returns
 returns c =
     let s = c .before .before .before .before .before .before .before .before in
     let a = s .args in
-    let w = c .waits in (
-      rw (next-end (a .at) (view (a .h) (tables (a .members .now) (a .places .now) (a .notices .now))) (a .window .now) (a .last) (search needs) (search needs))
+    let w = c .waits in
+    let e = sym (c .before .before .ends .ensures) ∙ c .before .if1 .taken in (
+      rw (next-end (a .at) (view (a .h) (tables (a .members .now) (a .places .now) (a .notices .now))) (a .window .now) (a .last) e)
           (did-kept (a .h) (tables (a .members .now) (a .places .now) (a .notices .now)) (s .pre .0) (a .at) Finished 0 [] Done (w .result) _ _ (w .ensures) refl),
       rw (w .ensures) (waits-facts (a .at) Reading Finished (a .h) (length (a .window .now)) (a .last) (length (a .out .now)) Done (omega arith) refl (λ z. cc)),
+    )
+
+lacks-requires : tie.Need-lacks-requires
+lacks-requires c κs = search needs
+
+waits-requires-2 : tie.Need-waits-requires-2
+waits-requires-2 c κs = search needs
+
+returns-2 : tie.Need-returns-2
+returns-2 c =
+    let s = c .before .before .before .before .before .before .before .before .before .before in
+    let a = s .args in
+    let w = c .waits2 in
+    let v = view (a .h) (tables (a .members .now) (a .places .now) (a .notices .now)) in
+    let e = sym (c .before .before .lacks .ensures) ∙ c .before .if2 .taken in (
+      rw (next-more (a .at) v (a .window .now) (a .last) e)
+          (did-kept (a .h) (tables (a .members .now) (a .places .now) (a .notices .now)) (s .pre .0) (a .at) Reading 0 [] MoreBytes (w .result) _ _ (w .ensures) refl),
+      rw (w .ensures) (waits-facts (a .at) Reading Reading (a .h) (length (a .window .now)) (a .last) (length (a .out .now)) MoreBytes (omega arith) refl (λ z. more-mid (a .at) v (a .window .now) (a .last) e)),
     )
 
 read-at-requires : tie.Need-read-at-requires
@@ -44,62 +65,16 @@ same-length-3 c = search needs
 same-length-4 : tie.Need-same-length-4
 same-length-4 c = search needs
 
-returns-2 : tie.Need-returns-2
-returns-2 c =
-    let z = c .before .before .before .before .before .before .before .before .before .before .before .before .before .before .before .before .before .before .before .before .before in
+returns-3 : tie.Need-returns-3
+returns-3 c =
+    let z = c .before .before .before .before .before .before .before .before .before .before .before .before .before .before .before .before .before .before .before .before .before .before .before in
     let a = z .args in
     let s = view (a .h) (tables (a .members .now) (a .places .now) (a .notices .now)) in
     let k = c .before .before .before .before .before .before .before .before .record-step in
     let f = c .before .before .before .before .before .before .before .before .before .before .before .before .before .read-at in
     let lies = read-lies (a .at) (a .window .now) in
     let e = f .ensures .0 in (
-      rw (next-last (a .at) s (a .window .now) (a .last) (c .before .before .before .before .before .before .before .before .before .before .before .before .before .before .before .if1 .taken) (c .before .before .before .before .before .before .before .before .before .before .before .before .before .before .if2 .left), ← e) (k .ensures .0),
-      record-facts (f .result .what) (f .result .taken) (a .at) s (a .h) (length (a .window .now)) (a .last) (length (a .out .now)) (k .result) (k .ensures .0 .answers)
-          (rw e (lies .no-byte)) (rw e (lies .fits)) (f .ensures .1) (z .pre .1) (k .ensures .1),
-    )
-
-waits-requires-2 : tie.Need-waits-requires-2
-waits-requires-2 c κs = search needs
-
-returns-3 : tie.Need-returns-3
-returns-3 c =
-    let s = c .before .before .before .before .before .before .before .before in
-    let a = s .args in
-    let w = c .waits2 in
-    let l : a .last ≡ false = search needs in (
-      rw (next-more (a .at) (view (a .h) (tables (a .members .now) (a .places .now) (a .notices .now))) (a .window .now) (a .last) l (search needs))
-          (did-kept (a .h) (tables (a .members .now) (a .places .now) (a .notices .now)) (s .pre .0) (a .at) Reading 0 [] MoreBytes (w .result) _ _ (w .ensures) refl),
-      rw (w .ensures) (waits-facts (a .at) Reading Reading (a .h) (length (a .window .now)) (a .last) (length (a .out .now)) MoreBytes (omega arith) refl (λ z. l)),
-    )
-
-read-at-requires-2 : tie.Need-read-at-requires-2
-read-at-requires-2 c κs = search needs
-
-record-step-requires-2 : tie.Need-record-step-requires-2
-record-step-requires-2 c κs = search needs
-
-same-length-5 : tie.Need-same-length-5
-same-length-5 c = search needs
-
-same-length-6 : tie.Need-same-length-6
-same-length-6 c = search needs
-
-same-length-7 : tie.Need-same-length-7
-same-length-7 c = search needs
-
-same-length-8 : tie.Need-same-length-8
-same-length-8 c = search needs
-
-returns-4 : tie.Need-returns-4
-returns-4 c =
-    let z = c .before .before .before .before .before .before .before .before .before .before .before .before .before .before .before .before .before .before .before .before .before in
-    let a = z .args in
-    let s = view (a .h) (tables (a .members .now) (a .places .now) (a .notices .now)) in
-    let k = c .before .before .before .before .before .before .before .before .record-step2 in
-    let f = c .before .before .before .before .before .before .before .before .before .before .before .before .before .read-at2 in
-    let lies = read-lies (a .at) (a .window .now) in
-    let e = f .ensures .0 in (
-      rw (next-mid (a .at) s (a .window .now) (a .last) (c .before .before .before .before .before .before .before .before .before .before .before .before .before .before .before .if1 .left) (c .before .before .before .before .before .before .before .before .before .before .before .before .before .before .if3 .left), ← e) (k .ensures .0),
+      rw (next-found (a .at) s (a .window .now) (a .last) (sym (c .before .before .before .before .before .before .before .before .before .before .before .before .before .before .before .before .before .ends .ensures) ∙ c .before .before .before .before .before .before .before .before .before .before .before .before .before .before .before .before .if1 .left) (sym (c .before .before .before .before .before .before .before .before .before .before .before .before .before .before .before .lacks .ensures) ∙ c .before .before .before .before .before .before .before .before .before .before .before .before .before .before .if2 .left), ← e) (k .ensures .0),
       record-facts (f .result .what) (f .result .taken) (a .at) s (a .h) (length (a .window .now)) (a .last) (length (a .out .now)) (k .result) (k .ensures .0 .answers)
           (rw e (lies .no-byte)) (rw e (lies .fits)) (f .ensures .1) (z .pre .1) (k .ensures .1),
     )
@@ -108,21 +83,16 @@ pub read-step-spec : {M : Type 1} → statement M
 read-step-spec =
     tie.close
     (tie.spec
+    ends-requires
     waits-requires
     returns
+    lacks-requires
+    waits-requires-2
+    returns-2
     read-at-requires
     record-step-requires
     same-length
     same-length-2
     same-length-3
     same-length-4
-    returns-2
-    waits-requires-2
-    returns-3
-    read-at-requires-2
-    record-step-requires-2
-    same-length-5
-    same-length-6
-    same-length-7
-    same-length-8
-    returns-4)
+    returns-3)

@@ -1,5 +1,5 @@
-use Rattle.state.specs.View.{tables}
-use Rattle.steps.proofs.CallLaws.{did-kept}
+use Rattle.state.specs.View.{tables, view}
+use Rattle.steps.proofs.CallLaws.{did-kept, as-asked}
 use mathlib.Core.Path.{refl}
 use mathlib.Core.List.{[]}
 use native.Mathlib.Omega.{arith}
@@ -14,8 +14,11 @@ cast-to c = search needs
 add-to : tie.Need-add-to
 add-to c = search needs
 
-enum-known-what : tie.Need-enum-known-what
-enum-known-what c = search needs
+asked-by-requires : tie.Need-asked-by-requires
+asked-by-requires c κs = search needs
+
+enum-known-wanted : tie.Need-enum-known-wanted
+enum-known-wanted c = search needs
 
 link-named-requires : tie.Need-link-named-requires
 link-named-requires c κs = search needs
@@ -23,62 +26,32 @@ link-named-requires c κs = search needs
 link-step-requires : tie.Need-link-step-requires
 link-step-requires c κs = search needs
 
-enum-known-what-2 : tie.Need-enum-known-what-2
-enum-known-what-2 c = search needs
-
-connection-named-requires : tie.Need-connection-named-requires
-connection-named-requires c κs = search needs
+enum-known-wanted-2 : tie.Need-enum-known-wanted-2
+enum-known-wanted-2 c = search needs
 
 admit-step-requires : tie.Need-admit-step-requires
 admit-step-requires c κs = search needs
 
-enum-known-what-3 : tie.Need-enum-known-what-3
-enum-known-what-3 c = search needs
-
-stamped-named-requires : tie.Need-stamped-named-requires
-stamped-named-requires c κs = search needs
-
-admit-step-requires-2 : tie.Need-admit-step-requires-2
-admit-step-requires-2 c κs = search needs
-
-enum-known-what-4 : tie.Need-enum-known-what-4
-enum-known-what-4 c = search needs
-
-cast-c : tie.Need-cast-c
-cast-c c = search needs
+enum-known-wanted-3 : tie.Need-enum-known-wanted-3
+enum-known-wanted-3 c = search needs
 
 close-step-requires : tie.Need-close-step-requires
 close-step-requires c κs = search needs
 
-enum-known-what-5 : tie.Need-enum-known-what-5
-enum-known-what-5 c = search needs
-
-plain-offer-requires : tie.Need-plain-offer-requires
-plain-offer-requires c κs = search needs
+enum-known-wanted-4 : tie.Need-enum-known-wanted-4
+enum-known-wanted-4 c = search needs
 
 offer-step-requires : tie.Need-offer-step-requires
 offer-step-requires c κs = search needs
 
-enum-known-what-6 : tie.Need-enum-known-what-6
-enum-known-what-6 c = search needs
-
-stamped-offer-requires : tie.Need-stamped-offer-requires
-stamped-offer-requires c κs = search needs
-
-offer-step-requires-2 : tie.Need-offer-step-requires-2
-offer-step-requires-2 c κs = search needs
-
-enum-known-what-7 : tie.Need-enum-known-what-7
-enum-known-what-7 c = search needs
-
-cast-notice-step : tie.Need-cast-notice-step
-cast-notice-step c = search needs
+enum-known-wanted-5 : tie.Need-enum-known-wanted-5
+enum-known-wanted-5 c = search needs
 
 notice-step-requires : tie.Need-notice-step-requires
 notice-step-requires c κs = search needs
 
-enum-known-what-8 : tie.Need-enum-known-what-8
-enum-known-what-8 c = search needs
+enum-known-wanted-6 : tie.Need-enum-known-wanted-6
+enum-known-wanted-6 c = search needs
 
 begin-ticks-requires : tie.Need-begin-ticks-requires
 begin-ticks-requires c κs = search needs
@@ -103,9 +76,10 @@ same-length-4 c = search needs
 
 returns : tie.Need-returns
 returns c =
+    let a = c .before .before .before .before .before .before .before .before .before .before .before .before .before .before .before .before .args in
+    let q = c .before .before .before .before .before .before .before .before .before .before .before .asked-by in
     let k = c .before .before .link-step in
-    let g = c .before .before .before .before .before .before .before .before .before .what .given .1 in
-    (rw g (rw (c .before .before .before .before .before .before .before .link-named .ensures) at (k .ensures)), rw (k .ensures .answers) (omega arith))
+    (as-asked (q .result) (a .f .what) (a .f .taken) (a .at) (view (a .h) (tables (a .members .now) (a .places .now) (a .notices .now))) _ _ _ _ (q .ensures) (rw (c .before .before .before .before .before .before .before .before .before .wanted .given .1) (rw (c .before .before .before .before .before .before .before .link-named .ensures) at (k .ensures))), rw (k .ensures .answers) (omega arith))
 
 same-length-5 : tie.Need-same-length-5
 same-length-5 c = search needs
@@ -121,9 +95,10 @@ same-length-8 c = search needs
 
 returns-2 : tie.Need-returns-2
 returns-2 c =
+    let a = c .before .before .before .before .before .before .before .before .before .before .before .before .before .before .before .before .before .args in
+    let q = c .before .before .before .before .before .before .before .before .before .before .before .before .asked-by in
     let k = c .before .before .before .before .admit-step in
-    let g = c .before .before .before .before .before .before .before .before .before .before .before .what2 .given .1 in
-    (rw g (rw (c .before .before .before .before .before .before .before .before .before .connection-named .ensures) at (k .ensures)), rw (k .ensures .answers) (omega arith))
+    (as-asked (q .result) (a .f .what) (a .f .taken) (a .at) (view (a .h) (tables (a .members .now) (a .places .now) (a .notices .now))) _ _ _ _ (q .ensures) (rw (c .before .before .before .before .before .before .before .before .before .before .wanted2 .given .1) (k .ensures)), rw (k .ensures .answers) (omega arith))
 
 same-length-9 : tie.Need-same-length-9
 same-length-9 c = search needs
@@ -139,9 +114,10 @@ same-length-12 c = search needs
 
 returns-3 : tie.Need-returns-3
 returns-3 c =
-    let k = c .before .before .before .before .admit-step2 in
-    let g = c .before .before .before .before .before .before .before .before .before .before .before .what3 .given .1 in
-    (rw g (rw (c .before .before .before .before .before .before .before .before .before .stamped-named .ensures) at (k .ensures)), rw (k .ensures .answers) (omega arith))
+    let a = c .before .before .before .before .before .before .before .before .before .before .before .before .before .before .before .before .before .args in
+    let q = c .before .before .before .before .before .before .before .before .before .before .before .before .asked-by in
+    let k = c .before .before .before .before .close-step in
+    (as-asked (q .result) (a .f .what) (a .f .taken) (a .at) (view (a .h) (tables (a .members .now) (a .places .now) (a .notices .now))) _ _ _ _ (q .ensures) (rw (c .before .before .before .before .before .before .before .before .before .before .wanted3 .given .1) (k .ensures)), rw (k .ensures .answers) (omega arith))
 
 same-length-13 : tie.Need-same-length-13
 same-length-13 c = search needs
@@ -157,8 +133,10 @@ same-length-16 c = search needs
 
 returns-4 : tie.Need-returns-4
 returns-4 c =
-    let k = c .before .before .before .before .close-step in
-    (rw (c .before .before .before .before .before .before .before .before .before .before .what4 .given .1) (k .ensures), rw (k .ensures .answers) (omega arith))
+    let a = c .before .before .before .before .before .before .before .before .before .before .before .before .before .before .before .before .before .before .before .args in
+    let q = c .before .before .before .before .before .before .before .before .before .before .before .before .before .before .asked-by in
+    let k = c .before .before .before .before .before .before .offer-step in
+    (as-asked (q .result) (a .f .what) (a .f .taken) (a .at) (view (a .h) (tables (a .members .now) (a .places .now) (a .notices .now))) _ _ _ _ (q .ensures) (rw (c .before .before .before .before .before .before .before .before .before .before .before .before .wanted4 .given .1) (k .ensures)), rw (k .ensures .answers) (omega arith))
 
 same-length-17 : tie.Need-same-length-17
 same-length-17 c = search needs
@@ -174,61 +152,29 @@ same-length-20 c = search needs
 
 returns-5 : tie.Need-returns-5
 returns-5 c =
-    let k = c .before .before .before .before .before .before .offer-step in
-    let g = c .before .before .before .before .before .before .before .before .before .before .before .before .before .what5 .given .1 in
-    (rw g (rw (c .before .before .before .before .before .before .before .before .before .before .before .plain-offer .ensures) at (k .ensures)), rw (k .ensures .answers) (omega arith))
+    let a = c .before .before .before .before .before .before .before .before .before .before .before .before .before .before .before .before .before .args in
+    let q = c .before .before .before .before .before .before .before .before .before .before .before .before .asked-by in
+    let k = c .before .before .before .before .notice-step in
+    (as-asked (q .result) (a .f .what) (a .f .taken) (a .at) (view (a .h) (tables (a .members .now) (a .places .now) (a .notices .now))) _ _ _ _ (q .ensures) (rw (c .before .before .before .before .before .before .before .before .before .before .wanted5 .given .1) (k .ensures)), rw (k .ensures .answers) (omega arith))
+
+returns-6 : tie.Need-returns-6
+returns-6 c =
+    let z = c .before .before .before .before .before .before .before .before .before in
+    let a = z .args in
+    let q = c .before .before .before .before .asked-by in
+    let k = c .begin-ticks in
+    (as-asked (q .result) (a .f .what) (a .f .taken) (a .at) (view (a .h) (tables (a .members .now) (a .places .now) (a .notices .now))) _ _ _ _ (q .ensures) (rw (c .before .before .wanted6 .given .1) (did-kept (a .h) (tables (a .members .now) (a .places .now) (a .notices .now)) (z .pre .0) _ _ _ [] GoOn _ _ _ (k .ensures) refl)), rw (k .ensures) (search needs))
 
 same-length-21 : tie.Need-same-length-21
 same-length-21 c = search needs
 
-same-length-22 : tie.Need-same-length-22
-same-length-22 c = search needs
-
-same-length-23 : tie.Need-same-length-23
-same-length-23 c = search needs
-
-same-length-24 : tie.Need-same-length-24
-same-length-24 c = search needs
-
-returns-6 : tie.Need-returns-6
-returns-6 c =
-    let k = c .before .before .before .before .before .before .offer-step2 in
-    let g = c .before .before .before .before .before .before .before .before .before .before .before .before .before .what6 .given .1 in
-    (rw g (rw (c .before .before .before .before .before .before .before .before .before .before .before .stamped-offer .ensures) at (k .ensures)), rw (k .ensures .answers) (omega arith))
-
-same-length-25 : tie.Need-same-length-25
-same-length-25 c = search needs
-
-same-length-26 : tie.Need-same-length-26
-same-length-26 c = search needs
-
-same-length-27 : tie.Need-same-length-27
-same-length-27 c = search needs
-
-same-length-28 : tie.Need-same-length-28
-same-length-28 c = search needs
-
 returns-7 : tie.Need-returns-7
 returns-7 c =
-    let k = c .before .before .before .before .notice-step in
-    (rw (c .before .before .before .before .before .before .before .before .before .before .what7 .given .1) (k .ensures), rw (k .ensures .answers) (omega arith))
-
-returns-8 : tie.Need-returns-8
-returns-8 c =
-    let s = c .before .before .before .before .before .before .before .before in
-    let a = s .args in
-    let k = c .begin-ticks in
-    (rw (c .before .before .what8 .given .1) (did-kept (a .h) (tables (a .members .now) (a .places .now) (a .notices .now)) (s .pre .0) _ _ _ [] GoOn _ _ _ (k .ensures) refl), rw (k .ensures) (search needs))
-
-same-length-29 : tie.Need-same-length-29
-same-length-29 c = search needs
-
-returns-9 : tie.Need-returns-9
-returns-9 c =
-    let s = c .before .before .before .before .before .before .before .before .before .before in
-    let a = s .args in
+    let z = c .before .before .before .before .before .before .before .before .before .before .before in
+    let a = z .args in
+    let q = c .before .before .before .before .before .before .asked-by in
     let k = c .before .before .broken-step in
-    (rw (c .before .before .before .before .enum-told .given .1) (did-kept (a .h) (tables (a .members .now) (a .places .now) (a .notices .now)) (s .pre .0) _ _ _ _ Done _ _ _ (k .ensures .0) (k .ensures .1)), rw (k .ensures .0) (omega arith))
+    (as-asked (q .result) (a .f .what) (a .f .taken) (a .at) (view (a .h) (tables (a .members .now) (a .places .now) (a .notices .now))) _ _ _ _ (q .ensures) (rw (c .before .before .before .before .enum-told .given .1) (did-kept (a .h) (tables (a .members .now) (a .places .now) (a .notices .now)) (z .pre .0) _ _ _ _ Done _ _ _ (k .ensures .0) (k .ensures .1))), rw (k .ensures .0) (omega arith))
 
 pub record-step-spec : {M : Type 1} → statement M
 record-step-spec =
@@ -236,28 +182,19 @@ record-step-spec =
     (tie.spec
     cast-to
     add-to
-    enum-known-what
+    asked-by-requires
+    enum-known-wanted
     link-named-requires
     link-step-requires
-    enum-known-what-2
-    connection-named-requires
+    enum-known-wanted-2
     admit-step-requires
-    enum-known-what-3
-    stamped-named-requires
-    admit-step-requires-2
-    enum-known-what-4
-    cast-c
+    enum-known-wanted-3
     close-step-requires
-    enum-known-what-5
-    plain-offer-requires
+    enum-known-wanted-4
     offer-step-requires
-    enum-known-what-6
-    stamped-offer-requires
-    offer-step-requires-2
-    enum-known-what-7
-    cast-notice-step
+    enum-known-wanted-5
     notice-step-requires
-    enum-known-what-8
+    enum-known-wanted-6
     begin-ticks-requires
     enum-told
     broken-step-requires
@@ -286,16 +223,6 @@ record-step-spec =
     same-length-19
     same-length-20
     returns-5
-    same-length-21
-    same-length-22
-    same-length-23
-    same-length-24
     returns-6
-    same-length-25
-    same-length-26
-    same-length-27
-    same-length-28
-    returns-7
-    returns-8
-    same-length-29
-    returns-9)
+    same-length-21
+    returns-7)
