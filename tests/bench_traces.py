@@ -5,7 +5,7 @@ import os
 import subprocess
 from itertools import count
 
-from records import TRACE, admit, admit_stamped, close, layout, link, notice, offer, offer_stamped, ticks
+from records import LINKS, TRACE, admit, admit_stamped, close, layout, link, notice, offer, offer_stamped, ticks
 from struct import calcsize
 
 LIMIT = 16_777_216
@@ -18,7 +18,7 @@ def cut(trace, size):
     at = 0
     while at < len(trace):
         mark = trace[at:at + 2]
-        then = at + LENGTHS[mark] + (2 * trace[at + 2] if mark == b"LK" else 0)
+        then = at + LENGTHS[mark] + (2 * trace[at + 2] if mark in LINKS else 0)
         if then > size:
             break
         at = then
@@ -48,10 +48,10 @@ def flooded(size):
     return generated("flooded", size)
 
 
-def ward(connections, places, silence=0):
+def ward(connections, places, silence=0, setting=None):
     """So many connections of packets of one unit, each with so many places: its gap is the time in which each of them sends once, and a tick."""
     gap = connections * (1 + silence) + 1 + silence
-    return link(1, silence, [places * gap]) + admit(1, gap, 1) * connections
+    return link(1, silence, [places * gap], setting) + admit(1, gap, 1) * connections
 
 
 def held(connections, places, size):
@@ -102,6 +102,12 @@ def stamps(size):
         length += len(trace[-1])
 
 
+def stand_by(size):
+    """64 connections, the stand-by queue on: bursts of four packets of each of eight connections, of which three go before their eligibility. A round takes the time in which each may send four times."""
+    bursts = [b"".join(offer(one, 1, 7) * 4 for one in range(first, first + 8)) + ticks(32) for first in range(0, 64, 8)]
+    return rounds(ward(64, 16, setting=1), b"".join(bursts) + ticks(4), size)
+
+
 def refused(size):
     """199 connections, and one more that the level test refuses, with eight levels."""
     bounds = [4_103 + level for level in range(8)]
@@ -139,6 +145,7 @@ TRACES = {
     "opened and closed": opened,
     "averages": averages,
     "stamps of a second hub": stamps,
+    "stand-by": stand_by,
     "refused by the level test": refused,
     "notices": notices,
     "silence": silence,

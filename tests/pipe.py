@@ -18,8 +18,8 @@ MOST_REMEMBERED = 16
 NOTICE = 254
 # the calls, by their numbers
 CALLS = ("fresh_hub", "link", "admit", "offer", "notice", "close", "tick", "offer_stamped")
-MOST_ASKED = 11
-LINK = ("levels", "largest", "silence", *(f"bound {level}" for level in range(MOST_LEVELS)))
+MOST_ASKED = 12
+LINK = ("levels", "largest", "silence", "early", *(f"bound {level}" for level in range(MOST_LEVELS)))
 HUB = LINK + ("clock", "serving", "units", "silent")
 LENT = ("connections lent", "places lent", "notices lent")
 PACKET = ("connection", "length", "tag", "arrival", "eligibility")

@@ -2,9 +2,10 @@
 
 import struct
 
-# Of each mark its name in print and the fields behind it, each with its width in bytes. An `LK` has a bound for each level besides.
+# Of each mark its name in print and the fields behind it, each with its width in bytes. An `LK` and an `LE` have a bound for each level besides.
 TRACE = {
     b"LK": ("link", [("levels", 1), ("largest", 2), ("silence", 1)]),
+    b"LE": ("link with setting", [("levels", 1), ("largest", 2), ("silence", 1), ("setting", 1)]),
     b"CN": ("admit", [("level", 1), ("gap", 2), ("size", 2), ("window", 2), ("average", 2)]),
     b"CS": ("admit by stamps", [("level", 1), ("gap", 2), ("size", 2), ("allowance", 2)]),
     b"CL": ("close", [("connection", 1)]),
@@ -23,6 +24,7 @@ ANSWERS = {
     b"TA": ("ticked", [("verdict", 1), ("done", 2)]),
     b"ER": ("malformed", [("verdict", 1), ("offset", 4)]),
 }
+LINKS = (b"LK", b"LE")
 MOST_LEVELS = 8
 CODES = {1: "B", 2: "H", 4: "I"}
 
@@ -37,10 +39,10 @@ def layout(fields):
 
 
 def fields_at(data, at, kinds):
-    """The name and the fields of the record at a place; no name where the mark is none of these kinds', or an `LK` has no such number of levels."""
+    """The name and the fields of the record at a place; no name where the mark is none of these kinds', or a link has no such number of levels."""
     mark = data[at:at + 2]
     name, fields = kinds.get(mark, (None, []))
-    if mark != b"LK" or name is None or at + 2 >= len(data):
+    if mark not in LINKS or name is None or at + 2 >= len(data):
         return name, fields
     levels = data[at + 2]
     if not 1 <= levels <= MOST_LEVELS:
@@ -67,8 +69,10 @@ def written(mark, *numbers):
     return mark + struct.pack(layout(fields), *numbers)
 
 
-def link(largest, silence, bounds):
-    return written(b"LK", len(bounds), largest, silence) + b"".join(struct.pack("<H", bound) for bound in bounds)
+def link(largest, silence, bounds, setting=None):
+    """A link; an `LE` where it has a setting, 1: its stand-by queue is on, 0: off."""
+    head = written(b"LK", len(bounds), largest, silence) if setting is None else written(b"LE", len(bounds), largest, silence, setting)
+    return head + b"".join(struct.pack("<H", bound) for bound in bounds)
 
 
 def admit(level, gap, size, window=0, average=0):

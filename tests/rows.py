@@ -4,6 +4,8 @@ What a line has sent through the first hub is offered to the second in order, ea
 eligibility as its stamp, on a connection by stamps with the same gap and size, whose allowance is the first hub's bound plus that delay. Some packets are lost on the way. Beside
 them the second hub has lines of its own that flood it, notices, closes, and calls that are refused. Of what it answers as much is promised as `fault` holds it to. Its trace and
 answers can be followed by a third hub.
+
+A second hub may have its stand-by queue on (R-11). What may go early at a hub is not promised anything behind it, and is carried on only where that is asked for; then nothing is held to `fault`.
 """
 
 import random
@@ -25,10 +27,10 @@ Carried = namedtuple("Carried", "place number length tag eligibility latest")
 
 
 class Line:
-    """A connection of a hub from its admission on: its figures, the lengths of what it holds, and what has left."""
+    """A connection of a hub from its admission on: its figures, whether its packets may go early, the lengths of what it holds, and what has left."""
 
-    def __init__(self, bound, gap, size):
-        self.bound, self.gap, self.size = bound, gap, size
+    def __init__(self, bound, gap, size, early):
+        self.bound, self.gap, self.size, self.early = bound, gap, size, early
         self.held = []
         self.left = []
 
@@ -50,7 +52,7 @@ def answers_of_each(trace, answers):
 
 def lines_of(trace, answers):
     """All lines that a hub ever had, by its trace and answers."""
-    every, owners, bounds = [], {}, ()
+    every, owners, bounds, stand_by = [], {}, (), False
     for mark, numbers, departed, answer in answers_of_each(trace, answers):
         for number, tag, _, eligibility, finish in departed:
             if number != NOTICE:
@@ -59,9 +61,11 @@ def lines_of(trace, answers):
             continue
         if mark == b"LK":
             bounds = numbers[3:]
+        elif mark == b"LE":
+            bounds, stand_by = numbers[4:], numbers[3] == 1
         elif mark in (b"CN", b"CS"):
             level, gap, size = numbers[:3]
-            owners[answer[1]] = Line(bounds[level - 1], gap, size)
+            owners[answer[1]] = Line(bounds[level - 1], gap, size, stand_by and mark == b"CN")
             every.append(owners[answer[1]])
         elif mark in (b"PK", b"PS"):
             owners[numbers[0]].held.append(numbers[1])
@@ -96,6 +100,7 @@ class Second:
         self.delay = numbers.choice((0, 1, numbers.randint(0, 20), numbers.randint(0, 300), numbers.randint(0, 9_000)))
         self.lost = numbers.choice((0, 0, 0.1, 0.5))
         self.silence = numbers.choice((0, 0, 1, numbers.randint(1, 8)))
+        self.setting = numbers.choice((None, 0, 1, 1))
         self.records = []
         self.carried = []
         self.own = []
@@ -111,7 +116,7 @@ class Second:
         bound, self.lines = room
         more = [numbers.randint(0, 20 + bound // 2) for _ in range(numbers.randint(0, 3))]
         self.bounds = sorted({min(HIGHEST_BOUND, bound + some) for some in (numbers.randint(0, 9), *more)})
-        self.records.append(link(self.largest, self.silence, self.bounds))
+        self.records.append(self.link_again())
         return True
 
     def admissions(self):
@@ -170,7 +175,7 @@ class Second:
         return offer(own, numbers.randint(1, self.largest), numbers.getrandbits(32))
 
     def link_again(self):
-        return link(self.largest, self.silence, self.bounds)
+        return link(self.largest, self.silence, self.bounds, self.setting)
 
     def carry(self, accepted):
         """The whole trace, up to the moment by which all has left."""
@@ -203,9 +208,11 @@ class Second:
         return None
 
 
-def behind(trace, answers, seed, run):
-    """A hub behind the one with this trace and these answers, and its trace; nothing if no line can be carried on. `run` gives its answers to an admission."""
-    second = Second(lines_of(trace, answers), random.Random(seed))
+def behind(trace, answers, seed, run, early=False):
+    """A hub behind the one with this trace and these answers, and its trace; nothing if no line can be carried on. `run` gives its answers to an admission.
+    Lines whose packets may go early are carried on where `early` says so."""
+    lines = [line for line in lines_of(trace, answers) if early or not line.early]
+    second = Second(lines, random.Random(seed))
     if not second.link():
         return None
     accepted = second.accepted(run(second.admissions()))

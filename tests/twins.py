@@ -5,7 +5,7 @@ closed in neither (R-8), and makes the same offers at the same ticks in both; th
 notices and the calls around it, closes among them, are drawn anew for each. The line's number may
 differ, and may have had other owners before; in every fourth pair up to 199 lines stand before it
 (R-7). In other pairs the line is by stamps (R-9): its offers of allowed length come a gap apart,
-with any stamps.
+with any stamps. In others again the stand-by queue is on (R-11), in both traces or in one of them.
 """
 
 import random
@@ -38,9 +38,10 @@ def some_average(numbers, gap):
 
 
 class Line:
-    """The line that both traces share: its figures, the tick of its admission, its offers."""
+    """The line that both traces share: its figures, the tick of its admission, its offers. Its hub may have the stand-by queue on."""
 
     by_stamps = False
+    stand_by = False
 
     def __init__(self, numbers, bounds, largest, silence):
         self.level = numbers.randint(1, len(bounds))
@@ -128,13 +129,21 @@ class StampedLine(Line):
         return 0, eligibility
 
 
+class EarlyLine(Line):
+    stand_by = True
+
+
+class EarlyStampedLine(StampedLine):
+    stand_by = True
+
+
 class Ward:
     """One of the two traces: the shared line among others that are drawn at random."""
 
     def __init__(self, numbers, limits, line, busy):
         self.numbers, self.line, self.busy = numbers, line, busy
-        self.bounds, self.largest, _ = limits
-        self.link = link(self.largest, limits[2], self.bounds)
+        self.bounds, self.largest, silence, setting = limits
+        self.link = link(self.largest, silence, self.bounds, setting)
         self.records = [self.link]
         self.closes = numbers.choice((0, 0.17))
         self.own = None
@@ -238,9 +247,10 @@ def twin(seed, which, run, kind=Line):
     if crowded:  # room for a packet of each line and for more
         bounds = [bound + (MOST_CONNECTIONS + 50) * (1 + silence) for bound in bounds]
     line = kind(shared, bounds, largest, silence)
+    setting = int(which == "one" or seed % 2 == 0) if kind.stand_by else None
     for busy in (4, 3, 2, 1, 0):
         numbers = random.Random(f"{seed} {which} {busy}{' stamps' * kind.by_stamps}")
-        ward = Ward(numbers, (bounds, largest, silence), line, busy)
+        ward = Ward(numbers, (bounds, largest, silence, setting), line, busy)
         if crowded:
             ward.many_stand()
         admitted = answers_of(ward, ward.until_admitted(), run)[-1]

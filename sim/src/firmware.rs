@@ -49,6 +49,7 @@ fn whole_link(bytes: &[u8]) -> Option<Link> {
                 levels,
                 largest,
                 silence,
+                setting: None,
                 bounds,
             },
             length,

@@ -1,5 +1,6 @@
 //! Link and connection with their limits (section "Link, connections, places"; the silence by
-//! R-4, averages by R-6, how many connections and places by R-7, allowances by R-9).
+//! R-4, averages by R-6, how many connections and places by R-7, allowances by R-9, the stand-by queue
+//! by R-11).
 
 use crate::verdict::Refusal;
 
@@ -7,6 +8,10 @@ pub const MOST_LEVELS: usize = 8;
 pub const MOST_UNITS: u16 = 2_048;
 pub const MOST_SILENCE: u8 = 64;
 pub const HIGHEST_BOUND: u16 = 32_768;
+
+/// The settings of the stand-by queue.
+pub const OFF: u8 = 0;
+pub const ON: u8 = 1;
 
 /// Connections, numbered from 0, and the places of all reservations together.
 pub const MOST_CONNECTIONS: usize = 200;
@@ -16,24 +21,38 @@ pub const MOST_RESERVED: u64 = 2_048;
 /// of its eligibilities a connection remembers.
 pub const MOST_PER_WINDOW: u16 = 16;
 
-/// A link within its limits: n levels, the largest packet S, the silence after each packet, a
-/// delay bound per level.
+/// A link within its limits: n levels, the largest packet S, the silence after each packet, whether
+/// its stand-by queue is on, a delay bound per level.
 #[derive(Clone, Copy, Debug, PartialEq, Eq)]
 pub struct Link {
     levels: u8,
     largest: u16,
     silence: u8,
+    stands_by: bool,
     bounds: [u16; MOST_LEVELS],
 }
 
 impl Link {
-    /// The link, or nothing if one of its limits is broken.
+    /// The link with its stand-by queue off, or nothing if one of its limits is broken.
     pub fn new(levels: u8, largest: u16, silence: u8, bounds: [u16; MOST_LEVELS]) -> Option<Link> {
+        Link::set_to(OFF, levels, largest, silence, bounds)
+    }
+
+    /// The link with its stand-by queue as the setting says: off or on, another one breaks a
+    /// limit.
+    pub fn set_to(
+        setting: u8,
+        levels: u8,
+        largest: u16,
+        silence: u8,
+        bounds: [u16; MOST_LEVELS],
+    ) -> Option<Link> {
         let used = bounds.get(..usize::from(levels))?;
         let unused = bounds.get(usize::from(levels)..)?;
         let (first, last) = (*used.first()?, *used.last()?);
         let within = (1..=MOST_UNITS).contains(&largest)
             && silence <= MOST_SILENCE
+            && setting <= ON
             && used.windows(2).all(|pair| pair[0] < pair[1])
             && first >= largest + u16::from(silence)
             && last <= HIGHEST_BOUND
@@ -42,6 +61,7 @@ impl Link {
             levels,
             largest,
             silence,
+            stands_by: setting == ON,
             bounds,
         })
     }
@@ -49,6 +69,11 @@ impl Link {
     /// Whether it is within its limits, as one that was made is.
     pub fn is_within(&self) -> bool {
         Link::new(self.levels, self.largest, self.silence, self.bounds).is_some()
+    }
+
+    /// Whether packets of connections by their gap stand by.
+    pub fn stands_by(&self) -> bool {
+        self.stands_by
     }
 
     /// n: levels are numbered 1 to n, level 1 most urgent.

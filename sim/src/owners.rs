@@ -66,6 +66,13 @@ impl Owner {
         in_time.then_some(eligibility)
     }
 
+    /// How far past the present tick an eligibility may lie while packets stand by: the
+    /// reservation times X.
+    #[inline]
+    pub fn distance(&self) -> Tick {
+        self.reservation * Tick::from(self.connection.gap())
+    }
+
     pub fn loads(&self) -> &Loads {
         &self.loads
     }

@@ -1,5 +1,5 @@
 //! The held packets: a queue for each connection, and which of their first packets the line takes
-//! next (sections "Link, connections, places" and "One tick").
+//! next (sections "Link, connections, places" and "One tick"; before it is eligible by R-11).
 
 use std::cmp::Reverse;
 use std::collections::{BinaryHeap, VecDeque};
@@ -7,7 +7,7 @@ use std::collections::{BinaryHeap, VecDeque};
 use crate::departure::{Departure, Tick};
 
 /// A held packet. Its ticks fit in four bytes: an eligibility lies less than 65,536 beyond the
-/// clock's end.
+/// clock's end, and by R-11 less than the longest bound and the longest gap.
 #[derive(Clone, Copy, Debug, PartialEq, Eq)]
 pub struct Held {
     pub length: u16,
@@ -36,13 +36,27 @@ pub struct Started {
     pub length: u16,
 }
 
+/// A packet that stands by: its turn, its connection, and the level of that.
+#[derive(Clone, Copy, Debug, PartialEq, Eq)]
+struct StandsBy {
+    turn: u32,
+    connection: u8,
+    level: u8,
+}
+
 /// The queues by the connections' numbers. Of each that holds something the first packet stands in
 /// `eligible`, or in `waiting` by its eligibility, unless it is in service.
+///
+/// While the link's queue is on, `by_turn` has the packets that may go early in the order offered;
+/// those that have started stay in it until they come to its front, but for those that went early. What
+/// went early stays in `waiting` until its eligibility: `gone_early` counts these.
 #[derive(Clone, Debug, Default)]
 pub struct Queues {
     lines: Vec<VecDeque<Held>>,
     eligible: BinaryHeap<Reverse<First>>,
     waiting: BinaryHeap<Reverse<(u32, First)>>,
+    by_turn: VecDeque<StandsBy>,
+    gone_early: usize,
     offered: u32,
 }
 
@@ -72,7 +86,10 @@ impl Queues {
     }
 
     pub fn is_empty(&self) -> bool {
-        self.count() == 0 && self.eligible.is_empty() && self.waiting.is_empty()
+        self.count() == 0
+            && self.eligible.is_empty()
+            && self.waiting.is_empty()
+            && self.by_turn.is_empty()
     }
 
     pub fn first_of(&self, connection: u8) -> Option<&Held> {
@@ -131,7 +148,69 @@ impl Queues {
 
     fn comes_over(&mut self, first: First) {
         self.waiting.pop();
+        if self.gone_early > 0 && self.has_left(first.connection, first.turn) {
+            self.gone_early -= 1;
+            return;
+        }
         self.eligible.push(Reverse(first));
+    }
+
+    /// Whether the packet of a connection and a turn has left: what it holds was offered later.
+    #[inline]
+    fn has_left(&self, connection: u8, turn: u32) -> bool {
+        let first = self.first_of(connection);
+        first.map_or(true, |held| held.turn > turn)
+    }
+
+    /// The packet that was just offered may go early. What has left before it and would be in
+    /// front is forgotten, so that `by_turn` does not grow with the trace: a held packet leaves within
+    /// its connection's distance and its bound of its arrival, and behind it come no more than leave in
+    /// that time and are held.
+    pub fn stand_by(&mut self, connection: u8, level: u8) {
+        self.any_stands_by();
+        let turn = self.offered.wrapping_sub(1);
+        self.by_turn.push_back(StandsBy {
+            turn,
+            connection,
+            level,
+        });
+    }
+
+    /// Whether a packet stands by; those that have left come off the front. On an idle line what is
+    /// then in front is the first packet of its connection, since all that is held and may go early is
+    /// in `by_turn`.
+    #[inline]
+    pub fn any_stands_by(&mut self) -> bool {
+        !self.by_turn.is_empty() && self.any_is_left()
+    }
+
+    #[inline(never)]
+    fn any_is_left(&mut self) -> bool {
+        while let Some(one) = self.by_turn.front() {
+            if !self.has_left(one.connection, one.turn) {
+                return true;
+            }
+            self.by_turn.pop_front();
+        }
+        false
+    }
+
+    /// Step 1, on an idle line on which nothing is eligible and no notice waits: the packet that was
+    /// offered first of those that stand by starts.
+    pub fn start_early(&mut self) -> Option<Started> {
+        if !self.any_stands_by() {
+            return None;
+        }
+        let StandsBy {
+            connection, level, ..
+        } = self.by_turn.pop_front()?;
+        self.gone_early += 1;
+        let length = self.first_of(connection)?.length;
+        Some(Started {
+            connection,
+            level,
+            length,
+        })
     }
 
     /// The earliest eligibility of those that wait.
@@ -190,13 +269,19 @@ impl Queues {
     }
 
     /// Whether the two heaps name the first packet of each connection that holds something, but for
-    /// the one in service, under its level; one is eligible before its time.
+    /// the one in service, under its level, and what went early besides; none is eligible before its
+    /// time.
     pub fn are_sound(
         &self,
         in_service: Option<u8>,
         clock: Tick,
         level_of: impl Fn(u8) -> Option<u8>,
     ) -> bool {
+        let is_gone = |first: &First| {
+            Some(first.connection) == in_service || self.has_left(first.connection, first.turn)
+        };
+        let gone = self.waiting.iter();
+        let gone = gone.filter(|Reverse((_, first))| is_gone(first)).count();
         let is_sound = |first: &First| {
             let of_it = self.first_of(first.connection);
             Some(first.connection) != in_service
@@ -206,13 +291,42 @@ impl Queues {
         };
         let busy = self.lines.iter().filter(|line| !line.is_empty()).count();
         let named = self.eligible.len() + self.waiting.len() + usize::from(in_service.is_some());
-        named == busy
+        gone == self.gone_early
+            && named - gone == busy
             && self
                 .eligible
                 .iter()
                 .all(|Reverse(first)| is_sound(first) && Tick::from(first.eligibility) <= clock)
             && self.waiting.iter().all(|Reverse((eligibility, first))| {
-                is_sound(first) && *eligibility == first.eligibility
+                *eligibility == first.eligibility && (is_gone(first) || is_sound(first))
+            })
+    }
+
+    /// Whether those that stand by are all packets that may go early, in the order offered, but for one
+    /// that went early and is in service: `level_of` gives the level of a connection whose packets may.
+    pub fn stand_by_is_sound(
+        &self,
+        in_service: Option<u8>,
+        level_of: impl Fn(u8) -> Option<u8>,
+    ) -> bool {
+        let place_of = |held: &Held| {
+            let place = self
+                .by_turn
+                .binary_search_by_key(&held.turn, |one| one.turn);
+            place.ok().map(|place| self.by_turn[place])
+        };
+        let mut pairs = self.by_turn.iter().zip(self.by_turn.iter().skip(1));
+        let in_order = pairs.all(|(one, next)| one.turn < next.turn);
+        let mut lines = self.lines.iter().zip(0..);
+        in_order
+            && lines.all(|(line, connection)| {
+                let started = usize::from(in_service == Some(connection));
+                let mut found = line.iter().skip(started).map(place_of);
+                found.all(|found| match (found, level_of(connection)) {
+                    (Some(one), Some(level)) => (one.connection, one.level) == (connection, level),
+                    (None, None) => true,
+                    _ => false,
+                })
             })
     }
 }

@@ -1,25 +1,27 @@
 //! Trace and answer records (section "Trace and answer records"; `NQ` and `NA` by R-1,
 //! level and units in `CA` by R-2, the silence in `LK` by R-4, window and average gap in `CN` by
-//! R-6, `CL` and `CD` by R-8, `CS` and `PS` by R-9).
+//! R-6, `CL` and `CD` by R-8, `CS` and `PS` by R-9, `LE` by R-11).
 
 use crate::departure::{Departure, Tick};
 use crate::link::{Figures, MOST_LEVELS};
 use crate::verdict::{Refusal, Shortage};
 
-/// The longest trace record: an `LK` with 8 bounds.
-pub const LONGEST_RECORD: usize = 6 + 2 * MOST_LEVELS;
+/// The longest trace record: an `LE` with 8 bounds.
+pub const LONGEST_RECORD: usize = 7 + 2 * MOST_LEVELS;
 
 /// The connection number that a refused admission gives.
 pub const NO_CONNECTION: u8 = 255;
 
-/// A trace record. Bounds past n are 0. Figures with an allowance stand in a `CS`, others in a `CN`; a
-/// packet with a stamp in a `PS`, one without in a `PK`.
+/// A trace record. Bounds past n are 0. A link with a setting stands in an `LE`, one without in an `LK`
+/// figures with an allowance stand in a `CS`, others in a `CN`; a packet with a stamp in a `PS`,
+/// one without in a `PK`.
 #[derive(Clone, Copy, Debug, PartialEq, Eq)]
 pub enum Record {
     Link {
         levels: u8,
         largest: u16,
         silence: u8,
+        setting: Option<u8>,
         bounds: [u16; MOST_LEVELS],
     },
     Connection(Figures),
@@ -63,7 +65,8 @@ impl Record {
     fn read_whole(bytes: &[u8; LONGEST_RECORD]) -> Option<(Record, usize)> {
         let mut fields = Fields { bytes, taken: 0 };
         let record = match &fields.take::<2>()? {
-            b"LK" => read_link(&mut fields)?,
+            b"LK" => read_link(&mut fields, false)?,
+            b"LE" => read_link(&mut fields, true)?,
             b"CN" => Record::Connection(read_figures(&mut fields)?),
             b"CS" => Record::Connection(read_stamped(&mut fields)?),
             b"CL" => Record::Close {
@@ -100,8 +103,9 @@ impl Record {
                 levels,
                 largest,
                 silence,
+                setting,
                 bounds,
-            } => append_link(out, levels, largest, silence, &bounds),
+            } => append_link(out, (levels, largest, silence), setting, &bounds),
             Record::Connection(figures) => append_connection(out, &figures),
             Record::Close { connection } => out.extend_from_slice(&[b'C', b'L', connection]),
             Record::Packet {
@@ -123,17 +127,18 @@ impl Record {
     }
 }
 
+/// Levels, S and silence, the setting if there is one, then the bounds that are used.
 fn append_link(
     out: &mut Vec<u8>,
-    levels: u8,
-    largest: u16,
-    silence: u8,
+    (levels, largest, silence): (u8, u16, u8),
+    setting: Option<u8>,
     bounds: &[u16; MOST_LEVELS],
 ) {
-    out.extend_from_slice(b"LK");
+    out.extend_from_slice(setting.map_or(b"LK", |_| b"LE"));
     out.push(levels);
     out.extend_from_slice(&largest.to_le_bytes());
     out.push(silence);
+    out.extend(setting);
     for bound in bounds.iter().take(usize::from(levels)) {
         out.extend_from_slice(&bound.to_le_bytes());
     }
@@ -190,15 +195,19 @@ fn read_stamped(fields: &mut Fields) -> Option<Figures> {
     Some(plain.by_stamps(fields.two()?))
 }
 
-/// An `LK` with n outside 1 to 8 is malformed, with any silence it is not; bounds past n are read
-/// as 0.
-fn read_link(fields: &mut Fields) -> Option<Record> {
+/// An `LK` or an `LE`, which has a setting, with n outside 1 to 8 is malformed, with any silence and
+/// any setting it is not; bounds past n are read as 0.
+fn read_link(fields: &mut Fields, has_setting: bool) -> Option<Record> {
     let levels = fields.one()?;
     if !(1..=MOST_LEVELS).contains(&usize::from(levels)) {
         return None;
     }
     let largest = fields.two()?;
     let silence = fields.one()?;
+    let setting = match has_setting {
+        true => Some(fields.one()?),
+        false => None,
+    };
     let mut bounds = [0; MOST_LEVELS];
     for bound in bounds.iter_mut().take(usize::from(levels)) {
         *bound = fields.two()?;
@@ -207,6 +216,7 @@ fn read_link(fields: &mut Fields) -> Option<Record> {
         levels,
         largest,
         silence,
+        setting,
         bounds,
     })
 }
@@ -358,9 +368,9 @@ fn append_accepted(out: &mut Vec<u8>, head: [u8; 3], eligibility: Tick) {
     out.extend_from_slice(&bytes);
 }
 
-/// No tick of a run needs more: an accepted offer is made before the clock's end,
-/// and its eligibility is less than 65,536 beyond, by a stamp as well, which is never later than the
-/// offer.
+/// No tick of a run needs more: an accepted offer is made before the clock's end, and its eligibility
+/// lies less than 65,536 beyond, by a stamp as well, which is never later than the offer; while packets
+/// stand by at most a reservation times a gap past the offer, which is less than a bound and a gap.
 fn four_bytes(tick: Tick) -> [u8; 4] {
     (tick as u32).to_le_bytes()
 }

@@ -4,7 +4,7 @@ use std::io::{self, Read, Write};
 
 use crate::departure::Tick;
 use crate::hub::Hub;
-use crate::link::{Figures, Link};
+use crate::link::{Figures, Link, OFF};
 use crate::record::{Answer, Record, LONGEST_RECORD, NO_CONNECTION};
 use crate::verdict::{number_of, Refusal, DONE};
 
@@ -64,8 +64,13 @@ impl Job {
                 levels,
                 largest,
                 silence,
+                setting,
                 bounds,
-            } => hand_over(self.set_link(Link::new(levels, largest, silence, bounds))),
+            } => {
+                let setting = setting.unwrap_or(OFF);
+                let link = Link::set_to(setting, levels, largest, silence, bounds);
+                hand_over(self.set_link(link))
+            }
             Record::Connection(figures) => hand_over(self.admit(figures)),
             Record::Close { connection } => hand_over(self.close(connection)),
             Record::Packet {

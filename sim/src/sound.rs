@@ -1,6 +1,6 @@
 //! The test of the state (section "A sound state"; docs/RULES-AFTER-BASE.md: notices by R-1, the
-//! silence by R-4, averages by R-6, closes by R-8, stamps by R-9). What is kept beside the state's own
-//! numbers, so that no call counts anew, is tested with them.
+//! silence by R-4, averages by R-6, closes by R-8, stamps by R-9, packets that stand by by R-11). What is
+//! kept beside the state's own numbers, so that no call counts anew, is tested with them.
 
 use std::collections::VecDeque;
 
@@ -23,7 +23,7 @@ impl Hub {
                     && self.owners_are_sound(link)
                     && self.notices_are_sound(link)
                     && self.line_is_sound(link)
-                    && self.firsts_are_sound()
+                    && self.firsts_are_sound(link)
             }
         }
     }
@@ -54,7 +54,8 @@ impl Hub {
     fn owner_is_sound(&self, link: &Link, number: u8, owner: &Owner) -> bool {
         let connection = &owner.connection;
         let rows = self.queues.of(number);
-        let sequence = Sequence { owner, rows };
+        let ahead = may_go_early(link, connection).then(|| owner.distance());
+        let sequence = Sequence { owner, rows, ahead };
         connection.is_within(link)
             && owner.reservation == connection.reservation(link)
             && *owner.loads() == loads(link, connection)
@@ -81,7 +82,7 @@ impl Hub {
             && all.all(|notice| fits(notice.length) && notice.arrival <= self.clock)
     }
 
-    /// What is in service has 1 to its length units to go; a packet is eligible.
+    /// What is in service has 1 to its length units to go; a packet is eligible unless it may go early.
     fn line_is_sound(&self, link: &Link) -> bool {
         let (sent, units_to_go) = match self.line {
             Line::Idle => return true,
@@ -92,7 +93,8 @@ impl Hub {
             Sent::FirstNotice => self.notices.first().map(|notice| notice.length),
             Sent::FirstOf(started) => {
                 let first = self.queues.first_of(started.connection);
-                let eligible = |held: &&Held| Tick::from(held.eligibility) <= self.clock;
+                let early = self.early_level_of(link, started.connection).is_some();
+                let eligible = |held: &&Held| early || Tick::from(held.eligibility) <= self.clock;
                 let length = first.filter(eligible).map(|held| held.length);
                 length.filter(|&length| length == started.length)
             }
@@ -100,8 +102,15 @@ impl Hub {
         length.map_or(false, |length| (1..=length).contains(&units_to_go))
     }
 
-    /// The first packets are kept in order, under their connections' levels.
-    fn firsts_are_sound(&self) -> bool {
+    /// The level of a number whose packets may go early.
+    fn early_level_of(&self, link: &Link, number: u8) -> Option<u8> {
+        let standing = self.connection(number)?;
+        may_go_early(link, standing).then(|| standing.level())
+    }
+
+    /// The first packets are kept in order, under their connections' levels, and so are those that
+    /// stand by.
+    fn firsts_are_sound(&self, link: &Link) -> bool {
         let level_of = |number| Some(self.connection(number)?.level());
         let in_service = match self.line {
             Line::Serving {
@@ -113,13 +122,23 @@ impl Hub {
         let number = in_service.map(|started| started.connection);
         in_service.map_or(true, |one| level_of(one.connection) == Some(one.level))
             && self.queues.are_sound(number, self.clock, level_of)
+            && self
+                .queues
+                .stand_by_is_sound(number, |number| self.early_level_of(link, number))
     }
 }
 
-/// What a connection has sent, as far as it remembers, and its rows, which are the newest of it.
+/// Whether a connection's packets may go early: it is regulated by its gap, and the queue is on.
+fn may_go_early(link: &Link, connection: &Connection) -> bool {
+    link.stands_by() && connection.allowance().is_none()
+}
+
+/// What a connection has sent, as far as it remembers, and its rows, which are the newest of it; where
+/// its packets may go early, how far past the clock they may lie.
 struct Sequence<'a> {
     owner: &'a Owner,
     rows: &'a VecDeque<Held>,
+    ahead: Option<Tick>,
 }
 
 impl Sequence<'_> {
@@ -141,12 +160,13 @@ impl Sequence<'_> {
         }
     }
 
-    /// What has left keeps both rules, and lies at or before the clock.
+    /// What has left keeps both rules, and lies at or before the clock; where packets may go early, at
+    /// most the distance past it.
     fn left_in_time(&self, clock: Tick) -> bool {
         let (recent, connection) = (&self.owner.recent, &self.owner.connection);
         let held = self.rows.len();
         let newest = recent.back(held + 1);
-        newest.map_or(true, |newest| newest <= clock)
+        newest.map_or(true, |newest| newest <= clock + self.ahead.unwrap_or(0))
             && recent.are_apart(held, 1, Tick::from(connection.gap()))
             && connection.average().map_or(true, |average| {
                 let packets = usize::from(average.packets());
@@ -161,8 +181,16 @@ impl Sequence<'_> {
         self.rows.iter().enumerate().all(|(row, held)| {
             let (arrival, tick) = (Tick::from(held.arrival), Tick::from(held.eligibility));
             let nth = |packets| self.before(row, packets);
-            let in_pace = earliest(connection, last, nth) <= tick
-                && (tick <= clock || tick <= latest(connection, last, nth, clock));
+            let earliest = earliest(connection, last, nth);
+            let in_pace = earliest <= tick
+                && (tick <= clock
+                    || match self.ahead {
+                        None => tick <= latest(connection, last, nth, clock),
+                        Some(distance) => {
+                            tick <= clock + distance
+                                && (tick == earliest || !settles(connection, last, nth, clock))
+                        }
+                    });
             last = Some(tick);
             (1..=connection.size()).contains(&held.length)
                 && arrival <= clock
@@ -190,7 +218,21 @@ fn earliest(
     })
 }
 
-/// The latest of a row beyond the clock: by stamps a past the clock; else the earliest, where the
+/// Whether those before a row beyond the clock settle its eligibility, where packets may go early: with
+/// an average if the n-th before it is known, without one if the last lies beyond the clock too.
+fn settles(
+    connection: &Connection,
+    last: Option<Tick>,
+    nth: impl Fn(usize) -> Option<Tick>,
+    clock: Tick,
+) -> bool {
+    match connection.average() {
+        None => last.map_or(false, |last| last > clock),
+        Some(average) => nth(usize::from(average.packets())).is_some(),
+    }
+}
+
+/// The latest of a row beyond the clock, where packets do not go early: by stamps a past the clock; else the earliest, where the
 /// n-th before it is known, and what the clock allows where it is not.
 fn latest(
     connection: &Connection,
@@ -215,7 +257,7 @@ fn latest(
 #[cfg(test)]
 mod tests {
     use super::*;
-    use crate::link::Figures;
+    use crate::link::{Figures, ON};
 
     /// Two levels, three connections of each kind, a packet in service and others held, a notice.
     fn busy() -> Hub {
@@ -253,12 +295,23 @@ mod tests {
         assert!(Hub::new().is_sound());
     }
 
+    /// Behind each of these a sound state is not sound any more.
+    fn break_all(sound: fn() -> Hub, breaks: &[fn(&mut Hub)]) {
+        for (place, broken) in breaks.iter().enumerate() {
+            let mut hub = sound();
+            assert!(hub.is_sound());
+            broken(&mut hub);
+            assert!(!hub.is_sound(), "number {place}");
+        }
+    }
+
+    fn remember(hub: &mut Hub, number: u8, eligibility: Tick) {
+        let owner = hub.owners.standing_at_mut(number).expect("an owner");
+        owner.recent.remember(eligibility);
+    }
+
     #[test]
     fn what_is_broken_is_not_sound() {
-        fn remember(hub: &mut Hub, number: u8, eligibility: Tick) {
-            let owner = hub.owners.standing_at_mut(number).expect("an owner");
-            owner.recent.remember(eligibility);
-        }
         let breaks: [fn(&mut Hub); 12] = [
             |hub| hub.clock = CLOCK_END + 1,
             |hub| hub.link = None,
@@ -279,11 +332,128 @@ mod tests {
                 remember(hub, 0, 60);
             },
         ];
-        for (place, broken) in breaks.iter().enumerate() {
-            let mut hub = busy();
-            assert!(hub.is_sound());
-            broken(&mut hub);
-            assert!(!hub.is_sound(), "number {place}");
+        break_all(busy, &breaks);
+    }
+
+    /// One level of bound 40 and S 2, the queue on: a line of gap 10, four places and a distance of 40,
+    /// one of two packets in 40 ticks, gap 2, two places and a distance of 4, and one by stamps, which
+    /// has the only packet. At 12 all others have left: the first line's last eligibility is 30, the
+    /// second's 2.
+    fn ahead() -> Hub {
+        let mut hub = Hub::new();
+        let link = Link::set_to(ON, 1, 2, 0, [40, 0, 0, 0, 0, 0, 0, 0]);
+        hub.set_link(link).expect("a link");
+        let kinds = [
+            Figures::plain(1, 10, 2),
+            Figures::plain(1, 2, 2).with_average(40, 20),
+            Figures::plain(1, 30, 2).by_stamps(20),
+        ];
+        for figures in kinds {
+            hub.admit(figures).expect("admitted");
         }
+        for connection in [0, 0, 0, 0, 1, 1] {
+            hub.offer(connection, 2, 7).expect("accepted");
+        }
+        for _ in 0..12 {
+            hub.tick().expect("a tick");
+        }
+        hub.offer_with(2, 2, 7, Some(12)).expect("accepted");
+        hub
+    }
+
+    /// A row that stands by, offered now.
+    fn stand(hub: &mut Hub, number: u8, eligibility: Tick) {
+        hub.queues.offer(number, 1, 2, 7, (hub.clock, eligibility));
+        hub.queues.stand_by(number, 1);
+        remember(hub, number, eligibility);
+    }
+
+    /// The packet in service is the first of a connection, of two units.
+    fn serve(hub: &mut Hub, connection: u8) {
+        let sent = Sent::FirstOf(crate::queues::Started {
+            connection,
+            level: 1,
+            length: 2,
+        });
+        hub.line = Line::Serving {
+            sent,
+            units_to_go: 2,
+        };
+    }
+
+    #[test]
+    fn what_stands_by_is_sound() {
+        // A row behind one beyond the clock is a gap behind it; in service before it is eligible.
+        let mut hub = ahead();
+        stand(&mut hub, 0, 40);
+        stand(&mut hub, 0, 50);
+        assert!(hub.is_sound());
+        hub.tick().expect("a tick");
+        assert!(hub.is_sound());
+        for _ in 0..60 {
+            hub.tick().expect("a tick");
+            assert!(hub.is_sound(), "at {}", hub.clock());
+        }
+        // What settles nothing leaves a row anywhere up to the distance: the last of the first line is
+        // at 30, so that from 30 on a row may lie at 70; the second line's n-th before is at 0.
+        let mut hub = ahead();
+        while hub.clock() < 30 {
+            hub.tick().expect("a tick");
+        }
+        stand(&mut hub, 0, 70);
+        assert!(hub.is_sound());
+    }
+
+    #[test]
+    fn what_stands_by_broken_is_not_sound() {
+        let breaks: [fn(&mut Hub); 7] = [
+            // With the queue off what has left would have to lie at or before the clock.
+            |hub| hub.link = Link::new(1, 2, 0, [40, 0, 0, 0, 0, 0, 0, 0]),
+            // Behind 30, which lies beyond the clock: a tick late, early.
+            |hub| stand(hub, 0, 41),
+            |hub| stand(hub, 0, 39),
+            // More than 40 past the clock, behind what settles it.
+            |hub| {
+                stand(hub, 0, 40);
+                stand(hub, 0, 50);
+                stand(hub, 0, 60);
+            },
+            // With an average: the n-th before is 0, so that it would be 40, more than 4 off.
+            |hub| stand(hub, 1, 40),
+            |hub| stand(hub, 1, 16),
+            // What has left more than the distance past the clock.
+            |hub| {
+                remember(hub, 0, 40);
+                remember(hub, 0, 50);
+                remember(hub, 0, 60);
+            },
+        ];
+        break_all(ahead, &breaks);
+    }
+
+    #[test]
+    fn stamps_and_the_queue_broken_are_not_sound() {
+        let breaks: [fn(&mut Hub); 5] = [
+            // By stamps nothing changes: not in service before it is eligible, and not standing by.
+            |hub| serve(hub, 2),
+            |hub| hub.queues.stand_by(2, 1),
+            // More than the allowance past the clock.
+            |hub| {
+                hub.queues.offer(2, 1, 2, 7, (12, 62));
+                remember(hub, 2, 62);
+            },
+            // Held, and not among those that stand by.
+            |hub| {
+                hub.queues.offer(0, 1, 2, 7, (12, 40));
+                remember(hub, 0, 40);
+            },
+            // Under another level.
+            |hub| {
+                hub.queues.offer(0, 1, 2, 7, (12, 40));
+                hub.queues.stand_by(0, 2);
+                remember(hub, 0, 40);
+            },
+        ];
+        break_all(ahead, &breaks);
     }
 }

@@ -1,4 +1,4 @@
-//! The verdict numbers (section "Verdict numbers"; 15 by R-1, 16 by R-8, 17 by R-9).
+//! The verdict numbers (section "Verdict numbers"; 15 by R-1, 16 by R-8, 17 by R-9, 18 by R-11).
 
 /// A level that fails and by how many units: its sum, in which S is counted, less its bound.
 #[derive(Clone, Copy, Debug, PartialEq, Eq)]
@@ -26,13 +26,14 @@ pub enum Refusal {
     NoticesFull,
     PacketsHeld,
     Untimely,
+    TooFar,
 }
 
 /// The verdict of a call that was done.
 pub const DONE: u8 = 0;
 
 /// The highest verdict number.
-pub const HIGHEST: u8 = Refusal::Untimely.number();
+pub const HIGHEST: u8 = Refusal::TooFar.number();
 
 impl Refusal {
     pub const fn number(self) -> u8 {
@@ -53,6 +54,7 @@ impl Refusal {
             Refusal::NoticesFull => 15,
             Refusal::PacketsHeld => 16,
             Refusal::Untimely => 17,
+            Refusal::TooFar => 18,
         }
     }
 }

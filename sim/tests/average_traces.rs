@@ -1,68 +1,54 @@
 //! What must hold of every connection in every generated trace (docs/RULES-AFTER-BASE.md, section
-//! R-6, by stamps R-9), told by the records and their answers alone.
+//! R-6, by stamps R-9, of those that stand by R-11), told by the records and their answers alone.
 
 mod told;
 
 use sim::kinds::{Kind, KINDS};
-use sim::link::{Connection, Figures};
+use sim::link::Connection;
 use sim::record::{Answer, Record};
-use told::{records, Line, Told};
+use told::{records, By, Line, Told};
 
 const REMEMBERED: usize = 16;
 
-/// What held an accepted packet up last.
-#[derive(Clone, Copy, Debug, PartialEq, Eq)]
-enum By {
-    Nothing,
-    Gap,
-    Window,
+/// What a sound state asks of a connection.
+trait Sound {
+    fn is_sound(&self, clock: u64, ahead: Option<u64>) -> bool;
+    fn is_spaced(&self, known: &[u64], at: usize) -> bool;
+    fn may_wait(&self, known: &[u64], at: usize, clock: u64) -> bool;
+    fn may_stand_by(&self, known: &[u64], at: usize, clock: u64) -> bool;
+    fn most_within(&self, ticks: u64) -> usize;
 }
 
-impl Line {
-    fn gap(&self) -> u64 {
-        u64::from(self.figures.gap)
-    }
-
-    fn allowance(&self) -> u64 {
-        self.figures.allowance.map_or(0, u64::from)
-    }
-
-    /// I and n.
-    fn average(&self) -> Option<(u64, usize)> {
-        let Figures {
-            window, average, ..
-        } = self.figures;
-        (average > 0).then(|| (u64::from(window), usize::from(window / average)))
-    }
-
-    /// The eligibility by the rule's words, from all that was accepted, and what decided it; by a
-    /// stamp it is that plus the allowance.
-    fn next(&self, arrival: u64, stamp: Option<u32>) -> (u64, By) {
-        if let Some(stamp) = stamp {
-            return (u64::from(stamp) + self.allowance(), By::Nothing);
-        }
-        let back = |packets: usize| self.eligibilities.iter().rev().nth(packets - 1);
-        let mut next = (arrival, By::Nothing);
-        if let Some(last) = back(1).filter(|&last| last + self.gap() > next.0) {
-            next = (last + self.gap(), By::Gap);
-        }
-        if let Some((window, packets)) = self.average() {
-            if let Some(nth) = back(packets).filter(|&nth| nth + window > next.0) {
-                next = (nth + window, By::Window);
-            }
-        }
-        next
-    }
-
-    /// What a sound state asks of a connection's rows and its memory at a clock.
-    fn is_sound(&self, clock: u64) -> bool {
+impl Sound for Line {
+    /// What a sound state asks of a connection's rows and its memory at a clock; `ahead`: where its
+    /// packets may go early, how far past the clock they may lie.
+    fn is_sound(&self, clock: u64, ahead: Option<u64>) -> bool {
         let all = &self.eligibilities;
         let rows = all.len() - self.departed;
         let known = &all[all.len() - rows.max(REMEMBERED.min(all.len()))..];
         let gone = known.len() - rows;
-        known[..gone].iter().all(|&tick| tick <= clock)
+        let may_lie_beyond = |at: usize| match ahead {
+            None => self.may_wait(known, at, clock),
+            Some(ahead) => known[at] <= clock + ahead && self.may_stand_by(known, at, clock),
+        };
+        known[..gone]
+            .iter()
+            .all(|&tick| tick <= clock + ahead.unwrap_or(0))
             && (0..known.len()).all(|at| self.is_spaced(known, at))
-            && (gone..known.len()).all(|at| known[at] <= clock || self.may_wait(known, at, clock))
+            && (gone..known.len()).all(|at| known[at] <= clock || may_lie_beyond(at))
+    }
+
+    /// A row beyond the clock of a line whose packets may go early: the earliest that both rules allow
+    /// where its n-th before is held or remembered, without an average where the one before lies beyond
+    /// the clock too.
+    fn may_stand_by(&self, known: &[u64], at: usize, clock: u64) -> bool {
+        let spaced = at.checked_sub(1).map_or(0, |last| known[last] + self.gap());
+        match self.average() {
+            None => at == 0 || known[at - 1] <= clock || known[at] == spaced,
+            Some((window, packets)) => {
+                at < packets || known[at] == spaced.max(known[at - packets] + window)
+            }
+        }
     }
 
     fn is_spaced(&self, known: &[u64], at: usize) -> bool {
@@ -142,8 +128,11 @@ fn carry_out(told: &mut Told, record: Record, met: &mut Met) {
         }
     }
     let clock = told.clock();
+    let link = told.job.hub().link().ok();
     for (_, line) in told.owners() {
-        assert!(line.is_sound(clock), "{:?} at {clock}", line.figures);
+        let link = link.expect("it was admitted");
+        let ahead = line.may_go_early(link).then(|| line.distance(link));
+        assert!(line.is_sound(clock, ahead), "{:?} at {clock}", line.figures);
         met.more_than_remembered += usize::from(line.held() > REMEMBERED);
     }
 }

@@ -229,7 +229,19 @@ fn met_by(name: &str, seeds: u64) -> Met {
 }
 
 /// Kinds with closes that are not about them.
-const WITH_CLOSES: [&str; 4] = ["stampsmall", "stampreopened", "stampdamage", "badstamp"];
+const WITH_CLOSES: [&str; 11] = [
+    "stampsmall",
+    "stampreopened",
+    "stampdamage",
+    "badstamp",
+    "earlystamps",
+    "earlyoff",
+    "earlysmall",
+    "earlycharges",
+    "earlydamage",
+    "badearly",
+    "earlyend",
+];
 
 #[test]
 fn every_number_of_every_trace() {

@@ -39,6 +39,8 @@ fn both_paces_agree() {
         "closeend",
         "stamplimit",
         "stampend",
+        "earlylimit",
+        "earlyend",
     ];
     for kind in KINDS.iter().filter(|kind| !slow.contains(&kind.name)) {
         for seed in 0..SEEDS {
@@ -229,4 +231,36 @@ fn damage_is_noticed() {
     assert!(total("badclose").verdict(14) > SEEDS / 2);
     assert!(total("stampdamage").verdict(14) > SEEDS / 2);
     assert!(total("badstamp").verdict(14) > SEEDS / 2);
+    assert!(total("earlydamage").verdict(14) > SEEDS / 2);
+    assert!(total("badearly").verdict(14) > SEEDS / 2);
+}
+
+#[test]
+fn packets_stand_by_and_are_refused() {
+    let all = [
+        "early",
+        "earlynotices",
+        "earlyaverages",
+        "earlycloses",
+        "earlystamps",
+        "earlyflood",
+        "earlydistance",
+        "earlysmall",
+        "earlycharges",
+    ];
+    for name in all {
+        assert!(total(name).departures > 300, "{name}");
+        assert!(total(name).verdict(18) > 0, "{name}");
+    }
+    for name in ["early", "earlyaverages", "earlyflood", "earlydistance"] {
+        assert!(total(name).verdict(18) > 200, "{name}");
+    }
+    assert!(total("earlyflood").ticks > 12 * 10_000);
+    assert_eq!(total("earlyoff").verdict(18), 0);
+    let links = total("earlylinks");
+    for verdict in [2, 3, 4] {
+        assert!(links.verdict(verdict) > 10, "verdict {verdict}");
+    }
+    let end = total("earlyend");
+    assert!(end.verdict(13) > 50 && end.verdict(18) > 50);
 }

@@ -1,5 +1,6 @@
 //! The departures of every generated trace against a schedule that knows no ticks: from start to
-//! start, with the silence behind each finish (docs/RULES-AFTER-BASE.md, section R-4).
+//! start, with the silence behind each finish (docs/RULES-AFTER-BASE.md, section R-4) and with packets
+//! that go early (section R-11).
 
 use sim::departure::Departure;
 use sim::kinds::{Kind, KINDS};
@@ -7,9 +8,11 @@ use sim::notices::NOTICE_NUMBER;
 use sim::record::{Answer, Record};
 use sim::replay::{Job, Pace};
 
-/// What was accepted. A notice is of a level below all others.
+/// What was accepted. A notice is of a level below all others. What may go early may start from its
+/// arrival on, other packets from their eligibility on.
 struct Accepted {
     level: u8,
+    may_go_early: bool,
     length: u64,
     departure: Departure,
 }
@@ -36,8 +39,10 @@ impl Told {
             _ => return,
         };
         let standing = job.hub().connection(connection);
+        let stands_by = job.hub().link().map_or(false, |link| link.stands_by());
         self.accepted.push(Accepted {
             level: standing.map_or(u8::MAX, |one| one.level()),
+            may_go_early: stands_by && standing.map_or(false, |one| one.allowance().is_none()),
             length: u64::from(length),
             departure: Departure {
                 connection,
@@ -85,19 +90,38 @@ fn told(trace: &[u8]) -> (Told, Job) {
     (told, job)
 }
 
+impl Accepted {
+    /// From when on it may start.
+    fn from(&self) -> u64 {
+        match self.may_go_early {
+            true => self.departure.arrival,
+            false => self.departure.eligibility,
+        }
+    }
+
+    /// What is eligible by level, eligibility and the order offered; then what is not, by that alone.
+    fn rank(&self, start: u64, offered: usize) -> (bool, u8, u64, usize) {
+        match self.departure.eligibility {
+            eligibility if eligibility <= start => (false, self.level, eligibility, offered),
+            _ => (true, 0, 0, offered),
+        }
+    }
+}
+
 /// Every departure up to a clock: the line is free a silence behind each finish, and takes the
-/// lowest level, then the earliest eligibility, then the earliest offered.
+/// lowest level, then the earliest eligibility, then the earliest offered; where nothing is eligible,
+/// the earliest offered of those that may go early.
 fn schedule(accepted: Vec<Accepted>, silence: u64, clock: u64) -> Vec<Departure> {
     let (mut waiting, mut free, mut departed) = (accepted, 0, Vec::new());
-    while let Some(earliest) = waiting.iter().map(|one| one.departure.eligibility).min() {
+    while let Some(earliest) = waiting.iter().map(Accepted::from).min() {
         let start = earliest.max(free);
         let chosen = waiting
             .iter()
             .enumerate()
-            .filter(|(_, one)| one.departure.eligibility <= start)
-            .min_by_key(|(offered, one)| (one.level, one.departure.eligibility, *offered))
+            .filter(|(_, one)| one.from() <= start)
+            .min_by_key(|(offered, one)| one.rank(start, *offered))
             .map(|(offered, _)| offered);
-        let one = waiting.remove(chosen.expect("the earliest is eligible"));
+        let one = waiting.remove(chosen.expect("the earliest may start"));
         let finish = start + one.length;
         if finish > clock {
             break;
@@ -113,7 +137,7 @@ fn schedule(accepted: Vec<Accepted>, silence: u64, clock: u64) -> Vec<Departure>
 
 #[test]
 fn departures_are_those_of_the_schedule() {
-    let mut behind_a_silence = 0;
+    let (mut behind_a_silence, mut early) = (0, 0);
     for kind in KINDS.iter().filter(|kind| !kind.name.ends_with("limit")) {
         for seed in 0..12 {
             let (told, job) = told(&kind.trace(seed, None));
@@ -123,9 +147,12 @@ fn departures_are_those_of_the_schedule() {
             if silence > 0 {
                 behind_a_silence += expected.len();
             }
+            let is_early = |one: &&Departure| one.finish <= one.eligibility;
+            early += expected.iter().filter(is_early).count();
         }
     }
     assert!(behind_a_silence > 10_000, "only {behind_a_silence}");
+    assert!(early > 5_000, "only {early}");
 }
 
 #[test]

@@ -1,11 +1,11 @@
-//! Every offer of every generated trace (docs/RULES-AFTER-BASE.md, section R-9): its verdict and its
-//! eligibility, told by the records and answers before it, and what is promised of stamps.
+//! Every offer of every generated trace (docs/RULES-AFTER-BASE.md, sections ): its verdict
+//! and its eligibility, told by the records and answers before it, and what is promised of stamps.
 
 mod told;
 
 use sim::hub::CLOCK_END;
 use sim::kinds::{Kind, KINDS};
-use sim::link::{Connection, Link, MOST_CONNECTIONS};
+use sim::link::{Link, MOST_CONNECTIONS};
 use sim::record::{Answer, Record};
 use told::{records, Line, Told};
 
@@ -69,22 +69,6 @@ struct Foreseen<'a> {
     told: Told,
     apart: [Apart; MOST_CONNECTIONS],
     met: &'a mut Met,
-}
-
-/// The packets that a connection may hold, by the rule's words: of one by its gap as ever.
-fn reservation(link: &Link, line: &Line) -> u64 {
-    let figures = line.figures;
-    match figures.allowance {
-        None => {
-            let terms = Connection::new(link, figures).expect("it was accepted");
-            terms.packets_within(link.bound(figures.level))
-        }
-        Some(allowance) => {
-            let both = u64::from(allowance) + u64::from(link.bound(figures.level));
-            let gap = u64::from(figures.gap);
-            both / gap + u64::from(both % gap > 0)
-        }
-    }
 }
 
 fn causes(line: &Line, stamp: u32, now: u64) -> Causes {
@@ -164,16 +148,27 @@ impl Foreseen<'_> {
         let cause = asked.stamp.map(|stamp| causes(line, stamp, clock).any());
         if asked.length == 0 || asked.length > line.figures.size {
             11
-        } else if line.held() as u64 >= reservation(link, line) {
+        } else if line.held() as u64 >= line.reservation(link) {
             assert!(cause != Some(false) || clock == CLOCK_END);
             12
         } else if clock == CLOCK_END {
             13
         } else if cause == Some(true) {
             17
+        } else if self.is_too_far(link, line, asked) {
+            18
         } else {
             0
         }
+    }
+
+    /// By R-11 the eligibility lies more than the distance past the present tick; none by a stamp does.
+    fn is_too_far(&self, link: &Link, line: &Line, asked: Asked) -> bool {
+        let clock = self.told.clock();
+        let (eligibility, _) = line.next(clock, asked.stamp);
+        let far = link.stands_by() && eligibility > clock + line.distance(link);
+        assert!(!far || asked.stamp.is_none());
+        far
     }
 
     /// where the offers of allowed length come a gap apart, whatever their stamps, none gets 12.
@@ -287,12 +282,23 @@ fn met_by(name: &str, seeds: u64) -> Met {
     met
 }
 
+/// Kinds with stamps that are not about them.
+const WITH_STAMPS: [&str; 7] = [
+    "earlyoff",
+    "earlyflood",
+    "earlydistance",
+    "earlysmall",
+    "earlydamage",
+    "badearly",
+    "earlyend",
+];
+
 #[test]
 fn every_offer_of_every_trace() {
     for kind in KINDS.iter().filter(|kind| !kind.name.ends_with("limit")) {
         let seeds = if kind.name.ends_with("end") { 1 } else { 12 };
         let met = met_by(kind.name, seeds);
-        let with_stamps = kind.name.contains("stamp");
+        let with_stamps = kind.name.contains("stamp") || WITH_STAMPS.contains(&kind.name);
         assert_eq!(met.accepted > 0, with_stamps, "{}", kind.name);
     }
 }

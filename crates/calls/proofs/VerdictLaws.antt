@@ -14,15 +14,16 @@ use Rattle.rules.specs.declared.Connection.{Connection}
 use Rattle.rules.specs.declared.Short.{Short}
 use Rattle.rules.specs.Words.{All, within, first-number}
 use Rattle.rules.specs.Limits.{max-largest, max-connections, max-reserved, beyond-32-bits}
-use Rattle.rules.specs.Model.{State, Call, admit, offer, close, no-short, no-connection, no-past, nth, figures, past}
-use Rattle.rules.specs.Admission.{level-within, owned, stands, free-number, joining, bound, reservation, reserved, level-test, passes}
-use Rattle.rules.specs.Service.{suits, untimely, untimely-by, of}
+use Rattle.rules.specs.Model.{Past, State, Call, admit, offer, close, no-short, no-connection, no-past, nth, figures, past}
+use Rattle.rules.specs.Admission.{level-within, owned, stands, free-number, joining, bound, reservation, reserved, level-test, passes, stand-by-on, distance}
+use Rattle.rules.specs.Service.{suits, untimely, untimely-by, eligibility-by, of}
 use Rattle.rules.specs.SoundTest.{sound}
-use Rattle.rules.specs.Calls.{heard, no-link-set, no-such-connection, clock-ended, causes, verdicts, verdict, refused-short}
+use Rattle.rules.specs.Calls.{heard, too-far, no-link-set, no-such-connection, clock-ended, causes, verdicts, verdict, refused-short}
 use Rattle.rules.proofs.Tests.{passed, never, never-number, within-intro, within-true}
 use Rattle.rules.proofs.Sums.{cond-is, split}
 use Rattle.rules.proofs.Standing.{owned-level, level-free, stands-is, stands-owned, stands-below, free-is}
 use Rattle.rules.proofs.Verdicts.{heard-parts}
+use Rattle.rules.proofs.Bounds.{distances-fit-32}
 use Rattle.rules.proofs.Results.{level-test-tells}
 use Rattle.limits.proofs.ChainLaws.{too-low, too-high}
 use Rattle.tables.specs.Places.{rows}
@@ -31,11 +32,12 @@ use Rattle.connections.specs.Members.{member-in, connection-of, past-of, connec
 use Rattle.connections.specs.Stamps.{stamp-if}
 use Rattle.connections.specs.Within.{Within, Sums-with}
 use Rattle.connections.proofs.MemberLaws.{connections-length, connection-is, past-is}
+use Rattle.connections.proofs.RegulatorLaws.{Member-facts}
 use Rattle.connections.proofs.FigureLaws.{link-limits, figure-limits, entry-limits, sums-joining, reserved-joining}
 use Rattle.state.specs.declared.Hub.{Hub}
 use Rattle.state.specs.View.{Tables, view, sound-hub}
-use Rattle.state.proofs.SoundLaws.{sound-view, figures-in-limits}
-use Rattle.calls.specs.Rulings.{ruling-of, early-admit, early-offer, early-close}
+use Rattle.state.proofs.SoundLaws.{sound-view, is-sound, figures-in-limits}
+use Rattle.calls.specs.Rulings.{ruling-of, early-admit, early-offer, early-close, too-far-in}
 
 pub by-causes : (k : Call) (s : State) → sound s ≡ true → first-number (causes k s) ≡ verdict k s
 unfolding verdicts
@@ -93,6 +95,23 @@ module _ (t : List ℕ) (c clock stamp : ℕ) (brings : Bool) where
       (e
       ∙ (λ j. untimely ((ap connection-of i ∙ sym (connection-is t c k)) j) ((ap past-of i ∙ sym (past-is t c k)) j) clock stamp))
 
+-- an offer that is too far: with the queue off, and with it on, of the row read
+module _ (l : Link) (t : List ℕ) (c clock : ℕ) (st : Option ℕ) (on : Bool) (is-on : on ≡ stand-by-on l) where
+  abbrev far-at : Connection → Past → Bool
+  far-at x h = ltb (clock + distance l x) (eligibility-by x h clock st)
+
+  pub far-off : on ≡ false → false ≡ too-far-in l t c clock st
+  far-off f i = (sym f ∙ is-on) i && far-at (nth (connections-in t) c) (getD (pasts-in t) c no-past)
+
+  pub far-on : on ≡ true → (m : Member) → Member-facts t c m → (a e : ℕ) → a ≡ clock + distance l (connection-of m) → e ≡ eligibility-by (connection-of m) (past-of m) clock st
+      → ltb a e ≡ too-far-in l t c clock st
+  far-on f m k a e i j = (λ n. ltb (i n) (j n)) ∙ (λ n. (sym f ∙ is-on) n && far-at (k .figures n) (k .past n))
+
+-- .. as the rules say it
+far-is : (h : Hub) (t : Tables) (c : ℕ) (st : Option ℕ) → too-far-in (h .link) (t .members) c (h .clock) st ≡ too-far (view h t) c st
+unfolding too-far
+far-is h t c st = refl
+
 module _ (h : Hub) (t : Tables) (ok : sound-hub h t ≡ true) (c len tag : ℕ) (st : Option ℕ) (b : Bool) (there : b ≡ heard (view h t) c st) (x : Connection) (is : x ≡ nth (connections-in (t .members)) c) where
   abbrev offered : State
   offered = view h t
@@ -100,14 +119,15 @@ module _ (h : Hub) (t : Tables) (ok : sound-hub h t ≡ true) (c len tag : ℕ) 
   abbrev in-front : List (ℕ × Bool)
   in-front = no-link-set offered ∷ (10, not (heard offered c st)) ∷ (11, not (within 1 (figures offered c .size) len)) ∷ []
 
-  abbrev rest-of : Connection → List (ℕ × Bool)
-  rest-of y =
+  abbrev rest-of : Connection → Bool → List (ℕ × Bool)
+  rest-of y far =
       (12, leb (reservation (h .link) y) (length (of c (rows (t .places)))))
       ∷ clock-ended offered
-      ∷ (17, untimely-by (figures offered c) (past offered c) (h .clock) st) ∷ []
+      ∷ (17, untimely-by (figures offered c) (past offered c) (h .clock) st)
+      ∷ (18, far) ∷ []
 
   abbrev rest : List (ℕ × Bool)
-  rest = rest-of (figures offered c)
+  rest = rest-of (figures offered c) (too-far offered c st)
 
   front-is : early-offer (h .link) b x len ≡ in-front
   front-is i = no-link-set offered ∷ (10, not (there i)) ∷ (11, not (within 1 (is i .size) len)) ∷ []
@@ -124,15 +144,22 @@ module _ (h : Hub) (t : Tables) (ok : sound-hub h t ≡ true) (c len tag : ℕ) 
     tests : All (λ (r : ℕ × Bool). r .1 ≡ false) in-front
     tests = passed in-front (omega arith, (omega arith, (omega arith, tt))) unrefused
 
-    pub offer-late : (r : ℕ) → r ≡ first-number (rest-of x) → r ≡ verdict (offer c len tag st) offered
+    pub offer-late : (r : ℕ) → r ≡ first-number (rest-of x (too-far-in (h .link) (t .members) c (h .clock) st)) → r ≡ verdict (offer c len tag st) offered
     offer-late r e =
         e
-        ∙ ap (λ (y : Connection). first-number (rest-of y)) is
+        ∙ (λ i. first-number (rest-of (is i) (far-is h t c st i)))
         ∙ behind-gives in-front rest (omega arith, (omega arith, (omega arith, tt))) unrefused
         ∙ by-causes (offer c len tag st) offered (sound-view h t ok)
 
     standing : stands offered c ≡ true
     standing = heard-parts offered c st (not-false _ (tests .1 .0)) .0
+
+    offer-within : Within (h .link) (connections-in (t .members))
+    offer-within = figures-in-limits h t ok (λ e. never (sym (tests .0) ∙ eq-eqb (h .link .levels) 0 e))
+
+    -- the distance can be counted
+    pub offer-distance : (h .clock + distance (h .link) (nth (connections-in (t .members)) c) < beyond-32-bits) × Within (h .link) (connections-in (t .members))
+    offer-distance = (distances-fit-32 offered (is-sound h t ok) c, offer-within)
 
     pub offer-number : c < max-connections
     offer-number = omega (arith, stands-below offered c standing, connections-length (t .members))
@@ -140,7 +167,7 @@ module _ (h : Hub) (t : Tables) (ok : sound-hub h t ≡ true) (c len tag : ℕ) 
     -- the connection has an owner, so it has a level and a gap, and its reservation can be counted
     pub offer-figures : (1 ≤ x .level) × (1 ≤ x .gap) × (x .allowance + bound (h .link) (x .level) < beyond-32-bits)
     offer-figures =
-        let w = figures-in-limits h t ok (λ e. never (sym (tests .0) ∙ eq-eqb (h .link .levels) 0 e)) in
+        let w = offer-within in
         let o = stands-owned offered c standing in (
           subst (λ (y : Connection). 1 ≤ y .level) (sym is) (omega (arith, owned-level (connections-in (t .members)) c o)),
           subst (λ (y : Connection). 1 ≤ y .gap) (sym is) (figure-limits (h .link) (nth (connections-in (t .members)) c) (w .figures-in c o) .some-gap),

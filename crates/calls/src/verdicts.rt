@@ -1,5 +1,5 @@
 // The verdict of each call on a sound state: what the table of verdicts asks, each by a function of its own, and the first number of which the test holds.
-// Document 01, "Verdict numbers"; document 02, R-1, R-8 and R-9.
+// Document 01, "Verdict numbers"; document 02, R-1, R-8, R-9 and R-11.
 ghost use mathlib.Core.Path.{_≡_};
 ghost use mathlib.Core.Bool.{true, cond, not};
 ghost use Prim.Native.Nat.{ℕ, _+_, _<_, _≤_};
@@ -7,15 +7,17 @@ ghost use lib.Dec.{leb, eqb};
 ghost use lib.ListN.{length, getD};
 ghost use Rattle.rules.specs.Words.{within, first-number};
 ghost use Rattle.rules.specs.Limits.{max-connections, clock-end, beyond-32-bits};
-ghost use Rattle.rules.specs.Model.{link, admit, offer, notice, close, tick, nth, no-past};
-ghost use Rattle.rules.specs.Admission.{bound, reservation, free-number};
+ghost use Rattle.rules.specs.Model.{link, admit, offer, notice, close, tick, nth, no-connection, no-past};
+ghost use Rattle.rules.specs.Admission.{bound, reservation, distance, free-number};
 ghost use Rattle.rules.specs.Service.{untimely-by, of};
 ghost use Rattle.rules.specs.Calls.{verdict};
 ghost use Rattle.tables.specs.Places.{rows, written-places, places-length};
-ghost use Rattle.connections.specs.Members.{connections-in, pasts-in, used-in, rows-formed};
+ghost use Rattle.connections.specs.Members.{connection-of, connections-in, pasts-in, used-in, rows-formed};
 ghost use Rattle.connections.specs.Stamps.{stamp-if};
+ghost use Rattle.connections.specs.Within.{Within};
 ghost use Rattle.state.specs.View.{given, before, view, sound-hub};
-ghost use Rattle.calls.specs.Rulings.{ruling-of, early-admit, early-offer, early-close};
+ghost use Rattle.calls.specs.Rulings.{ruling-of, early-admit, early-offer, early-close, too-far-in};
+use connections::Member;
 use limits::CLOCK_END;
 use limits::MAX_CONNECTIONS;
 use limits::MAX_NOTICES;
@@ -194,6 +196,28 @@ fn untimely(members: &[u32], c: u32, clock: u32, brings: bool, stamp: u32) -> bo
     connections::stamps::untimely(m, clock, stamp)
 }
 
+// The farthest eligibility that a row may get while the stand-by queue is on: the distance past the clock.
+fn farthest(l: Link, m: Member, clock: u32) -> u64
+    requires { ⌜ (m .figures .level ≡ 0 → connection-of m ≡ no-connection) × ((m .figures .level ≡ 0 → ⊥) → 1 ≤ m .figures .gap) × (m .figures .allowance + bound l (m .figures .level) < beyond-32-bits) × (clock + distance l (connection-of m) < beyond-32-bits) ⌝ }
+    ensures { λ r. ⌜ r ≡ clock + distance l (connection-of m) ⌝ }
+{
+    clock as u64 + connections::stand_by::distance(l, m.figures)
+}
+
+// The queue is on, and the eligibility that an offer, with a stamp or none, would get at number c lies farther.
+fn too_far(l: Link, members: &[u32], c: u32, clock: u32, brings: bool, stamp: u32) -> bool
+    requires { ⌜ (rows-formed (now members) ≡ true) × (c < max-connections) × (clock + distance l (nth (connections-in (now members)) c) < beyond-32-bits) × Within l (connections-in (now members)) ⌝ }
+    ensures { λ r. ⌜ r ≡ too-far-in l (now (members .entry)) c clock (stamp-if brings stamp) ⌝ }
+{
+    // with the queue off nothing is read
+    if !connections::stand_by::is_on(l) {
+        return false;
+    }
+    let m = connections::member_at(members, c as usize);
+    let e = connections::stamps::eligibility_by(m, clock, brings, stamp);
+    farthest(l, m, clock) < e
+}
+
 pub(crate) fn offer_verdict(
     h: Hub,
     members: &[u32],
@@ -214,7 +238,8 @@ pub(crate) fn offer_verdict(
     if early != 0 {
         return early;
     }
-    let late = first_of(untimely(members, c, h.clock, brings, stamp), 17, 0);
+    let far = first_of(too_far(l, members, c, h.clock, brings, stamp), 18, 0);
+    let late = first_of(untimely(members, c, h.clock, brings, stamp), 17, far);
     first_of(full(l, x, places, c), 12, first_of(ended(h), 13, late))
 }
 

@@ -61,14 +61,15 @@ pub link-limits : (l : Link) → link-within l ≡ true → Link-limits l
 unfolding link-within
 link-limits l e =
     let first = cost l (l .largest) in
-    let a = and-true (within 1 max-levels (l .levels)) (within 1 max-largest (l .largest) && (leb (l .silence) max-silence && rising first (l .levels) (l .bounds))) e in
-    let b = and-true (within 1 max-largest (l .largest)) (leb (l .silence) max-silence && rising first (l .levels) (l .bounds)) (a .1) in
-    let k = and-true (leb (l .silence) max-silence) (rising first (l .levels) (l .bounds)) (b .1) in
+    let rest = leb (l .early) 1 && rising first (l .levels) (l .bounds) in
+    let a = and-true (within 1 max-levels (l .levels)) (within 1 max-largest (l .largest) && (leb (l .silence) max-silence && rest)) e in
+    let b = and-true (within 1 max-largest (l .largest)) (leb (l .silence) max-silence && rest) (a .1) in
+    let k = and-true (leb (l .silence) max-silence) rest (b .1) in
     record {
       levels-le = within-true 1 max-levels (l .levels) (a .0) .1;
       largest-le = within-true 1 max-largest (l .largest) (b .0) .1;
       silence-le = leb-true (l .silence) max-silence (k .0);
-      bounds-le = below (k .1);
+      bounds-le = below (and-true (leb (l .early) 1) (rising first (l .levels) (l .bounds)) (k .1) .1);
     }
   where
     below : rising (cost l (l .largest)) (l .levels) (l .bounds) ≡ true → (m : ℕ) → bound l m ≤ max-bound

@@ -7,3 +7,4 @@ pub mod RegulatorLaws
 pub mod ClosingLaws
 pub mod SweepLaws
 pub mod StampLaws
+pub mod StandByLaws

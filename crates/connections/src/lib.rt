@@ -1,6 +1,7 @@
 // The table of connections, and what is asked of its figures: reservations and the level test.
 pub mod closing; // closing.rt: connections that are closed, and numbers that are freed
 pub mod regulator; // regulator.rt: the next eligibility of a connection, and what it remembers
+pub mod stand_by; // stand_by.rt: packets that may go before they are eligible, and how far past the clock that may lie
 pub mod stamps; // stamps.rt: offers that bring a stamp, and connections that want one
 
 ghost use mathlib.Core.Path.{_≡_};

@@ -8,7 +8,7 @@ use Rattle.fields.specs.declared.Draft.{Draft}
 
 -- The bytes of the longest record of any format.
 abbrev pub longest : ℕ
-longest = 22
+longest = 23
 
 -- The bytes put together so far.
 abbrev pub held : Draft → List ℕ

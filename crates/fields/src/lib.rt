@@ -9,8 +9,8 @@ ghost use lib.ListN.{length, getD, take, replicate};
 ghost use Rattle.fields.specs.Formats.{fitting, over};
 ghost use Rattle.fields.specs.Drafts.{longest, held, Holds, Adds, Adds-all};
 
-// The bytes of the longest record of any format, a link of eight levels.
-pub const LONGEST: usize = 22;
+// The bytes of the longest record of any format, an `LE` of eight levels.
+pub const LONGEST: usize = 23;
 
 // The first `len` of `bytes`.
 pub struct Draft {
@@ -72,7 +72,7 @@ impl Draft {
 
     // The first n of eight numbers, in two bytes each.
     pub fn pairs(self, n: usize, numbers: [u16; 8]) -> Draft
-        requires { ⌜ (n ≤ 8) × (self .len ≤ 6) ⌝ }
+        requires { ⌜ (n ≤ 8) × (self .len ≤ 7) ⌝ }
         ensures { λ r. ⌜ Adds-all self r (replicate n 2) (take n numbers) ⌝ }
     {
         let mut draft = self;

@@ -33,9 +33,9 @@ use types.Run.{OneOf, miss}
 use denote.Enum.Declared.{tagOf}
 use Rattle.traces.proofs.Record.{the-type}
 use Rattle.traces.specs.declared.Record.{Record}
-use Rattle.traces.specs.declared.Record.the-variants.{Link as LinkRecord, Admit, AdmitStamped, Close, Offer, OfferStamped, Notice, Ticks, Malformed}
+use Rattle.traces.specs.declared.Record.the-variants.{Link as LinkRecord, LinkStandBy, Admit, AdmitStamped, Close, Offer, OfferStamped, Notice, Ticks, Malformed}
 use Rattle.traces.specs.declared.Found.{Found}
-use Rattle.traces.specs.Kinds.{LK, CN, CS, CL, PK, PS, NQ, TK}
+use Rattle.traces.specs.Kinds.{LK, LE, CN, CS, CL, PK, PS, NQ, TK}
 use Rattle.traces.specs.Trace.{found, read-trace}
 use Rattle.named.specs.Named.{link-named, connection-named}
 use Rattle.connections.specs.Within.{gap-only, last-only}
@@ -69,6 +69,7 @@ eight-of (a ∷ b ∷ c ∷ d ∷ e ∷ f ∷ g ∷ h ∷ l) = refl
 -- the link that a record names; none where it is of another kind
 abbrev pub linked-by : Record → Option Link
 linked-by (LinkRecord n s silence d1 d2 d3 d4 d5 d6 d7 d8) = some (link-named (n ∷ s ∷ silence ∷ d1 ∷ d2 ∷ d3 ∷ d4 ∷ d5 ∷ d6 ∷ d7 ∷ d8 ∷ []))
+linked-by (LinkStandBy n s silence early d1 d2 d3 d4 d5 d6 d7 d8) = none
 linked-by (Admit level gap size window average) = none
 linked-by (AdmitStamped level gap size allowance) = none
 linked-by (Close c) = none
@@ -82,8 +83,9 @@ made-link : (n s silence : ℕ) (ds : List ℕ) → linked-by (made-of LK (n ∷
 made-link n s silence ds = rw (eight-of ds)
 
 -- a record of no other kind names one, as the code tells it apart: by the number of its variant
-pub of-no-link : (r : Record) → OneOf (1 ∷ 2 ∷ 3 ∷ 4 ∷ 5 ∷ 6 ∷ 7 ∷ 8 ∷ []) (tagOf the-type r) → linked-by r ≡ none
-of-no-link (LinkRecord n s silence d1 d2 d3 d4 d5 d6 d7 d8) h = absurd (miss (1 ∷ 2 ∷ 3 ∷ 4 ∷ 5 ∷ 6 ∷ 7 ∷ 8 ∷ []) 0 tt h)
+pub of-no-link : (r : Record) → OneOf (1 ∷ 2 ∷ 3 ∷ 4 ∷ 5 ∷ 6 ∷ 7 ∷ 8 ∷ 9 ∷ []) (tagOf the-type r) → linked-by r ≡ none
+of-no-link (LinkRecord n s silence d1 d2 d3 d4 d5 d6 d7 d8) h = absurd (miss (1 ∷ 2 ∷ 3 ∷ 4 ∷ 5 ∷ 6 ∷ 7 ∷ 8 ∷ 9 ∷ []) 0 tt h)
+of-no-link (LinkStandBy n s silence early d1 d2 d3 d4 d5 d6 d7 d8) h = refl
 of-no-link (Admit level gap size window average) h = refl
 of-no-link (AdmitStamped level gap size allowance) h = refl
 of-no-link (Close c) h = refl
@@ -135,7 +137,7 @@ module _ (lk : List ℕ) where
       → or-none (linked-by (read-trace lk .what)) ≡ cond b (link-named numbers) no-link
   unfolding read-kinds
   link-by-mark true e = rw e (kind-link e)
-  link-by-mark false e = rw e (λ t. ap or-none (kinds-none (CN ∷ CS ∷ CL ∷ PK ∷ PS ∷ NQ ∷ TK ∷ []) (λ x. refl, (λ x. refl, (λ x. refl, (λ x. refl, (λ x. refl, (λ x. refl, (λ x. refl, tt))))))) lk))
+  link-by-mark false e = rw e (λ t. ap or-none (kinds-none (LE ∷ CN ∷ CS ∷ CL ∷ PK ∷ PS ∷ NQ ∷ TK ∷ []) (λ x. refl, (λ x. refl, (λ x. refl, (λ x. refl, (λ x. refl, (λ x. refl, (λ x. refl, (λ x. refl, tt)))))))) lk))
 
   module _ (f : Found) (e : f ≡ read-trace lk) where
     taken-is : read-trace lk .taken ≡ f .taken

@@ -1,5 +1,5 @@
 -- THE PROOFS of the statements in specs/Promises, each under its name in small letters.
-use Prim.Native.Nat.{ℕ, _+_, _<_, max}
+use Prim.Native.Nat.{ℕ, zero, suc, _+_, _<_, max}
 use native.Mathlib.Omega.{arith}
 use mathlib.Core.Path.{_≡_, refl, sym, ap, _∙_, subst}
 use mathlib.Core.Bool.{Bool, true, false, not, _&&_}
@@ -16,7 +16,7 @@ use Rattle.rules.specs.Words.{All}
 use Rattle.rules.specs.Limits.{max-connections, max-allowance}
 use Rattle.rules.specs.declared.Short.{Short}
 use Rattle.rules.specs.Model.{Past, State, admit, offer, no-short, Answer, no-connection, nth, past, figures}
-use Rattle.rules.specs.Admission.{link-within, level-within, figures-within, free-number, joining, burst, cost, level-sum, level-test, passes}
+use Rattle.rules.specs.Admission.{bound, load, short-from, link-within, level-within, figures-within, free-number, joining, burst, cost, level-sum, level-test, passes}
 use Rattle.rules.specs.Service.{nth-before, ticks-after, next-eligibility}
 use Rattle.rules.specs.SoundState.{Orderly, Sound}
 use Rattle.rules.specs.SoundTest.{sound}
@@ -36,7 +36,7 @@ use Rattle.rules.proofs.SoundExact.{exact}
 use Rattle.rules.proofs.Results.{answer-verdict, level-test-tells, short-is-told, first-kind, second-kind, level-test-counts-alike}
 use Rattle.firmware.specs.Questions.{past-asked, next-asked, link-asked, rows-asked, row-asked, all-rows, testable, well-asked, short-asked}
 use Rattle.firmware.specs.Promises.{Same-eligibility-as-an-offer, Greater-with-an-average, Refused-exactly, Holds-exactly, No-units-exactly}
-use Rattle.firmware.specs.Promises.{Names-the-lowest, No-rows-hold, owners, Of-a-kind, Same-test-as-an-admission}
+use Rattle.firmware.specs.Promises.{Names-the-lowest, No-rows-hold, owners, Of-a-kind, with-queue-off, Same-test-as-an-admission}
 use Rattle.firmware.proofs.AskedLaws.{row-ok, length-first, nth-first, Asked, asked, refuses, answers, is-level}
 use Rattle.firmware.proofs.FreeLaws.{Blank, test-owners, owners-room}
 
@@ -151,7 +151,24 @@ figures-by-row l x (inr (two, a)) e =
     let b = and-true (base-figures-within l x) _ (sym (first-kind (by-its-gap x) refl refl .0 l) ∙ e) .0 in
     second-kind x two .0 l ∙ rw (b, le-leb (x .allowance) max-allowance a) refl
 
-module _ (lk rows : List ℕ) (s : State) (x : Connection) (S : Sound s) (K : Of-a-kind x) (same-link : link-asked lk ≡ s .link)
+-- the level test does not look at the setting
+bound-off : (l : Link) (m : ℕ) → bound (with-queue-off l) m ≡ bound l m
+bound-off l zero = refl
+bound-off l (suc m) = refl
+
+sum-off : (l : Link) (cs : List Connection) (m : ℕ) → level-sum (with-queue-off l) cs m ≡ level-sum l cs m
+unfolding level-sum cost
+sum-off l cs m = ap (λ (d : ℕ). load l cs m d + cost l (l .largest)) (bound-off l m)
+
+short-off : (l : Link) (cs : List Connection) (m n : ℕ) → short-from (with-queue-off l) cs m n ≡ short-from l cs m n
+short-off l cs m zero = refl
+short-off l cs m (suc n) = rw (sum-off l cs m, bound-off l m, short-off l cs (suc m) n)
+
+test-off : (l : Link) (cs : List Connection) → level-test (with-queue-off l) cs ≡ level-test l cs
+unfolding level-test
+test-off l cs = short-off l cs 1 (l .levels)
+
+module _ (lk rows : List ℕ) (s : State) (x : Connection) (S : Sound s) (K : Of-a-kind x) (same-link : link-asked lk ≡ with-queue-off (s .link))
     (same-rows : all-rows rows ≡ map by-its-gap (owners (s .connections) ++ x ∷ [])) (e : well-asked lk rows ≡ true) where
   question : Asked (link-asked lk) rows
   question = asked (link-asked lk) rows e
@@ -172,7 +189,7 @@ module _ (lk rows : List ℕ) (s : State) (x : Connection) (S : Sound s) (K : Of
       ∙ getD-append-seam (map by-its-gap (owners (s .connections))) (by-its-gap x) [] no-connection
 
   newcomer-in : (level-within (s .link) x ≡ true) × (figures-within (s .link) x ≡ true)
-  unfolding level-within
+  unfolding level-within figures-within
   newcomer-in =
       let r = every-true (rows-asked rows) (row-ok (link-asked lk) rows) (question .rows-in) (length (owners (s .connections))) (omega (arith, count)) in
       let b =
@@ -183,7 +200,7 @@ module _ (lk rows : List ℕ) (s : State) (x : Connection) (S : Sound s) (K : Of
 
   -- there is a link, and fewer owners than numbers
   linked : s .link .levels ≡ 0 → ⊥
-  linked z = omega (arith, z, link-facts (s .link) (subst (λ (l : Link). link-within l ≡ true) same-link (question .link-in)) .some-level)
+  linked z = omega (arith, z, link-facts (with-queue-off (s .link)) (subst (λ (l : Link). link-within l ≡ true) same-link (question .link-in)) .some-level)
 
   rules-kept : Orderly s
   rules-kept = S .with-one linked .orderly
@@ -200,7 +217,7 @@ module _ (lk rows : List ℕ) (s : State) (x : Connection) (S : Sound s) (K : Of
   same-test : short-asked lk rows ≡ level-test (s .link) (joining (s .connections) x)
   same-test =
       answers lk rows e
-      ∙ rw (same-link, same-rows) (sym (level-test-counts-alike (s .link) (owners (s .connections) ++ x ∷ [])))
+      ∙ rw (same-link, same-rows) (test-off (s .link) (map by-its-gap (owners (s .connections) ++ x ∷ [])) ∙ sym (level-test-counts-alike (s .link) (owners (s .connections) ++ x ∷ [])))
       ∙ test-owners (s .link) (s .connections) x blanks room
 
   passed : short-asked lk rows .level ≡ 0 → passes (s .link) (joining (s .connections) x) ≡ true

@@ -6,6 +6,7 @@ use mathlib.Core.Logic.{_⊎_, _↔_}
 use mathlib.Core.List.{List, [], _∷_, _++_, map}
 use mathlib.Core.Option.{none}
 use lib.Dec.{eqb}
+use Rattle.rules.specs.declared.Link.{Link}
 use Rattle.rules.specs.declared.Connection.{Connection}
 use Rattle.rules.specs.Words.{filter}
 use Rattle.rules.specs.Limits.{max-allowance}
@@ -75,14 +76,18 @@ owners cs = filter (λ x. not (eqb (x .level) 0)) cs
 abbrev pub Of-a-kind : Connection → Type 0
 Of-a-kind x = ((x .kind ≡ 0) × (x .allowance ≡ 0)) ⊎ (Second x × (x .allowance ≤ max-allowance))
 
--- asked with the hub's link, and its owners and a newcomer as rows, each as regulated by its gap, whatever its kind: a level is named exactly where the newcomer's
+-- a link as its `LK` names it: with the stand-by queue off, whatever its setting (document 02, R-11)
+abbrev pub with-queue-off : Link → Link
+with-queue-off l = record { levels = l .levels; largest = l .largest; silence = l .silence; early = 0; bounds = l .bounds }
+
+-- asked with the hub's link as its `LK`, and its owners and a newcomer as rows, each as regulated by its gap, whatever its kind: a level is named exactly where the newcomer's
 -- admission gets 8, and level and units are those of its answer
 abbrev pub Same-test-as-an-admission : Type 0
 Same-test-as-an-admission =
     (lk rows : List ℕ) (s : State) (x : Connection)
     → Sound s
     → Of-a-kind x
-    → link-asked lk ≡ s .link
+    → link-asked lk ≡ with-queue-off (s .link)
     → all-rows rows ≡ map by-its-gap (owners (s .connections) ++ x ∷ [])
     → well-asked lk rows ≡ true
     → (answer (admit x) s .verdict ≡ 8 ↔ (short-asked lk rows .level ≡ 0 → ⊥))

@@ -3,19 +3,19 @@ use Prim.Native.Nat.{ℕ, zero, suc, _+_, _≤_, _<_}
 use native.Mathlib.Omega.{arith}
 use mathlib.Core.Path.{_≡_, refl, sym, ap, _∙_, subst, transport}
 use mathlib.Core.Bool.{Bool, true, false, cond, _&&_}
-use mathlib.Core.Logic.{_↔_}
+use mathlib.Core.Logic.{_↔_, _⊎_}
 use mathlib.Core.List.{List, [], _∷_, _++_, map}
 use mathlib.Core.Option.{Option, none, some}
 use lib.Dec.{eqb}
-use lib.ListN.{length, drop}
+use lib.ListN.{length, getElem?, drop}
 use Rattle.rules.specs.declared.Packet.{Packet}
 use Rattle.rules.specs.declared.Connection.{Connection}
 use Rattle.rules.specs.Words.{All, push}
 use Rattle.rules.specs.Limits.{clock-end, notice-number}
 use Rattle.rules.specs.declared.Notice.{Notice}
 use Rattle.rules.specs.Model.{State, Call, link, admit, offer, notice, close, tick, Answer, no-past, past, figures}
-use Rattle.rules.specs.Admission.{owned, stands, stamped, reservation, largest-bound}
-use Rattle.rules.specs.Service.{suits, Spaced, of, first, notice-departs, packet-departs, after-unit, started, charge-over}
+use Rattle.rules.specs.Admission.{owned, stands, stamped, reservation, largest-bound, stand-by-on, distance}
+use Rattle.rules.specs.Service.{suits, untimely-by, Spaced, of, eligibilities, first, notice-departs, packet-departs, after-unit, started, charge-over}
 use Rattle.rules.specs.SoundState.{Sound}
 use Rattle.rules.specs.SoundTest.{sound}
 use Rattle.rules.specs.Calls.{heard, verdict, done, refused-number, settle, answer, eligibility-now}
@@ -26,7 +26,7 @@ use Rattle.rules.proofs.Verdicts.{settled}
 use Rattle.rules.proofs.SoundKept.{kept}
 use Rattle.rules.proofs.Every.{fresh-invariant}
 use Rattle.rules.proofs.Alone.{asks}
-use Rattle.rules.proofs.Results.{answer-verdict, demand-1-refusals, verdict-1-exactly, runs-are-sound, conservation, conservation-by-owner, demand-3-first, demand-3-second, told-by-its-own, bed-nine-and-bed-ten, counted, close-is-refused, closed-gets-10, closed-or-freed, freed-by-the-tick, charge-lasts, lowest-number-is-given, ten-exactly, seventeen-exactly, no-finish-before, demand-3-for-stamps, stamps-told-by-their-own, bed-nine-and-bed-ten-with-stamps}
+use Rattle.rules.proofs.Results.{answer-verdict, demand-1-refusals, verdict-1-exactly, runs-are-sound, conservation, conservation-by-owner, demand-3-first, demand-3-second, told-by-its-own, bed-nine-and-bed-ten, counted, close-is-refused, closed-gets-10, closed-or-freed, freed-by-the-tick, charge-lasts, lowest-number-is-given, ten-exactly, seventeen-exactly, no-finish-before, eighteen-exactly, stamps-never-18, never-far-ahead, demand-3-for-stamps, stamps-told-by-their-own, bed-nine-and-bed-ten-with-stamps}
 use Rattle.tables.specs.Places.{written-places, table-of}
 use Rattle.connections.specs.Members.{written-rows}
 use Rattle.state.specs.declared.Hub.{Hub}
@@ -38,7 +38,7 @@ use Rattle.state.proofs.WrittenLaws.{writable, read-written, written-sound}
 use Rattle.state.proofs.SoundLaws.{is-sound, tables-kept}
 use Rattle.state.proofs.DoesLaws.{told-as, left-as}
 use Rattle.hub.specs.Sequence.{Notes, brought, went, call, calls-from, blank, calls, state-of, notes-of, seen-ticks-from, seen-ticks, Seen-to-keep-its-word, noted, noted-from, all-noted}
-use Rattle.hub.specs.Promises.{One-outcome, Written-reads-back, Sound-is-written, Demand-1-of-the-code, Verdict-1-of-the-code, Sound-is-kept-by-the-code, Answers-as-the-rules, Close-is-refused-of-the-code, Closed-gets-10-of-the-code, Closed-or-freed-of-the-code, Freed-by-the-tick-of-the-code, Charge-lasts-of-the-code, Lowest-number-is-given-of-the-code, Follows-the-rules, Conservation-of-the-code, Noted-since, Conservation-by-owner-of-the-code, Noted-by, Demand-3-first-of-the-code, Kept-by-the-code, Demand-3-second-of-the-code, Told-by-its-own-of-the-code, Bed-nine-and-bed-ten-of-the-code, Counted-of-the-code, Ten-exactly-of-the-code, Seventeen-exactly-of-the-code, No-finish-before-of-the-code, Stamp-kept-by-the-code, Demand-3-for-stamps-of-the-code, Stamps-told-by-their-own-of-the-code, Bed-nine-and-bed-ten-with-stamps-of-the-code}
+use Rattle.hub.specs.Promises.{One-outcome, Written-reads-back, Sound-is-written, Demand-1-of-the-code, Verdict-1-of-the-code, Sound-is-kept-by-the-code, Answers-as-the-rules, Close-is-refused-of-the-code, Closed-gets-10-of-the-code, Closed-or-freed-of-the-code, Freed-by-the-tick-of-the-code, Charge-lasts-of-the-code, Lowest-number-is-given-of-the-code, Follows-the-rules, Conservation-of-the-code, Noted-since, Conservation-by-owner-of-the-code, Noted-by, Demand-3-first-of-the-code, Kept-by-the-code, Demand-3-second-of-the-code, Told-by-its-own-of-the-code, Bed-nine-and-bed-ten-of-the-code, Counted-of-the-code, Ten-exactly-of-the-code, Seventeen-exactly-of-the-code, No-finish-before-of-the-code, Eighteen-exactly-of-the-code, Stamps-never-18-of-the-code, Never-far-ahead-of-the-code, Stamp-kept-by-the-code, Demand-3-for-stamps-of-the-code, Stamps-told-by-their-own-of-the-code, Bed-nine-and-bed-ten-with-stamps-of-the-code}
 
 -- ---- one outcome
 
@@ -410,11 +410,29 @@ seventeen-exactly-of-the-code c len tag stamp h t r u D e linked =
     (sym (answers-as-the-rules (offer c len tag (some stamp)) h t r u D e .1))
     (seventeen-exactly c len tag stamp (view h t) (is-sound h t e) linked)
 
+module _ (earlier later : List Call) (c len tag : ℕ) (st : Option ℕ) (finish : ℕ) where
+  -- in some notes the packet of the offer has left at `finish`
+  abbrev Ended : Notes → Notes → ℕ → Type 0
+  Ended g after e =
+      getElem? (departures c (after .departed)) (length (of c (g .accepted)))
+      ≡ some (record { what = record { connection = c; len = len; tag = tag; arrival = g .hub .clock; eligibility = e }; finish = finish })
+
+  ended-in-the-run : (e n : ℕ) → n ≡ e → Ended (calls earlier) (calls (earlier ++ offer c len tag st ∷ later)) n → Ended (notes-of (run earlier)) (notes-of (run (earlier ++ offer c len tag st ∷ later))) e
+  ended-in-the-run e n same there =
+      subst (λ (g : Notes). Ended g (notes-of (run (earlier ++ offer c len tag st ∷ later))) e) (follows-the-rules earlier)
+      (subst (λ (g : Notes). Ended (calls earlier) g e) (follows-the-rules (earlier ++ offer c len tag st ∷ later))
+      (subst (λ (k : ℕ). Ended (calls earlier) (calls (earlier ++ offer c len tag st ∷ later)) k) same there))
+
 pub no-finish-before-of-the-code : No-finish-before-of-the-code
-no-finish-before-of-the-code ks =
-    subst (λ (g : Notes). All (λ (d : Departure). (d .what .connection ≡ notice-number → ⊥) → d .what .eligibility + d .what .len ≤ d .finish) (g .departed))
-    (sym (follows-the-rules ks))
-    (no-finish-before ks)
+no-finish-before-of-the-code earlier later c len tag st finish r u D z kind there =
+    let s = run earlier .now in
+    let it = offer c len tag st in
+    let a = told-then earlier it r u D in
+    let v : answer it s .verdict ≡ 0 = sym (ap (λ (x : Told). x .verdict) a) ∙ z in
+    let n : r .number ≡ eligibility-now s c st = ap (λ (x : Told). x .number) a ∙ ap (λ (w : ℕ). settle it s w .number) (sym (answer-verdict it s) ∙ v) in
+    let of-kind : (stamped (figures s c) ≡ true) ⊎ (stand-by-on (s .link) ≡ false) = subst (λ (q : State). (stamped (figures q c) ≡ true) ⊎ (stand-by-on (q .link) ≡ false)) (state-is earlier) kind in
+    let least : eligibility-now s c st + len ≤ finish = no-finish-before earlier later c len tag st finish v of-kind (ended-in-the-run earlier later c len tag st finish (eligibility-now s c st) (r .number) n there) in
+    omega (arith, n, least)
 
 module _ (earlier later : List Call) (c len tag stamp : ℕ) (good : allowed (state-of (calls earlier)) c len (some stamp) ≡ true) (cause : No-cause (state-of (calls earlier)) c stamp) where
   stamp-promise : Stamp-promise earlier later c len tag stamp
@@ -454,3 +472,30 @@ bed-nine-and-bed-ten-with-stamps-of-the-code ks ms c d alike asked kind word =
     ∙ bed-nine-and-bed-ten-with-stamps ks ms c d (sym (same-figures ks c) ∙ alike ∙ same-figures ms d)
     (ap asks (sym (noted-is c ks)) ∙ asked ∙ ap asks (noted-is d ms)) (kind-is ks c true kind) (transport (word-is c ks) word)
     ∙ sym (noted-is d ms)
+
+-- ---- the stand-by queue
+
+pub eighteen-exactly-of-the-code : Eighteen-exactly-of-the-code
+eighteen-exactly-of-the-code c len tag st h t r u D e linked =
+    subst (λ (v : ℕ). v ≡ 18
+    ↔ ((allowed (view h t) c len st ≡ true)
+    × (length (of c (view h t .held)) < reservation (h .link) (figures (view h t) c))
+    × (h .clock < clock-end)
+    × (untimely-by (figures (view h t) c) (past (view h t) c) (h .clock) st ≡ false)
+    × (stand-by-on (h .link) ≡ true)
+    × (h .clock + distance (h .link) (figures (view h t) c) < eligibility-now (view h t) c st)))
+    (sym (answers-as-the-rules (offer c len tag st) h t r u D e .1))
+    (eighteen-exactly c len tag st (view h t) (is-sound h t e) linked)
+
+pub stamps-never-18-of-the-code : Stamps-never-18-of-the-code
+stamps-never-18-of-the-code c len tag stamp h t r u D z = go (sound-hub h t) refl
+  where
+    go : (b : Bool) → sound-hub h t ≡ b → ⊥
+    go true e = stamps-never-18 c len tag stamp (view h t) (sym (answers-as-the-rules (offer c len tag (some stamp)) h t r u D e .1) ∙ z)
+    go false e = absurd (omega (arith, z, verdict-1-of-the-code (offer c len tag (some stamp)) h t r u D .0 e))
+
+pub never-far-ahead-of-the-code : Never-far-ahead-of-the-code
+never-far-ahead-of-the-code ks c on who =
+    subst (λ (s : State). All (λ e. e ≤ s .clock + distance (s .link) (figures s c)) (eligibilities c (s .held)) × All (λ e. e ≤ s .clock + distance (s .link) (figures s c)) (past s c))
+    (sym (state-is ks))
+    (never-far-ahead (run ks .now) (runs-are-sound ks) (subst (λ (s : State). stand-by-on (s .link) ≡ true) (state-is ks) on) c (subst (λ (s : State). owned (s .connections) c ≡ true) (state-is ks) who))

@@ -2,19 +2,19 @@
 use Prim.Native.Nat.{ℕ, _+_, _≤_, _<_}
 use mathlib.Core.Path.{_≡_}
 use mathlib.Core.Bool.{true, false}
-use mathlib.Core.Logic.{_↔_}
+use mathlib.Core.Logic.{_↔_, _⊎_}
 use mathlib.Core.List.{List, [], _∷_, _++_, map}
 use mathlib.Core.Option.{Option, none, some}
 use lib.ListN.{length, getElem?, drop}
 use Rattle.rules.specs.declared.Packet.{Packet}
 use Rattle.rules.specs.declared.Connection.{Connection}
-use Rattle.rules.specs.Limits.{clock-end, notice-number}
+use Rattle.rules.specs.Limits.{clock-end}
 use Rattle.rules.specs.Words.{All}
 use Rattle.rules.specs.Model.{State, Call, admit, offer, close, tick, no-past, past, figures, closed-at}
-use Rattle.rules.specs.Admission.{owned, stands, stamped, reservation, largest-bound}
-use Rattle.rules.specs.Service.{suits, of, charge-over}
+use Rattle.rules.specs.Admission.{owned, stands, stamped, reservation, largest-bound, stand-by-on, distance}
+use Rattle.rules.specs.Service.{suits, untimely-by, of, eligibilities, charge-over}
 use Rattle.rules.specs.SoundState.{Sound}
-use Rattle.rules.specs.Calls.{refused-number, answer}
+use Rattle.rules.specs.Calls.{refused-number, answer, eligibility-now}
 use Rattle.rules.specs.Runs.{Departure, run, departures, in-hub, bound-of, allowed, Exchange, own-answer, own-stamp-answers}
 use Rattle.rules.specs.Promises.{Still-charged, Lowest-free, stamp-plus, No-cause}
 use Rattle.state.specs.declared.Hub.{Hub}
@@ -248,11 +248,17 @@ Seventeen-exactly-of-the-code =
     × (h .clock < clock-end)
     × (No-cause (view h before) c stamp → ⊥))
 
--- no packet of a connection leaves before its eligibility plus its length
+-- no packet of a connection of the second kind leaves before its eligibility plus its length; nor, where the stand-by queue is off, one of the first kind
+-- (document 02, R-11). Any calls `earlier`, an offer of c that is accepted, any calls `later`
 abbrev pub No-finish-before-of-the-code : Type 0
 No-finish-before-of-the-code =
-    (ks : List Call)
-    → All (λ (d : Departure). (d .what .connection ≡ notice-number → ⊥) → d .what .eligibility + d .what .len ≤ d .finish) (calls ks .departed)
+    (earlier later : List Call) (c len tag : ℕ) (st : Option ℕ) (finish : ℕ) (told : Told) (after : Tables)
+    → Does (offer c len tag st) (calls earlier .hub) (calls earlier .tables) told after
+    → told .verdict ≡ 0
+    → (stamped (figures (state-of (calls earlier)) c) ≡ true) ⊎ (stand-by-on (calls earlier .hub .link) ≡ false)
+    → getElem? (departures c (calls (earlier ++ offer c len tag st ∷ later) .departed)) (length (of c (calls earlier .accepted)))
+    ≡ some (record { what = record { connection = c; len = len; tag = tag; arrival = calls earlier .hub .clock; eligibility = told .number }; finish = finish })
+    → told .number + len ≤ finish
 
 -- in place of the second sentence of demand 3: an offer of allowed length to which no cause of 17 applies is never refused for room; while the clock runs it is
 -- accepted, with the stamp plus the allowance as its eligibility, and it leaves within the bound of that
@@ -290,3 +296,38 @@ Bed-nine-and-bed-ten-with-stamps-of-the-code =
     → stamped (figures (state-of (calls ks)) c) ≡ true
     → Seen-to-keep-its-word c ks
     → all-noted c ks ≡ all-noted d ms
+
+-- ---- the stand-by queue, of the code (document 02, R-11). Nothing above asks whether it is on, but where that is said
+
+-- on a sound hub with a link an offer gets 18 exactly where the queue is on and its eligibility would lie more than reservation times X past the present tick, and
+-- neither 10, 11, 12, 13 nor 17 is given
+abbrev pub Eighteen-exactly-of-the-code : Type 0
+Eighteen-exactly-of-the-code =
+    (c len tag : ℕ) (st : Option ℕ) (h : Hub) (before : Tables) (told : Told) (after : Tables)
+    → Does (offer c len tag st) h before told after
+    → sound-hub h before ≡ true
+    → (h .link .levels ≡ 0 → ⊥)
+    → told .verdict ≡ 18
+    ↔ ((allowed (view h before) c len st ≡ true)
+    × (length (of c (view h before .held)) < reservation (h .link) (figures (view h before) c))
+    × (h .clock < clock-end)
+    × (untimely-by (figures (view h before) c) (past (view h before) c) (h .clock) st ≡ false)
+    × (stand-by-on (h .link) ≡ true)
+    × (h .clock + distance (h .link) (figures (view h before) c) < eligibility-now (view h before) c st))
+
+-- an offer with a stamp never gets it
+abbrev pub Stamps-never-18-of-the-code : Type 0
+Stamps-never-18-of-the-code =
+    (c len tag stamp : ℕ) (h : Hub) (before : Tables) (told : Told) (after : Tables)
+    → Does (offer c len tag (some stamp)) h before told after
+    → told .verdict ≡ 18
+    → ⊥
+
+-- through any calls, while the queue is on, no eligibility that is held or remembered lies further past the clock
+abbrev pub Never-far-ahead-of-the-code : Type 0
+Never-far-ahead-of-the-code =
+    (ks : List Call) (c : ℕ)
+    → stand-by-on (calls ks .hub .link) ≡ true
+    → owned (state-of (calls ks) .connections) c ≡ true
+    → All (λ e. e ≤ calls ks .hub .clock + distance (calls ks .hub .link) (figures (state-of (calls ks)) c)) (eligibilities c (state-of (calls ks) .held))
+    × All (λ e. e ≤ calls ks .hub .clock + distance (calls ks .hub .link) (figures (state-of (calls ks)) c)) (past (state-of (calls ks)) c)

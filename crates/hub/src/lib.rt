@@ -30,6 +30,7 @@ pub fn fresh_hub() -> Hub
             levels: 0,
             largest: 0,
             silence: 0,
+            early: 0,
             bounds: [0; MAX_LEVELS as usize],
         },
         clock: 0,
@@ -39,7 +40,7 @@ pub fn fresh_hub() -> Hub
     }
 }
 
-// Set the link: levels, the largest packet, the silence after each packet, a delay bound for each level. Verdicts 0, 1, 3, 4.
+// Set the link: levels, the largest packet, the silence after each packet, whether packets may go early (0 or 1), a delay bound for each level. Verdicts 0, 1, 3, 4.
 pub fn link(h: Hub, members: &[u32], places: &[u32], notices: &[u32], l: Link) -> Told
     ensures { λ r. ⌜ Does (link l) h (before members places notices) r (after members places notices) ⌝ }
 {

@@ -27,11 +27,11 @@ const CALL: usize = 0;
 // connection.
 const ASKED: usize = CALL + 1;
 
-// The hub. Its link: levels, largest packet, silence, eight bounds; then clock, serving, units to go, silence to run.
-const HUB: usize = ASKED + 11;
+// The hub. Its link: levels, largest packet, silence, setting of the stand-by queue, eight bounds; then clock, serving, units to go, silence to run.
+const HUB: usize = ASKED + 12;
 
 // How many numbers are lent as connections, as places, and as notices.
-const LENT: usize = HUB + 15;
+const LENT: usize = HUB + 16;
 
 // The answer: verdict, number, the level that is short and its units, low half first, 1 if a packet has gone, the packet.
 const TOLD: usize = LENT + 3;
@@ -56,11 +56,12 @@ fn link_at(b: &Block, at: usize) -> Link
     requires { ⌜ at ≤ 16384 ⌝ }
 {
     let mut bounds = [0u32; 8];
-    take(b, at + 3, &mut bounds);
+    take(b, at + 4, &mut bounds);
     Link {
         levels: get(b, at),
         largest: get(b, at + 1),
         silence: get(b, at + 2),
+        early: get(b, at + 3),
         bounds: bounds,
     }
 }
@@ -68,10 +69,10 @@ fn link_at(b: &Block, at: usize) -> Link
 fn hub_of(b: &Block) -> Hub {
     Hub {
         link: link_at(b, HUB),
-        clock: get(b, HUB + 11),
-        serving: get(b, HUB + 12),
-        to_go: get(b, HUB + 13),
-        silent: get(b, HUB + 14),
+        clock: get(b, HUB + 12),
+        serving: get(b, HUB + 13),
+        to_go: get(b, HUB + 14),
+        silent: get(b, HUB + 15),
     }
 }
 
@@ -88,13 +89,14 @@ fn connection_of(b: &Block) -> Connection {
 }
 
 // The numbers of a hub.
-fn numbers_of(h: Hub) -> [u32; 15] {
+fn numbers_of(h: Hub) -> [u32; 16] {
     let l = h.link;
     let b = l.bounds;
     [
         l.levels,
         l.largest,
         l.silence,
+        l.early,
         b[0],
         b[1],
         b[2],

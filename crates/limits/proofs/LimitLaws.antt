@@ -142,16 +142,23 @@ module _ (l : Link) where
     largest-out e = goes-on (within 1 max-levels (l .levels)) _ false n (fails (within 1 max-largest (l .largest)) _ e)
 
     module _ (e : within 1 max-largest (l .largest) ≡ true) where
-      behind : (r : Bool) → r ≡ (leb (l .silence) max-silence && rising (cost l (l .largest)) (l .levels) (l .bounds)) → r ≡ link-within l
+      behind : (r : Bool) → r ≡ (leb (l .silence) max-silence && (leb (l .early) 1 && rising (cost l (l .largest)) (l .levels) (l .bounds))) → r ≡ link-within l
       unfolding link-within
       behind r h = goes-on (within 1 max-levels (l .levels)) _ r n (goes-on (within 1 max-largest (l .largest)) _ r e h)
 
       pub silence-out : max-silence < l .silence → false ≡ link-within l
       silence-out h = behind false (fails (leb (l .silence) max-silence) _ (lt-leb (l .silence) max-silence h))
 
-      pub bounds-rest : l .silence ≤ max-silence → (r : Bool) → r ≡ rising (l .largest + l .silence) (l .levels) (l .bounds) → r ≡ link-within l
-      unfolding cost
-      bounds-rest k r h = behind r (goes-on (leb (l .silence) max-silence) _ r (le-leb (l .silence) max-silence k) h)
+      module _ (k : l .silence ≤ max-silence) where
+        behind-silence : (r : Bool) → r ≡ (leb (l .early) 1 && rising (l .largest + l .silence) (l .levels) (l .bounds)) → r ≡ link-within l
+        unfolding cost
+        behind-silence r h = behind r (goes-on (leb (l .silence) max-silence) _ r (le-leb (l .silence) max-silence k) h)
+
+        pub early-out : 1 < l .early → false ≡ link-within l
+        early-out h = behind-silence false (fails (leb (l .early) 1) _ (lt-leb (l .early) 1 h))
+
+        pub bounds-rest : l .early ≤ 1 → (r : Bool) → r ≡ rising (l .largest + l .silence) (l .levels) (l .bounds) → r ≡ link-within l
+        bounds-rest j r h = behind-silence r (goes-on (leb (l .early) 1) _ r (le-leb (l .early) 1 j) h)
 
 -- past the n-th bound: zeros, whatever came before
 rising-zeros : (low : ℕ) (ds : List ℕ) → rising low 0 ds ≡ zeros ds

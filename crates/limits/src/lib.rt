@@ -10,7 +10,7 @@ ghost use Rattle.limits.specs.Zeros.{zeros};
 use rules::Connection;
 use rules::Link;
 
-// ---- the limits of document 01, "Link, connections, places", and of document 02, R-1, R-4 and R-6 to R-9
+// ---- the limits of document 01, "Link, connections, places", and of document 02, R-1, R-4, R-6 to R-9 and R-11
 
 // Levels of a link.
 pub const MAX_LEVELS: u32 = 8;
@@ -20,6 +20,9 @@ const MAX_LARGEST: u32 = 2048;
 
 // Ticks of silence after each packet.
 const MAX_SILENCE: u32 = 64;
+
+// The setting of the stand-by queue: off is 0.
+pub const STAND_BY_ON: u32 = 1;
 
 // Ticks of a delay bound.
 const MAX_BOUND: u32 = 32768;
@@ -160,6 +163,9 @@ pub fn link_ok(l: Link) -> bool
         return false;
     }
     if MAX_SILENCE < l.silence {
+        return false;
+    }
+    if STAND_BY_ON < l.early {
         return false;
     }
     let bounds = l.bounds;

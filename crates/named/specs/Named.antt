@@ -1,4 +1,4 @@
--- What the numbers of a trace record name: the link of an `LK`, the connection of a `CN` and of a `CS`. Document 01, "Trace and answer records".
+-- What the numbers of a trace record name: the link of an `LK` and of an `LE`, the connection of a `CN` and of a `CS`. Document 01, "Trace and answer records".
 use Prim.Native.Nat.{ℕ}
 use mathlib.Core.List.{List, _++_}
 use lib.ListN.{getD, take, drop, replicate}
@@ -6,9 +6,17 @@ use Rattle.rules.specs.declared.Link.{Link}
 use Rattle.rules.specs.declared.Connection.{Connection}
 use Rattle.rules.specs.Limits.{max-levels}
 
--- n, S, the silence (document 02, R-4) and all eight bounds, 0 past the last number
+-- all eight bounds, 0 past the last number
+abbrev all-bounds : List ℕ → List ℕ
+all-bounds ds = take max-levels (ds ++ replicate max-levels 0)
+
+-- n, S, the silence (document 02, R-4) and the bounds: the stand-by queue is off (R-11)
 abbrev pub link-named : List ℕ → Link
-link-named xs = record { levels = getD xs 0 0; largest = getD xs 1 0; silence = getD xs 2 0; bounds = take max-levels (drop 3 xs ++ replicate max-levels 0) }
+link-named xs = record { levels = getD xs 0 0; largest = getD xs 1 0; silence = getD xs 2 0; early = 0; bounds = all-bounds (drop 3 xs) }
+
+-- n, S, the silence, the setting (document 02, R-11) and the bounds
+abbrev pub stand-by-named : List ℕ → Link
+stand-by-named xs = record { levels = getD xs 0 0; largest = getD xs 1 0; silence = getD xs 2 0; early = getD xs 3 0; bounds = all-bounds (drop 4 xs) }
 
 -- level, gap, size, the window and the average gap (document 02, R-6): regulated by its gap, kind 0, with no allowance (R-9)
 abbrev pub connection-named : List ℕ → Connection

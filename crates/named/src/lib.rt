@@ -1,13 +1,13 @@
-// What the numbers of a trace record name: the link of an `LK`, the connection of a `CN` and of a `CS`. The replay and the firmware get them through these.
+// What the numbers of a trace record name: the link of an `LK` and of an `LE`, the connection of a `CN` and of a `CS`. The replay and the firmware get them through these.
 ghost use mathlib.Core.Path.{_≡_};
 ghost use mathlib.Core.List.{[], _∷_};
 ghost use Rattle.rules.specs.Model.{no-link};
-ghost use Rattle.named.specs.Named.{link-named, connection-named, stamped-named};
+ghost use Rattle.named.specs.Named.{link-named, stand-by-named, connection-named, stamped-named};
 use limits::MAX_LEVELS;
 use rules::Connection;
 use rules::Link;
 
-// The link of an `LK`.
+// The link of an `LK`: its stand-by queue is off.
 pub fn link_named(
     levels: u8,
     largest: u16,
@@ -27,6 +27,7 @@ pub fn link_named(
         levels: levels as u32,
         largest: largest as u32,
         silence: silence as u32,
+        early: 0,
         bounds: [
             d1 as u32,
             d2 as u32,
@@ -38,6 +39,28 @@ pub fn link_named(
             d8 as u32,
         ],
     }
+}
+
+// The link of an `LE`: the same with its setting.
+pub fn stand_by_named(
+    levels: u8,
+    largest: u16,
+    silence: u8,
+    early: u8,
+    d1: u16,
+    d2: u16,
+    d3: u16,
+    d4: u16,
+    d5: u16,
+    d6: u16,
+    d7: u16,
+    d8: u16,
+) -> Link
+    ensures { λ r. ⌜ r ≡ stand-by-named (levels ∷ largest ∷ silence ∷ early ∷ d1 ∷ d2 ∷ d3 ∷ d4 ∷ d5 ∷ d6 ∷ d7 ∷ d8 ∷ []) ⌝ }
+{
+    let mut l = link_named(levels, largest, silence, d1, d2, d3, d4, d5, d6, d7, d8);
+    l.early = early as u32;
+    l
 }
 
 // The connection of a `CN`: of the first kind.
@@ -73,6 +96,7 @@ pub fn no_link() -> Link
         levels: 0,
         largest: 0,
         silence: 0,
+        early: 0,
         bounds: [0; MAX_LEVELS as usize],
     }
 }

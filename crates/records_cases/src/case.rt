@@ -20,9 +20,9 @@ pub fn fresh() -> [u8; 64] {
 }
 
 // What was read is what the line says, behind its place.
-fn same(a: [u64; 13], numbers: &[u64; 14]) -> bool {
+fn same(a: [u64; 14], numbers: &[u64; 15]) -> bool {
     let mut i: usize = 0;
-    while i < 13 {
+    while i < 14 {
         if a[i] != numbers[i + 1] {
             return false;
         }
@@ -32,7 +32,7 @@ fn same(a: [u64; 13], numbers: &[u64; 14]) -> bool {
 }
 
 // What the bytes up to an end are read as.
-fn read(traced: bool, buffer: &[u8], end: usize) -> [u64; 13]
+fn read(traced: bool, buffer: &[u8], end: usize) -> [u64; 14]
     requires { ⌜ Ends (now buffer) end ⌝ }
 {
     seen(traced, &buffer[START..end])
@@ -90,7 +90,7 @@ fn cut(traced: bool, buffer: &[u8], end: usize, t: u64) -> u64
 
 // A record: written to a larger room and to one just long enough; read alone, and with bytes behind it; cut short.
 // A trace record is also read at its place.
-pub fn vector(traced: bool, buffer: &[u8], end: usize, numbers: &[u64; 14], t: u64) -> u64
+pub fn vector(traced: bool, buffer: &[u8], end: usize, numbers: &[u64; 15], t: u64) -> u64
     requires { ⌜ Ends (now buffer) end ⌝ }
 {
     let t = case(t, written(traced, buffer, 64, end, buffer));
@@ -105,7 +105,7 @@ pub fn vector(traced: bool, buffer: &[u8], end: usize, numbers: &[u64; 14], t: u
 }
 
 // The trace record at the line's place.
-pub fn at(buffer: &[u8], end: usize, numbers: &[u64; 14], t: u64) -> u64
+pub fn at(buffer: &[u8], end: usize, numbers: &[u64; 15], t: u64) -> u64
     requires { ⌜ Ends (now buffer) end ⌝ }
 {
     let place = numbers[0] as usize;
@@ -113,7 +113,7 @@ pub fn at(buffer: &[u8], end: usize, numbers: &[u64; 14], t: u64) -> u64
 }
 
 // The answer that the bytes start with.
-pub fn reply(buffer: &[u8], end: usize, numbers: &[u64; 14], t: u64) -> u64
+pub fn reply(buffer: &[u8], end: usize, numbers: &[u64; 15], t: u64) -> u64
     requires { ⌜ Ends (now buffer) end ⌝ }
 {
     case(t, same(read(false, buffer, end), numbers))
@@ -125,6 +125,24 @@ pub fn link(buffer: &[u8]) -> Record {
         levels: one(buffer, 10),
         largest: 4,
         silence: 0,
+        d1: 10,
+        d2: two(buffer, 11),
+        d3: 0,
+        d4: 0,
+        d5: 0,
+        d6: 0,
+        d7: two(buffer, 13),
+        d8: two(buffer, 15),
+    }
+}
+
+// The same with a setting, 1.
+pub fn stand_by(buffer: &[u8]) -> Record {
+    Record::LinkStandBy {
+        levels: one(buffer, 10),
+        largest: 4,
+        silence: 0,
+        early: 1,
         d1: 10,
         d2: two(buffer, 11),
         d3: 0,

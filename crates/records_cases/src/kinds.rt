@@ -1,10 +1,12 @@
-// What is read, as the thirteen numbers that a line has behind its place: how many bytes it takes, its kind, its fields,
+// What is read, as the fourteen numbers that a line has behind its place: how many bytes it takes, its kind, its fields,
 // and 0 for those that it does not have.
 use answers::Reply;
 use traces::Record;
 
 // The kinds as the numbers that `words` makes of them, and what is malformed.
 const LK: u64 = 230;
+
+const LE: u64 = 224;
 
 const CN: u64 = 143;
 
@@ -38,7 +40,7 @@ const ER: u64 = 167;
 
 pub const NONE: u64 = 25644;
 
-fn trace_numbers(taken: u64, r: Record) -> [u64; 13] {
+fn trace_numbers(taken: u64, r: Record) -> [u64; 14] {
     match r {
         Record::Link {
             levels,
@@ -58,6 +60,36 @@ fn trace_numbers(taken: u64, r: Record) -> [u64; 13] {
             levels as u64,
             largest as u64,
             silence as u64,
+            d1 as u64,
+            d2 as u64,
+            d3 as u64,
+            d4 as u64,
+            d5 as u64,
+            d6 as u64,
+            d7 as u64,
+            d8 as u64,
+            0,
+        ],
+        Record::LinkStandBy {
+            levels,
+            largest,
+            silence,
+            early,
+            d1,
+            d2,
+            d3,
+            d4,
+            d5,
+            d6,
+            d7,
+            d8,
+        } => [
+            taken,
+            LE,
+            levels as u64,
+            largest as u64,
+            silence as u64,
+            early as u64,
             d1 as u64,
             d2 as u64,
             d3 as u64,
@@ -87,6 +119,7 @@ fn trace_numbers(taken: u64, r: Record) -> [u64; 13] {
             0,
             0,
             0,
+            0,
         ],
         Record::AdmitStamped {
             level,
@@ -107,11 +140,13 @@ fn trace_numbers(taken: u64, r: Record) -> [u64; 13] {
             0,
             0,
             0,
+            0,
         ],
         Record::Close { connection } => [
             taken,
             CL,
             connection as u64,
+            0,
             0,
             0,
             0,
@@ -141,6 +176,7 @@ fn trace_numbers(taken: u64, r: Record) -> [u64; 13] {
             0,
             0,
             0,
+            0,
         ],
         Record::OfferStamped {
             connection,
@@ -154,6 +190,7 @@ fn trace_numbers(taken: u64, r: Record) -> [u64; 13] {
             len as u64,
             tag as u64,
             stamp as u64,
+            0,
             0,
             0,
             0,
@@ -176,15 +213,16 @@ fn trace_numbers(taken: u64, r: Record) -> [u64; 13] {
             0,
             0,
             0,
+            0,
         ],
-        Record::Ticks { ticks } => [taken, TK, ticks as u64, 0, 0, 0, 0, 0, 0, 0, 0, 0, 0],
-        Record::Malformed => [taken, NONE, 0, 0, 0, 0, 0, 0, 0, 0, 0, 0, 0],
+        Record::Ticks { ticks } => [taken, TK, ticks as u64, 0, 0, 0, 0, 0, 0, 0, 0, 0, 0, 0],
+        Record::Malformed => [taken, NONE, 0, 0, 0, 0, 0, 0, 0, 0, 0, 0, 0, 0],
     }
 }
 
-fn answer_numbers(taken: u64, r: Reply) -> [u64; 13] {
+fn answer_numbers(taken: u64, r: Reply) -> [u64; 14] {
     match r {
-        Reply::Linked { verdict } => [taken, LA, verdict as u64, 0, 0, 0, 0, 0, 0, 0, 0, 0, 0],
+        Reply::Linked { verdict } => [taken, LA, verdict as u64, 0, 0, 0, 0, 0, 0, 0, 0, 0, 0, 0],
         Reply::Admitted {
             verdict,
             connection,
@@ -204,8 +242,9 @@ fn answer_numbers(taken: u64, r: Reply) -> [u64; 13] {
             0,
             0,
             0,
+            0,
         ],
-        Reply::Closed { verdict } => [taken, CD, verdict as u64, 0, 0, 0, 0, 0, 0, 0, 0, 0, 0],
+        Reply::Closed { verdict } => [taken, CD, verdict as u64, 0, 0, 0, 0, 0, 0, 0, 0, 0, 0, 0],
         Reply::Offered {
             verdict,
             eligibility,
@@ -214,6 +253,7 @@ fn answer_numbers(taken: u64, r: Reply) -> [u64; 13] {
             PA,
             verdict as u64,
             eligibility as u64,
+            0,
             0,
             0,
             0,
@@ -232,6 +272,7 @@ fn answer_numbers(taken: u64, r: Reply) -> [u64; 13] {
             NA,
             verdict as u64,
             eligibility as u64,
+            0,
             0,
             0,
             0,
@@ -262,6 +303,7 @@ fn answer_numbers(taken: u64, r: Reply) -> [u64; 13] {
             0,
             0,
             0,
+            0,
         ],
         Reply::Ticked { verdict, ticks } => [
             taken,
@@ -277,21 +319,22 @@ fn answer_numbers(taken: u64, r: Reply) -> [u64; 13] {
             0,
             0,
             0,
+            0,
         ],
-        Reply::Broken { offset } => [taken, ER, offset as u64, 0, 0, 0, 0, 0, 0, 0, 0, 0, 0],
-        Reply::Malformed => [taken, NONE, 0, 0, 0, 0, 0, 0, 0, 0, 0, 0, 0],
+        Reply::Broken { offset } => [taken, ER, offset as u64, 0, 0, 0, 0, 0, 0, 0, 0, 0, 0, 0],
+        Reply::Malformed => [taken, NONE, 0, 0, 0, 0, 0, 0, 0, 0, 0, 0, 0, 0],
     }
 }
 
 // The trace record at a place of the bytes.
-pub fn seen_at(s: &[u8], at: usize) -> [u64; 13] {
+pub fn seen_at(s: &[u8], at: usize) -> [u64; 14] {
     let found = traces::read_at(s, at);
     let what = found.what;
     trace_numbers(found.taken as u64, what)
 }
 
 // The trace record or the answer that the bytes start with.
-pub fn seen(traced: bool, s: &[u8]) -> [u64; 13] {
+pub fn seen(traced: bool, s: &[u8]) -> [u64; 14] {
     if traced {
         let found = traces::read(s);
         let what = found.what;

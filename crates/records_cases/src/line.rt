@@ -15,7 +15,7 @@ fn lost(line: &[u8], t: u64) -> u64 {
 }
 
 // Tries what a line says, by its first character.
-fn act(line: &[u8], numbers: &[u64; 14], buffer: &[u8], end: usize, t: u64) -> u64
+fn act(line: &[u8], numbers: &[u64; 15], buffer: &[u8], end: usize, t: u64) -> u64
     requires { ⌜ (length (now buffer) ≡ 64) × (end ≤ 53) ⌝ }
 {
     if end < START {
@@ -28,6 +28,7 @@ fn act(line: &[u8], numbers: &[u64; 14], buffer: &[u8], end: usize, t: u64) -> u
         b'@' => case::at(buffer, end, numbers, t),
         b'r' => case::reply(buffer, end, numbers, t),
         b'l' => tally::case(t, case::refused(case::link(buffer))),
+        b'e' => tally::case(t, case::refused(case::stand_by(buffer))),
         b'n' => case::none(buffer, t),
         b'5' => case::five(buffer, end, t),
         _ => lost(line, t),
@@ -36,7 +37,7 @@ fn act(line: &[u8], numbers: &[u64; 14], buffer: &[u8], end: usize, t: u64) -> u
 
 // A line that is no comment and no end of a group.
 fn trial(line: &[u8], t: u64) -> u64 {
-    let mut numbers = [0u64; 14];
+    let mut numbers = [0u64; 15];
     let mut buffer = case::fresh();
     let end = words::parse(line, &mut numbers, &mut buffer);
     act(line, &numbers, &buffer, end, t)

@@ -45,8 +45,8 @@ fn byte(buffer: &mut [u8], k: usize, c: u8) -> usize {
 }
 
 // A character of a line. A word is the number that its digits make: L is 21 and K is 20, so that LK is 230.
-fn character(numbers: &mut [u64; 14], buffer: &mut [u8], k: usize, c: u8) -> usize {
-    if 13 < k {
+fn character(numbers: &mut [u64; 15], buffer: &mut [u8], k: usize, c: u8) -> usize {
+    if 14 < k {
         return byte(buffer, k, c);
     }
     if c == b':' {
@@ -80,7 +80,7 @@ fn ending(k: usize) -> usize
 }
 
 // The words as numbers, and the bytes; where these end, or 0.
-pub fn parse(line: &[u8], numbers: &mut [u64; 14], buffer: &mut [u8]) -> usize
+pub fn parse(line: &[u8], numbers: &mut [u64; 15], buffer: &mut [u8]) -> usize
     ensures { λ r. ⌜ r ≤ 53 ⌝ }
 {
     let mut k: usize = 0;

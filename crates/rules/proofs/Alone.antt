@@ -21,7 +21,7 @@ use Rattle.rules.proofs.Standing.{stands-owned}
 use Rattle.rules.proofs.Verdicts.{heard-parts}
 use Rattle.rules.proofs.Invariant.{Invariant}
 use Rattle.rules.proofs.Every.{invariant}
-use Rattle.rules.proofs.Room.{decided}
+use Rattle.rules.proofs.Room.{near-arrival, decided}
 use Rattle.rules.proofs.Keeper.{from-end, run-last, ticks-last, owner-stays, kind-before, All-taken, on-arrival, has-room, no-ticks, word-before, all-taken}
 
 -- ---- an offer of a connection that keeps its word
@@ -49,7 +49,8 @@ module _ (c : ℕ) (level : c ≡ notice-number → ⊥) where
 
       own-told : Own (figures s c) (told s c len tag none (verdict (offer c len tag none) s))
       own-told =
-          ap (told s c len tag none) (decided h I c len tag none hears (λ w. has-room c level h I ts A first-kind len tag (ok w) (word w)) (λ _. refl))
+          ap (told s c len tag none) (decided h I c len tag none hears (λ w. has-room c level h I ts A first-kind len tag (ok w) (word w)) (λ _. refl)
+          (λ w. near-arrival s c none (on-arrival c level h I ts A first-kind len tag (ok w) (word w))))
           ∙ go (within 1 (figures s c .size) len) (leb clock-end (s .clock)) (λ w. on-arrival c level h I ts A first-kind len tag (ok w) (word w))
         where
           go : (right ended : Bool) → (right ≡ true → eligibility-now s c none ≡ s .clock)

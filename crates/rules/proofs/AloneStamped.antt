@@ -14,7 +14,7 @@ use Rattle.rules.specs.Limits.{clock-end, notice-number}
 use Rattle.rules.specs.Model.{Connection, Past, Packet, State, Call, link, admit, offer, notice, close, tick, Answer, no-past, past, figures, notice-packet}
 use Rattle.rules.specs.Admission.{owned, stands, stamped, reservation}
 use Rattle.rules.specs.Service.{untimely-by, remember-all, Spaced, of, eligibilities, level-of}
-use Rattle.rules.specs.Calls.{heard, verdict, eligibility-now, packet, done, answer}
+use Rattle.rules.specs.Calls.{heard, too-far, verdict, eligibility-now, packet, done, answer}
 use Rattle.rules.specs.Runs.{History, while-owned, taken, after, run, bound-of, allowed, offer-tick, offer-ticks, Keeps-its-word, Asked, Exchange, exchange, exchanges, given, own-stamp-answer, own-stamp-answers}
 use Rattle.rules.specs.Promises.{Stamps-told-by-their-own, Bed-nine-and-bed-ten-with-stamps}
 use Rattle.rules.proofs.Lists.{Sub, nil, sub-snoc, sub-more, sub-trans, all-map, all-zip, all-snoc, all-sub, all-filter, total-snoc}
@@ -33,7 +33,7 @@ use Rattle.rules.proofs.Invariant.{Invariant, facts-of, some-bound}
 use Rattle.rules.proofs.KeptBySweep.{of-filter}
 use Rattle.rules.proofs.Every.{no-owner, keeps, invariant}
 use Rattle.rules.proofs.InTime.{held-in-time}
-use Rattle.rules.proofs.Room.{all-among, decided-by}
+use Rattle.rules.proofs.Room.{all-among, near-stamp, decided-by}
 use Rattle.rules.proofs.Keeper.{from-end, run-last, ticks-last, owner-stays, no-ticks, Word-before, word-before}
 use Rattle.rules.proofs.Alone.{told, exchanges-last, no-exchanges, asks, own-ticks, ticks-are-own}
 
@@ -281,24 +281,26 @@ module _ (c : ℕ) where
       (word : within 1 (figures (h .now) c .size) len ≡ true → Spaced (figures (h .now) c) (ts ++ h .now .clock ∷ [])) where
     open History h using (now as s, present as acc)
 
-    own-told : told s c len tag st (verdict (offer c len tag st) s) ≡ own-stamp-answer (figures s c) (past s c) (record { at = s .clock; len = len; tag = tag; stamp = st })
-    own-told =
+    own-told : stamped (figures s c) ≡ true → told s c len tag st (verdict (offer c len tag st) s) ≡ own-stamp-answer (figures s c) (past s c) (record { at = s .clock; len = len; tag = tag; stamp = st })
+    own-told second =
         ap (told s c len tag st) (decided-by h I c len tag st hears)
         ∙ go (within 1 (figures s c .size) len) (leb (reservation (s .link) (figures s c)) (length (of c (s .held)))) (leb clock-end (s .clock)) (untimely-by (figures s c) (past s c) (s .clock) st)
+        (too-far s c st)
         (λ w. lt-leb _ _ (room-by-arrivals h I (heard-parts s c st hears .0) es ts T (word w)))
+        (λ u. near-stamp s c st (facts-of s (I .sound) .each c (stands-owned s c (heard-parts s c st hears .0))) second (heard-parts s c st hears .1) u)
       where
-        go : (right full ended late : Bool) → (right ≡ true → full ≡ false)
-            → told s c len tag st (cond right (cond full 12 (cond ended 13 (cond late 17 0))) 11)
+        go : (right full ended late far : Bool) → (right ≡ true → full ≡ false) → (late ≡ false → far ≡ false)
+            → told s c len tag st (cond right (cond full 12 (cond ended 13 (cond late 17 (cond far 18 0)))) 11)
             ≡ record {
               asked = record { at = s .clock; len = len; tag = tag; stamp = st };
               verdict = cond right (cond ended 13 (cond late 17 0)) 11;
               eligibility = cond right (cond ended 0 (cond late 0 (eligibility-now s c st))) 0;
             }
-        go false full ended late f = refl
-        go true true ended late f = never (sym (f refl))
-        go true false true late f = refl
-        go true false false true f = refl
-        go true false false false f = refl
+        go false full ended late far f g = refl
+        go true true ended late far f g = never (sym (f refl))
+        go true false true late far f g = refl
+        go true false false true far f g = refl
+        go true false false false far f g = rw (g refl) refl
 
     remembered : past s c ≡ remember-all no-past (given es)
     remembered = I .steady .regular .remembered c (stands-owned s c (heard-parts s c st hears .0)) ∙ ap (remember-all no-past) (T .were-given)
@@ -342,6 +344,7 @@ module _ (c : ℕ) where
           ap (λ (j : ℕ). told (run ks .now) j len tag st (verdict (offer j len tag st) (run ks .now))) i
           ∙ own-told (run ks) (invariant ks) (exchanges c ks) (offer-ticks c ks) T len tag st hears
           (λ w. word (run ks .now .clock) (cond-is (some (run ks .now .clock)) none (and-intro (eqb d c) (allowed (run ks .now) c len st) (eq-eqb d c i) (and-intro (heard (run ks .now) c st) (within 1 (figures (run ks .now) c .size) len) hears w))))
+          (ap stamped (alike ks (offer d len tag st) o b) ∙ second)
           ∙ ap (λ (m : Past). own-stamp-answer (figures (run ks .now) c) m (record { at = run ks .now .clock; len = len; tag = tag; stamp = st })) (remembered (run ks) (invariant ks) (exchanges c ks) (offer-ticks c ks) T len tag st hears
           (λ w. word (run ks .now .clock) (cond-is (some (run ks .now .clock)) none (and-intro (eqb d c) (allowed (run ks .now) c len st) (eq-eqb d c i) (and-intro (heard (run ks .now) c st) (within 1 (figures (run ks .now) c .size) len) hears w)))))
           ∙ ap (λ (y : Connection). own-stamp-answer y (remember-all no-past (given (exchanges c ks))) (record { at = run ks .now .clock; len = len; tag = tag; stamp = st })) (alike ks (offer d len tag st) o b)

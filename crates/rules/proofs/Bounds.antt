@@ -10,16 +10,18 @@ use mathlib.Core.Option.{none, some}
 use lib.Dec.{eqb}
 use lib.ListN.{length, List·getD-eq-default}
 use borrow.Author.Tests.{eqb-true, eqb-false}
-use Rattle.rules.specs.Limits.{max-connections, max-gap, max-window, max-allowance, max-reserved, clock-end, beyond-32-bits, max-notices}
+use Rattle.rules.specs.Limits.{max-connections, max-bound, max-gap, max-window, max-allowance, max-reserved, clock-end, beyond-32-bits, max-notices}
 use Rattle.rules.specs.Model.{Connection, Past, Packet, State, no-connection, no-past, fresh, past, figures}
-use Rattle.rules.specs.Admission.{owned, largest-bound, reservation}
-use Rattle.rules.specs.Service.{of, eligibilities}
-use Rattle.rules.specs.SoundState.{Orderly, Sound}
+use Rattle.rules.specs.Admission.{owned, bound, largest-bound, reservation, distance, ahead}
+use Rattle.rules.specs.Service.{of, eligibilities, early-at}
+use Rattle.rules.specs.SoundState.{margin, Orderly, Sound}
 use Rattle.rules.specs.Calls.{eligibility-now}
 use Rattle.rules.proofs.Lists.{All, all-map, total}
 use Rattle.rules.proofs.Sums.{split, same, sum-le, only, only-at, only-off, total-by}
 use Rattle.rules.proofs.Rows.{all-by-connection, length-map}
+use Rattle.rules.proofs.Count.{count-gaps}
 use Rattle.rules.proofs.Standing.{owned-below}
+use Rattle.rules.proofs.Figures.{link-facts, reservation-is, ahead-on, ahead-off}
 use Rattle.rules.proofs.Notices.{of-none}
 use Rattle.rules.proofs.Figures.{link-facts}
 use Rattle.rules.proofs.SoundKept.{fresh-figures, fresh-past}
@@ -75,19 +77,39 @@ module _ (s : State) (S : Orderly s) where
       go true k = omega arith
       go false k = omega arith
 
-  -- so no eligibility lies further beyond the clock than the longest gap or window for each place
+  -- so no eligibility lies further beyond the clock than the longest gap or window for each place, and the distance to which packets may go early
   longest : ℕ
   longest = max max-allowance (max max-gap max-window)
 
   far : ℕ
-  far = clock-end + max-reserved * longest
+  far = clock-end + (max-allowance + max-bound + max-gap) + max-reserved * longest
 
-  reach : (c : ℕ) → s .clock + length (eligibilities c (s .held)) * longest ≤ far
+  -- reservation times X
+  distance-le : (c : ℕ) → owned (s .connections) c ≡ true → distance (s .link) (figures s c) ≤ max-allowance + max-bound + max-gap
+  distance-le c o =
+      omega (
+        arith,
+        ap (λ (n : ℕ). n * figures s c .gap) (reservation-is (s .link) (figures s c)),
+        count-gaps (figures s c) (figures s c .allowance + bound (s .link) (figures s c .level)),
+        facts s S c o .allowance-le,
+        link-facts (s .link) (S .link-in) .bound-le (figures s c .level) (facts s S c o .low-level) (facts s S c o .high-level),
+        facts s S c o .gap-le,
+      )
+
+  margin-le : (c : ℕ) → owned (s .connections) c ≡ true → margin (ahead (s .link) (figures s c)) ≤ max-allowance + max-bound + max-gap
+  margin-le c o = go (early-at s c) refl
+    where
+      go : (b : Bool) → early-at s c ≡ b → margin (ahead (s .link) (figures s c)) ≤ max-allowance + max-bound + max-gap
+      go true i = omega (arith, ap margin (ahead-on (s .link) (figures s c) i), distance-le c o)
+      go false i = omega (arith, ap margin (ahead-off (s .link) (figures s c) i))
+
+  reach : (c : ℕ) → owned (s .connections) c ≡ true → s .clock + margin (ahead (s .link) (figures s c)) + length (eligibilities c (s .held)) * longest ≤ far
   unfolding far
-  reach c =
+  reach c o =
       omega (
         arith,
         S .clock-le,
+        margin-le c o,
         mul-le-mul-right {m = length (eligibilities c (s .held))} {n = max-reserved} longest
             (omega (arith, length-map (λ (p : Packet). p .eligibility) (of c (s .held)), of-le c (s .held), held-le)),
       )
@@ -115,8 +137,8 @@ module _ (s : State) (S : Orderly s) where
 
   queue-far : (c : ℕ) → owned (s .connections) c ≡ true → All (λ e. e ≤ far) (eligibilities c (s .held)) × All (λ e. e ≤ far) (past s c)
   queue-far c l =
-      let k = chained-far (figures s c) longest (s .clock) (figures-le-longest c .0) (figures-le-longest c .1) (figures-le-longest c .2) (past s c) (eligibilities c (s .held)) (queue-chained (figures s c) (regulated s S c l) (s .clock) (past s c) (eligibilities c (s .held)) (S .queue c l)) in
-      (all-map (λ e h. omega (arith, reach c)) (eligibilities c (s .held)) (k .0), all-map (λ e h. omega (arith, reach c)) (past s c) (k .1))
+      let k = chained-far (figures s c) (ahead (s .link) (figures s c)) longest (s .clock) (figures-le-longest c .0) (figures-le-longest c .1) (figures-le-longest c .2) (past s c) (eligibilities c (s .held)) (queue-chained (figures s c) (regulated s S c l) (ahead (s .link) (figures s c)) (s .clock) (past s c) (eligibilities c (s .held)) (S .queue c l)) in
+      (all-map (λ e h. omega (arith, reach c l)) (eligibilities c (s .held)) (k .0), all-map (λ e h. omega (arith, reach c l)) (past s c) (k .1))
 
   past-far : (c : ℕ) → All (λ e. e ≤ far) (past s c)
   past-far c = blank-or (λ x h. All (λ e. e ≤ far) h) tt (λ c o. queue-far c o .1) c
@@ -124,7 +146,7 @@ module _ (s : State) (S : Orderly s) where
   next-far : (c : ℕ) → eligibility-now s c none ≤ far + longest
   unfolding far
   next-far c =
-      next-near (figures s c) longest (s .clock) (figures-le-longest c .0) (figures-le-longest c .1) (figures-le-longest c .2) far (past s c) (omega (arith, S .clock-le)) (past-far c)
+      next-near (figures s c) longest (s .clock) (figures-le-longest c .0) (figures-le-longest c .1) far (past s c) (omega (arith, S .clock-le)) (past-far c)
 
   linked-fit : All (λ p. p .eligibility < beyond-32-bits) (s .held) × ((c : ℕ) → All (λ e. e < beyond-32-bits) (past s c) × (eligibility-now s c none < beyond-32-bits) × ((stamp : ℕ) → stamp ≤ s .clock → eligibility-now s c (some stamp) < beyond-32-bits))
   unfolding far longest
@@ -139,6 +161,9 @@ module _ (s : State) (S : Orderly s) where
   linked-charges c =
       let F = link-facts (s .link) (S .link-in) in
       all-map (λ e k. omega (arith, F .bound-le (s .link .levels) (F .some-level) (le-refl (s .link .levels)))) (past s c) (past-far c)
+
+  linked-distances : (c : ℕ) → s .clock + distance (s .link) (figures s c) < beyond-32-bits
+  linked-distances c = blank-or (λ x h. s .clock + distance (s .link) x < beyond-32-bits) (omega (arith, S .clock-le)) (λ c o. omega (arith, S .clock-le, distance-le c o)) c
 
 -- ---- with or without a link
 
@@ -169,7 +194,7 @@ eligibilities-fit-32 s S =
     (same (s .link .levels) 0)
   where
     fresh-fit : (c : ℕ) → figures fresh c ≡ no-connection → past fresh c ≡ no-past → All (λ e. e < beyond-32-bits) (past fresh c) × (eligibility-now fresh c none < beyond-32-bits) × ((stamp : ℕ) → stamp ≤ 0 → eligibility-now fresh c (some stamp) < beyond-32-bits)
-    fresh-fit c i j = rw (i, j) (tt, omega (arith, next-near no-connection 0 0 (omega arith) (omega arith) (omega arith) 0 no-past (omega arith) tt), λ stamp k. omega arith)
+    fresh-fit c i j = rw (i, j) (tt, omega (arith, next-near no-connection 0 0 (omega arith) (omega arith) 0 no-past (omega arith) tt), λ stamp k. omega arith)
 
 pub charges-fit-32 : (s : State) → Sound s → (c : ℕ) → All (λ e. e + largest-bound (s .link) < beyond-32-bits) (past s c)
 charges-fit-32 s S c =
@@ -178,4 +203,13 @@ charges-fit-32 s S c =
     subst (λ (r : State). All (λ e. e + largest-bound (r .link) < beyond-32-bits) (past r c)) (sym (S .with-no-link z))
     (subst (All (λ e. e + largest-bound (fresh .link) < beyond-32-bits)) (sym (fresh-past c)) tt))
     (λ n. linked-charges s (S .with-one n .orderly) c)
+    (same (s .link .levels) 0)
+
+pub distances-fit-32 : (s : State) → Sound s → (c : ℕ) → s .clock + distance (s .link) (figures s c) < beyond-32-bits
+distances-fit-32 s S c =
+    ⊎-elim
+    (λ z.
+    subst (λ (r : State). r .clock + distance (r .link) (figures r c) < beyond-32-bits) (sym (S .with-no-link z))
+    (subst (λ (x : Connection). fresh .clock + distance (fresh .link) x < beyond-32-bits) (sym (fresh-figures c)) (omega arith)))
+    (λ n. linked-distances s (S .with-one n .orderly) c)
     (same (s .link .levels) 0)

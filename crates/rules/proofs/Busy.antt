@@ -1,7 +1,7 @@
 -- How far the line is behind with the packets of levels up to m: the invariant of a busy stretch, and what it says of a packet that waits.
 use Prim.Native.Nat.{ℕ, _+_, _≤_, _<_}
 use native.Mathlib.Omega.{arith}
-use mathlib.Core.Path.{_≡_, sym, ap, _∙_}
+use mathlib.Core.Path.{_≡_, ap, _∙_}
 use mathlib.Core.Logic.{_⊎_, inl, inr}
 use mathlib.Core.Bool.{true}
 use mathlib.Core.List.{List}
@@ -14,7 +14,7 @@ use Rattle.rules.specs.Service.{Spaced, eligibilities, first, level-of, 
 use Rattle.rules.specs.SoundState.{Fits, In-service, Notice-in-service}
 use Rattle.rules.proofs.Lists.{All, all-zip, all-sub, Sub, total, total-each}
 use Rattle.rules.proofs.Sums.{split, upto-yes, upto-no, upto-le}
-use Rattle.rules.proofs.Rows.{first-of, total-without}
+use Rattle.rules.proofs.Rows.{total-without}
 use Rattle.rules.proofs.Memory.{memory}
 use Rattle.rules.proofs.Figures.{Connection-facts, cost-pos}
 use Rattle.rules.proofs.Line.{left-some}
@@ -30,13 +30,14 @@ due l cs m t p = upto (nth cs (p .connection) .level) m (upto (p .eligibility) t
 abbrev pub demand : State → ℕ → ℕ → ℕ
 demand s m t = total (due (s .link) (s .connections) m t) (s .held)
 
-abbrev pub cost-of : Link → Option Packet → ℕ
-cost-of l none = 0
-cost-of l (some p) = cost l (p .len)
+abbrev pub due-of : Link → List Connection → ℕ → ℕ → Option Packet → ℕ
+due-of l cs m t none = 0
+due-of l cs m t (some p) = due l cs m t p
 
--- the cost of the packet in service, if its level is up to m: it stands on both sides of the balance, so that it does not matter whose it is
-abbrev pub served : State → ℕ → ℕ
-served s m = upto 1 (s .to-go) (upto (level-of s (s .serving)) m (cost-of (s .link) (first (s .serving) (s .held))))
+-- the cost of the packet in service, if its level is up to m and it is eligible at t: it stands on both sides of the balance, so that it does not matter whose
+-- it is. One that was sent early counts from its eligibility on
+abbrev pub served : State → ℕ → ℕ → ℕ
+served s m t = upto 1 (s .to-go) (due-of (s .link) (s .connections) m t (first (s .serving) (s .held)))
 
 -- ---- what holds between calls
 
@@ -79,7 +80,7 @@ pub record Busy (s : State) (acc : List Packet) (m t : ℕ) : Type 0 where
   pub from : ℕ
   pub started : from ≤ s .clock
   pub since : All (λ p. level-of s (p .connection) ≤ m → p .eligibility ≤ t → from ≤ p .eligibility) (s .held)
-  pub work : demand s m t + line-left s + (s .clock + 1) ≤ cost (s .link) (s .link .largest) + from + arrived (s .link) (s .connections) m from t acc + served s m
+  pub work : demand s m t + line-left s + (s .clock + 1) ≤ cost (s .link) (s .link .largest) + from + arrived (s .link) (s .connections) m from t acc + served s m t
   pub in-time : s .clock + 1 ≤ from + bound (s .link) m
 
 -- ---- laws of `due`
@@ -104,37 +105,37 @@ module _ (l : Link) (cs : List Connection) (m t : ℕ) (p : Packet) where
 
 -- ---- the packet in service
 
-module _ (s : State) (m : ℕ) where
-  pub served-idle : s .to-go ≡ 0 → served s m ≡ 0
-  served-idle z = upto-no 1 (s .to-go) (upto (level-of s (s .serving)) m (cost-of (s .link) (first (s .serving) (s .held)))) (omega arith)
+module _ (s : State) (m t : ℕ) where
+  pub served-idle : s .to-go ≡ 0 → served s m t ≡ 0
+  served-idle z = upto-no 1 (s .to-go) (due-of (s .link) (s .connections) m t (first (s .serving) (s .held))) (omega arith)
 
   -- the packet in service counts in the demand
-  pub served-is : (r : In-service s) → served s m ≡ due (s .link) (s .connections) m (s .clock) (r .it)
-  served-is r =
-      upto-yes 1 (s .to-go) (upto (level-of s (s .serving)) m (cost-of (s .link) (first (s .serving) (s .held)))) (r .some-to-go)
-      ∙ ap (λ (o : Option Packet). upto (level-of s (s .serving)) m (cost-of (s .link) o)) (r .is-first)
-      ∙ ap (λ (c : ℕ). upto (level-of s c) m (cost (s .link) (r .it .len))) (sym (first-of (s .serving) (s .held) (r .it) (r .is-first)))
-      ∙ sym (due-yes (s .link) (s .connections) m (s .clock) (r .it) (r .eligible))
+  pub served-at : (p : Packet) → 1 ≤ s .to-go → first (s .serving) (s .held) ≡ some p → served s m t ≡ due (s .link) (s .connections) m t p
+  served-at p l e =
+      upto-yes 1 (s .to-go) (due-of (s .link) (s .connections) m t (first (s .serving) (s .held))) l
+      ∙ ap (due-of (s .link) (s .connections) m t) e
+
+  pub served-is : (r : In-service s) → served s m t ≡ due (s .link) (s .connections) m t (r .it)
+  served-is r = served-at (r .it) (r .some-to-go) (r .is-first)
 
   -- a notice does not
-  pub served-notice : first (s .serving) (s .held) ≡ none → served s m ≡ 0
+  pub served-notice : first (s .serving) (s .held) ≡ none → served s m t ≡ 0
   served-notice e =
       omega (
         arith,
-        upto-le 1 (s .to-go) (upto (level-of s (s .serving)) m (cost-of (s .link) (first (s .serving) (s .held)))),
-        upto-le (level-of s (s .serving)) m (cost-of (s .link) (first (s .serving) (s .held))),
-        ap (cost-of (s .link)) e,
+        upto-le 1 (s .to-go) (due-of (s .link) (s .connections) m t (first (s .serving) (s .held))),
+        ap (due-of (s .link) (s .connections) m t) e,
       )
 
   -- while something is due, at least one tick of work is left besides what is served
-  owed : Line s → 0 < demand s m (s .clock) → served s m + 1 ≤ demand s m (s .clock) + line-left s
+  owed : Line s → 0 < demand s m t → served s m t + 1 ≤ demand s m t + line-left s
   owed (inl z) h = omega (arith, served-idle (z .0))
   owed (inr (inr n)) h = omega (arith, served-notice (n .alone))
   owed (inr (inl r)) h =
       omega (
         arith,
         served-is r,
-        total-without (s .serving) (due (s .link) (s .connections) m (s .clock)) (s .held) (r .it) (r .is-first),
+        total-without (s .serving) (due (s .link) (s .connections) m t) (s .held) (r .it) (r .is-first),
         left-some s (r .some-to-go),
       )
 
@@ -148,7 +149,7 @@ module _ (s : State) (acc : List Packet) (m : ℕ) (low : 1 ≤ m) (high : m ≤
         arith,
         B .work,
         B .in-time,
-        owed s m l h,
+        owed s m (s .clock) l h,
         F .tested m low high,
         arrived-le (s .link) (s .connections) m (B .from) (s .clock) (bound (s .link) m) (omega (arith, B .in-time)) acc (λ c i. F .each c i .some-gap) (R .fit) (R .spaced),
       )

@@ -9,7 +9,7 @@ use Rattle.rules.specs.Words.{upto}
 use Rattle.rules.specs.Limits.{notice-number}
 use Rattle.rules.specs.Model.{Link, Connection, Packet, Notice, State, Answer, nth, with-line}
 use Rattle.rules.specs.Admission.{bound, cost}
-use Rattle.rules.specs.Service.{first, without, level-of, takes, later, after-unit, line-left}
+use Rattle.rules.specs.Service.{first, without, level-of, stand-by, takes, later, after-unit, line-left}
 use Rattle.rules.specs.SoundState.{Fits, Notice-fits, In-service}
 use Rattle.rules.proofs.Lists.{All, all-map, all-zip, all-sub, all-every, Sub, sub-refl, total-le, total-sub, total-add, total-zero, total-none}
 use Rattle.rules.proofs.Sums.{split, upto-yes, upto-no, upto-le, upto-mono, upto-add}
@@ -17,35 +17,37 @@ use Rattle.rules.proofs.Rows.{first-all, total-without, sub-without}
 use Rattle.rules.proofs.Notices.{first-notice-is, first-none}
 use Rattle.rules.proofs.Line.{last-of-packet, last-of-notice, left-silent, left-some, left-taken, left-unit, left-last, left-in-silence}
 use Rattle.rules.proofs.Choice.{Chosen}
-use Rattle.rules.proofs.SoundTick.{taken-serves, notice-serves}
+use Rattle.rules.proofs.SoundTick.{taken-serves, early-serves, notice-serves}
 use Rattle.rules.proofs.Window.{between, weight}
-use Rattle.rules.proofs.Busy.{due, demand, cost-of, Line, Regular, fit-held, Busy, due-full, due-none, due-off, served-idle, served-is, served-notice}
+use Rattle.rules.proofs.Busy.{due, demand, due-of, served, Line, Regular, fit-held, Busy, due-full, due-none, due-off, served-idle, served-is, served-notice}
 
--- ---- step 1: an idle line takes the chosen packet, or the first notice
+-- ---- step 1: an idle line takes the chosen packet, the first notice, or the packet that stands by
 
 module _ (s : State) (acc : List Packet) (R : Regular s acc) where
   pub taken-line : (o : Option Packet) → Chosen (level-of s) (s .clock) (s .held) o
       → (ns : List Notice) → s .notices ≡ ns → All (Notice-fits (s .link) (s .clock)) ns → All (λ p. p .connection ≡ notice-number → ⊥) (s .held)
       → s .silent ≤ s .link .silence
-      → Line (with-line s (takes o ns .0) (takes o ns .1) (s .silent))
+      → (b : Option Packet) → stand-by s ≡ b
+      → Line (with-line s (takes o ns b .0) (takes o ns b .1) (s .silent))
   unfolding notice-serves
-  taken-line (some p) k ns i f a q = inr (inl (taken-serves s (fit-held s acc R) p k))
-  taken-line none k [] i f a q = inl (refl, q)
-  taken-line none k (n ∷ ns) i f a q =
+  taken-line (some p) k ns i f a q b j = inr (inl (taken-serves s (fit-held s acc R) p k))
+  taken-line none k [] i f a q none j = inl (refl, q)
+  taken-line none k [] i f a q (some p) j = inr (inl (early-serves s (fit-held s acc R) p j))
+  taken-line none k (n ∷ ns) i f a q b j =
       inr (inr (record { in-service = notice-serves s n ns i f; short = f .0 .len-le; alone = first-none notice-number (s .held) a }))
 
   -- busy, with something on the line
   abbrev Taken-busy : ℕ → ℕ → ℕ → Type 0
   Taken-busy w u m = Busy (with-line s w u (s .silent)) acc m (s .clock) × (0 < line-left (with-line s w u (s .silent)))
 
-  pub taken-busy : (m : ℕ) (o : Option Packet) (ns : List Notice) → Chosen (level-of s) (s .clock) (s .held) o → s .to-go ≡ 0 → s .silent ≡ 0
+  pub taken-busy : (m : ℕ) (o : Option Packet) (ns : List Notice) (b : Option Packet) → Chosen (level-of s) (s .clock) (s .held) o → s .to-go ≡ 0 → s .silent ≡ 0
       → Busy s acc m (s .clock) → 0 < demand s m (s .clock)
-      → Taken-busy (takes o ns .0) (takes o ns .1) m
+      → Taken-busy (takes o ns b .0) (takes o ns b .1) m
   unfolding taken-serves
-  taken-busy m none ns k z y B h =
+  taken-busy m none ns b k z y B h =
       absurd
       (omega (arith, total-none (due (s .link) (s .connections) m (s .clock)) (s .held) (all-map (λ q lt. due-off (s .link) (s .connections) m (s .clock) q (λ le. absurd (omega arith))) (s .held) k)))
-  taken-busy m (some p) ns k z y B h = go (split (level-of s (p .connection)) m)
+  taken-busy m (some p) ns b k z y B h = go (split (level-of s (p .connection)) m)
     where
       f : Fits (s .connections) p
       f = first-all (p .connection) (Fits (s .connections)) (s .held) p (k .2) (fit-held s acc R)
@@ -60,10 +62,10 @@ module _ (s : State) (acc : List Packet) (R : Regular s acc) where
               omega (
                 arith,
                 B .work,
-                served-idle s m z,
+                served-idle s m (s .clock) z,
                 left-silent s z,
                 left-taken s (p .connection) (p .len) (s .silent) (f .some-len),
-                served-is (with-line s (p .connection) (p .len) (s .silent)) m (taken-serves s (fit-held s acc R) p k),
+                served-is (with-line s (p .connection) (p .len) (s .silent)) m (s .clock) (taken-serves s (fit-held s acc R) p k),
                 due-full (s .link) (s .connections) m (s .clock) p lv (k .0),
               );
           in-time = B .in-time;
@@ -83,7 +85,7 @@ module _ (s : State) (acc : List Packet) (R : Regular s acc) where
 
 module _ (s : State) (acc : List Packet) (m : ℕ) where
   going : ℕ
-  going = upto (level-of s (s .serving)) m (cost-of (s .link) (first (s .serving) (s .held)))
+  going = due-of (s .link) (s .connections) m (s .clock) (first (s .serving) (s .held))
 
   abbrev Left-busy : State → Type 0
   Left-busy r = Busy r acc m (s .clock)
@@ -98,7 +100,7 @@ module _ (s : State) (acc : List Packet) (m : ℕ) where
         omega (
           arith,
           B .work,
-          served-is s m r,
+          served-is s m (s .clock) r,
           left-last s (without (s .serving) (s .held)) (s .notices) (s .serving) (s .silent),
           ap (λ (v : ℕ). line-left (with-line s (s .serving) v (s .silent))) e,
           total-without (s .serving) (due (s .link) (s .connections) m (s .clock)) (s .held) (r .it) (r .is-first),
@@ -116,7 +118,7 @@ module _ (s : State) (acc : List Packet) (m : ℕ) where
         omega (
           arith,
           B .work,
-          served-notice s m a,
+          served-notice s m (s .clock) a,
           left-last s (s .held) ns (s .serving) (s .silent),
           ap (λ (v : ℕ). line-left (with-line s (s .serving) v (s .silent))) e,
         );
@@ -132,7 +134,7 @@ module _ (s : State) (acc : List Packet) (m : ℕ) where
     from = B .from;
     started = omega (arith, B .started);
     since = B .since;
-    work = omega (arith, B .work, left-in-silence s (s .held) (s .notices) e pos, served-idle s m e);
+    work = omega (arith, B .work, left-in-silence s (s .held) (s .notices) e pos, served-idle s m (s .clock) e);
     in-time = omega arith;
   }
   unit-busy (suc u) e pos (inl z) away B h = absurd (omega (arith, z .0))
@@ -233,6 +235,24 @@ weight-next l cs m b t p h =
           (λ _. between-next b t (cost l (p .len)) p h),
     )
 
+-- what is served counts no less later
+due-mono : (l : Link) (cs : List Connection) (m t : ℕ) (o : Option Packet) → due-of l cs m t o ≤ due-of l cs m (t + 1) o
+due-mono l cs m t none = omega arith
+due-mono l cs m t (some p) =
+    upto-mono (nth cs (p .connection) .level) m {x = upto (p .eligibility) t (cost l (p .len))} {y = upto (p .eligibility) (t + 1) (cost l (p .len))}
+    (λ _. go (split (p .eligibility) t))
+  where
+    go : (p .eligibility ≤ t) ⊎ (t < p .eligibility) → upto (p .eligibility) t (cost l (p .len)) ≤ upto (p .eligibility) (t + 1) (cost l (p .len))
+    go (inl h) = omega (arith, upto-yes (p .eligibility) t (cost l (p .len)) h, upto-yes (p .eligibility) (t + 1) (cost l (p .len)) (omega arith))
+    go (inr h) = omega (arith, upto-no (p .eligibility) t (cost l (p .len)) h)
+
+served-mono : (s : State) (m t : ℕ) → served s m t ≤ served s m (t + 1)
+served-mono s m t =
+    upto-mono 1 (s .to-go)
+    {x = due-of (s .link) (s .connections) m t (first (s .serving) (s .held))}
+    {y = due-of (s .link) (s .connections) m (t + 1) (first (s .serving) (s .held))}
+    (λ _. due-mono (s .link) (s .connections) m t (first (s .serving) (s .held)))
+
 pub advance : (s : State) (acc : List Packet) (m t : ℕ) → s .clock ≡ t + 1 → Sub (s .held) acc → Busy s acc m t → Busy s acc m (t + 1)
 advance s acc m t c sub B = record {
   from = B .from;
@@ -247,6 +267,7 @@ advance s acc m t c sub B = record {
         total-sub turning sub,
         total-le (λ p. came t p + turning p) (came (t + 1)) acc (all-every (λ p. weight-next (s .link) (s .connections) m (B .from) t p (omega (arith, B .started))) acc),
         total-add (came t) turning acc,
+        served-mono s m t,
       );
   in-time = B .in-time;
 }

@@ -293,6 +293,27 @@ count-le x w g = go (eqb (burst x) 0)
     go true = rounded-up-le w (x .gap) g
     go false = omega (arith, rounded-up-le w (x .gap) g)
 
+-- so many gaps take no more than the ticks and one gap
+pub count-gaps : (x : Connection) (w : ℕ) → count x w * x .gap ≤ w + x .gap
+unfolding count
+count-gaps x w = go (eqb (burst x) 0)
+  where
+    go : (t : Bool) → cond t (rounded-up w (x .gap)) (min (rounded-up w (x .gap)) (average-count x w)) * x .gap ≤ w + x .gap
+    go true = omega (arith, div-mul-le-self (w + (x .gap - 1)) (x .gap))
+    go false =
+        omega (
+          arith,
+          div-mul-le-self (w + (x .gap - 1)) (x .gap),
+          mul-le-mul-right {m = min (rounded-up w (x .gap)) (average-count x w)} {n = rounded-up w (x .gap)} (x .gap) (omega arith),
+        )
+
+-- .. and without an average no fewer than the ticks
+rounded-up-covers : (w g : ℕ) → 1 ≤ g → w ≤ rounded-up w g * g
+rounded-up-covers w g l = omega (arith, div-add-mod' (w + (g - 1)) g, mod-lt (w + (g - 1)) {m = g} l)
+
+pub count-covers : (x : Connection) (w : ℕ) → 1 ≤ x .gap → burst x ≡ 0 → w ≤ count x w * x .gap
+count-covers x w l e = omega (arith, ap (λ (n : ℕ). n * x .gap) (count-plain x w e), rounded-up-covers w (x .gap) l)
+
 -- a free number counts nothing
 pub count-none : (w : ℕ) → count no-connection w ≡ 0
 count-none w = count-plain no-connection w (burst-none no-connection refl) ∙ div-zero (w + (0 - 1))

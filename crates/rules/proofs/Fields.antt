@@ -77,9 +77,9 @@ short-fits x s R t N =
     let b = term-le (s .link) x (t .level) (S .link-in) (R .figures-in) (a .0) (a .1) in
     (omega (arith, N .units-are), omega (arith, N .units-are))
 
-verdict-le : (k : Call) (s : State) → verdict k s ≤ 17
+verdict-le : (k : Call) (s : State) → verdict k s ≤ 18
 unfolding verdicts
-verdict-le k s = number-le 17 (verdicts k s) (omega arith, all-map {P = λ r. (2 ≤ r .0) × (r .0 ≤ 17)} {Q = λ r. r .0 ≤ 17} (λ r n. n .1) (causes k s) (causes-from-2 k s))
+verdict-le k s = number-le 18 (verdicts k s) (omega arith, all-map {P = λ r. (2 ≤ r .0) × (r .0 ≤ 18)} {Q = λ r. r .0 ≤ 18} (λ r n. n .1) (causes k s) (causes-from-2 k s))
 
 -- a held packet's numbers
 held-fit : (s : State) (S : Sound s) (T : Orderly s) → All Packet-fits (s .held)

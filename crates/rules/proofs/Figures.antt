@@ -2,16 +2,17 @@
 use Prim.Native.Nat.{ℕ, zero, suc, _+_, _*_, _/_, _%_, _≤_, _<_}
 use native.Mathlib.Omega.{arith}
 use native.Mathlib.Nat.{zero-div, div-mul-le-self, mul-le-mul-left, mul-le-mul-right}
-use mathlib.Core.Path.{_≡_, refl, ap, _∙_}
-use mathlib.Core.Bool.{Bool, true, false, _&&_, _||_}
+use mathlib.Core.Path.{_≡_, refl, sym, ap, _∙_}
+use mathlib.Core.Bool.{Bool, true, false, not, _&&_, _||_}
 use mathlib.Core.List.{List, [], _∷_}
+use mathlib.Core.Option.{Option, none, some}
 use lib.Dec.{leb, eqb}
 use lib.ListN.{getD}
-use borrow.Author.Tests.{leb-true, eqb-true, eq-eqb, ne-eqb}
+use borrow.Author.Tests.{leb-true, eqb-true, eq-eqb, ne-eqb, not-true}
 use Rattle.rules.specs.Words.{within}
 use Rattle.rules.specs.Limits.{max-levels, max-largest, max-silence, max-bound, max-gap, max-window, max-burst, max-allowance}
 use Rattle.rules.specs.Model.{Link, Connection}
-use Rattle.rules.specs.Admission.{rising, link-within, level-within, burst, average-within, stamped, kind-within, figures-within, bound, largest-bound, count, reservation, cost, load, level-sum}
+use Rattle.rules.specs.Admission.{rising, link-within, level-within, burst, average-within, stamped, kind-within, figures-within, bound, largest-bound, count, reservation, cost, load, level-sum, stand-by-on, goes-early, distance, ahead}
 use Rattle.rules.specs.SoundState.{reach}
 use Rattle.rules.proofs.Sums.{cond-is}
 use Rattle.rules.proofs.Tests.{never, and-true, or-cases, within-true}
@@ -60,18 +61,19 @@ pub link-facts : (l : Link) → link-within l ≡ true → Link-facts l
 unfolding link-within
 link-facts l e =
     let rises = rising (cost l (l .largest)) (l .levels) (l .bounds) in
-    let a = and-true (within 1 max-levels (l .levels)) (within 1 max-largest (l .largest) && (leb (l .silence) max-silence && rises)) e in
-    let b = and-true (within 1 max-largest (l .largest)) (leb (l .silence) max-silence && rises) (a .1) in
-    let c = and-true (leb (l .silence) max-silence) rises (b .1) in
+    let a = and-true (within 1 max-levels (l .levels)) (within 1 max-largest (l .largest) && (leb (l .silence) max-silence && (leb (l .early) 1 && rises))) e in
+    let b = and-true (within 1 max-largest (l .largest)) (leb (l .silence) max-silence && (leb (l .early) 1 && rises)) (a .1) in
+    let c = and-true (leb (l .silence) max-silence) (leb (l .early) 1 && rises) (b .1) in
+    let r = and-true (leb (l .early) 1) rises (c .1) in
     record {
       some-level = within-true 1 max-levels (l .levels) (a .0) .0;
       few-levels = within-true 1 max-levels (l .levels) (a .0) .1;
       some-largest = within-true 1 max-largest (l .largest) (b .0) .0;
       largest-max = within-true 1 max-largest (l .largest) (b .0) .1;
       silence-max = leb-true (l .silence) max-silence (c .0);
-      bound-le = high (c .1);
-      bound-rises = rises-to (c .1);
-      largest-le = low (c .1);
+      bound-le = high (r .1);
+      bound-rises = rises-to (r .1);
+      largest-le = low (r .1);
     }
   where
     rises-to : rising (cost l (l .largest)) (l .levels) (l .bounds) ≡ true → (m : ℕ) → 1 ≤ m → m ≤ l .levels → bound l m ≤ largest-bound l
@@ -147,7 +149,7 @@ average-facts c e =
 -- n packets a gap apart fit a window
 pub packets-fit : (c : Connection) → average-within c ≡ true → 1 ≤ burst c → burst c * c .gap ≤ c .window
 unfolding burst
-packets-fit c e some =
+packets-fit c e many =
     or-cases (eqb (c .window) 0 && eqb (c .average) 0) _ e
     (λ z. let k = and-true (eqb (c .window) 0) (eqb (c .average) 0) z in absurd (omega (arith, burst-none c (eqb-true _ 0 (k .0)))))
     (λ _ z.
@@ -231,6 +233,55 @@ connection-facts l c e f =
 pub reservation-is : (l : Link) (c : Connection) → reservation l c ≡ count c (c .allowance + bound l (c .level))
 unfolding reservation
 reservation-is l c = refl
+
+-- whose packets may go early, and how far past the clock an eligibility may lie then (document 02, R-11)
+module _ (l : Link) (c : Connection) where
+  pub early-parts : goes-early l c ≡ true → (stand-by-on l ≡ true) × (stamped c ≡ false)
+  unfolding goes-early
+  early-parts e = let k = and-true (stand-by-on l) (not (stamped c)) e in (k .0, not-true (stamped c) (k .1))
+
+  pub early-made : stand-by-on l ≡ true → stamped c ≡ false → goes-early l c ≡ true
+  unfolding goes-early
+  early-made i j = rw (i, j) refl
+
+  pub never-stamped : stamped c ≡ true → goes-early l c ≡ false
+  unfolding goes-early
+  never-stamped e = rw e (go (stand-by-on l))
+    where
+      go : (b : Bool) → (b && false) ≡ false
+      go true = refl
+      go false = refl
+
+  pub never-off : stand-by-on l ≡ false → goes-early l c ≡ false
+  unfolding goes-early
+  never-off e = rw e refl
+
+  pub ahead-on : goes-early l c ≡ true → ahead l c ≡ some (distance l c)
+  unfolding ahead
+  ahead-on e = cond-is (some (distance l c)) none e
+
+  pub ahead-off : goes-early l c ≡ false → ahead l c ≡ none
+  unfolding ahead
+  ahead-off e = cond-is (some (distance l c)) none e
+
+  pub off-ahead : ahead l c ≡ none → goes-early l c ≡ false
+  off-ahead e = go (goes-early l c) refl
+    where
+      go : (b : Bool) → goes-early l c ≡ b → goes-early l c ≡ false
+      go true i = let z : _≡_ {A = ℕ} 0 1 = cc (sym (ahead-on i) ∙ e) in absurd (omega arith)
+      go false i = i
+
+  -- what is `ahead` is the distance, of the first kind while the queue is on
+  pub ahead-is : (r : ℕ) → ahead l c ≡ some r → (goes-early l c ≡ true) × (r ≡ distance l c)
+  ahead-is r e = go (goes-early l c) refl
+    where
+      value : Option ℕ → ℕ
+      value none = 0
+      value (some x) = x
+
+      go : (b : Bool) → goes-early l c ≡ b → (goes-early l c ≡ true) × (r ≡ distance l c)
+      go true i = (i, ap value (sym e ∙ ahead-on i))
+      go false i = let z : _≡_ {A = ℕ} 0 1 = cc (sym e ∙ ahead-off i) in absurd (omega arith)
 
 -- what a packet takes of the line: something, more than the silence, and a longer one no less
 pub cost-pos : (l : Link) (len : ℕ) → 1 ≤ len → 1 ≤ cost l len

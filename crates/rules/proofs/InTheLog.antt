@@ -2,7 +2,7 @@
 use Prim.Native.Nat.{ℕ, zero, suc, _+_, _≤_, _<_}
 use native.Mathlib.Omega.{arith}
 use mathlib.Core.Path.{_≡_, refl, sym, ap, _∙_, subst}
-use mathlib.Core.Bool.{Bool, true, false, cond}
+use mathlib.Core.Bool.{Bool, true, false, cond, true≢false}
 use mathlib.Core.Logic.{_⊎_, inl, inr, ⊎-elim}
 use mathlib.Core.List.{List, [], _∷_, _++_}
 use mathlib.Core.Option.{Option, none, some}
@@ -21,6 +21,7 @@ use Rattle.rules.proofs.Verdicts.{settled}
 use Rattle.rules.proofs.Invariant.{whats, Invariant}
 use Rattle.rules.proofs.Every.{keeps, fresh-invariant}
 use Rattle.rules.proofs.InTime.{conserved-lists, Either, holds-one, its-owner, not-over}
+use Rattle.rules.proofs.Lower.{Begun, call-begun, fresh-begun}
 use Rattle.rules.proofs.Through.{either-on}
 
 find-last : {A : Type 0} (xs : List A) (y : A) (i : ℕ) (x : A) → getElem? (xs ++ y ∷ []) i ≡ some x → (getElem? xs i ≡ some x) ⊎ ((i ≡ length xs) × (y ≡ x))
@@ -29,7 +30,7 @@ find-last [] y (suc i) x e = absurd (none-some e)
 find-last (z ∷ xs) y zero x e = inl e
 find-last (z ∷ xs) y (suc i) x e = ⊎-elim (λ k. inl k) (λ k. inr (omega (arith, k .0), k .1)) (find-last xs y i x e)
 
-find-below : {A : Type 0} (xs : List A) (i : ℕ) (x : A) → getElem? xs i ≡ some x → i < length xs
+pub find-below : {A : Type 0} (xs : List A) (i : ℕ) (x : A) → getElem? xs i ≡ some x → i < length xs
 find-below [] i x e = absurd (none-some e)
 find-below (y ∷ xs) zero x e = omega arith
 find-below (y ∷ xs) (suc i) x e = omega (arith, find-below xs i x e)
@@ -37,14 +38,14 @@ find-below (y ∷ xs) (suc i) x e = omega (arith, find-below xs i x e)
 module _ (c : ℕ) (level : c ≡ notice-number → ⊥) where
   pub record In-log (h : History) (bs : List ℕ) : Type 0 where
     pub as-many : length bs ≡ length (of c (h .accepted))
-    pub each : (i : ℕ) (p : Packet) (b : ℕ) → getElem? (of c (h .accepted)) i ≡ some p → getElem? bs i ≡ some b → Either c i p level b h
+    pub each : (i : ℕ) (p : Packet) (b : ℕ) → getElem? (of c (h .accepted)) i ≡ some p → getElem? bs i ≡ some b → Either c i p level b true h
 
-  module _ (h : History) (I : Invariant h) (bs : List ℕ) (L : In-log h bs) where
+  module _ (h : History) (I : Invariant h) (B : Begun (h .now)) (bs : List ℕ) (L : In-log h bs) where
     open History h using (now as s, accepted as acc)
 
     -- those before are as they are
     abbrev Goes-on : History → Type 0
-    Goes-on r = (i : ℕ) (p : Packet) (b : ℕ) → Either c i p level b h → Either c i p level b r
+    Goes-on r = (i : ℕ) (p : Packet) (b : ℕ) → Either c i p level b true h → Either c i p level b true r
 
     -- no packet of c more
     none-more : (r : History) → of c (r .accepted) ≡ of c acc → Goes-on r → In-log r bs
@@ -70,7 +71,7 @@ module _ (c : ℕ) (level : c ≡ notice-number → ⊥) where
             → (getElem? (of c acc) i ≡ some p) ⊎ ((i ≡ length (of c acc)) × (packet s c len tag st ≡ p))
             → (getElem? bs i ≡ some b) ⊎ ((i ≡ length bs) × (bound-of s c ≡ b))
             → getElem? (of c (acc ++ packet s c len tag st ∷ [])) i ≡ some p
-            → Either c i p level b (logged h (offer c len tag st) (done (offer c len tag st) s))
+            → Either c i p level b true (logged h (offer c len tag st) (done (offer c len tag st) s))
         go i p b (inl e) (inl f) k = on i p b (L .each i p b e f)
         go i p b (inl e) (inr f) k = absurd (omega (arith, find-below (of c acc) i p e, f .0, L .as-many))
         go i p b (inr e) (inl f) k = absurd (omega (arith, find-below bs i b f, e .0, L .as-many))
@@ -80,6 +81,7 @@ module _ (c : ℕ) (level : c ≡ notice-number → ⊥) where
               later-on = omega (arith, e .0, ap length (conserved-lists h I c), length-append (whats (departures c (h .departed))) (of c (in-hub s)), length-map (λ (d : Departure). d .what) (departures c (h .departed)));
               is-there = k;
               still-bound = f .1;
+              still-early = λ e. absurd (true≢false e);
             })
 
     done-logged : (k : Call) → Goes-on (logged h k (done k s)) → In-log (logged h k (done k s)) (push bs (sender-bound c k s (done k s)))
@@ -114,22 +116,22 @@ module _ (c : ℕ) (level : c ≡ notice-number → ⊥) where
         settled (λ a. Goes-on (logged h k a) → In-log (logged h k a) (push bs (sender-bound c k s a))) k s (verdict k s)
         (λ e on. done-logged k on)
         (λ v on. refused-logged k v on)
-        (λ i p b E. either-on c i p level b h k I E)
+        (λ i p b E. either-on c i p level b true h k I B E)
 
-  run-logged : (ks : List Call) (h : History) (bs : List ℕ) → Invariant h → In-log h bs → In-log (run-from h ks) (sender-bounds-from c h bs ks)
-  run-logged [] h bs I L = L
-  run-logged (k ∷ ks) h bs I L = run-logged ks (after h k) (push bs (sender-bound c k (h .now) (answer k (h .now)))) (keeps h k I) (step-logged h I bs L k)
+  run-logged : (ks : List Call) (h : History) (bs : List ℕ) → Invariant h → Begun (h .now) → In-log h bs → In-log (run-from h ks) (sender-bounds-from c h bs ks)
+  run-logged [] h bs I B L = L
+  run-logged (k ∷ ks) h bs I B L = run-logged ks (after h k) (push bs (sender-bound c k (h .now) (answer k (h .now)))) (keeps h k I) (call-begun h I B k) (step-logged h I B bs L k)
 
   pub in-the-log : (ks : List Call) → In-log (run ks) (sender-bounds c ks)
-  in-the-log ks = run-logged ks nothing-yet [] fresh-invariant (record { as-many = refl; each = λ i p b e. absurd (none-some e) })
+  in-the-log ks = run-logged ks nothing-yet [] fresh-invariant fresh-begun (record { as-many = refl; each = λ i p b e. absurd (none-some e) })
 
 -- what is in time, or waits, has left once its time is over
-pub over-left : (c i : ℕ) (p : Packet) (level : c ≡ notice-number → ⊥) (d : ℕ) (h : History) → Invariant h → Either c i p level d h → p .eligibility + d ≤ h .now .clock
+pub over-left : (c i : ℕ) (p : Packet) (level : c ≡ notice-number → ⊥) (d : ℕ) (early : Bool) (h : History) → Invariant h → Either c i p level d early h → p .eligibility + d ≤ h .now .clock
     → (f : ℕ) × (getElem? (departures c (h .departed)) i ≡ some (record { what = p; finish = f })) × (f ≤ p .eligibility + d)
-over-left c i p level d h I (inl G) over = G
-over-left c i p level d h I (inr W) over =
+over-left c i p level d early h I (inl G) over = (G .0, G .1, G .2)
+over-left c i p level d early h I (inr W) over =
     absurd
     (⊎-elim
-    (λ z. holds-one c i p level d h I W (omega (arith, ap (λ (r : State). length (of c (r .held))) (I .sound .with-no-link z))))
-    (λ n. omega (arith, not-over c i p level d h I W (its-owner c i p level d h I W (I .sound .with-one n .orderly))))
+    (λ z. holds-one c i p level d early h I W (omega (arith, ap (λ (r : State). length (of c (r .held))) (I .sound .with-no-link z))))
+    (λ n. omega (arith, not-over c i p level d early h I W (its-owner c i p level d early h I W (I .sound .with-one n .orderly))))
     (same (h .now .link .levels) 0))

@@ -12,7 +12,7 @@ use lib.ListN.{length, getElem?}
 use Rattle.rules.specs.Limits.{notice-number}
 use Rattle.rules.specs.Model.{Packet, notice-packet}
 use Rattle.rules.specs.Admission.{owned}
-use Rattle.rules.specs.Service.{of, level-of}
+use Rattle.rules.specs.Service.{of, early-at, level-of}
 use Rattle.rules.specs.SoundState.{Fits, Orderly}
 use Rattle.rules.specs.Runs.{Departure, History, departures, in-hub, bound-of}
 use Rattle.rules.proofs.Lists.{All, all-map}
@@ -90,16 +90,17 @@ find-place [] ys i x l e = (i, e)
 find-place (y ∷ xs) ys zero x l e = absurd (omega arith)
 find-place (y ∷ xs) ys (suc i) x l e = find-place xs ys i x (omega arith) e
 
-module _ (c i : ℕ) (p : Packet) (level : c ≡ notice-number → ⊥) (d : ℕ) where
-  -- it has left in time
+module _ (c i : ℕ) (p : Packet) (level : c ≡ notice-number → ⊥) (d : ℕ) (early : Bool) where
+  -- it has left in time, and not before its eligibility plus its length unless it might go early
   abbrev pub Gone-in-time : History → Type 0
-  Gone-in-time h = (f : ℕ) × (getElem? (departures c (h .departed)) i ≡ some (record { what = p; finish = f })) × (f ≤ p .eligibility + d)
+  Gone-in-time h = (f : ℕ) × (getElem? (departures c (h .departed)) i ≡ some (record { what = p; finish = f })) × (f ≤ p .eligibility + d) × (early ≡ false → p .eligibility + p .len ≤ f)
 
-  -- or it is still held, by the owner that it was accepted from: its bound is d
+  -- or it is still held, by the owner that it was accepted from: its bound is d, and its packets may go early only if that is said
   pub record Waits (h : History) : Type 0 where
     pub later-on : length (departures c (h .departed)) ≤ i
     pub is-there : getElem? (of c (h .accepted)) i ≡ some p
     pub still-bound : bound-of (h .now) c ≡ d
+    pub still-early : early ≡ false → early-at (h .now) c ≡ false
 
   abbrev pub Either : History → Type 0
   Either h = Gone-in-time h ⊎ Waits h

@@ -31,7 +31,7 @@ use Rattle.rules.proofs.Invariant.{Invariant, facts-of, clock-le-end}
 use Rattle.rules.proofs.KeptBySweep.{of-filter}
 use Rattle.rules.proofs.SoundKept.{fresh-figures}
 use Rattle.rules.proofs.Every.{keeps, invariant}
-use Rattle.rules.proofs.Room.{room, welcome}
+use Rattle.rules.proofs.Room.{near-arrival, room, welcome}
 
 -- ---- from the end of a run
 
@@ -200,7 +200,7 @@ module _ (c : ℕ) (level : c ≡ notice-number → ⊥) where
         where
           go : (clock-end ≤ s .clock) ⊎ (s .clock < clock-end) → Taken-by (offer c len tag none) (answer (offer c len tag none) s) (ts ++ s .clock ∷ [])
           go (inr running) =
-              subst (λ (v : ℕ). Taken-by (offer c len tag none) (settle (offer c len tag none) s v) (ts ++ s .clock ∷ [])) (sym (welcome h I c len tag none ok has-room refl running))
+              subst (λ (v : ℕ). Taken-by (offer c len tag none) (settle (offer c len tag none) s v) (ts ++ s .clock ∷ [])) (sym (welcome h I c len tag none ok has-room refl (near-arrival s c none on-arrival) running))
               (inl
               (eligibilities-snoc-same c acc (packet s c len tag none) refl
               ∙ ap (λ (e : ℕ). eligibilities c acc ++ e ∷ []) on-arrival

@@ -21,7 +21,9 @@ use Rattle.rules.proofs.Notices.{of-none}
 use Rattle.rules.proofs.Standing.{level-free, free-is, nth-old, nth-joined, fits-old}
 use Rattle.rules.proofs.Line.{left-same}
 use Rattle.rules.proofs.Window.{weight, between}
-use Rattle.rules.proofs.Busy.{due, served, Free, Line, Regular, fit-held, Busy, served-idle, served-is, served-notice}
+use Rattle.rules.proofs.SoundTick.{served-on, serving-owned}
+use Rattle.rules.proofs.SoundKept.{early-joined}
+use Rattle.rules.proofs.Busy.{due, served, Free, Line, Regular, fit-held, Busy, served-idle, served-at, served-is, served-notice}
 use Rattle.rules.proofs.BusyTick.{restart}
 use Rattle.rules.proofs.Invariant.{Steady, Invariant, facts-of, some-bound, free-below-largest}
 
@@ -53,13 +55,13 @@ module _ (s : State) (acc : List Packet) (x : Connection) (room : free-number (s
     part = R .part;
   }
 
-  joined-served : (m : ℕ) → Line s → served (joined s x) m ≡ served s m
-  joined-served m (inl z) = served-idle (joined s x) m (z .0) ∙ sym (served-idle s m (z .0))
-  joined-served m (inr (inr n)) = served-notice (joined s x) m (n .alone) ∙ sym (served-notice s m (n .alone))
+  joined-served : (m : ℕ) → Line s → served (joined s x) m (s .clock) ≡ served s m (s .clock)
+  joined-served m (inl z) = served-idle (joined s x) m (s .clock) (z .0) ∙ sym (served-idle s m (s .clock) (z .0))
+  joined-served m (inr (inr n)) = served-notice (joined s x) m (s .clock) (n .alone) ∙ sym (served-notice s m (s .clock) (n .alone))
   joined-served m (inr (inl r)) =
-      served-is (joined s x) m r
+      served-at (joined s x) m (s .clock) (r .it) (r .some-to-go) (r .is-first)
       ∙ same-due m (s .clock) (r .it) (first-all (s .serving) (Fits (s .connections)) (s .held) (r .it) (r .is-first) (fit-held s acc R))
-      ∙ sym (served-is s m r)
+      ∙ sym (served-is s m (s .clock) r)
 
   joined-busy : (m : ℕ) → Line s → Busy s acc m (s .clock) → Busy (joined s x) acc m (s .clock)
   joined-busy m l B = record {
@@ -95,7 +97,7 @@ module _ (h : History) (I : Invariant h) where
     where
       joined-line : Line s → Line (joined s x)
       joined-line (inl z) = inl z
-      joined-line (inr (inl r)) = inr (inl r)
+      joined-line (inr (inl r)) = inr (inl (served-on (λ i. sym (early-joined s x room (s .serving) (serving-owned s (fit-held s acc (I .steady .regular)) r)) ∙ i) r))
       joined-line (inr (inr n)) = inr (inr (record { in-service = n .in-service; short = n .short; alone = n .alone }))
 
   -- ---- a link: nothing is held and nothing was accepted

@@ -12,7 +12,7 @@ use borrow.Author.Tests.{ne-eqb}
 use Rattle.rules.specs.Words.{upto}
 use Rattle.rules.specs.Limits.{notice-number, max-remembered}
 use Rattle.rules.specs.Model.{Past, no-past, Packet, State, past, figures, notice-packet, with-connections, with-held}
-use Rattle.rules.specs.Admission.{owned, burst, cost}
+use Rattle.rules.specs.Admission.{owned, burst, cost, ahead}
 use Rattle.rules.specs.Service.{earliest, remember, Spaced, of, eligibilities, first, level-of}
 use Rattle.rules.specs.SoundState.{Fits, In-service}
 use Rattle.rules.specs.Calls.{eligibility-now, packet, placed}
@@ -26,7 +26,7 @@ use Rattle.rules.proofs.Spacing.{snoc-spaced}
 use Rattle.rules.proofs.Stamps.{Timely, timely}
 use Rattle.rules.proofs.Standing.{stands-owned, stands-below}
 use Rattle.rules.proofs.Line.{left-same}
-use Rattle.rules.proofs.Verdicts.{Offer-done}
+use Rattle.rules.proofs.Verdicts.{near-by, Offer-done}
 use Rattle.rules.proofs.Window.{weight}
 use Rattle.rules.proofs.Busy.{due, served, Line, Regular, Busy, served-idle, served-is, served-notice}
 use Rattle.rules.proofs.Invariant.{whats, Steady, Invariant, facts-of, connections-few}
@@ -57,11 +57,11 @@ module _ (s : State) (acc : List Packet) (p : Packet) (hs : List Past) (level : 
   behind-line (inr (inl r)) = inr (inl (behind-service r))
   behind-line (inr (inr n)) = inr (inr (record { in-service = n .in-service; short = n .short; alone = still-alone (n .in-service .is-notice) (n .alone) }))
 
-  behind-served : (m : ℕ) → Line s → served behind m ≡ served s m
+  behind-served : (m : ℕ) → Line s → served behind m (s .clock) ≡ served s m (s .clock)
   unfolding behind-service
-  behind-served m (inl z) = served-idle behind m (z .0) ∙ sym (served-idle s m (z .0))
-  behind-served m (inr (inr n)) = served-notice behind m (still-alone (n .in-service .is-notice) (n .alone)) ∙ sym (served-notice s m (n .alone))
-  behind-served m (inr (inl r)) = served-is behind m (behind-service r) ∙ sym (served-is s m r)
+  behind-served m (inl z) = served-idle behind m (s .clock) (z .0) ∙ sym (served-idle s m (s .clock) (z .0))
+  behind-served m (inr (inr n)) = served-notice behind m (s .clock) (still-alone (n .in-service .is-notice) (n .alone)) ∙ sym (served-notice s m (s .clock) (n .alone))
+  behind-served m (inr (inl r)) = served-is behind m (s .clock) (behind-service r) ∙ sym (served-is s m (s .clock) r)
 
   behind-busy : (m : ℕ) → s .clock ≤ p .eligibility → Line s → Busy s acc m (s .clock) → Busy behind (acc ++ p ∷ []) m (s .clock)
   behind-busy m late l B = record {
@@ -87,7 +87,7 @@ module _ (s : State) (acc : List Packet) (p : Packet) (hs : List Past) (level : 
 -- ---- the packets accepted
 
 module _ (s : State) (acc : List Packet) (c len tag : ℕ) (st : Option ℕ) (entry : c < length (s .pasts)) (R : Regular s acc) (D : Offer-done s c len st)
-    (few : burst (figures s c) ≤ max-remembered) (T : Timely (figures s c) (past s c) (s .clock) (eligibility-now s c st)) where
+    (few : burst (figures s c) ≤ max-remembered) (T : Timely (figures s c) (ahead (s .link) (figures s c)) (past s c) (s .clock) (eligibility-now s c st)) where
   p : Packet
   p = packet s c len tag st
 
@@ -156,8 +156,8 @@ module _ (h : History) (I : Invariant h) where
       few-burst : burst (figures s c) ≤ max-remembered
       few-burst = facts-of s (I .sound) .each c (stands-owned s c (D .standing)) .burst-le
 
-      in-step : Timely (figures s c) (past s c) (s .clock) (eligibility-now s c st)
-      in-step = timely (s .link) (figures s c) (past s c) (s .clock) st (facts-of s (I .sound) .each c (stands-owned s c (D .standing))) (D .suited) (D .in-time)
+      in-step : Timely (figures s c) (ahead (s .link) (figures s c)) (past s c) (s .clock) (eligibility-now s c st)
+      in-step = timely (s .link) (figures s c) (past s c) (s .clock) st (facts-of s (I .sound) .each c (stands-owned s c (D .standing))) (D .suited) (D .in-time) (near-by s c st (D .near))
 
       -- the new packet stands before the notices, which bear another number
       waits : (d : ℕ) → of d (in-hub s) ++ of d (packet s c len tag st ∷ []) ≡ of d (in-hub (placed s c len tag st))

@@ -22,11 +22,11 @@ use Rattle.rules.proofs.Spacing.{spaced-rises}
 use Rattle.rules.proofs.Figures.{link-facts}
 use Rattle.rules.proofs.Line.{left-same}
 use Rattle.rules.proofs.Standing.{owned-below, expired-closed, kept-figures, kept-past, swept-owner, swept-was, swept-stays}
-use Rattle.rules.proofs.SoundTick.{facts}
-use Rattle.rules.proofs.SoundSwept.{held-stay, fits-swept, sound-swept}
+use Rattle.rules.proofs.SoundTick.{facts, served-on}
+use Rattle.rules.proofs.SoundSwept.{held-stay, early-swept, fits-swept, sound-swept}
 use Rattle.rules.proofs.SoundKept.{linked-sound}
 use Rattle.rules.proofs.Window.{between, weight}
-use Rattle.rules.proofs.Busy.{due, served, Line, Regular, Busy, served-idle, served-is, served-notice}
+use Rattle.rules.proofs.Busy.{due, served, Line, Regular, Busy, served-idle, served-at, served-is, served-notice}
 use Rattle.rules.proofs.Invariant.{Steady, Invariant}
 
 -- ---- once the last packet's time is over, so is that of all before it
@@ -92,20 +92,20 @@ module _ (s : State) (S : Orderly s) (acc : List Packet) (R : Regular s acc) whe
 
   swept-line : Line s → Line (swept s)
   swept-line (inl z) = inl z
-  swept-line (inr (inl r)) = inr (inl r)
+  swept-line (inr (inl r)) = inr (inl (served-on (λ e. sym (early-swept s S r) ∙ e) r))
   swept-line (inr (inr n)) = inr (inr (record { in-service = n .in-service; short = n .short; alone = n .alone }))
 
   same-due : (m : ℕ) (p : Packet) → Fits (s .connections) p → expired s (p .connection) ≡ false → due (s .link) (swept s .connections) m (s .clock) p ≡ due (s .link) (s .connections) m (s .clock) p
   same-due m p f e = ap (λ (x : Connection). upto (x .level) m (upto (p .eligibility) (s .clock) (cost (s .link) (p .len)))) (swept-same p f e)
 
-  swept-served : (m : ℕ) → Line s → served (swept s) m ≡ served s m
-  swept-served m (inl z) = served-idle (swept s) m (z .0) ∙ sym (served-idle s m (z .0))
-  swept-served m (inr (inr n)) = served-notice (swept s) m (n .alone) ∙ sym (served-notice s m (n .alone))
+  swept-served : (m : ℕ) → Line s → served (swept s) m (s .clock) ≡ served s m (s .clock)
+  swept-served m (inl z) = served-idle (swept s) m (s .clock) (z .0) ∙ sym (served-idle s m (s .clock) (z .0))
+  swept-served m (inr (inr n)) = served-notice (swept s) m (s .clock) (n .alone) ∙ sym (served-notice s m (s .clock) (n .alone))
   swept-served m (inr (inl r)) =
-      served-is (swept s) m r
+      served-at (swept s) m (s .clock) (r .it) (r .some-to-go) (r .is-first)
       ∙ same-due m (r .it) (first-all (s .serving) (Fits (s .connections)) (s .held) (r .it) (r .is-first) (S .fit))
       (first-all (s .serving) (λ p. expired s (p .connection) ≡ false) (s .held) (r .it) (r .is-first) (held-stay s S))
-      ∙ sym (served-is s m r)
+      ∙ sym (served-is s m (s .clock) r)
 
   -- those of the freed numbers weigh nothing in a stretch that is not a largest bound old
   module _ (m b : ℕ) (low : 1 ≤ m) (high : m ≤ s .link .levels) (fresh-enough : s .clock + 1 ≤ b + bound (s .link) m) where

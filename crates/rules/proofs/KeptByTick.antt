@@ -10,10 +10,11 @@ use Rattle.rules.specs.Words.{push}
 use Rattle.rules.specs.Limits.{notice-number}
 use Rattle.rules.specs.Model.{Packet, Notice, State, Answer, notice-packet, with-line}
 use Rattle.rules.specs.Admission.{bound, cost}
-use Rattle.rules.specs.Service.{of, first, without, level-of, chosen, later, line-after-start, packet-departs, after-unit, ticked, line-left}
+use Rattle.rules.specs.Service.{of, first, without, level-of, chosen, stand-by, later, line-after-start, packet-departs, after-unit, ticked, line-left}
 use Rattle.rules.specs.SoundState.{Fits, In-service, Orderly}
 use Rattle.rules.specs.Runs.{Departure, History, leaving, in-hub, bound-of}
 use Rattle.rules.proofs.Lists.{All, all-map, Sub, sub-refl, total-sub, total-zero}
+use Rattle.rules.proofs.Sums.{split}
 use Rattle.rules.proofs.Rows.{first-all, first-append, sub-without, moved, map-append}
 use Rattle.rules.proofs.Notices.{first-notice-is, without-append, first-behind, without-behind}
 use Rattle.rules.proofs.Standing.{owned-below}
@@ -53,11 +54,11 @@ module _ (h : History) (I : Invariant h) (S : Orderly (h .now)) where
   midway zero zero e y =
       let k = choice-holds s S in
       record {
-        mid-line = taken-line s acc (I .steady .regular) (chosen s) k (s .notices) refl (S .notices-fit) no-notices (S .silent-le);
+        mid-line = taken-line s acc (I .steady .regular) (chosen s) k (s .notices) refl (S .notices-fit) no-notices (S .silent-le) (stand-by s) refl;
         mid-busy = λ m low high.
             ⊎-elim (λ z. inl z)
             (λ pos.
-            let b = taken-busy s acc (I .steady .regular) m (chosen s) (s .notices) k e y (I .steady .busy m low high) pos in
+            let b = taken-busy s acc (I .steady .regular) m (chosen s) (s .notices) (stand-by s) k e y (I .steady .busy m low high) pos in
             inr (b .0, b .1, pos))
             (eq-zero-or-pos (demand s m (s .clock)));
       }
@@ -137,24 +138,9 @@ module _ (h : History) (I : Invariant h) (S : Orderly (h .now)) where
         (spare (with-line s w u (s .silent)) acc m low high F (I .steady .regular) (M .mid-line) (B .0) (B .2))))
         (M .mid-busy m low high)
 
-    -- the packet in service is in time if it leaves now
+    -- the packet in service is in time if it leaves now, and early if it is not yet eligible
     leaves : (r : In-service (with-line s w u (s .silent))) → s .clock + 1 ≤ r .it .eligibility + bound-of s (r .it .connection)
-    leaves r =
-        ⊎-elim
-        (λ z.
-        absurd
-        (due-none (s .link) (s .connections) m (s .clock) (r .it) f
-        (first-all w (λ p. due (s .link) (s .connections) m (s .clock) p ≡ 0) (s .held) (r .it) (r .is-first)
-        (total-zero (due (s .link) (s .connections) m (s .clock)) (s .held) z))
-        (le-refl m) (r .eligible)))
-        (λ B.
-        omega (
-          arith,
-          first-all w (λ p. level-of s (p .connection) ≤ m → p .eligibility ≤ s .clock → s .clock + 2 ≤ p .eligibility + bound (s .link) m) (s .held) (r .it) (r .is-first)
-              (held-spare (with-line s w u (s .silent)) acc m low high F (I .steady .regular) (M .mid-line) (B .0))
-              (le-refl m) (r .eligible),
-        ))
-        (M .mid-busy m low high)
+    leaves r = ⊎-elim (λ e. after-eligibility e) (λ e. omega arith) (split (r .it .eligibility) (s .clock))
       where
         f : Fits (s .connections) (r .it)
         f = first-all w (Fits (s .connections)) (s .held) (r .it) (r .is-first) (fit-held s acc (I .steady .regular))
@@ -167,6 +153,24 @@ module _ (h : History) (I : Invariant h) (S : Orderly (h .now)) where
 
         high : m ≤ s .link .levels
         high = F .each (r .it .connection) (f .owner) .high-level
+
+        after-eligibility : r .it .eligibility ≤ s .clock → s .clock + 1 ≤ r .it .eligibility + bound-of s (r .it .connection)
+        after-eligibility e =
+            ⊎-elim
+            (λ z.
+            absurd
+            (due-none (s .link) (s .connections) m (s .clock) (r .it) f
+            (first-all w (λ p. due (s .link) (s .connections) m (s .clock) p ≡ 0) (s .held) (r .it) (r .is-first)
+            (total-zero (due (s .link) (s .connections) m (s .clock)) (s .held) z))
+            (le-refl m) e))
+            (λ B.
+            omega (
+              arith,
+              first-all w (λ p. level-of s (p .connection) ≤ m → p .eligibility ≤ s .clock → s .clock + 2 ≤ p .eligibility + bound (s .link) m) (s .held) (r .it) (r .is-first)
+                  (held-spare (with-line s w u (s .silent)) acc m low high F (I .steady .regular) (M .mid-line) (B .0))
+                  (le-refl m) e,
+            ))
+            (M .mid-busy m low high)
 
   -- the history a tick later, by the answer to the tick
   abbrev Kept-with : Answer → Type 0
@@ -236,7 +240,7 @@ module _ (h : History) (I : Invariant h) (S : Orderly (h .now)) where
       (λ l.
       inr
       (⊎-elim
-      (λ r. inl (record { it = r .it; is-first = r .is-first; eligible = omega (arith, r .eligible); some-to-go = omega arith; to-go-le = omega (arith, r .to-go-le) }))
+      (λ r. inl (record { it = r .it; is-first = r .is-first; eligible = λ off. omega (arith, r .eligible off); some-to-go = omega arith; to-go-le = omega (arith, r .to-go-le) }))
       (λ n.
       let r = n .in-service in
       inr

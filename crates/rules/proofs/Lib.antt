@@ -49,6 +49,8 @@ pub mod Reached
 pub mod Closing
 pub mod ByOwner
 pub mod SecondKind
+pub mod StandBy
+pub mod Quiet
 pub mod Results
 pub mod TwoHubs
 pub mod Quick

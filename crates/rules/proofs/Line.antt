@@ -2,7 +2,7 @@
 use Prim.Native.Nat.{ℕ, zero, suc, _+_, _-_, _≤_, _<_}
 use native.Mathlib.Omega.{arith}
 use mathlib.Core.Path.{_≡_, refl, sym, ap, _∙_, subst}
-use mathlib.Core.Bool.{Bool, true, false, cond}
+use mathlib.Core.Bool.{Bool, true, false, cond, true≢false}
 use mathlib.Core.List.{List, [], _∷_}
 use mathlib.Core.Option.{none, some}
 use lib.Dec.{eqb}
@@ -10,15 +10,16 @@ use borrow.Author.Tests.{eq-eqb, ne-eqb}
 use Rattle.rules.specs.Limits.{notice-number}
 use Rattle.rules.specs.Model.{Packet, Notice, State, Answer, notice-packet, with-line}
 use Rattle.rules.specs.Admission.{cost}
-use Rattle.rules.specs.Service.{chosen, takes, later, line-after-start, started, tick-answer, packet-departs, notice-departs, after-unit, ticked, line-left}
+use Rattle.rules.specs.Service.{first, first-early, early-at, chosen, stand-by, takes, later, line-after-start, started, tick-answer, packet-departs, notice-departs, after-unit, ticked, line-left}
 use Rattle.rules.specs.SoundState.{In-service, Notice-in-service}
 use Rattle.rules.proofs.Sums.{cond-is}
+use Rattle.rules.proofs.Rows.{none-some, some-inj}
 use Rattle.rules.proofs.Figures.{cost-pos}
 
 -- ---- what the three steps do
 
--- an idle line takes the chosen packet or the first notice; in a silence nothing starts; what is in service is not interrupted
-pub start-idle : (s : State) → line-after-start s 0 0 ≡ takes (chosen s) (s .notices)
+-- an idle line takes the chosen packet, the first notice or the packet that stands by; in a silence nothing starts; what is in service is not interrupted
+pub start-idle : (s : State) → line-after-start s 0 0 ≡ takes (chosen s) (s .notices) (stand-by s)
 start-idle s = refl
 
 pub start-silent : (s : State) (q : ℕ) → line-after-start s 0 (suc q) ≡ (s .serving, 0)
@@ -40,6 +41,28 @@ last-of-notice s n ns e f = cond-is (notice-departs s (s .notices)) (packet-depa
 
 pub unit-goes : (s : State) (u : ℕ) → after-unit s (suc (suc u)) ≡ tick-answer none (later s (s .held) (s .notices) (s .serving) (suc u) (s .silent))
 unit-goes s u = refl
+
+-- ---- the packet that stands by
+
+-- it may go early, and it is the first row of its connection
+pub first-early-is : (may : ℕ → Bool) (rs : List Packet) (p : Packet) → first-early may rs ≡ some p → (may (p .connection) ≡ true) × (first (p .connection) rs ≡ some p)
+first-early-is may [] p e = absurd (none-some e)
+first-early-is may (r ∷ rs) p e = go (may (r .connection)) refl e (λ k. first-early-is may rs p k)
+  where
+    rest : may (r .connection) ≡ false → (may (p .connection) ≡ true) × (first (p .connection) rs ≡ some p) → (may (p .connection) ≡ true) × (first (p .connection) (r ∷ rs) ≡ some p)
+    rest i k = (k .0, cond-is (some r) (first (p .connection) rs) (ne-eqb (r .connection) (p .connection) (λ j. true≢false (sym (k .0) ∙ ap may (sym j) ∙ i))) ∙ k .1)
+
+    go : (b : Bool) → may (r .connection) ≡ b → cond b (some r) (first-early may rs) ≡ some p
+        → (first-early may rs ≡ some p → (may (p .connection) ≡ true) × (first (p .connection) rs ≡ some p)) → (may (p .connection) ≡ true) × (first (p .connection) (r ∷ rs) ≡ some p)
+    go true i e ih =
+        let j = some-inj e in (
+          ap (λ (q : Packet). may (q .connection)) (sym j) ∙ i,
+          cond-is (some r) (first (p .connection) rs) (eq-eqb (r .connection) (p .connection) (ap (λ (q : Packet). q .connection) j)) ∙ e,
+        )
+    go false i e ih = rest i (ih e)
+
+pub stands-by : (s : State) (p : Packet) → stand-by s ≡ some p → (early-at s (p .connection) ≡ true) × (first (p .connection) (s .held) ≡ some p)
+stands-by s p e = first-early-is (early-at s) (s .held) p e
 
 -- ---- what a tick leaves alone
 

@@ -7,7 +7,7 @@ use mathlib.Core.List.{List}
 use mathlib.Core.Option.{Option, none, some}
 use Rattle.rules.specs.Limits.{notice-number}
 use Rattle.rules.specs.Model.{Packet, State}
-use Rattle.rules.specs.Service.{level-of, chosen, takes, line-after-start, started}
+use Rattle.rules.specs.Service.{level-of, chosen, stand-by, takes, line-after-start, started}
 use Rattle.rules.specs.SoundState.{Fits, Orderly, Sound}
 use Rattle.rules.proofs.Lists.{All}
 use Rattle.rules.proofs.Sums.{same}
@@ -17,7 +17,7 @@ use Rattle.rules.proofs.Choice.{Chosen}
 use Rattle.rules.proofs.SoundTick.{choice-holds}
 
 -- a packet that is chosen bears its connection's number
-nothing-chosen : (s : State) → Orderly s → (o : Option Packet) → Chosen (level-of s) (s .clock) (s .held) o → takes o (s .notices) .0 ≡ notice-number
+nothing-chosen : (s : State) → Orderly s → (o : Option Packet) → Chosen (level-of s) (s .clock) (s .held) o → takes o (s .notices) (stand-by s) .0 ≡ notice-number
     → All (λ p. s .clock < p .eligibility) (s .held)
 nothing-chosen s S none k e = k
 nothing-chosen s S (some p) k e =

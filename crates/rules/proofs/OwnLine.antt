@@ -1,5 +1,5 @@
--- The departures of a number's present owner: they are the first of its accepted packets, and each left neither before its eligibility plus its length nor after its
--- eligibility plus the bound.
+-- The departures of a number's present owner: they are the first of its accepted packets, and each left not after its eligibility plus the
+-- bound, nor before its eligibility plus its length unless it might go early.
 use Prim.Native.Nat.{ℕ, _+_, _≤_}
 use native.Mathlib.Omega.{arith}
 use mathlib.Core.Path.{_≡_, refl, sym, ap, _∙_, subst}
@@ -12,8 +12,8 @@ use borrow.Author.Tests.{eqb-true, eq-eqb}
 use Rattle.rules.specs.Words.{All, Pairs, push}
 use Rattle.rules.specs.Limits.{notice-number}
 use Rattle.rules.specs.Model.{Link, Connection, Packet, State, Call, link, admit, offer, notice, close, tick, Answer, figures}
-use Rattle.rules.specs.Admission.{owned, bound}
-use Rattle.rules.specs.Service.{of, eligibilities}
+use Rattle.rules.specs.Admission.{owned, bound, goes-early}
+use Rattle.rules.specs.Service.{of, eligibilities, early-at}
 use Rattle.rules.specs.SoundState.{Sound}
 use Rattle.rules.specs.Calls.{verdict, done, answer}
 use Rattle.rules.specs.Runs.{Departure, History, while-owned, taken, leaving, after, run-from, nothing-yet, run, departure-of, departing, own-departures-from, own-departures, bound-of}
@@ -107,6 +107,11 @@ module _ (c : ℕ) (s : State) (S : Sound s) (o : owned (s .connections) c ≡ t
       ap (λ (l : Link). bound l (figures (answer k s .next) c .level)) (settled (λ a. a .next .link ≡ s .link) k s (verdict k s) (done-link k) (λ _. refl))
       ∙ ap (λ (x : Connection). bound (s .link) (x .level)) (owner-stays c s S o k n)
 
+  pub early-kept : (k : Call) → owned (answer k s .next .connections) c ≡ true → early-at (answer k s .next) c ≡ early-at s c
+  early-kept k n =
+      ap (λ (l : Link). goes-early l (figures (answer k s .next) c)) (settled (λ a. a .next .link ≡ s .link) k s (verdict k s) (done-link k) (λ _. refl))
+      ∙ ap (goes-early (s .link)) (owner-stays c s S o k n)
+
 -- ---- over a run
 
 own-append : (c : ℕ) (pre ks : List Call) (h : History) (ds : List Departure) → own-departures-from c h ds (pre ++ ks) ≡ own-departures-from c (run-from h pre) (own-departures-from c h ds pre) ks
@@ -134,15 +139,15 @@ module _ (c : ℕ) where
       of-none c (h .now .held)
       (all-sub (λ p. p .connection ≡ c → ⊥) (I .steady .regular .part) (all-map (λ p f e. true≢false (sym (f .owner) ∙ ap (owned (h .now .connections)) e ∙ o)) (h .present) (I .steady .regular .fit)))
 
-  -- a departure of number c, with bound b
-  pub record Sent (b : ℕ) (d : Departure) : Type 0 where
+  -- a departure of number c, with bound b, and whether it might go early
+  pub record Sent (b : ℕ) (early : Bool) (d : Departure) : Type 0 where
     pub number : d .what .connection ≡ c
-    pub not-early : d .what .eligibility + d .what .len ≤ d .finish
+    pub not-early : early ≡ false → d .what .eligibility + d .what .len ≤ d .finish
     pub not-late : d .finish ≤ d .what .eligibility + b
 
   pub record Own-line (h : History) (ds : List Departure) : Type 0 where
     pub conserved : of c (h .present) ≡ of c (whats ds) ++ of c (h .now .held)
-    pub sent : All (Sent (bound-of (h .now) c)) ds
+    pub sent : All (Sent (bound-of (h .now) c) (early-at (h .now) c)) ds
 
   module _ (ks : List Call) (k : Call) (L : Own-line (run ks) (own-departures c ks)) (o : owned (after (run ks) k .now .connections) c ≡ true) where
     open History (run ks) using (now as s, present as acc)
@@ -160,31 +165,33 @@ module _ (c : ℕ) where
         ∙ sym (append-assoc (of c (whats (own-departures c ks))) (of c (opt (answer k s .departed))) (of c (after (run ks) k .now .held)))
         ∙ ap (λ (l : List Packet). l ++ of c (after (run ks) k .now .held)) (sym (own-push c (own-departures c ks) s (answer k s .departed)))
 
-    sent-before : All (Sent (bound-of (after (run ks) k .now) c)) (own-departures c ks)
+    sent-before : All (Sent (bound-of (after (run ks) k .now) c) (early-at (after (run ks) k .now) c)) (own-departures c ks)
     sent-before = go (owned (s .connections) c) refl
       where
-        go : (b : Bool) → owned (s .connections) c ≡ b → All (Sent (bound-of (after (run ks) k .now) c)) (own-departures c ks)
-        go true b = subst (λ (n : ℕ). All (Sent n) (own-departures c ks)) (sym (bound-stays c s (invariant ks .sound) b k o)) (L .sent)
-        go false b = subst (All (Sent (bound-of (after (run ks) k .now) c))) (sym (no-own ks b)) tt
+        go : (b : Bool) → owned (s .connections) c ≡ b → All (Sent (bound-of (after (run ks) k .now) c) (early-at (after (run ks) k .now) c)) (own-departures c ks)
+        go true b =
+            subst (λ (n : ℕ). All (Sent n (early-at (after (run ks) k .now) c)) (own-departures c ks)) (sym (bound-stays c s (invariant ks .sound) b k o))
+            (subst (λ (e : Bool). All (Sent (bound-of s c) e) (own-departures c ks)) (sym (early-kept c s (invariant ks .sound) b k o)) (L .sent))
+        go false b = subst (All (Sent (bound-of (after (run ks) k .now) c) (early-at (after (run ks) k .now) c))) (sym (no-own ks b)) tt
 
-    still-sent : All (Sent (bound-of (after (run ks) k .now) c)) (push (own-departures c ks) (departing c s k))
+    still-sent : All (Sent (bound-of (after (run ks) k .now) c) (early-at (after (run ks) k .now) c)) (push (own-departures c ks) (departing c s k))
     still-sent = go (answer k s .departed) (well-timed (run ks) (invariant ks) (begun ks) k)
       where
         go : (u : Option Packet) → ((p : Packet) → u ≡ some p → Well-timed (run ks) (invariant ks) (begun ks) p)
-            → All (Sent (bound-of (after (run ks) k .now) c)) (push (own-departures c ks) (departure-of c (leaving s u)))
+            → All (Sent (bound-of (after (run ks) k .now) c) (early-at (after (run ks) k .now) c)) (push (own-departures c ks) (departure-of c (leaving s u)))
         go none f = sent-before
         go (some p) f = at (eqb (p .connection) c) refl (f p refl)
           where
             at : (b : Bool) → eqb (p .connection) c ≡ b → Well-timed (run ks) (invariant ks) (begun ks) p
-                → All (Sent (bound-of (after (run ks) k .now) c)) (push (own-departures c ks) (cond b (some (record { what = p; finish = s .clock + 1 })) none))
+                → All (Sent (bound-of (after (run ks) k .now) c) (early-at (after (run ks) k .now) c)) (push (own-departures c ks) (cond b (some (record { what = p; finish = s .clock + 1 })) none))
             at false e w = sent-before
             at true e (inl z) = absurd (level (sym (eqb-true (p .connection) c e) ∙ z))
             at true e (inr w) =
                 let i = eqb-true (p .connection) c e in
-                all-snoc (Sent (bound-of (after (run ks) k .now) c)) (own-departures c ks) (record { what = p; finish = s .clock + 1 }) sent-before
+                all-snoc (Sent (bound-of (after (run ks) k .now) c) (early-at (after (run ks) k .now) c)) (own-departures c ks) (record { what = p; finish = s .clock + 1 }) sent-before
                 (record {
                   number = i;
-                  not-early = w .1;
+                  not-early = λ f. w .1 (ap (early-at s) i ∙ sym (early-kept c s (invariant ks .sound) (subst (λ (j : ℕ). owned (s .connections) j ≡ true) i (w .0)) k o) ∙ f);
                   not-late = omega (arith, w .2, ap (bound-of s) i, bound-stays c s (invariant ks .sound) (subst (λ (j : ℕ). owned (s .connections) j ≡ true) i (w .0)) k o);
                 })
 
@@ -215,7 +222,7 @@ module _ (c : ℕ) (ks : List Call) where
   abbrev ds : List Departure
   ds = own-departures c ks
 
-  whats-own : (l : List Departure) → All (Sent c (bound-of s c)) l → of c (whats l) ≡ whats l
+  whats-own : (l : List Departure) → All (Sent c (bound-of s c) (early-at s c)) l → of c (whats l) ≡ whats l
   whats-own [] h = refl
   whats-own (d ∷ l) h = cond-is (d .what ∷ of c (whats l)) (of c (whats l)) (eq-eqb (d .what .connection) c (h .0 .number)) ∙ ap (λ (ps : List Packet). d .what ∷ ps) (whats-own l (h .1))
 

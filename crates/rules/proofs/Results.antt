@@ -3,7 +3,7 @@ use Prim.Native.Nat.{ℕ, zero, suc, _+_, _≤_, _<_}
 use native.Mathlib.Omega.{arith}
 use mathlib.Core.Path.{_≡_, refl, sym, ap, _∙_, subst}
 use mathlib.Core.Bool.{Bool, true, false, cond, not}
-use mathlib.Core.Logic.{_⊎_, inl, inr, _↔_}
+use mathlib.Core.Logic.{_⊎_, inl, inr, ⊎-elim, _↔_}
 use mathlib.Core.List.{List, [], _∷_, _++_, map}
 use mathlib.Core.Option.{Option, none, some}
 use lib.Dec.{leb, eqb}
@@ -13,17 +13,18 @@ use Rattle.rules.specs.Words.{within}
 use Rattle.rules.specs.Limits.{clock-end, max-notices, notice-number}
 use Rattle.rules.specs.Model.{Connection, Packet, State, Call, link, admit, offer, notice, close, tick, no-short, figures}
 use Rattle.rules.specs.Admission.{owned, joining, stands, stamped, reservation, level-test}
-use Rattle.rules.specs.Service.{suits, Spaced, of, started}
+use Rattle.rules.specs.Service.{suits, Spaced, of, early-at, started}
 use Rattle.rules.specs.SoundState.{Sound}
 use Rattle.rules.specs.SoundTest.{sound}
 use Rattle.rules.specs.Calls.{causes, heard, verdicts, verdict, eligibility-now, packet, done, refused-number, settle, answer}
 use Rattle.rules.specs.Runs.{Departure, History, logged, after, run-from, nothing-yet, run, departures, in-hub, bound-of, allowed, offer-ticks, Keeps-its-word, Exchange, exchanges, own-answer}
-use Rattle.rules.specs.Promises.{Demand-1-refusals, Test-is-exact, Verdict-1-exactly, No-link-means-zero, Sound-is-kept, Runs-are-sound, Rows-fit, Notices-fit, Notices-come-last, Fifteen-after-thirteen, Names-the-lowest, Level-test-tells, Short-is-told, Units-are-missing, Units-fit, Sums-fit, Eligibilities-fit, Charges-fit, Answers-fit, Conservation, Conservation-since, Conservation-by-owner, Left-by, Demand-3-first, Demand-3-in-the-log, Each-has-a-bound, Demand-3-second, Told-by-its-own, Bed-nine-and-bed-ten, Counted, Spacing-says, No-window-holds-more, The-count-is-reached, The-count-never-falls, Without-average, Without-silence, Close-is-refused, Closed-gets-10, Closed-or-freed, Freed-by-the-tick, Charge-lasts, Lowest-number-is-given, First-kind, Second-kind, Level-test-counts-alike, Ten-exactly, No-cause, Seventeen-exactly, No-finish-before, Demand-3-for-stamps, Stamps-told-by-their-own, Bed-nine-and-bed-ten-with-stamps}
+use Rattle.rules.specs.Promises.{Demand-1-refusals, Test-is-exact, Verdict-1-exactly, No-link-means-zero, Sound-is-kept, Runs-are-sound, Rows-fit, Notices-fit, Notices-come-last, Fifteen-after-thirteen, Names-the-lowest, Level-test-tells, Short-is-told, Units-are-missing, Units-fit, Sums-fit, Eligibilities-fit, Charges-fit, Distances-fit, Answers-fit, Conservation, Conservation-since, Conservation-by-owner, Left-by, Demand-3-first, Demand-3-in-the-log, Each-has-a-bound, Demand-3-second, Told-by-its-own, Bed-nine-and-bed-ten, Counted, Spacing-says, No-window-holds-more, The-count-is-reached, The-count-never-falls, Without-average, Without-silence, Close-is-refused, Closed-gets-10, Closed-or-freed, Freed-by-the-tick, Charge-lasts, Lowest-number-is-given, First-kind, Second-kind, Level-test-counts-alike, Ten-exactly, No-cause, Seventeen-exactly, No-finish-before, Demand-3-for-stamps, Stamps-told-by-their-own, Bed-nine-and-bed-ten-with-stamps, Early-comes-last, Early-never-idles, Eighteen-exactly, Stamps-never-18, Never-far-ahead, Without-stand-by, Quiet-ticks-pass}
 use Rattle.rules.proofs.Sums.{same, cond-is}
 use Rattle.rules.proofs.Tests.{and-true, and-intro, not-true-false, never-number}
 use Rattle.rules.proofs.Lists.{All, all-map}
-use Rattle.rules.proofs.Rows.{of-append, length-map}
+use Rattle.rules.proofs.Rows.{some-inj, of-append, length-map}
 use Rattle.rules.proofs.Standing.{stands-owned, stands-below}
+use Rattle.rules.proofs.Figures.{never-stamped, never-off}
 use Rattle.rules.proofs.Verdicts.{causes-from-2, settled, heard-parts, refused-leaves, short-refused, offer-done}
 use Rattle.rules.proofs.SoundExact.{exact}
 use Rattle.rules.proofs.SoundKept.{kept}
@@ -35,19 +36,21 @@ use Rattle.rules.proofs.Count.{no-window-more, count-mono}
 use Rattle.rules.proofs.Reached.{count-reached}
 use Rattle.rules.proofs.InTime.{conserved-lists, Waits, Either}
 use Rattle.rules.proofs.Through.{either-through}
-use Rattle.rules.proofs.InTheLog.{in-the-log, over-left}
+use Rattle.rules.proofs.InTheLog.{find-below, in-the-log, over-left}
 use Rattle.rules.proofs.ByOwner.{since, by-owner}
 use Rattle.rules.proofs.Closing.{refusals, tens, closes, tick-frees, lasts, lowest-given}
-use Rattle.rules.proofs.Bounds.{rows-fit-places, notices-fit-places, eligibilities-fit-32, charges-fit-32}
+use Rattle.rules.proofs.Bounds.{rows-fit-places, notices-fit-places, eligibilities-fit-32, charges-fit-32, distances-fit-32}
 use Rattle.rules.proofs.NoticesLast.{none-eligible}
 use Rattle.rules.proofs.Fields.{unit-done, unit-short, short-fits, answer-fits}
 use Rattle.rules.proofs.Shortage.{tells, names, sums-le, reserved-most}
-use Rattle.rules.proofs.Room.{not-for-room, welcome}
-use Rattle.rules.proofs.Lower.{low}
+use Rattle.rules.proofs.Room.{near-arrival, not-for-room, welcome}
+use Rattle.rules.proofs.Lower.{call-begun, begun}
 use Rattle.rules.proofs.Keeper.{run-append, All-taken, all-taken, Word-before, word-before, on-arrival, has-room}
 use Rattle.rules.proofs.Alone.{Own, own-ticks, told-by-own, ticks-are-own, no-exchanges, own-answers}
 use Rattle.rules.proofs.AloneStamped.{told-with-stamps, alike-with-stamps}
-use Rattle.rules.proofs.SecondKind.{first-as-before, second-as-asked, test-alike, ten, seventeen, no-cause-false, stamp-room, stamp-taken}
+use Rattle.rules.proofs.StandBy.{comes-last, never-idles, never-far, eighteen, stamps-never, link-only, start-only, rows-only, service-only, verdict-only}
+use Rattle.rules.proofs.Quiet.{quiet-passes}
+use Rattle.rules.proofs.SecondKind.{first-as-before, second-as-asked, test-alike, ten, seventeen, no-cause-false, stamp-near, stamp-room, stamp-taken}
 
 -- ---- demand 1
 
@@ -84,7 +87,7 @@ verdict-1-exactly k s = (to, from)
     to : answer k s .verdict ≡ 1 → Sound s → ⊥
     to e S =
         never-number 1 (verdicts k s)
-        (λ _. ap not (exact s .1 S), all-map {P = λ r. (2 ≤ r .0) × (r .0 ≤ 17)} {Q = λ r. r .0 ≡ 1 → r .1 ≡ false} (λ r n i. absurd (omega arith)) (causes k s) (causes-from-2 k s))
+        (λ _. ap not (exact s .1 S), all-map {P = λ r. (2 ≤ r .0) × (r .0 ≤ 18)} {Q = λ r. r .0 ≡ 1 → r .1 ≡ false} (λ r n i. absurd (omega arith)) (causes k s) (causes-from-2 k s))
         (omega arith) (sym (answer-verdict k s) ∙ e)
 
     from : (Sound s → ⊥) → answer k s .verdict ≡ 1
@@ -126,6 +129,9 @@ eligibilities-fit s S = eligibilities-fit-32 s S
 
 pub charges-fit : Charges-fit
 charges-fit s S c = charges-fit-32 s S c
+
+pub distances-fit : Distances-fit
+distances-fit s S c = distances-fit-32 s S c
 
 -- ---- which level was short
 
@@ -214,7 +220,7 @@ module _ (earlier : List Call) (c len tag : ℕ) (st : Option ℕ) (yes : verdic
   then-is = ap (λ (v : ℕ). logged (run earlier) it (settle it s v)) yes
 
   -- it waits, behind all of its number that were accepted before
-  waits-first : Waits c (length (of c acc)) (packet s c len tag st) level (bound-of s c) (logged (run earlier) it (done it s))
+  waits-first : Waits c (length (of c acc)) (packet s c len tag st) level (bound-of s c) (early-at s c) (logged (run earlier) it (done it s))
   waits-first = record {
     later-on =
         omega (
@@ -228,23 +234,35 @@ module _ (earlier : List Call) (c len tag : ℕ) (st : Option ℕ) (yes : verdic
         ∙ ap (λ (l : List Packet). getElem? (of c acc ++ l) (length (of c acc))) (cond-is (packet s c len tag st ∷ []) [] (eq-eqb c c refl))
         ∙ find-here (of c acc) (packet s c len tag st) [];
     still-bound = refl;
+    still-early = λ e. e;
   }
 
   module _ (later : List Call) where
     end : run (earlier ++ it ∷ later) ≡ run-from (after (run earlier) it) later
     end = run-append earlier (it ∷ later) nothing-yet
 
-    all-through : Either c (length (of c acc)) (packet s c len tag st) level (bound-of s c) (run (earlier ++ it ∷ later))
+    all-through : Either c (length (of c acc)) (packet s c len tag st) level (bound-of s c) (early-at s c) (run (earlier ++ it ∷ later))
     all-through =
-        subst (Either c (length (of c acc)) (packet s c len tag st) level (bound-of s c)) (sym end)
-        (either-through c (length (of c acc)) (packet s c len tag st) level (bound-of s c) later (after (run earlier) it) (keeps (run earlier) it (invariant earlier))
-        (subst (Either c (length (of c acc)) (packet s c len tag st) level (bound-of s c)) (sym then-is) (inr waits-first)))
+        subst (Either c (length (of c acc)) (packet s c len tag st) level (bound-of s c) (early-at s c)) (sym end)
+        (either-through c (length (of c acc)) (packet s c len tag st) level (bound-of s c) (early-at s c) later (after (run earlier) it) (keeps (run earlier) it (invariant earlier))
+        (call-begun (run earlier) (invariant earlier) (begun earlier) it)
+        (subst (Either c (length (of c acc)) (packet s c len tag st) level (bound-of s c) (early-at s c)) (sym then-is) (inr waits-first)))
 
     left-in-time : eligibility-now s c st + bound-of s c ≤ run (earlier ++ it ∷ later) .now .clock
         → Left-by (run (earlier ++ it ∷ later)) c (length (of c acc)) (packet s c len tag st) (eligibility-now s c st + bound-of s c)
     left-in-time over =
-        let G = over-left c (length (of c acc)) (packet s c len tag st) level (bound-of s c) (run (earlier ++ it ∷ later)) (invariant (earlier ++ it ∷ later)) all-through over in
+        let G = over-left c (length (of c acc)) (packet s c len tag st) level (bound-of s c) (early-at s c) (run (earlier ++ it ∷ later)) (invariant (earlier ++ it ∷ later)) all-through over in
         record { finish = G .0; is-departure = G .1; in-time = G .2 }
+
+    -- it has not left before its eligibility plus its length, if it might not go early
+    pub not-before : early-at s c ≡ false → (finish : ℕ)
+        → getElem? (departures c (run (earlier ++ it ∷ later) .departed)) (length (of c acc)) ≡ some (record { what = packet s c len tag st; finish = finish })
+        → eligibility-now s c st + len ≤ finish
+    not-before never finish is = go all-through
+      where
+        go : Either c (length (of c acc)) (packet s c len tag st) level (bound-of s c) (early-at s c) (run (earlier ++ it ∷ later)) → eligibility-now s c st + len ≤ finish
+        go (inl G) = omega (arith, ap (λ (d : Departure). d .finish) (some-inj (sym (G .1) ∙ is)), G .3 never)
+        go (inr W) = absurd (omega (arith, W .later-on, find-below (departures c (run (earlier ++ it ∷ later) .departed)) (length (of c acc)) _ is))
 
 pub demand-3-first : Demand-3-first
 demand-3-first earlier later c len tag st e over =
@@ -252,7 +270,7 @@ demand-3-first earlier later c len tag st e over =
 
 pub demand-3-in-the-log : Demand-3-in-the-log
 demand-3-in-the-log ks c i p d level e f over =
-    let G = over-left c i p level d (run ks) (invariant ks) (in-the-log c level ks .each i p d e f) over in
+    let G = over-left c i p level d true (run ks) (invariant ks) (in-the-log c level ks .each i p d e f) over in
     record { finish = G .0; is-departure = G .1; in-time = G .2 }
 
 pub each-has-a-bound : Each-has-a-bound
@@ -293,7 +311,7 @@ module _ (earlier : List Call) (c len tag : ℕ) (word : Keeps-its-word c (earli
   free-place = has-room c no-notice (run earlier) (invariant earlier) (offer-ticks c earlier) taken-so-far of-first-kind len tag ok spaced
 
   welcomed : s .clock < clock-end → verdict (offer c len tag none) s ≡ 0
-  welcomed running = welcome (run earlier) (invariant earlier) c len tag none ok free-place refl running
+  welcomed running = welcome (run earlier) (invariant earlier) c len tag none ok free-place refl (near-arrival s c none arrival) running
 
   leaves : s .clock < clock-end → (later : List Call) → s .clock + bound-of s c ≤ run (earlier ++ offer c len tag none ∷ later) .now .clock
       → Left-by (run (earlier ++ offer c len tag none ∷ later)) c (length (of c acc)) (record { connection = c; len = len; tag = tag; arrival = s .clock; eligibility = s .clock }) (s .clock + bound-of s c)
@@ -304,7 +322,7 @@ module _ (earlier : List Call) (c len tag : ℕ) (word : Keeps-its-word c (earli
 
 pub demand-3-second : Demand-3-second
 demand-3-second earlier later c len tag word ok = record {
-  never-for-room = λ e. not-for-room (run earlier) (invariant earlier) c len tag none ok (free-place earlier c len tag word ok) refl (sym (answer-verdict (offer c len tag none) (run earlier .now)) ∙ e);
+  never-for-room = λ e. not-for-room (run earlier) (invariant earlier) c len tag none ok (free-place earlier c len tag word ok) refl (near-arrival (run earlier .now) c none (arrival earlier c len tag word ok)) (sym (answer-verdict (offer c len tag none) (run earlier .now)) ∙ e);
   accepted = λ running. answer-verdict (offer c len tag none) (run earlier .now) ∙ welcomed earlier c len tag word ok running;
   on-arrival = λ running.
       ap (λ (v : ℕ). settle (offer c len tag none) (run earlier .now) v .number) (welcomed earlier c len tag word ok running) ∙ arrival earlier c len tag word ok;
@@ -408,14 +426,17 @@ seventeen-exactly c len tag stamp s S linked =
     (sym (answer-verdict (offer c len tag (some stamp)) s)) (seventeen c len tag stamp s S linked)
 
 pub no-finish-before : No-finish-before
-no-finish-before ks = low ks
+no-finish-before earlier later c len tag st finish e never is =
+    not-before earlier c len tag st (sym (answer-verdict (offer c len tag st) (run earlier .now)) ∙ e) later
+    (⊎-elim (λ i. never-stamped (run earlier .now .link) (figures (run earlier .now) c) i) (λ i. never-off (run earlier .now .link) (figures (run earlier .now) c) i) never)
+    finish is
 
 pub demand-3-for-stamps : Demand-3-for-stamps
 demand-3-for-stamps earlier later c len tag stamp ok n =
     let no = no-cause-false (run earlier .now) c stamp n in
     record {
       never-for-room = λ e.
-          not-for-room (run earlier) (invariant earlier) c len tag (some stamp) ok (stamp-room earlier c len tag stamp ok no) no (sym (answer-verdict (offer c len tag (some stamp)) (run earlier .now)) ∙ e);
+          not-for-room (run earlier) (invariant earlier) c len tag (some stamp) ok (stamp-room earlier c len tag stamp ok no) no (stamp-near earlier c len tag stamp ok no) (sym (answer-verdict (offer c len tag (some stamp)) (run earlier .now)) ∙ e);
       accepted = λ running. answer-verdict (offer c len tag (some stamp)) (run earlier .now) ∙ stamp-taken earlier c len tag stamp ok no running;
       eligible = λ running. ap (λ (v : ℕ). settle (offer c len tag (some stamp)) (run earlier .now) v .number) (stamp-taken earlier c len tag stamp ok no running);
       in-time = λ running over. left-in-time earlier c len tag (some stamp) (stamp-taken earlier c len tag stamp ok no running) later over;
@@ -426,3 +447,36 @@ stamps-told-by-their-own ks c second word = told-with-stamps ks c second word
 
 pub bed-nine-and-bed-ten-with-stamps : Bed-nine-and-bed-ten-with-stamps
 bed-nine-and-bed-ten-with-stamps ks ms c d alike asked second word = alike-with-stamps ks ms c d alike asked second word
+
+-- ---- the stand-by queue
+
+pub early-comes-last : Early-comes-last
+early-comes-last s p S z l e late = comes-last s p S z l e late
+
+pub early-never-idles : Early-never-idles
+early-never-idles s S on z y h = never-idles s S on z y h
+
+pub eighteen-exactly : Eighteen-exactly
+eighteen-exactly c len tag st s S linked =
+    let k = eighteen c len tag st s S linked in
+    (λ e. k .0 (sym (answer-verdict (offer c len tag st) s) ∙ e), λ r. answer-verdict (offer c len tag st) s ∙ k .1 r)
+
+pub stamps-never-18 : Stamps-never-18
+stamps-never-18 c len tag stamp s e = stamps-never c len tag stamp s (sym (answer-verdict (offer c len tag (some stamp)) s) ∙ e)
+
+pub never-far-ahead : Never-far-ahead
+never-far-ahead s S on c o = never-far s S on c o
+
+pub without-stand-by : Without-stand-by
+without-stand-by = (
+  link-only,
+  λ s off. record {
+    line-is = start-only s off;
+    rows-are = rows-only s off;
+    service-is = service-only s off;
+    verdict-is = λ c len tag st. answer-verdict (offer c len tag st) s ∙ verdict-only s off c len tag st;
+  },
+)
+
+pub quiet-ticks-pass : Quiet-ticks-pass
+quiet-ticks-pass s S n r q f = quiet-passes s S n r q f

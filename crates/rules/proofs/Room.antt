@@ -1,22 +1,22 @@
 -- Room for an offer that keeps the spacing and is not too early: the packets held and the new one lie within one bound, and the allowance, so they are no more than the
 -- reservation. What an offer is told that is heard.
-use Prim.Native.Nat.{ℕ, _+_, _-_, _≤_, _<_}
+use Prim.Native.Nat.{ℕ, _+_, _*_, _-_, _≤_, _<_}
 use native.Mathlib.Omega.{arith}
 use mathlib.Core.Path.{_≡_, refl, sym, ap, _∙_}
 use mathlib.Core.Bool.{Bool, true, false, cond, not}
 use mathlib.Core.List.{List, [], _∷_, _++_}
-use mathlib.Core.Option.{Option}
+use mathlib.Core.Option.{Option, none, some}
 use lib.Dec.{leb, eqb}
 use lib.ListN.{length}
-use borrow.Author.Tests.{ne-eqb, lt-leb}
+use borrow.Author.Tests.{ne-eqb, lt-leb, not-true}
 use Rattle.rules.specs.Words.{within, upto}
 use Rattle.rules.specs.Limits.{clock-end}
-use Rattle.rules.specs.Model.{Packet, State, offer, past, figures}
-use Rattle.rules.specs.Admission.{owned, stands, reservation}
-use Rattle.rules.specs.Service.{untimely-by, Spaced, of, eligibilities, level-of}
+use Rattle.rules.specs.Model.{Link, Connection, Packet, State, offer, past, figures}
+use Rattle.rules.specs.Admission.{owned, stamped, stands, bound, reservation, distance}
+use Rattle.rules.specs.Service.{suits, untimely-by, Spaced, of, eligibilities, level-of}
 use Rattle.rules.specs.SoundState.{Sound}
 use Rattle.rules.specs.SoundTest.{sound}
-use Rattle.rules.specs.Calls.{heard, verdicts, verdict}
+use Rattle.rules.specs.Calls.{heard, eligibility-now, too-far, verdicts, verdict}
 use Rattle.rules.specs.Runs.{History, bound-of, allowed}
 use Rattle.rules.proofs.Lists.{All, all-map, all-zip, sub-snoc, total-snoc}
 use Rattle.rules.proofs.Sums.{upto-yes, cond-is}
@@ -24,10 +24,11 @@ use Rattle.rules.proofs.Tests.{never, and-true}
 use Rattle.rules.proofs.Rows.{to-of, sub-of, sub-map, length-map, all-map-of}
 use Rattle.rules.proofs.Spacing.{spaced-before}
 use Rattle.rules.proofs.WithoutAverage.{spaced-sub}
-use Rattle.rules.proofs.Count.{among, inside, window-law}
+use Rattle.rules.proofs.Count.{among, inside, window-law, count-covers}
 use Rattle.rules.proofs.Standing.{stands-owned}
 use Rattle.rules.proofs.Figures.{Connection-facts, reservation-is}
-use Rattle.rules.proofs.Verdicts.{heard-parts}
+use Rattle.rules.proofs.Verdicts.{near-made, heard-parts}
+use Rattle.rules.proofs.Stamps.{in-time-of}
 use Rattle.rules.proofs.Invariant.{Invariant, facts-of, some-bound}
 use Rattle.rules.proofs.InTime.{held-in-time}
 use Rattle.rules.proofs.SoundExact.{exact}
@@ -87,13 +88,13 @@ pub offer-verdict : (s : State) → Sound s → (s .link .levels ≡ 0 → ⊥) 
     ≡ cond (heard s c st)
     (cond (within 1 (figures s c .size) len)
     (cond (leb (reservation (s .link) (figures s c)) (length (of c (s .held)))) 12
-    (cond (leb clock-end (s .clock)) 13 (cond (untimely-by (figures s c) (past s c) (s .clock) st) 17 0)))
+    (cond (leb clock-end (s .clock)) 13 (cond (untimely-by (figures s c) (past s c) (s .clock) st) 17 (cond (too-far s c st) 18 0))))
     11)
     10
 unfolding verdicts
 offer-verdict s S linked c len tag st =
     go (not (sound s)) (eqb (s .link .levels) 0) (heard s c st) (within 1 (figures s c .size) len)
-    (cond (leb (reservation (s .link) (figures s c)) (length (of c (s .held)))) 12 (cond (leb clock-end (s .clock)) 13 (cond (untimely-by (figures s c) (past s c) (s .clock) st) 17 0)))
+    (cond (leb (reservation (s .link) (figures s c)) (length (of c (s .held)))) 12 (cond (leb clock-end (s .clock)) 13 (cond (untimely-by (figures s c) (past s c) (s .clock) st) 17 (cond (too-far s c st) 18 0))))
     (ap not (exact s .1 S)) (ne-eqb (s .link .levels) 0 linked)
   where
     go : (unsound unset hears right : Bool) (rest : ℕ) → unsound ≡ false → unset ≡ false
@@ -104,6 +105,26 @@ offer-verdict s S linked c len tag st =
     go false false true false e i j = refl
     go false false true true e i j = refl
 
+-- ---- no cause of 18: an eligibility on arrival, and one by a stamp that is in time
+
+pub near-arrival : (s : State) (c : ℕ) (st : Option ℕ) → eligibility-now s c st ≡ s .clock → too-far s c st ≡ false
+near-arrival s c st e = near-made s c st (omega (arith, e))
+
+-- the allowance is no longer than the reservation times X
+pub allowance-near : (l : Link) (c : Connection) → Connection-facts l c → stamped c ≡ true → c .allowance ≤ distance l c
+allowance-near l c F second =
+    omega (
+      arith,
+      ap (λ (n : ℕ). n * c .gap) (reservation-is l c),
+      count-covers c (c .allowance + bound l (c .level)) (F .some-gap) (F .no-average second),
+    )
+
+pub near-stamp : (s : State) (c : ℕ) (st : Option ℕ) → Connection-facts (s .link) (figures s c) → stamped (figures s c) ≡ true → suits (figures s c) st ≡ true
+    → untimely-by (figures s c) (past s c) (s .clock) st ≡ false → too-far s c st ≡ false
+near-stamp s c none F second k u = never (sym (not-true (stamped (figures s c)) k) ∙ second)
+near-stamp s c (some stamp) F second k u =
+    near-made s c (some stamp) (omega (arith, in-time-of (figures s c) (past s c) (s .clock) stamp u .not-later, allowance-near (s .link) (figures s c) F second))
+
 -- ---- an offer that is heard
 
 module _ (h : History) (I : Invariant h) (c len tag : ℕ) (st : Option ℕ) (hears : heard (h .now) c st ≡ true) where
@@ -112,41 +133,44 @@ module _ (h : History) (I : Invariant h) (c len tag : ℕ) (st : Option ℕ) (he
   F : Connection-facts (s .link) (figures s c)
   F = facts-of s (I .sound) .each c (stands-owned s c (heard-parts s c st hears .0))
 
-  -- its verdict is 11, 12, 13, 17 or 0
+  -- its verdict is 11, 12, 13, 17, 18 or 0
   pub decided-by : verdict (offer c len tag st) s
       ≡ cond (within 1 (figures s c .size) len)
       (cond (leb (reservation (s .link) (figures s c)) (length (of c (s .held)))) 12
-      (cond (leb clock-end (s .clock)) 13 (cond (untimely-by (figures s c) (past s c) (s .clock) st) 17 0)))
+      (cond (leb clock-end (s .clock)) 13 (cond (untimely-by (figures s c) (past s c) (s .clock) st) 17 (cond (too-far s c st) 18 0))))
       11
   decided-by = offer-verdict s (I .sound) (λ z. omega (arith, F .low-level, F .high-level)) c len tag st ∙ cond-is _ 10 hears
 
-  -- with room for it, and no cause of 17: 11, 13 or 0
+  -- with room for it, no cause of 17 and none of 18: 11, 13 or 0
   pub decided : (within 1 (figures s c .size) len ≡ true → length (of c (s .held)) < reservation (s .link) (figures s c))
       → (within 1 (figures s c .size) len ≡ true → untimely-by (figures s c) (past s c) (s .clock) st ≡ false)
+      → (within 1 (figures s c .size) len ≡ true → too-far s c st ≡ false)
       → verdict (offer c len tag st) s ≡ cond (within 1 (figures s c .size) len) (cond (leb clock-end (s .clock)) 13 0) 11
-  decided room timely =
+  decided room timely near =
       decided-by
       ∙ go (within 1 (figures s c .size) len) (leb (reservation (s .link) (figures s c)) (length (of c (s .held)))) (leb clock-end (s .clock))
-      (untimely-by (figures s c) (past s c) (s .clock) st) (λ w. lt-leb _ _ (room w)) timely
+      (untimely-by (figures s c) (past s c) (s .clock) st) (too-far s c st) (λ w. lt-leb _ _ (room w)) timely near
     where
-      go : (right full ended late : Bool) → (right ≡ true → full ≡ false) → (right ≡ true → late ≡ false)
-          → _≡_ {A = ℕ} (cond right (cond full 12 (cond ended 13 (cond late 17 0))) 11) (cond right (cond ended 13 0) 11)
-      go false b c d i j = refl
-      go true true c d i j = never (sym (i refl))
-      go true false c true i j = never (sym (j refl))
-      go true false c false i j = refl
+      go : (right full ended late far : Bool) → (right ≡ true → full ≡ false) → (right ≡ true → late ≡ false) → (right ≡ true → far ≡ false)
+          → _≡_ {A = ℕ} (cond right (cond full 12 (cond ended 13 (cond late 17 (cond far 18 0)))) 11) (cond right (cond ended 13 0) 11)
+      go false b c d f i j k = refl
+      go true true c d f i j k = never (sym (i refl))
+      go true false c true f i j k = never (sym (j refl))
+      go true false c false true i j k = never (sym (k refl))
+      go true false c false false i j k = refl
 
--- ---- so an offer of allowed length that has room and no cause of 17 is accepted while the clock runs
+-- ---- so an offer of allowed length that has room and no cause of 17 or 18 is accepted while the clock runs
 
 module _ (h : History) (I : Invariant h) (c len tag : ℕ) (st : Option ℕ) (ok : allowed (h .now) c len st ≡ true)
     (room : length (of c (h .now .held)) < reservation (h .now .link) (figures (h .now) c))
-    (timely : untimely-by (figures (h .now) c) (past (h .now) c) (h .now .clock) st ≡ false) where
+    (timely : untimely-by (figures (h .now) c) (past (h .now) c) (h .now .clock) st ≡ false)
+    (near : too-far (h .now) c st ≡ false) where
   open History h using (now as s)
 
   by-clock : verdict (offer c len tag st) s ≡ cond (leb clock-end (s .clock)) 13 0
   by-clock =
       let p = and-true (heard s c st) (within 1 (figures s c .size) len) ok in
-      decided h I c len tag st (p .0) (λ _. room) (λ _. timely) ∙ cond-is (cond (leb clock-end (s .clock)) 13 0) 11 (p .1)
+      decided h I c len tag st (p .0) (λ _. room) (λ _. timely) (λ _. near) ∙ cond-is (cond (leb clock-end (s .clock)) 13 0) 11 (p .1)
 
   pub not-for-room : verdict (offer c len tag st) s ≡ 12 → ⊥
   not-for-room e = go (leb clock-end (s .clock)) (sym by-clock ∙ e)

@@ -12,27 +12,28 @@ use borrow.Author.Tests.{eq-eqb, ne-eqb, lt-leb, leb-false}
 use Rattle.rules.specs.Words.{within, upto, sum, All}
 use Rattle.rules.specs.Limits.{max-gap, max-allowance, clock-end}
 use Rattle.rules.specs.Model.{Link, Connection, Past, State, Call, offer, nth, past, figures}
-use Rattle.rules.specs.Admission.{burst, stamped, average-within, figures-within, stands, bound, average-count, count, reservation, cost, level-sum, short-from, level-test}
+use Rattle.rules.specs.Admission.{burst, stamped, average-within, figures-within, stands, bound, average-count, count, reservation, ahead, cost, level-sum, short-from, level-test}
 use Rattle.rules.specs.Service.{nth-before, ticks-after, earliest, suits, untimely, untimely-by, Spaced, of, eligibilities}
 use Rattle.rules.specs.SoundState.{departed-of, Near-by, Beyond, Queue, Sound}
 use Rattle.rules.specs.SoundTest.{latest-by-gap, latest}
-use Rattle.rules.specs.Calls.{heard, verdict}
+use Rattle.rules.specs.Calls.{heard, too-far, verdict}
 use Rattle.rules.specs.WithoutAverage.{Apart, base-figures-within, Base-spaced, Memory-kept}
 use Rattle.rules.specs.Runs.{History, run, allowed}
 use Rattle.rules.specs.Promises.{First-kind, Second, Second-kind, by-its-gap, Level-test-counts-alike, No-cause}
+use Rattle.rules.proofs.Lists.{all-map}
 use Rattle.rules.proofs.Sums.{split, cond-is, sum-eq}
 use Rattle.rules.proofs.Tests.{never, and-true, and-intro}
 use Rattle.rules.proofs.Rows.{length-map}
-use Rattle.rules.proofs.Figures.{burst-none, reservation-is, sum-is}
+use Rattle.rules.proofs.Figures.{burst-none, reservation-is, sum-is, ahead-off, never-stamped}
 use Rattle.rules.proofs.Spacing.{spaced-pairs, snoc-spaced}
 use Rattle.rules.proofs.Count.{count-plain}
 use Rattle.rules.proofs.WithoutAverage.{says}
 use Rattle.rules.proofs.Standing.{stands-owned}
-use Rattle.rules.proofs.Verdicts.{heard-parts, heard-intro}
+use Rattle.rules.proofs.Verdicts.{near-by, heard-parts, heard-intro}
 use Rattle.rules.proofs.Stamps.{in-time-of, of-in-time, Timely, timely}
 use Rattle.rules.proofs.Invariant.{Invariant, facts-of}
 use Rattle.rules.proofs.Every.{invariant}
-use Rattle.rules.proofs.Room.{offer-verdict, room, welcome}
+use Rattle.rules.proofs.Room.{near-stamp, offer-verdict, room, welcome}
 
 -- ---- one connection
 
@@ -110,25 +111,30 @@ module _ (c : Connection) (P : Second c) where
     near : (h : List ℕ) (e : ℕ) → (t < e → Near-by c t h e (stamped c) (nth-before (burst c) h)) → e ≤ t + c .allowance
     near h e f = ⊎-elim (λ l. omega arith) (λ l. subst (λ (b : Bool). Near-by c t h e b (nth-before (burst c) h)) is-stamped (f l)) (split e t)
 
-    beyond-all : (h es : List ℕ) → Beyond c t h es → All (λ e. e ≤ t + c .allowance) es
+    beyond-all : (h es : List ℕ) → Beyond c none t h es → All (λ e. e ≤ t + c .allowance) es
     beyond-all h [] b = tt
     beyond-all h (e ∷ es) b = (near h e (b .0), beyond-all (e ∷ h) es (b .1))
 
-    all-beyond : (h es : List ℕ) → All (λ e. e ≤ t + c .allowance) es → Beyond c t h es
+    all-beyond : (h es : List ℕ) → All (λ e. e ≤ t + c .allowance) es → Beyond c none t h es
     all-beyond h [] a = tt
     all-beyond h (e ∷ es) a = (λ _. subst (λ (b : Bool). Near-by c t h e b (nth-before (burst c) h)) (sym is-stamped) (a .0), all-beyond (e ∷ h) es (a .1))
 
-    second-queue : (h : Past) (es : List ℕ) → Queue c t h es ↔ (Memory-kept c t h es × All (λ e. e ≤ t + c .allowance) es)
-    second-queue h es = (
-      λ q. (record { few = q .few; last-rows = q .last-rows; rise = q .rise; left-eligible = q .left-eligible }, beyond-all (departed-of h es) es (q .beyond)),
+    only-queue : (h : Past) (es : List ℕ) → Queue c none t h es ↔ (Memory-kept c t h es × All (λ e. e ≤ t + c .allowance) es)
+    only-queue h es = (
+      λ q. (record { few = q .few; last-rows = q .last-rows; rise = q .rise; left-eligible = all-map (λ e l. omega arith) (departed-of h es) (q .left-eligible) }, beyond-all (departed-of h es) es (q .beyond)),
       λ k. record {
         few = k .0 .few;
         last-rows = k .0 .last-rows;
         rise = k .0 .rise;
-        left-eligible = k .0 .left-eligible;
+        left-eligible = all-map (λ e l. omega arith) (departed-of h es) (k .0 .left-eligible);
         beyond = all-beyond (departed-of h es) es (k .1);
       },
     )
+
+  -- in either setting: its packets never go early
+  second-queue : (l : Link) (t : ℕ) (h : Past) (es : List ℕ) → Queue c (ahead l c) t h es ↔ (Memory-kept c t h es × All (λ e. e ≤ t + c .allowance) es)
+  second-queue l t h es =
+      subst (λ (a : Option ℕ). Queue c a t h es ↔ (Memory-kept c t h es × All (λ e. e ≤ t + c .allowance) es)) (sym (ahead-off l c (never-stamped l c is-stamped))) (only-queue t h es)
 
 pub second-as-asked : Second-kind
 second-as-asked c P = (
@@ -179,18 +185,19 @@ test-alike l cs = short-alike l cs 1 (l .levels)
 pub ten : (c len tag : ℕ) (st : Option ℕ) (s : State) → Sound s → (s .link .levels ≡ 0 → ⊥)
     → verdict (offer c len tag st) s ≡ 10 ↔ ((stands s c ≡ true) × (suits (figures s c) st ≡ true) → ⊥)
 ten c len tag st s S linked =
-    go (heard s c st) refl (within 1 (figures s c .size) len) (leb (reservation (s .link) (figures s c)) (length (of c (s .held)))) (leb clock-end (s .clock)) (untimely-by (figures s c) (past s c) (s .clock) st)
+    go (heard s c st) refl (within 1 (figures s c .size) len) (leb (reservation (s .link) (figures s c)) (length (of c (s .held)))) (leb clock-end (s .clock)) (untimely-by (figures s c) (past s c) (s .clock) st) (too-far s c st)
     (offer-verdict s S linked c len tag st)
   where
-    go : (hears : Bool) → heard s c st ≡ hears → (right full ended late : Bool)
-        → verdict (offer c len tag st) s ≡ cond hears (cond right (cond full 12 (cond ended 13 (cond late 17 0))) 11) 10
+    go : (hears : Bool) → heard s c st ≡ hears → (right full ended late far : Bool)
+        → verdict (offer c len tag st) s ≡ cond hears (cond right (cond full 12 (cond ended 13 (cond late 17 (cond far 18 0)))) 11) 10
         → verdict (offer c len tag st) s ≡ 10 ↔ ((stands s c ≡ true) × (suits (figures s c) st ≡ true) → ⊥)
-    go false i right full ended late v = (λ e k. true≢false (sym (heard-intro s c st (k .0) (k .1)) ∙ i), λ k. v)
-    go true i false full ended late v = (λ e. absurd (omega arith), λ k. absurd (k (heard-parts s c st i)))
-    go true i true true ended late v = (λ e. absurd (omega arith), λ k. absurd (k (heard-parts s c st i)))
-    go true i true false true late v = (λ e. absurd (omega arith), λ k. absurd (k (heard-parts s c st i)))
-    go true i true false false true v = (λ e. absurd (omega arith), λ k. absurd (k (heard-parts s c st i)))
-    go true i true false false false v = (λ e. absurd (omega arith), λ k. absurd (k (heard-parts s c st i)))
+    go false i right full ended late far v = (λ e k. true≢false (sym (heard-intro s c st (k .0) (k .1)) ∙ i), λ k. v)
+    go true i false full ended late far v = (λ e. absurd (omega arith), λ k. absurd (k (heard-parts s c st i)))
+    go true i true true ended late far v = (λ e. absurd (omega arith), λ k. absurd (k (heard-parts s c st i)))
+    go true i true false true late far v = (λ e. absurd (omega arith), λ k. absurd (k (heard-parts s c st i)))
+    go true i true false false true far v = (λ e. absurd (omega arith), λ k. absurd (k (heard-parts s c st i)))
+    go true i true false false false true v = (λ e. absurd (omega arith), λ k. absurd (k (heard-parts s c st i)))
+    go true i true false false false false v = (λ e. absurd (omega arith), λ k. absurd (k (heard-parts s c st i)))
 
 -- a cause, as the rules test it
 module _ (s : State) (c stamp : ℕ) where
@@ -217,20 +224,21 @@ pub seventeen : (c len tag stamp : ℕ) (s : State) → Sound s → (s .link .le
     ↔ ((allowed s c len (some stamp) ≡ true) × (length (of c (s .held)) < reservation (s .link) (figures s c)) × (s .clock < clock-end) × (No-cause s c stamp → ⊥))
 seventeen c len tag stamp s S linked =
     go (heard s c (some stamp)) refl (within 1 (figures s c .size) len) refl (leb (reservation (s .link) (figures s c)) (length (of c (s .held)))) refl
-    (leb clock-end (s .clock)) refl (untimely (figures s c) (past s c) (s .clock) stamp) refl
+    (leb clock-end (s .clock)) refl (untimely (figures s c) (past s c) (s .clock) stamp) refl (too-far s c (some stamp))
     (offer-verdict s S linked c len tag (some stamp))
   where
     go : (hears : Bool) → heard s c (some stamp) ≡ hears → (right : Bool) → within 1 (figures s c .size) len ≡ right
         → (full : Bool) → leb (reservation (s .link) (figures s c)) (length (of c (s .held))) ≡ full → (ended : Bool) → leb clock-end (s .clock) ≡ ended
-        → (late : Bool) → untimely (figures s c) (past s c) (s .clock) stamp ≡ late
-        → verdict (offer c len tag (some stamp)) s ≡ cond hears (cond right (cond full 12 (cond ended 13 (cond late 17 0))) 11) 10
+        → (late : Bool) → untimely (figures s c) (past s c) (s .clock) stamp ≡ late → (far : Bool)
+        → verdict (offer c len tag (some stamp)) s ≡ cond hears (cond right (cond full 12 (cond ended 13 (cond late 17 (cond far 18 0)))) 11) 10
         → verdict (offer c len tag (some stamp)) s ≡ 17 ↔ ((allowed s c len (some stamp) ≡ true) × (length (of c (s .held)) < reservation (s .link) (figures s c)) × (s .clock < clock-end) × (No-cause s c stamp → ⊥))
-    go false i right j full k ended l late m v = (λ e. absurd (omega arith), λ r. never (sym i ∙ and-true (heard s c (some stamp)) _ (r .0) .0))
-    go true i false j full k ended l late m v = (λ e. absurd (omega arith), λ r. never (sym j ∙ and-true (heard s c (some stamp)) _ (r .0) .1))
-    go true i true j true k ended l late m v = (λ e. absurd (omega arith), λ r. never (sym (lt-leb _ _ (r .1)) ∙ k))
-    go true i true j false k true l late m v = (λ e. absurd (omega arith), λ r. never (sym (lt-leb clock-end (s .clock) (r .2)) ∙ l))
-    go true i true j false k false l false m v = (λ e. absurd (omega arith), λ r. absurd (r .3 (no-cause-of s c stamp m)))
-    go true i true j false k false l true m v = (
+    go false i right j full k ended l late m far v = (λ e. absurd (omega arith), λ r. never (sym i ∙ and-true (heard s c (some stamp)) _ (r .0) .0))
+    go true i false j full k ended l late m far v = (λ e. absurd (omega arith), λ r. never (sym j ∙ and-true (heard s c (some stamp)) _ (r .0) .1))
+    go true i true j true k ended l late m far v = (λ e. absurd (omega arith), λ r. never (sym (lt-leb _ _ (r .1)) ∙ k))
+    go true i true j false k true l late m far v = (λ e. absurd (omega arith), λ r. never (sym (lt-leb clock-end (s .clock) (r .2)) ∙ l))
+    go true i true j false k false l false m true v = (λ e. absurd (omega arith), λ r. absurd (r .3 (no-cause-of s c stamp m)))
+    go true i true j false k false l false m false v = (λ e. absurd (omega arith), λ r. absurd (r .3 (no-cause-of s c stamp m)))
+    go true i true j false k false l true m far v = (
       λ e. (and-intro (heard s c (some stamp)) _ i j, leb-false _ _ k, leb-false _ _ l, λ n. true≢false (sym m ∙ no-cause-false s c stamp n)),
       λ r. v,
     )
@@ -250,8 +258,12 @@ module _ (earlier : List Call) (c len tag stamp : ℕ) (ok : allowed (run earlie
   standing : stands s c ≡ true
   standing = heard-parts s c (some stamp) hears .0
 
-  in-step : Timely (figures s c) (past s c) (s .clock) (stamp + figures s c .allowance)
-  in-step = timely (s .link) (figures s c) (past s c) (s .clock) (some stamp) (facts-of s (invariant earlier .sound) .each c (stands-owned s c standing)) (heard-parts s c (some stamp) hears .1) no
+  pub stamp-near : too-far s c (some stamp) ≡ false
+  stamp-near =
+      near-stamp s c (some stamp) (facts-of s (invariant earlier .sound) .each c (stands-owned s c standing)) (heard-parts s c (some stamp) hears .1) (heard-parts s c (some stamp) hears .1) no
+
+  in-step : Timely (figures s c) (ahead (s .link) (figures s c)) (past s c) (s .clock) (stamp + figures s c .allowance)
+  in-step = timely (s .link) (figures s c) (past s c) (s .clock) (some stamp) (facts-of s (invariant earlier .sound) .each c (stands-owned s c standing)) (heard-parts s c (some stamp) hears .1) no (near-by s c (some stamp) stamp-near)
 
   spaced : Spaced (figures s c) (eligibilities c acc ++ (stamp + figures s c .allowance) ∷ [])
   spaced =
@@ -266,4 +278,4 @@ module _ (earlier : List Call) (c len tag stamp : ℕ) (ok : allowed (run earlie
       (omega (arith, in-time-of (figures s c) (past s c) (s .clock) stamp no .not-later))
 
   pub stamp-taken : s .clock < clock-end → verdict (offer c len tag (some stamp)) s ≡ 0
-  stamp-taken running = welcome (run earlier) (invariant earlier) c len tag (some stamp) ok stamp-room no running
+  stamp-taken running = welcome (run earlier) (invariant earlier) c len tag (some stamp) ok stamp-room no stamp-near running

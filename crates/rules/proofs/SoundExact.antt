@@ -1,8 +1,8 @@
 -- The test of a sound state is true exactly of a sound state.
-use Prim.Native.Nat.{ℕ, zero, suc, _≤_, _<_}
+use Prim.Native.Nat.{ℕ, zero, suc, _+_, _≤_, _<_}
 use native.Mathlib.Omega.{arith}
 use mathlib.Core.Path.{_≡_, refl, sym, ap, _∙_}
-use mathlib.Core.Bool.{Bool, true, false, cond, not, _&&_, true≢false}
+use mathlib.Core.Bool.{Bool, true, false, cond, not, _&&_, _||_, true≢false}
 use mathlib.Core.Logic.{_⊎_, inl, inr, ⊎-elim, _↔_}
 use mathlib.Core.List.{List, [], _∷_}
 use mathlib.Core.Option.{Option, none, some}
@@ -12,9 +12,9 @@ use borrow.Author.Tests.{not-true, not-false, leb-true, le-leb, eqb-true, eqb-fa
 use Rattle.rules.specs.Words.{within, every, each}
 use Rattle.rules.specs.Limits.{max-levels, max-connections, clock-end, max-notices, notice-number, max-remembered}
 use Rattle.rules.specs.Model.{Link, Connection, Past, Packet, Notice, State, no-link, no-connection, no-past, fresh, nth, past, figures, closed-at, first-notice}
-use Rattle.rules.specs.Admission.{link-within, level-within, figures-within, owned, largest-bound, reservation, passes}
-use Rattle.rules.specs.Service.{earliest, remember-all, of, eligibilities, first, charge-over, expired}
-use Rattle.rules.specs.SoundState.{Free-number, Orderly, departed-of, Fits, Dated, Notice-fits, Idle, In-service, Notice-in-service, Serves, Sound-with-link, Sound}
+use Rattle.rules.specs.Admission.{link-within, level-within, figures-within, owned, largest-bound, reservation, passes, ahead}
+use Rattle.rules.specs.Service.{earliest, remember-all, of, eligibilities, first, early-at, charge-over, expired}
+use Rattle.rules.specs.SoundState.{margin, Free-number, Orderly, departed-of, Fits, Dated, Notice-fits, Idle, In-service, Notice-in-service, Serves, Sound-with-link, Sound}
 use Rattle.rules.specs.SoundTest.{all-zero, blank, free-sound, one-each, number-sound, closed-sound, nothing-used, connection-sound, admissions-sound, row-sound, departed-by, paced, left-in-time, same-numbers, kept-sound, before-pass, behind-pass, queues-sound, rows-sound, notice-sound, notices-sound, serves, serves-notice, busy-sound, line-sound, sound}
 use Rattle.rules.proofs.Lists.{All, all-map}
 use Rattle.rules.proofs.Sums.{split, cond-is}
@@ -39,9 +39,9 @@ zeros-of (suc n) (d ∷ ds) e z =
     let r : ds ≡ replicate n 0 = zeros-of n ds (omega arith) (k .1) in
     cc
 
-blank-link : (n most q : ℕ) (ds : List ℕ) → n ≡ 0 → most ≡ 0 → q ≡ 0 → ds ≡ replicate max-levels 0
-    → _≡_ {A = Link} (record { levels = n; largest = most; silence = q; bounds = ds }) no-link
-blank-link n most q ds e f g h = rw (e, f, g, h)
+blank-link : (n most q y : ℕ) (ds : List ℕ) → n ≡ 0 → most ≡ 0 → q ≡ 0 → y ≡ 0 → ds ≡ replicate max-levels 0
+    → _≡_ {A = Link} (record { levels = n; largest = most; silence = q; early = y; bounds = ds }) no-link
+blank-link n most q y ds e f g i h = rw (e, f, g, i, h)
 
 -- one entry for each number, all the same
 same-entries : {A : Type 0} (n : ℕ) (xs : List A) (a d : A) → length xs ≡ n → ((c : ℕ) → c < n → getD xs c d ≡ a) → xs ≡ replicate n a
@@ -102,7 +102,8 @@ module _ (s : State) where
       let a = and-true (all-zero (s .link)) _ h in
       let l = and-true (eqb (s .link .largest) 0) _ (a .0) in
       let k = and-true (eqb (s .link .silence) 0) _ (l .1) in
-      let b = and-true (eqb (length (s .link .bounds)) max-levels) _ (k .1) in
+      let y = and-true (eqb (s .link .early) 0) _ (k .1) in
+      let b = and-true (eqb (length (s .link .bounds)) max-levels) _ (y .1) in
       let c = and-true (one-each s) _ (a .1) in
       let d = and-true (every max-connections (free-sound s)) _ (c .1) in
       let e = and-true (eqb (s .clock) 0) _ (d .1) in
@@ -124,8 +125,9 @@ module _ (s : State) where
       let e8 : s .to-go ≡ 0 = eqb-true _ 0 (u .0) in
       let e10 : s .silent ≡ 0 = eqb-true _ 0 (u .1) in
       let e11 : s .link .silence ≡ 0 = eqb-true _ 0 (k .0) in
+      let e13 : s .link .early ≡ 0 = eqb-true _ 0 (y .0) in
       blank-state (s .link) (s .connections) (s .pasts) (s .closed) (s .clock) (s .held) (s .notices) (s .serving) (s .to-go) (s .silent)
-      (blank-link (s .link .levels) (s .link .largest) (s .link .silence) (s .link .bounds) z e1 e11 e2) e3 e4 e12 e5 e6 e9 e7 e8 e10
+      (blank-link (s .link .levels) (s .link .largest) (s .link .silence) (s .link .early) (s .link .bounds) z e1 e11 e13 e2) e3 e4 e12 e5 e6 e9 e7 e8 e10
 
 nothing-of-fresh : nothing-used fresh ≡ true
 unfolding nothing-used
@@ -176,14 +178,14 @@ module _ (c : Connection) (t : ℕ) where
   left-intro [] k g = refl
   left-intro (a ∷ h) k g = and-intro (leb (earliest c h) a) _ (le-leb _ _ (k .0)) (and-intro (leb a t) (left-in-time c t h) (le-leb _ _ (g .0)) (left-intro h (k .1) (g .1)))
 
-module _ (c : Connection) (t : ℕ) (h : Past) (es : List ℕ) where
-  kept-true : left-in-time c t (departed-of h es) ≡ true → kept-sound h (remember-all (departed-of h es) es) ≡ true → Kept-past c t h es
+module _ (c : Connection) (a : Option ℕ) (t : ℕ) (h : Past) (es : List ℕ) where
+  kept-true : left-in-time c (t + margin a) (departed-of h es) ≡ true → kept-sound h (remember-all (departed-of h es) es) ≡ true → Kept-past c a t h es
   kept-true l e =
-      let a = and-true (leb (length h) max-remembered) (same-numbers h (remember-all (departed-of h es) es)) e in
-      let r = left-true c t (departed-of h es) l in
-      record { few = leb-true _ _ (a .0); last-rows = sym (same-true _ _ (a .1)); back = r .0; gone = r .1 }
+      let b = and-true (leb (length h) max-remembered) (same-numbers h (remember-all (departed-of h es) es)) e in
+      let r = left-true c (t + margin a) (departed-of h es) l in
+      record { few = leb-true _ _ (b .0); last-rows = sym (same-true _ _ (b .1)); back = r .0; gone = r .1 }
 
-  kept-intro : Kept-past c t h es → kept-sound h (remember-all (departed-of h es) es) ≡ true
+  kept-intro : Kept-past c a t h es → kept-sound h (remember-all (departed-of h es) es) ≡ true
   kept-intro k =
       and-intro (leb (length h) max-remembered) (same-numbers h (remember-all (departed-of h es) es)) (le-leb _ _ (k .few)) (ap (same-numbers h) (k .last-rows) ∙ same-intro h)
 
@@ -208,12 +210,12 @@ module _ (s : State) where
   unfolding line-sound
   line-true h = go (eqb (s .to-go) 0) refl h
     where
-      serving : (o : Option Packet) → first (s .serving) (s .held) ≡ o → serves o (s .to-go) (s .clock) ≡ true → In-service s
+      serving : (o : Option Packet) → first (s .serving) (s .held) ≡ o → serves (early-at s (s .serving)) o (s .to-go) (s .clock) ≡ true → In-service s
       serving none i e = never e
       serving (some p) i e =
-          let k = and-true (within 1 (p .len) (s .to-go)) (leb (p .eligibility) (s .clock)) e in
+          let k = and-true (within 1 (p .len) (s .to-go)) (early-at s (s .serving) || leb (p .eligibility) (s .clock)) e in
           let w = within-true 1 (p .len) (s .to-go) (k .0) in
-          record { it = p; is-first = i; eligible = leb-true _ _ (k .1); some-to-go = w .0; to-go-le = omega arith }
+          record { it = p; is-first = i; eligible = λ off. leb-true _ _ (or-true (early-at s (s .serving)) _ (k .1) off); some-to-go = w .0; to-go-le = omega arith }
 
       noticed : (o : Option Notice) → first-notice (s .notices) ≡ o → s .serving ≡ notice-number → serves-notice o (s .to-go) ≡ true → Notice-in-service s
       noticed none i w e = never e
@@ -222,7 +224,7 @@ module _ (s : State) where
           record { it = n; is-first = i; is-notice = w; some-to-go = k .0; to-go-le = omega arith }
 
       busy : (t : Bool) → eqb (s .serving) notice-number ≡ t
-          → cond t (serves-notice (first-notice (s .notices)) (s .to-go)) (serves (first (s .serving) (s .held)) (s .to-go) (s .clock)) ≡ true → Serves s
+          → cond t (serves-notice (first-notice (s .notices)) (s .to-go)) (serves (early-at s (s .serving)) (first (s .serving) (s .held)) (s .to-go) (s .clock)) ≡ true → Serves s
       busy true i e = inr (noticed (first-notice (s .notices)) refl (eqb-true _ _ i) e)
       busy false i e = inl (serving (first (s .serving) (s .held)) refl e)
 
@@ -254,31 +256,32 @@ module _ (s : State) where
   line-intro away (inr (inl r), quiet, alone) =
       busy-line alone (r .some-to-go)
       ∙ cond-is (serves-notice (first-notice (s .notices)) (s .to-go)) _ (ne-eqb (s .serving) notice-number (away r))
-      ∙ ap (λ (o : Option Packet). serves o (s .to-go) (s .clock)) (r .is-first)
-      ∙ and-intro (within 1 (r .it .len) (s .to-go)) (leb (r .it .eligibility) (s .clock)) (within-intro 1 (r .it .len) (s .to-go) (r .some-to-go) (omega (arith, r .to-go-le))) (le-leb _ _ (r .eligible))
+      ∙ ap (λ (o : Option Packet). serves (early-at s (s .serving)) o (s .to-go) (s .clock)) (r .is-first)
+      ∙ and-intro (within 1 (r .it .len) (s .to-go)) (early-at s (s .serving) || leb (r .it .eligibility) (s .clock)) (within-intro 1 (r .it .len) (s .to-go) (r .some-to-go) (omega (arith, r .to-go-le)))
+      (or-intro (early-at s (s .serving)) _ (λ off. le-leb _ _ (r .eligible off)))
 
 -- ---- with a link set
 
 module _ (s : State) where
   -- of an owner: its rows, and what is remembered
   abbrev Owner-holds : ℕ → Type 0
-  Owner-holds c = (length (of c (s .held)) ≤ reservation (s .link) (figures s c)) × Kept-past (figures s c) (s .clock) (past s c) (eligibilities c (s .held))
+  Owner-holds c = (length (of c (s .held)) ≤ reservation (s .link) (figures s c)) × Kept-past (figures s c) (ahead (s .link) (figures s c)) (s .clock) (past s c) (eligibilities c (s .held))
 
   owner-true : (c : ℕ) → owned (s .connections) c ≡ true → before-pass s c ≡ true → behind-pass s c ≡ true → Owner-holds c
   owner-true c o before behind =
       let b = and-true (leb (length (of c (s .held))) (reservation (s .link) (figures s c))) _ (or-true (not (owned (s .connections) c)) _ before (ap not o)) in
-      (leb-true _ _ (b .0), kept-true (figures s c) (s .clock) (past s c) (eligibilities c (s .held)) (b .1) (or-true (not (owned (s .connections) c)) _ behind (ap not o)))
+      (leb-true _ _ (b .0), kept-true (figures s c) (ahead (s .link) (figures s c)) (s .clock) (past s c) (eligibilities c (s .held)) (b .1) (or-true (not (owned (s .connections) c)) _ behind (ap not o)))
 
   before-intro : (c : ℕ) → (owned (s .connections) c ≡ true → Owner-holds c) → before-pass s c ≡ true
   before-intro c f =
       or-intro (not (owned (s .connections) c)) _
       (λ n.
       let k = f (not-false _ n) in
-      and-intro (leb (length (of c (s .held))) (reservation (s .link) (figures s c))) _ (le-leb _ _ (k .0)) (left-intro (figures s c) (s .clock) (departed-by s c) (k .1 .back) (k .1 .gone)))
+      and-intro (leb (length (of c (s .held))) (reservation (s .link) (figures s c))) _ (le-leb _ _ (k .0)) (left-intro (figures s c) (s .clock + margin (ahead (s .link) (figures s c))) (departed-by s c) (k .1 .back) (k .1 .gone)))
 
   behind-intro : (c : ℕ) → (owned (s .connections) c ≡ true → Owner-holds c) → behind-pass s c ≡ true
   behind-intro c f =
-      or-intro (not (owned (s .connections) c)) _ (λ n. kept-intro (figures s c) (s .clock) (past s c) (eligibilities c (s .held)) (f (not-false _ n) .1))
+      or-intro (not (owned (s .connections) c)) _ (λ n. kept-intro (figures s c) (ahead (s .link) (figures s c)) (s .clock) (past s c) (eligibilities c (s .held)) (f (not-false _ n) .1))
 
   -- of one that is closed: it holds nothing, and its charge is not over
   abbrev Closed-holds : ℕ → Type 0
@@ -317,7 +320,7 @@ module _ (s : State) where
       let g = and-true (each (row-sound (s .connections) (s .clock)) (s .held)) _ (f .1) in
       let u = and-true (queues-sound s) _ (g .1) in
       let v = and-true (every max-connections (before-pass s)) _ (u .0) in
-      let i = and-true (paced (s .connections) (s .clock) (departed-by s) [] (s .held)) _ (v .1) in
+      let i = and-true (paced (s .link) (s .connections) (s .clock) (departed-by s) [] (s .held)) _ (v .1) in
       let rows = all-map (λ p k. row-true (s .connections) (s .clock) p k) (s .held) (each-true (row-sound (s .connections) (s .clock)) (s .held) (g .0)) in
       let below : (j : ℕ) → owned (s .connections) j ≡ true → j < max-connections = λ j o. omega (arith, w .0, owned-below (s .connections) j o) in
       let number : (j : ℕ) → j < max-connections → number-sound s j ≡ true = every-true max-connections (number-sound s) (d .0) in
@@ -344,9 +347,9 @@ module _ (s : State) where
         dated = all-map (λ p k. k .1) (s .held) rows;
         room = λ j l. owner j l .0;
         queue = λ j l.
-            queue-of (figures s j) (connection-facts (s .link) (figures s j) (own j l .0) (own j l .1) .burst-le) (s .clock) (past s j) (eligibilities j (s .held))
+            queue-of (figures s j) (connection-facts (s .link) (figures s j) (own j l .0) (own j l .1) .burst-le) (ahead (s .link) (figures s j)) (s .clock) (past s j) (eligibilities j (s .held))
             (owner j l .1)
-            (paced-chain (s .connections) (s .clock) (departed-by s) [] (s .held) (i .0) j);
+            (paced-chain (s .link) (s .connections) (s .clock) (departed-by s) [] (s .held) (i .0) j);
         few-notices = leb-true _ _ (r .0);
         notices-fit = all-map (λ n k. notice-true (s .link) (s .clock) n k) (s .notices) (each-true (notice-sound (s .link) (s .clock)) (s .notices) (r .1));
         line = line-true s (q .1) .0;
@@ -375,8 +378,8 @@ module _ (s : State) where
       (each-intro (row-sound (s .connections) (s .clock)) (s .held) (all-rows (s .held) (S .fit) (S .dated)))
       (and-intro (queues-sound s) _
       (and-intro (every max-connections (before-pass s)) _ (every-intro max-connections (before-pass s) (λ j l. before-intro j (owner S j)))
-      (and-intro (paced (s .connections) (s .clock) (departed-by s) [] (s .held)) _
-      (chain-paced (s .connections) (s .clock) (departed-by s) [] (s .held) (all-map (λ p f. f .owner) (s .held) (S .fit)) (chained S))
+      (and-intro (paced (s .link) (s .connections) (s .clock) (departed-by s) [] (s .held)) _
+      (chain-paced (s .link) (s .connections) (s .clock) (departed-by s) [] (s .held) (all-map (λ p f. f .owner) (s .held) (S .fit)) (chained S))
       (every-intro max-connections (behind-pass s) (λ j l. behind-intro j (owner S j)))))
       (every-intro max-connections (closed-sound s) (λ j l. closed-intro j (λ k. (S .closed-empty j k, unexpired-charged s j (T .charged j l) k)))))))
       (and-intro (notices-sound s) (line-sound s)
@@ -391,10 +394,10 @@ module _ (s : State) where
       number S j l false o = cond-is (connection-sound (s .link) (figures s j)) (free-sound s j) o ∙ free-intro s j (S .free-blank j l o)
 
       owner : Orderly s → (j : ℕ) → owned (s .connections) j ≡ true → Owner-holds j
-      owner S j o = (S .room j o, queue-kept (figures s j) (facts s S j o .burst-le) (s .clock) (past s j) (eligibilities j (s .held)) (S .queue j o))
+      owner S j o = (S .room j o, queue-kept (figures s j) (facts s S j o .burst-le) (ahead (s .link) (figures s j)) (s .clock) (past s j) (eligibilities j (s .held)) (S .queue j o))
 
-      chained : Orderly s → (j : ℕ) → owned (s .connections) j ≡ true → Chain (figures s j) (s .clock) (departed-by s j) (eligibilities j (s .held))
-      chained S j l = queue-chain (figures s j) (facts s S j l .burst-le) (s .clock) (past s j) (eligibilities j (s .held)) (S .queue j l)
+      chained : Orderly s → (j : ℕ) → owned (s .connections) j ≡ true → Chain (figures s j) (ahead (s .link) (figures s j)) (s .clock) (departed-by s j) (eligibilities j (s .held))
+      chained S j l = queue-chain (figures s j) (facts s S j l .burst-le) (ahead (s .link) (figures s j)) (s .clock) (past s j) (eligibilities j (s .held)) (S .queue j l)
 
       all-rows : (ps : List Packet) → All (Fits (s .connections)) ps → All (Dated (s .clock)) ps → All (λ p. row-sound (s .connections) (s .clock) p ≡ true) ps
       all-rows [] f d = tt

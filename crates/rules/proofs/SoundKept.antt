@@ -9,8 +9,8 @@ use mathlib.Core.Option.{Option}
 use lib.ListN.{length, length-append, length-replicate, getD-replicate, List·getD-eq-default}
 use lib.Seq.{getD-set-other}
 use Rattle.rules.specs.Model.{Link, Connection, no-connection, no-past, Notice, State, Call, link, admit, offer, notice, close, tick, fresh, nth, past, figures, closed-at, first-notice}
-use Rattle.rules.specs.Admission.{link-within, level-within, figures-within, owned, free-number, joining, bound, count, cost, reservation}
-use Rattle.rules.specs.Service.{remember, of, eligibilities, ticked, expired, swept}
+use Rattle.rules.specs.Admission.{link-within, level-within, figures-within, owned, free-number, joining, bound, count, cost, reservation, goes-early, ahead}
+use Rattle.rules.specs.Service.{remember, of, eligibilities, early-at, ticked, expired, swept}
 use Rattle.rules.specs.SoundState.{Queue, Notice-fits, Notice-in-service, Free-number, Orderly, Sound-with-link, Sound}
 use Rattle.rules.specs.Calls.{verdict, linked, joined, eligibility-now, placed, noted, marked, done, answer}
 use Rattle.rules.proofs.Lists.{all-map, all-snoc}
@@ -20,13 +20,13 @@ use Rattle.rules.proofs.Sums.{split, same, sum-eq, sum-zero, upto-le}
 use Rattle.rules.proofs.Tests.{never}
 use Rattle.rules.proofs.Count.{count-none}
 use Rattle.rules.proofs.Notices.{first-notice-is, of-none}
-use Rattle.rules.proofs.Standing.{level-free, free-level, owned-same, stands-open, free-is, length-joining, nth-new, nth-other, nth-joined, fits-old, open-unexpired, expired-same}
+use Rattle.rules.proofs.Standing.{level-free, free-level, owned-same, stands-open, free-is, length-joining, nth-new, nth-old, nth-other, nth-joined, fits-old, open-unexpired, expired-same}
 use Rattle.rules.proofs.LevelTest.{test-holds}
 use Rattle.rules.proofs.Figures.{link-facts, connection-facts, cost-largest, sum-is, reservation-is}
 use Rattle.rules.proofs.Queue.{regulated-of, chained-queue, chained-new}
 use Rattle.rules.proofs.Verdicts.{settled, link-done, Admit-done, admit-done, Offer-done, offer-done, Notice-done, notice-done, close-done, tick-done}
 use Rattle.rules.proofs.Line.{tick-leaves}
-use Rattle.rules.proofs.SoundTick.{sound-ticked}
+use Rattle.rules.proofs.SoundTick.{served-on, serving-owned, sound-ticked}
 use Rattle.rules.proofs.SoundOffer.{sound-placed}
 use Rattle.rules.proofs.SoundSwept.{sound-swept, orderly-marked}
 
@@ -34,6 +34,10 @@ pub linked-sound : (s : State) → (s .link .levels ≡ 0 → ⊥) → Sound-wit
 linked-sound s n S = record { with-no-link = λ z. absurd (n z); with-one = λ _. S }
 
 -- ---- an admission
+
+-- whose packets may go early, of an older connection
+pub early-joined : (s : State) (x : Connection) → free-number (s .connections) < length (s .connections) → (c : ℕ) → owned (s .connections) c ≡ true → early-at (joined s x) c ≡ early-at s c
+early-joined s x room c o = ap (goes-early (s .link)) (nth-old (s .connections) x room c o)
 
 module _ (s : State) (T : Sound-with-link s) (x : Connection) (D : Admit-done s x) where
   S : Orderly s
@@ -68,11 +72,11 @@ module _ (s : State) (T : Sound-with-link s) (x : Connection) (D : Admit-done s 
     dated = S .dated;
     room = nth-joined (s .connections) x room-left (λ c f. length (of c (s .held)) ≤ reservation (s .link) f) (S .room) (rw no-rows (omega arith));
     queue =
-        nth-joined (s .connections) x room-left (λ c f. Queue f (s .clock) (past s c) (eligibilities c (s .held))) (S .queue)
-        (rw (no-rows, new-past) (chained-queue x (regulated-of (s .link) x (connection-facts (s .link) x (D .level-in) (D .figures-in))) (s .clock) no-past [] (chained-new x (s .clock))));
+        nth-joined (s .connections) x room-left (λ c f. Queue f (ahead (s .link) f) (s .clock) (past s c) (eligibilities c (s .held))) (S .queue)
+        (rw (no-rows, new-past) (chained-queue x (regulated-of (s .link) x (connection-facts (s .link) x (D .level-in) (D .figures-in))) (ahead (s .link) x) (s .clock) no-past [] (chained-new x (ahead (s .link) x) (s .clock))));
     few-notices = S .few-notices;
     notices-fit = S .notices-fit;
-    line = S .line;
+    line = ⊎-elim (λ z. inl z) (λ k. inr (⊎-elim (λ r. inl (served-on (λ e. sym (early-joined s x room-left (s .serving) (serving-owned s (S .fit) r)) ∙ e) r)) (λ n. inr n) k)) (S .line);
     silent-le = S .silent-le;
     silent-alone = S .silent-alone;
     closed-empty = S .closed-empty;

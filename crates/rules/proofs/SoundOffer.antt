@@ -9,7 +9,7 @@ use mathlib.Core.Option.{Option}
 use lib.ListN.{length, getD, set, length-append, length-set}
 use lib.Seq.{getD-set-same, getD-set-other}
 use Rattle.rules.specs.Model.{Past, no-past, Packet, State, past, figures, closed-at}
-use Rattle.rules.specs.Admission.{owned, reservation}
+use Rattle.rules.specs.Admission.{owned, reservation, ahead}
 use Rattle.rules.specs.Service.{of, eligibilities, remember}
 use Rattle.rules.specs.SoundState.{Fits, Dated, Queue, In-service, Orderly}
 use Rattle.rules.specs.Calls.{eligibility-now, packet, placed}
@@ -20,7 +20,7 @@ use Rattle.rules.proofs.Stamps.{Timely, timely}
 use Rattle.rules.proofs.Standing.{owned-below, stands-owned, stands-open}
 use Rattle.rules.proofs.SoundTick.{facts, regulated}
 use Rattle.rules.proofs.Queue.{queue-chained, chained-queue, chained-snoc}
-use Rattle.rules.proofs.Verdicts.{Offer-done}
+use Rattle.rules.proofs.Verdicts.{near-by, Offer-done}
 
 module _ (s : State) (S : Orderly s) (c len tag : ℕ) (st : Option ℕ) (D : Offer-done s c len st) where
   below : owned (s .connections) c ≡ true
@@ -29,8 +29,8 @@ module _ (s : State) (S : Orderly s) (c len tag : ℕ) (st : Option ℕ) (D : Of
   entry : c < length (s .pasts)
   entry = omega (arith, S .one-past-each, S .numbers, owned-below (s .connections) c below)
 
-  in-step : Timely (figures s c) (past s c) (s .clock) (eligibility-now s c st)
-  in-step = timely (s .link) (figures s c) (past s c) (s .clock) st (facts s S c below) (D .suited) (D .in-time)
+  in-step : Timely (figures s c) (ahead (s .link) (figures s c)) (past s c) (s .clock) (eligibility-now s c st)
+  in-step = timely (s .link) (figures s c) (past s c) (s .clock) st (facts s S c below) (D .suited) (D .in-time) (near-by s c st (D .near))
 
   new : Past
   new = remember (past s c) (eligibility-now s c st)
@@ -39,13 +39,13 @@ module _ (s : State) (S : Orderly s) (c len tag : ℕ) (st : Option ℕ) (D : Of
   p = packet s c len tag st
 
   queue-placed : (d : ℕ) → owned (s .connections) d ≡ true → (c ≡ d) ⊎ (c ≡ d → ⊥)
-      → Queue (figures s d) (s .clock) (getD (set (s .pasts) c new) d no-past) (eligibilities d (s .held ++ p ∷ []))
+      → Queue (figures s d) (ahead (s .link) (figures s d)) (s .clock) (getD (set (s .pasts) c new) d no-past) (eligibilities d (s .held ++ p ∷ []))
   unfolding new p
   queue-placed d l (inl e) =
-      subst (λ (j : ℕ). Queue (figures s j) (s .clock) (getD (set (s .pasts) c new) j no-past) (eligibilities j (s .held ++ p ∷ []))) e
+      subst (λ (j : ℕ). Queue (figures s j) (ahead (s .link) (figures s j)) (s .clock) (getD (set (s .pasts) c new) j no-past) (eligibilities j (s .held ++ p ∷ []))) e
       (rw (eligibilities-snoc-same c (s .held) p refl, getD-set-same (s .pasts) c new no-past entry)
-      (chained-queue (figures s c) (regulated s S c below) (s .clock) new (eligibilities c (s .held) ++ eligibility-now s c st ∷ [])
-      (chained-snoc (figures s c) (s .clock) (past s c) (eligibilities c (s .held)) (eligibility-now s c st) (in-step .paced) (queue-chained (figures s c) (regulated s S c below) (s .clock) (past s c) (eligibilities c (s .held)) (S .queue c below)))))
+      (chained-queue (figures s c) (regulated s S c below) (ahead (s .link) (figures s c)) (s .clock) new (eligibilities c (s .held) ++ eligibility-now s c st ∷ [])
+      (chained-snoc (figures s c) (ahead (s .link) (figures s c)) (s .clock) (past s c) (eligibilities c (s .held)) (eligibility-now s c st) (in-step .paced) (queue-chained (figures s c) (regulated s S c below) (ahead (s .link) (figures s c)) (s .clock) (past s c) (eligibilities c (s .held)) (S .queue c below)))))
   queue-placed d l (inr e) =
       rw (eligibilities-snoc-other d (s .held) p e, getD-set-other (s .pasts) c d new no-past (λ i. e (sym i))) (S .queue d l)
 

@@ -12,15 +12,16 @@ use borrow.Author.Tests.{eq-eqb}
 use Rattle.rules.specs.Words.{upto, sum}
 use Rattle.rules.specs.Limits.{max-connections}
 use Rattle.rules.specs.Model.{Connection, Past, Packet, State, no-connection, nth, past, figures, closed-at}
-use Rattle.rules.specs.Admission.{owned, stands, level-within, figures-within, bound, count, reservation, reserved, cost, level-sum}
-use Rattle.rules.specs.Service.{of, eligibilities, expired, swept}
-use Rattle.rules.specs.SoundState.{Fits, Queue, Free-number, Orderly, Sound-with-link}
+use Rattle.rules.specs.Admission.{owned, stands, level-within, figures-within, bound, count, reservation, reserved, cost, level-sum, goes-early, ahead}
+use Rattle.rules.specs.Service.{of, eligibilities, early-at, expired, swept}
+use Rattle.rules.specs.SoundState.{Fits, Queue, In-service, Free-number, Orderly, Sound-with-link}
 use Rattle.rules.specs.Calls.{marked}
 use Rattle.rules.proofs.Lists.{All, all-map, all-zip}
 use Rattle.rules.proofs.Sums.{split, same, cond-is, sum-le, upto-le}
-use Rattle.rules.proofs.Rows.{nil-of}
+use Rattle.rules.proofs.Rows.{nil-of, first-all, first-of}
 use Rattle.rules.proofs.Count.{count-none}
 use Rattle.rules.proofs.Figures.{reservation-is, sum-is}
+use Rattle.rules.proofs.SoundTick.{served-on, serving-owned}
 use Rattle.rules.proofs.Standing.{owned-below, owned-same, stands-owned, swept-length, swept-pasts-length, swept-marks-length, expired-closed, swept-unexpired, kept-figures, kept-past, kept-closed, freed-figures, freed-past, freed-closed, swept-owner, swept-was, swept-stays}
 
 -- each packet is one of its connection's
@@ -58,6 +59,14 @@ module _ (s : State) (S : Orderly s) where
         some-len = f .some-len;
         len-le = subst (λ (x : Connection). p .len ≤ x .size) (sym (kept-figures s (p .connection) l e)) (f .len-le);
       }
+
+  -- the packet in service may go early if it might before
+  pub early-swept : In-service s → early-at (swept s) (s .serving) ≡ early-at s (s .serving)
+  early-swept r =
+      let i = first-of (s .serving) (s .held) (r .it) (r .is-first) in
+      ap (goes-early (s .link))
+      (kept-figures s (s .serving) (below (s .serving) (serving-owned s (S .fit) r))
+      (ap (expired s) (sym i) ∙ first-all (s .serving) (λ p. expired s (p .connection) ≡ false) (s .held) (r .it) (r .is-first) held-stay))
 
   -- the sums do not grow
   sum-swept : (f : Connection → ℕ) → f no-connection ≡ 0 → sum (length (swept s .connections)) (λ c. f (nth (swept s .connections) c)) ≤ sum (length (s .connections)) (λ c. f (nth (s .connections) c))
@@ -119,11 +128,11 @@ module _ (s : State) (S : Orderly s) where
         subst (λ (x : Connection). length (of c (s .held)) ≤ reservation (s .link) x) (sym (kept-figures s c (k .0) (k .1))) (S .room c (swept-was s c o));
     queue = λ c o.
         let k = swept-owner s c o in
-        subst (λ (x : Connection). Queue x (s .clock) (past (swept s) c) (eligibilities c (s .held))) (sym (kept-figures s c (k .0) (k .1)))
-        (subst (λ (h : Past). Queue (figures s c) (s .clock) h (eligibilities c (s .held))) (sym (kept-past s c (k .0) (k .1))) (S .queue c (swept-was s c o)));
+        subst (λ (x : Connection). Queue x (ahead (s .link) x) (s .clock) (past (swept s) c) (eligibilities c (s .held))) (sym (kept-figures s c (k .0) (k .1)))
+        (subst (λ (h : Past). Queue (figures s c) (ahead (s .link) (figures s c)) (s .clock) h (eligibilities c (s .held))) (sym (kept-past s c (k .0) (k .1))) (S .queue c (swept-was s c o)));
     few-notices = S .few-notices;
     notices-fit = S .notices-fit;
-    line = S .line;
+    line = ⊎-elim (λ z. inl z) (λ k. inr (⊎-elim (λ r. inl (served-on (λ e. sym (early-swept r) ∙ e) r)) (λ n. inr n) k)) (S .line);
     silent-le = S .silent-le;
     silent-alone = S .silent-alone;
     closed-empty = λ c k. empty c (closed-below c k) k (expired s c) refl;

@@ -2,16 +2,16 @@
 -- opens `untimely`.
 use Prim.Native.Nat.{ℕ, _+_, _≤_}
 use native.Mathlib.Omega.{arith}
-use mathlib.Core.Path.{_≡_, refl, ap}
+use mathlib.Core.Path.{_≡_, refl, sym, ap, subst}
 use mathlib.Core.Bool.{true, false}
 use mathlib.Core.Option.{Option, none, some}
 use lib.Dec.{ltb}
 use borrow.Author.Tests.{ltb-false, le-ltb, not-true}
 use Rattle.rules.specs.Model.{Link, Connection, Past}
-use Rattle.rules.specs.Admission.{burst, stamped}
+use Rattle.rules.specs.Admission.{burst, stamped, stand-by-on, distance, ahead}
 use Rattle.rules.specs.Service.{nth-before, ticks-after, earliest, suits, eligibility-by, untimely, untimely-by}
 use Rattle.rules.proofs.Tests.{or-false}
-use Rattle.rules.proofs.Figures.{Connection-facts}
+use Rattle.rules.proofs.Figures.{Connection-facts, early-parts, never-stamped, ahead-off, ahead-is}
 use Rattle.rules.proofs.Spacing.{earliest-is, next-is}
 use Rattle.rules.proofs.Queue.{Pace, next-paced, latest-second}
 
@@ -37,15 +37,21 @@ module _ (c : Connection) (h : Past) (now stamp : ℕ) where
 pub earliest-gap-only : (c : Connection) (h : Past) → burst c ≡ 0 → earliest c h ≡ ticks-after (c .gap) (nth-before 1 h)
 earliest-gap-only c h e = omega (arith, earliest-is c h, ap (λ (n : ℕ). ticks-after (c .window) (nth-before n h)) e)
 
-pub record Timely (c : Connection) (h : Past) (now e : ℕ) : Type 0 where
+pub record Timely (c : Connection) (a : Option ℕ) (h : Past) (now e : ℕ) : Type 0 where
   pub not-before : now ≤ e
-  pub paced : Pace c now h e
+  pub paced : Pace c a now h e
 
-pub timely : (l : Link) (c : Connection) (h : Past) (now : ℕ) (st : Option ℕ) → Connection-facts l c → suits c st ≡ true → untimely-by c h now st ≡ false → Timely c h now (eligibility-by c h now st)
-timely l c h now none F k u = record { not-before = omega (arith, next-is c h now); paced = next-paced c now h (not-true (stamped c) k) }
-timely l c h now (some stamp) F k u =
+pub timely : (l : Link) (c : Connection) (h : Past) (now : ℕ) (st : Option ℕ) → Connection-facts l c → suits c st ≡ true → untimely-by c h now st ≡ false
+    → (stand-by-on l ≡ true → eligibility-by c h now st ≤ now + distance l c) → Timely c (ahead l c) h now (eligibility-by c h now st)
+timely l c h now none F k u near = record {
+  not-before = omega (arith, next-is c h now);
+  paced = next-paced c (ahead l c) now h (not-true (stamped c) k) (λ r i. let p = ahead-is l c r i in omega (arith, p .1, near (early-parts l c (p .0) .0)));
+}
+timely l c h now (some stamp) F k u near =
     let t = in-time-of c h now stamp u in
     record {
       not-before = t .not-over;
-      paced = (omega (arith, earliest-gap-only c h (F .no-average k), t .gap-after), omega (arith, latest-second c now h k, t .not-later));
+      paced =
+          subst (λ (a : Option ℕ). Pace c a now h (stamp + c .allowance)) (sym (ahead-off l c (never-stamped l c k)))
+          (omega (arith, earliest-gap-only c h (F .no-average k), t .gap-after), omega (arith, latest-second c now h k, t .not-later));
     }

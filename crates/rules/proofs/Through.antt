@@ -8,26 +8,21 @@ use mathlib.Core.Logic.{_⊎_, inl, inr}
 use mathlib.Core.List.{List, [], _∷_, _++_, map, append-nil}
 use mathlib.Core.Option.{Option, none, some}
 use lib.Dec.{eqb}
-use lib.ListN.{length, getD, getElem?}
-use lib.Seq.{getD-set-other}
+use lib.ListN.{length, getElem?}
 use borrow.Author.Tests.{eqb-true}
 use Rattle.rules.specs.Words.{push}
-use Rattle.rules.specs.Limits.{notice-number, max-connections}
-use Rattle.rules.specs.Model.{Link, Connection, Packet, State, Call, link, admit, offer, notice, close, tick, Answer, nth, figures, closed-at, notice-packet}
-use Rattle.rules.specs.Admission.{bound}
-use Rattle.rules.specs.Service.{of, ticked, expired, swept}
-use Rattle.rules.specs.SoundState.{Orderly}
-use Rattle.rules.specs.Calls.{verdict, packet, marked, done, refused, answer}
+use Rattle.rules.specs.Limits.{notice-number}
+use Rattle.rules.specs.Model.{Packet, State, Call, link, admit, offer, notice, close, tick, Answer, notice-packet}
+use Rattle.rules.specs.Service.{of, early-at, ticked, swept}
+use Rattle.rules.specs.Calls.{verdict, packet, done, refused, answer}
 use Rattle.rules.specs.Runs.{Departure, History, leaving, logged, after, run-from, departures, in-hub, bound-of}
-use Rattle.rules.proofs.Sums.{same, split}
+use Rattle.rules.proofs.Sums.{split}
 use Rattle.rules.proofs.Rows.{none-some, some-inj, of-append}
-use Rattle.rules.proofs.Standing.{owned-below, nth-old, open-unexpired, kept-figures}
-use Rattle.rules.proofs.Verdicts.{settled, link-done, admit-done, Close-done, close-done, tick-done}
-use Rattle.rules.proofs.Line.{tick-leaves}
+use Rattle.rules.proofs.Verdicts.{settled}
 use Rattle.rules.proofs.Invariant.{whats, Invariant}
-use Rattle.rules.proofs.KeptByTick.{In-time, ticked-in-time}
+use Rattle.rules.proofs.Lower.{Begun, call-begun, Well-timed, well-timed-done, early-stays, bound-stays}
 use Rattle.rules.proofs.Every.{keeps}
-use Rattle.rules.proofs.InTime.{find-more, find-place, departures-append, conserved-lists, Gone-in-time, Waits, Either, holds-one, its-owner}
+use Rattle.rules.proofs.InTime.{find-more, find-place, departures-append, conserved-lists, Gone-in-time, Waits, Either, holds-one}
 
 pub push-is : {A : Type 0} (xs : List A) (o : Option A) → (ys : List A) × (push xs o ≡ xs ++ ys)
 push-is xs none = ([], sym (append-nil xs))
@@ -44,9 +39,9 @@ map-find f [] i x e = absurd (none-some e)
 map-find f (y ∷ xs) zero x e = ap (λ o. some (f o)) (some-inj e)
 map-find f (y ∷ xs) (suc i) x e = map-find f xs i x e
 
-module _ (c i : ℕ) (p : Packet) (level : c ≡ notice-number → ⊥) (d : ℕ) where
+module _ (c i : ℕ) (p : Packet) (level : c ≡ notice-number → ⊥) (d : ℕ) (early : Bool) where
   -- what has left has left
-  gone-stays : (h : History) (k : Call) (a : Answer) → Gone-in-time c i p level d h → Gone-in-time c i p level d (logged h k a)
+  gone-stays : (h : History) (k : Call) (a : Answer) → Gone-in-time c i p level d early h → Gone-in-time c i p level d early (logged h k a)
   gone-stays h k a G =
       let q = push-is (h .departed) (leaving (h .now) (a .departed)) in (
         G .0,
@@ -54,45 +49,40 @@ module _ (c i : ℕ) (p : Packet) (level : c ≡ notice-number → ⊥) (d : ℕ
             (subst (λ (ds : List Departure). getElem? ds i ≡ some (record { what = p; finish = G .0 })) (sym (departures-append c (h .departed) (q .0)))
             (find-more (departures c (h .departed)) (departures c (q .0)) i _ (G .1))),
         G .2,
+        G .3,
       )
 
-  module _ (h : History) (I : Invariant h) (W : Waits c i p level d h) where
+  module _ (h : History) (I : Invariant h) (B : Begun (h .now)) (W : Waits c i p level d early h) where
     open History h using (now as s, accepted as all, departed as gone, present as acc)
 
     -- where nothing leaves and the owner stays, it waits on
-    waits-on : (more : List Packet) (ps : List Packet) (r : State) → bound-of r c ≡ bound-of s c
-        → Either c i p level d (record { accepted = all ++ more; departed = gone; present = ps; now = r })
-    waits-on more ps r b =
+    waits-on : (more : List Packet) (ps : List Packet) (r : State) → bound-of r c ≡ bound-of s c → early-at r c ≡ early-at s c
+        → Either c i p level d early (record { accepted = all ++ more; departed = gone; present = ps; now = r })
+    waits-on more ps r b f =
         inr
         (record {
           later-on = W .later-on;
           is-there = subst (λ (l : List Packet). getElem? l i ≡ some p) (sym (of-append c all more)) (find-more (of c all) (of c more) i p (W .is-there));
           still-bound = b ∙ W .still-bound;
+          still-early = λ e. f ∙ W .still-early e;
         })
 
-    stays-same : (ps : List Packet) (r : State) → bound-of r c ≡ bound-of s c → Either c i p level d (record { accepted = all; departed = gone; present = ps; now = r })
-    stays-same ps r b = subst (λ (l : List Packet). Either c i p level d (record { accepted = l; departed = gone; present = ps; now = r })) (append-nil all) (waits-on [] ps r b)
+    stays-same : (ps : List Packet) (r : State) → bound-of r c ≡ bound-of s c → early-at r c ≡ early-at s c → Either c i p level d early (record { accepted = all; departed = gone; present = ps; now = r })
+    stays-same ps r b f = subst (λ (l : List Packet). Either c i p level d early (record { accepted = l; departed = gone; present = ps; now = r })) (append-nil all) (waits-on [] ps r b f)
 
-    -- its owner is not closed, as it holds a packet
-    open-yet : Orderly s → closed-at s c ≡ false
-    open-yet O = go (closed-at s c) refl
-      where
-        go : (b : Bool) → closed-at s c ≡ b → closed-at s c ≡ false
-        go true k = absurd (holds-one c i p level d h I W (omega (arith, ap length (O .closed-empty c k))))
-        go false k = k
-
-    below : Orderly s → c < max-connections
-    below O = omega (arith, O .numbers, owned-below (s .connections) c (its-owner c i p level d h I W O))
+    -- its number holds a packet
+    holds : length (of c (s .held)) < 1 → ⊥
+    holds = holds-one c i p level d early h I W
 
     -- ---- a tick
 
     -- what has left afterwards, if it was the one
     left-now : (o : Option Packet) (ps : List Packet) (r : State)
         → (q : Packet) → o ≡ some q
-        → ((q .connection ≡ notice-number) ⊎ (s .clock + 1 ≤ q .eligibility + bound-of s (q .connection)))
+        → Well-timed h I B q
         → of c all ≡ whats (departures c (push gone (leaving s o))) ++ of c (in-hub r)
         → i < length (departures c (push gone (leaving s o)))
-        → Gone-in-time c i p level d (record { accepted = all; departed = push gone (leaving s o); present = ps; now = r })
+        → Gone-in-time c i p level d early (record { accepted = all; departed = push gone (leaving s o); present = ps; now = r })
     left-now o ps r q e time cons l =
         let x : Departure = record { what = q; finish = s .clock + 1 } in
         let y = find-some (departures c (push gone (leaving s o))) i l in
@@ -103,6 +93,7 @@ module _ (c i : ℕ) (p : Packet) (level : c ≡ notice-number → ⊥) (d : ℕ
           y .0 .finish,
           y .1 ∙ ap (λ (z : Packet). some (record { what = z; finish = y .0 .finish })) was,
           in-time q (one .0) was (one .1) time,
+          not-early q (one .0) was (one .1) time,
         )
       where
         only-one : (x : Departure) (b : Bool) → eqb (x .what .connection) c ≡ b → (j : ℕ) (y : Departure) → getElem? (cond b (x ∷ []) []) j ≡ some y → (x .what .connection ≡ c) × (x ≡ y)
@@ -111,7 +102,7 @@ module _ (c i : ℕ) (p : Packet) (level : c ≡ notice-number → ⊥) (d : ℕ
         only-one x false e j y k = absurd (none-some k)
 
         in-time : (q : Packet) → q .connection ≡ c → {y : Departure} → y .what ≡ p → record { what = q; finish = s .clock + 1 } ≡ y
-            → ((q .connection ≡ notice-number) ⊎ (s .clock + 1 ≤ q .eligibility + bound-of s (q .connection))) → y .finish ≤ p .eligibility + d
+            → Well-timed h I B q → y .finish ≤ p .eligibility + d
         in-time q n was is (inl k) = absurd (level (sym n ∙ k))
         in-time q n {y} was is (inr k) =
             omega (
@@ -121,73 +112,67 @@ module _ (c i : ℕ) (p : Packet) (level : c ≡ notice-number → ⊥) (d : ℕ
               ap (λ (z : Packet). z .eligibility) was,
               ap (bound-of s) n,
               W .still-bound,
+              k .2,
             )
 
-    ticked-on : (O : Orderly s) → Invariant (logged h tick (done tick s)) → Either c i p level d (logged h tick (done tick s))
-    ticked-on O K = go (ticked s .departed) refl (ticked-in-time h I O) (split (length (departures c (push gone (leaving s (ticked s .departed))))) i)
+        not-early : (q : Packet) → q .connection ≡ c → {y : Departure} → y .what ≡ p → record { what = q; finish = s .clock + 1 } ≡ y
+            → Well-timed h I B q → early ≡ false → p .eligibility + p .len ≤ y .finish
+        not-early q n was is (inl k) e = absurd (level (sym n ∙ k))
+        not-early q n {y} was is (inr k) e =
+            omega (
+              arith,
+              ap (λ (z : Departure). z .finish) is,
+              ap (λ (z : Departure). z .what .eligibility) is,
+              ap (λ (z : Departure). z .what .len) is,
+              ap (λ (z : Packet). z .eligibility) was,
+              ap (λ (z : Packet). z .len) was,
+              k .1 (ap (early-at s) n ∙ W .still-early e),
+            )
+
+    ticked-on : verdict tick s ≡ 0 → Invariant (logged h tick (done tick s)) → Either c i p level d early (logged h tick (done tick s))
+    ticked-on v K = go (ticked s .departed) refl (λ q k. well-timed-done h I B tick v q k) (split (length (departures c (push gone (leaving s (ticked s .departed))))) i)
       where
-        bound-stays : bound-of (swept (ticked s .next)) c ≡ bound-of s c
-        bound-stays =
-            let L = tick-leaves s in
-            let e : expired (ticked s .next) c ≡ false = open-unexpired (ticked s .next) c (ap (λ (ms : List Bool). getD ms c false) (L .closed) ∙ open-yet O) in
-            ap (λ (x : Connection). bound (ticked s .next .link) (x .level)) (kept-figures (ticked s .next) c (below O) e ∙ ap (λ (cs : List Connection). nth cs c) (L .connections))
-            ∙ ap (λ (l : Link). bound l (figures s c .level)) (L .link)
+        waits : length (departures c (push gone (leaving s (ticked s .departed)))) ≤ i → Either c i p level d early (logged h tick (done tick s))
+        waits l = inr (record { later-on = l; is-there = W .is-there; still-bound = bound-stays s (I .sound) c holds tick v ∙ W .still-bound; still-early = λ f. early-stays s (I .sound) c holds tick v ∙ W .still-early f })
 
-        waits : length (departures c (push gone (leaving s (ticked s .departed)))) ≤ i → Either c i p level d (logged h tick (done tick s))
-        waits l = inr (record { later-on = l; is-there = W .is-there; still-bound = bound-stays ∙ W .still-bound })
-
-        go : (o : Option Packet) → ticked s .departed ≡ o → In-time s o
+        go : (o : Option Packet) → ticked s .departed ≡ o → ((q : Packet) → o ≡ some q → Well-timed h I B q)
             → (length (departures c (push gone (leaving s (ticked s .departed)))) ≤ i) ⊎ (i < length (departures c (push gone (leaving s (ticked s .departed)))))
-            → Either c i p level d (logged h tick (done tick s))
+            → Either c i p level d early (logged h tick (done tick s))
         go o e t (inl l) = waits l
         go none e t (inr l) = absurd (omega (arith, W .later-on, ap (λ (o : Option Packet). length (departures c (push gone (leaving s o)))) e))
         go (some q) e t (inr l) =
-            inl (left-now (ticked s .departed) (logged h tick (done tick s) .present) (swept (ticked s .next)) q e t (conserved-lists (logged h tick (done tick s)) K c) l)
+            inl (left-now (ticked s .departed) (logged h tick (done tick s) .present) (swept (ticked s .next)) q e (t q refl) (conserved-lists (logged h tick (done tick s)) K c) l)
 
     -- ---- any call
 
-    done-on : (k : Call) → verdict k s ≡ 0 → Invariant (logged h k (done k s)) → Either c i p level d (logged h k (done k s))
-    done-on (link l) e K =
-        absurd (holds-one c i p level d h I W (omega (arith, ap (λ (r : State). length (of c (r .held))) (I .sound .with-no-link (link-done s l e .unset)))))
-    done-on (admit x) e K =
-        let a = admit-done s x e in
-        let O = I .sound .with-one (a .set) .orderly in
-        stays-same (logged h (admit x) (done (admit x) s) .present) (done (admit x) s .next)
-        (ap (λ (y : Connection). bound (s .link) (y .level)) (nth-old (s .connections) x (omega (arith, O .numbers, a .free)) c (its-owner c i p level d h I W O)))
-    done-on (offer b len tag st) e K = waits-on (packet s b len tag st ∷ []) (logged h (offer b len tag st) (done (offer b len tag st) s) .present) (done (offer b len tag st) s .next) refl
+    -- one that accepts nothing, and with which nothing leaves
+    same-after : (k : Call) → verdict k s ≡ 0 → Either c i p level d early (record { accepted = all; departed = gone; present = logged h k (done k s) .present; now = done k s .next })
+    same-after k e = stays-same (logged h k (done k s) .present) (done k s .next) (bound-stays s (I .sound) c holds k e) (early-stays s (I .sound) c holds k e)
+
+    done-on : (k : Call) → verdict k s ≡ 0 → Invariant (logged h k (done k s)) → Either c i p level d early (logged h k (done k s))
+    done-on (link l) e K = same-after (link l) e
+    done-on (admit x) e K = same-after (admit x) e
+    done-on (offer b len tag st) e K = waits-on (packet s b len tag st ∷ []) (logged h (offer b len tag st) (done (offer b len tag st) s) .present) (done (offer b len tag st) s .next) refl refl
     done-on (notice len tag) e K =
-        waits-on (notice-packet (record { len = len; tag = tag; arrival = s .clock }) ∷ []) (logged h (notice len tag) (done (notice len tag) s) .present) (done (notice len tag) s .next) refl
-    done-on (close b) e K = stays-same (logged h (close b) (done (close b) s) .present) (swept (marked s b)) (closes (same b c))
-      where
-        D : Close-done s b
-        D = close-done s b e
+        waits-on (notice-packet (record { len = len; tag = tag; arrival = s .clock }) ∷ []) (logged h (notice len tag) (done (notice len tag) s) .present) (done (notice len tag) s .next) refl refl
+    done-on (close b) e K = same-after (close b) e
+    done-on tick e K = ticked-on e K
 
-        O : Orderly s
-        O = I .sound .with-one (close-done s b e .set) .orderly
+    refused-on : (k : Call) (v : ℕ) → Either c i p level d early (logged h k (refused k s (suc v)))
+    refused-on (link l) v = stays-same (logged h (link l) (refused (link l) s (suc v)) .present) s refl refl
+    refused-on (admit x) v = stays-same (logged h (admit x) (refused (admit x) s (suc v)) .present) s refl refl
+    refused-on (offer b len tag st) v = stays-same (logged h (offer b len tag st) (refused (offer b len tag st) s (suc v)) .present) s refl refl
+    refused-on (notice len tag) v = stays-same (logged h (notice len tag) (refused (notice len tag) s (suc v)) .present) s refl refl
+    refused-on (close b) v = stays-same (logged h (close b) (refused (close b) s (suc v)) .present) s refl refl
+    refused-on tick v = stays-same (logged h tick (refused tick s (suc v)) .present) s refl refl
 
-        closes : (b ≡ c) ⊎ (b ≡ c → ⊥) → bound-of (swept (marked s b)) c ≡ bound-of s c
-        closes (inl n) = absurd (holds-one c i p level d h I W (subst (λ (j : ℕ). length (of j (s .held)) < 1) n (close-done s b e .empty)))
-        closes (inr n) =
-            ap (λ (x : Connection). bound (s .link) (x .level))
-            (kept-figures (marked s b) c (below O)
-            (open-unexpired (marked s b) c (getD-set-other (s .closed) b c true false (λ k. n (sym k)) ∙ open-yet O)))
-    done-on tick e K = ticked-on (I .sound .with-one (tick-done s e .set) .orderly) K
+  pub either-on : (h : History) (k : Call) → Invariant h → Begun (h .now) → Either c i p level d early h → Either c i p level d early (after h k)
+  either-on h k I B (inl G) = inl (gone-stays h k (answer k (h .now)) G)
+  either-on h k I B (inr W) =
+      settled (λ a. Invariant (logged h k a) → Either c i p level d early (logged h k a)) k (h .now) (verdict k (h .now))
+      (λ e K. done-on h I B W k e K)
+      (λ v K. refused-on h I B W k v) (keeps h k I)
 
-    refused-on : (k : Call) (v : ℕ) → Either c i p level d (logged h k (refused k s (suc v)))
-    refused-on (link l) v = stays-same (logged h (link l) (refused (link l) s (suc v)) .present) s refl
-    refused-on (admit x) v = stays-same (logged h (admit x) (refused (admit x) s (suc v)) .present) s refl
-    refused-on (offer b len tag st) v = stays-same (logged h (offer b len tag st) (refused (offer b len tag st) s (suc v)) .present) s refl
-    refused-on (notice len tag) v = stays-same (logged h (notice len tag) (refused (notice len tag) s (suc v)) .present) s refl
-    refused-on (close b) v = stays-same (logged h (close b) (refused (close b) s (suc v)) .present) s refl
-    refused-on tick v = stays-same (logged h tick (refused tick s (suc v)) .present) s refl
-
-  pub either-on : (h : History) (k : Call) → Invariant h → Either c i p level d h → Either c i p level d (after h k)
-  either-on h k I (inl G) = inl (gone-stays h k (answer k (h .now)) G)
-  either-on h k I (inr W) =
-      settled (λ a. Invariant (logged h k a) → Either c i p level d (logged h k a)) k (h .now) (verdict k (h .now))
-      (λ e K. done-on h I W k e K)
-      (λ v K. refused-on h I W k v) (keeps h k I)
-
-  pub either-through : (ks : List Call) (h : History) → Invariant h → Either c i p level d h → Either c i p level d (run-from h ks)
-  either-through [] h I E = E
-  either-through (k ∷ ks) h I E = either-through ks (after h k) (keeps h k I) (either-on h k I E)
+  pub either-through : (ks : List Call) (h : History) → Invariant h → Begun (h .now) → Either c i p level d early h → Either c i p level d early (run-from h ks)
+  either-through [] h I B E = E
+  either-through (k ∷ ks) h I B E = either-through ks (after h k) (keeps h k I) (call-begun h I B k) (either-on h k I B E)

@@ -7,35 +7,35 @@ use mathlib.Core.Logic.{_⊎_, inl, inr}
 use mathlib.Core.List.{List, [], _∷_, _++_, map}
 use mathlib.Core.Option.{Option, none, some}
 use lib.Dec.{eqb}
-use lib.ListN.{length, getElem?}
+use lib.ListN.{length, getElem?, length-append}
 use borrow.Author.Tests.{eqb-true, eq-eqb, not-true}
 use Rattle.rules.specs.Words.{All, Pairs, within, push}
 use Rattle.rules.specs.Limits.{clock-end, notice-number}
-use Rattle.rules.specs.Model.{Connection, Packet, State, Call, link, admit, offer, notice, close, tick, past, figures, notice-packet}
+use Rattle.rules.specs.Model.{Connection, Packet, State, Answer, Call, link, admit, offer, notice, close, tick, past, figures, notice-packet}
 use Rattle.rules.specs.Admission.{owned, stands, stamped}
-use Rattle.rules.specs.Service.{Spaced, of, eligibilities}
-use Rattle.rules.specs.Calls.{heard, verdict, eligibility-now, packet, answer}
-use Rattle.rules.specs.Runs.{Departure, History, taken, after, run, departures, own-departures, bound-of, allowed, offer-tick, offer-ticks, Keeps-its-word, Asked, Exchange, exchange, exchanges}
+use Rattle.rules.specs.Service.{Spaced, of, eligibilities, early-at}
+use Rattle.rules.specs.Calls.{heard, verdict, eligibility-now, packet, done, answer}
+use Rattle.rules.specs.Runs.{Departure, History, taken, leaving, after, run-from, nothing-yet, run, in-hub, departures, own-departures, bound-of, allowed, offer-tick, offer-ticks, Keeps-its-word, Asked, Exchange, exchange, exchanges}
 use Rattle.rules.specs.Promises.{Left-by, No-cause, Stamp-promise}
 use Rattle.rules.specs.TwoHubs.{Follows, Carried, Carries, asked-of, Passed-on, Two-hubs-in-a-row, Goes-through, All-go-through}
 use Rattle.rules.proofs.Lists.{Sub, nil, sub-snoc, sub-more, all-map, all-snoc, all-sub, all-filter, all-every}
-use Rattle.rules.proofs.Sums.{same, cond-is}
+use Rattle.rules.proofs.Sums.{split, same, cond-is}
 use Rattle.rules.proofs.Tests.{never, and-true, and-intro, within-intro}
-use Rattle.rules.proofs.Rows.{none-some, map-append, all-of-map, all-map-of, eligibilities-snoc-same, eligibilities-snoc-other}
+use Rattle.rules.proofs.Rows.{none-some, length-map, map-append, all-of-map, all-map-of, eligibilities-snoc-same, eligibilities-snoc-other}
 use Rattle.rules.proofs.Notices.{of-none}
 use Rattle.rules.proofs.Memory.{all-remember-all}
-use Rattle.rules.proofs.Standing.{stands-owned, stands-below}
-use Rattle.rules.proofs.Verdicts.{settled, heard-parts, heard-intro, offer-done}
+use Rattle.rules.proofs.Standing.{stands-owned}
+use Rattle.rules.proofs.Verdicts.{settled, heard-parts, heard-intro, offer-done, tick-done}
 use Rattle.rules.proofs.SoundKept.{fresh-free}
-use Rattle.rules.proofs.Invariant.{Invariant, connections-few}
+use Rattle.rules.proofs.Invariant.{whats, Invariant}
 use Rattle.rules.proofs.KeptBySweep.{of-filter}
 use Rattle.rules.proofs.Every.{no-owner, keeps, invariant}
-use Rattle.rules.proofs.InTime.{find-all}
-use Rattle.rules.proofs.Lower.{Low, low}
-use Rattle.rules.proofs.Keeper.{from-end, run-last, owner-stays, kind-before, All-taken, all-taken, word-before, on-arrival}
+use Rattle.rules.proofs.InTime.{find-all, conserved-lists}
+use Rattle.rules.proofs.InTheLog.{find-below}
+use Rattle.rules.proofs.Keeper.{run-append, from-end, run-last, owner-stays, kind-before, All-taken, all-taken, word-before, on-arrival}
 use Rattle.rules.proofs.Alone.{exchanges-last, no-exchanges, asks}
 use Rattle.rules.proofs.OwnLine.{no-own, Sent, own-line, own-all, own-spaced, own-lengths}
-use Rattle.rules.proofs.Results.{seventeen-exactly, demand-3-for-stamps}
+use Rattle.rules.proofs.Results.{seventeen-exactly, no-finish-before, demand-3-for-stamps}
 
 -- ---- hub 2: what was accepted of a connection of the second kind was asked, each with its stamp and the allowance
 
@@ -244,17 +244,26 @@ module _ (c : ℕ) where
               (all-filter On-arrival (λ p. owned (after (run ks) k .now .connections) (p .connection)) (push (run ks .present) (taken k (run ks .now) (answer k (run ks .now))))
               (still-on-arrival level ks was (W .so-far) (ih was (W .so-far)) k (W .this-one)))
 
--- what each departure has
-all-departures : (c : ℕ) (ds : List Departure) → All Low ds → (i : ℕ) (d : Departure) → getElem? (departures c ds) i ≡ some d → Low d
-all-departures c ds h i d e = find-all Low (departures c ds) i d (some-of ds h) e
-  where
-    some-of : (ds : List Departure) → All Low ds → All Low (departures c ds)
-    some-of [] h = tt
-    some-of (x ∷ ds) h = go (eqb (x .what .connection) c) (some-of ds (h .1))
-      where
-        go : (b : Bool) → All Low (departures c ds) → All Low (cond b (x ∷ departures c ds) (departures c ds))
-        go true k = (h .0, k)
-        go false k = k
+-- ---- once the clock has ended nothing leaves
+
+module _ (h : History) (ended : clock-end ≤ h .now .clock) where
+  abbrev Stopped : Answer → Type 0
+  Stopped a = (push (h .departed) (leaving (h .now) (a .departed)) ≡ h .departed) × (a .next .clock ≡ h .now .clock)
+
+  done-stopped : (k : Call) → verdict k (h .now) ≡ 0 → Stopped (done k (h .now))
+  done-stopped (link l) e = (refl, refl)
+  done-stopped (admit x) e = (refl, refl)
+  done-stopped (offer c len tag st) e = (refl, refl)
+  done-stopped (notice len tag) e = (refl, refl)
+  done-stopped (close c) e = (refl, refl)
+  done-stopped tick e = absurd (omega (arith, tick-done (h .now) e .running))
+
+  call-stopped : (k : Call) → Stopped (answer k (h .now))
+  call-stopped k = settled Stopped k (h .now) (verdict k (h .now)) (done-stopped k) (λ _. (refl, refl))
+
+nothing-leaves : (ks : List Call) (h : History) → clock-end ≤ h .now .clock → run-from h ks .departed ≡ h .departed
+nothing-leaves [] h ended = refl
+nothing-leaves (k ∷ ks) h ended = let r = call-stopped h ended k in nothing-leaves ks (after h k) (omega (arith, r .1)) ∙ r .0
 
 -- ---- THE OFFER AT HUB 2
 
@@ -287,8 +296,8 @@ module _ (ks earlier later : List Call) (c c2 delay len tag : ℕ) (F : Follows 
     e : ℕ
     e = d .what .eligibility
 
-    sent : Sent c (bound-of (run ks .now) c) d
-    sent = all-at (Sent c (bound-of (run ks .now) c)) before d behind (subst (All (Sent c (bound-of (run ks .now) c))) parts (own-line c ks .sent))
+    sent : Sent c (bound-of (run ks .now) c) (early-at (run ks .now) c) d
+    sent = all-at (Sent c (bound-of (run ks .now) c) (early-at (run ks .now) c)) before d behind (subst (All (Sent c (bound-of (run ks .now) c) (early-at (run ks .now) c))) parts (own-line c ks .sent))
 
     length-in : (1 ≤ d .what .len) × (d .what .len ≤ figures (run ks .now) c .size)
     length-in =
@@ -328,7 +337,7 @@ module _ (ks earlier later : List Call) (c c2 delay len tag : ℕ) (F : Follows 
 
     no-cause : No-cause s c2 (d .what .eligibility)
     no-cause = record {
-      not-later = omega (arith, sent .not-early, carried .after-finish);
+      not-later = omega (arith, sent .not-early (F .never-early), carried .after-finish);
       not-over = omega (arith, sent .not-late, carried .within-delay, F .allowance);
       gap-after = λ last i. find-all Earlier (past s c2) 0 last past-earlier i;
     }
@@ -381,12 +390,34 @@ module _ (ks earlier later : List Call) (c c2 delay len tag : ℕ) (F : Follows 
       accepted = promise .accepted;
       eligible = λ running. promise .eligible running ∙ ap (λ (a : ℕ). d .what .eligibility + a) (F .allowance);
       in-time = leaves (d .what .eligibility) refl;
-      not-early = λ finish i. all-departures c2 (run (earlier ++ offer c2 len tag (some (d .what .eligibility)) ∷ later) .departed) (low (earlier ++ offer c2 len tag (some (d .what .eligibility)) ∷ later)) (length (of c2 (run earlier .accepted))) _ i not-notice;
+      not-early = λ finish i. leaves-late finish i (split clock-end (s .clock));
       since-arrival = λ kind word. leaves (d .what .arrival) (on-its-arrival kind word);
     }
       where
-        not-notice : c2 ≡ notice-number → ⊥
-        not-notice i = omega (arith, stands-below s c2 (heard-parts s c2 (some (d .what .eligibility)) hears .0), connections-few s (invariant earlier .sound))
+        -- it is of the second kind, and never goes early; at the clock's end nothing leaves
+        leaves-late : (finish : ℕ)
+            → getElem? (departures c2 (run (earlier ++ offer c2 len tag (some (d .what .eligibility)) ∷ later) .departed)) (length (of c2 (run earlier .accepted)))
+            ≡ some (record { what = record { connection = c2; len = len; tag = tag; arrival = s .clock; eligibility = d .what .eligibility + (bound-of (run ks .now) c + delay) }; finish = finish })
+            → (clock-end ≤ s .clock) ⊎ (s .clock < clock-end)
+            → d .what .eligibility + (bound-of (run ks .now) c + delay) + len ≤ finish
+        leaves-late finish i (inl ended) =
+            absurd
+            (omega (
+              arith,
+              find-below (departures c2 (run (earlier ++ offer c2 len tag (some (d .what .eligibility)) ∷ later) .departed)) (length (of c2 (run earlier .accepted))) _ i,
+              ap (λ (h : History). length (departures c2 (h .departed))) (run-append earlier (offer c2 len tag (some (d .what .eligibility)) ∷ later) nothing-yet),
+              ap (λ (l : List Departure). length (departures c2 l)) (nothing-leaves (offer c2 len tag (some (d .what .eligibility)) ∷ later) (run earlier) ended),
+              ap length (conserved-lists (run earlier) (invariant earlier) c2),
+              length-append (whats (departures c2 (run earlier .departed))) (of c2 (in-hub s)),
+              length-map (λ (y : Departure). y .what) (departures c2 (run earlier .departed)),
+            ))
+        leaves-late finish i (inr running) =
+            omega (
+              arith,
+              F .allowance,
+              no-finish-before earlier later c2 len tag (some (d .what .eligibility)) finish (promise .accepted running) (inl (F .second-kind))
+                  (i ∙ ap (λ (a : ℕ). some (record { what = record { connection = c2; len = len; tag = tag; arrival = s .clock; eligibility = d .what .eligibility + a }; finish = finish })) (sym (F .allowance))),
+            )
 
         not-seventeen : answer (offer c2 len tag (some (d .what .eligibility))) s .verdict ≡ 17 → ⊥
         not-seventeen v =
@@ -472,6 +503,7 @@ module _ (ks : List Call) (c c2 delay : ℕ) where
         where
           follows-from : (s r : State) → figures r c2 ≡ figures s c2 → Follows (run ks .now) r c c2 delay → Follows (run ks .now) s c c2 delay
           follows-from s r e F = record {
+            never-early = F .never-early;
             second-kind = sym (ap stamped e) ∙ F .second-kind;
             same-gap = sym (ap (λ (x : Connection). x .gap) e) ∙ F .same-gap;
             same-size = sym (ap (λ (x : Connection). x .size) e) ∙ F .same-size;

@@ -1,19 +1,19 @@
 -- What a verdict 0 says, call by call; nothing else opens the table `verdicts` but the examples and the welcome of an offer.
-use Prim.Native.Nat.{ℕ, zero, suc, _≤_, _<_}
+use Prim.Native.Nat.{ℕ, zero, suc, _+_, _≤_, _<_}
 use native.Mathlib.Omega.{arith}
 use mathlib.Core.Path.{_≡_, refl}
-use mathlib.Core.Bool.{Bool, true, false, cond, not}
+use mathlib.Core.Bool.{Bool, true, false, cond, not, _&&_}
 use mathlib.Core.List.{List, [], _∷_}
 use mathlib.Core.Option.{Option}
 use lib.Dec.{leb, ltb, eqb}
 use lib.ListN.{length}
-use borrow.Author.Tests.{eqb-true, eqb-false, leb-false, ltb-false, not-false, not-true}
+use borrow.Author.Tests.{eqb-true, eqb-false, leb-false, ltb-false, le-ltb, not-false, not-true}
 use Rattle.rules.specs.Limits.{max-connections, max-reserved, clock-end, max-notices}
 use Rattle.rules.specs.Model.{Link, Connection, State, Call, link, admit, offer, notice, close, tick, Answer, past, figures}
-use Rattle.rules.specs.Admission.{link-within, level-within, figures-within, free-number, joining, stands, reservation, reserved, passes}
+use Rattle.rules.specs.Admission.{link-within, level-within, figures-within, free-number, joining, stands, reservation, stand-by-on, distance, reserved, passes}
 use Rattle.rules.specs.Service.{suits, untimely-by, of}
 use Rattle.rules.specs.SoundTest.{sound}
-use Rattle.rules.specs.Calls.{causes, heard, verdicts, verdict, done, refused, settle}
+use Rattle.rules.specs.Calls.{causes, heard, eligibility-now, too-far, verdicts, verdict, done, refused, settle}
 use Rattle.rules.proofs.Lists.{All, all-map}
 use Rattle.rules.proofs.Tests.{passed, and-true, and-intro, within-true}
 
@@ -40,7 +40,7 @@ none-holds v (r ∷ rs) h = go (eqb (r .0) v) (none-holds v rs (h .1))
     go false k = k
 
 -- the numbers of the causes
-pub causes-from-2 : (k : Call) (s : State) → All (λ r. (2 ≤ r .0) × (r .0 ≤ 17)) (causes k s)
+pub causes-from-2 : (k : Call) (s : State) → All (λ r. (2 ≤ r .0) × (r .0 ≤ 18)) (causes k s)
 causes-from-2 (link l) s = omega arith
 causes-from-2 (admit x) s = omega arith
 causes-from-2 (offer c len tag st) s = omega arith
@@ -51,7 +51,7 @@ causes-from-2 tick s = omega arith
 -- at verdict 0 the test of no row holds
 not-given : (k : Call) (s : State) → verdict k s ≡ 0 → (v : ℕ) → test-of v (verdicts k s) ≡ false
 unfolding verdicts
-not-given k s e v = none-holds v (verdicts k s) (passed (verdicts k s) (omega arith, all-map {P = λ r. (2 ≤ r .0) × (r .0 ≤ 17)} {Q = λ r. 0 < r .0} (λ r n. omega arith) (causes k s) (causes-from-2 k s)) e)
+not-given k s e v = none-holds v (verdicts k s) (passed (verdicts k s) (omega arith, all-map {P = λ r. (2 ≤ r .0) × (r .0 ≤ 18)} {Q = λ r. 0 < r .0} (λ r n. omega arith) (causes k s) (causes-from-2 k s)) e)
 
 -- the state is sound
 pub given-sound : (k : Call) (s : State) → verdict k s ≡ 0 → sound s ≡ true
@@ -125,6 +125,19 @@ pub heard-intro : (s : State) (c : ℕ) (st : Option ℕ) → stands s c ≡ tru
 unfolding heard
 heard-intro s c st e f = and-intro (stands s c) (suits (figures s c) st) e f
 
+-- no cause of 18
+pub near-by : (s : State) (c : ℕ) (st : Option ℕ) → too-far s c st ≡ false → stand-by-on (s .link) ≡ true → eligibility-now s c st ≤ s .clock + distance (s .link) (figures s c)
+unfolding too-far
+near-by s c st e on = ltb-false (s .clock + distance (s .link) (figures s c)) (eligibility-now s c st) (rw on at e)
+
+pub near-made : (s : State) (c : ℕ) (st : Option ℕ) → eligibility-now s c st ≤ s .clock + distance (s .link) (figures s c) → too-far s c st ≡ false
+unfolding too-far
+near-made s c st l = rw (le-ltb (s .clock + distance (s .link) (figures s c)) (eligibility-now s c st) l) (go (stand-by-on (s .link)))
+  where
+    go : (b : Bool) → (b && false) ≡ false
+    go true = refl
+    go false = refl
+
 pub record Offer-done (s : State) (c len : ℕ) (st : Option ℕ) : Type 0 where
   pub set : s .link .levels ≡ 0 → ⊥
   pub standing : stands s c ≡ true
@@ -134,6 +147,7 @@ pub record Offer-done (s : State) (c len : ℕ) (st : Option ℕ) : Type 0 where
   pub room : length (of c (s .held)) < reservation (s .link) (figures s c)
   pub running : s .clock < clock-end
   pub in-time : untimely-by (figures s c) (past s c) (s .clock) st ≡ false
+  pub near : too-far s c st ≡ false
 
 pub offer-done : (s : State) (c len tag : ℕ) (st : Option ℕ) → verdict (offer c len tag st) s ≡ 0 → Offer-done s c len st
 unfolding verdicts
@@ -150,6 +164,7 @@ offer-done s c len tag st e =
       room = omega (arith, leb-false);
       running = leb-false _ _ (not-given (offer c len tag st) s e 13);
       in-time = not-given (offer c len tag st) s e 17;
+      near = not-given (offer c len tag st) s e 18;
     }
 
 pub record Notice-done (s : State) (len : ℕ) : Type 0 where

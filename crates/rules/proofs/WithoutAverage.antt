@@ -163,14 +163,14 @@ module _ (c : Connection) (P : Plain c) where
   -- ---- the queue
 
   module _ (t : ℕ) where
-    steps : (m : Past) (a : ℕ) (es : List ℕ) → t < a → Chain c t (remember m a) es → In-steps (c .gap) a es
+    steps : (m : Past) (a : ℕ) (es : List ℕ) → t < a → Chain c none t (remember m a) es → In-steps (c .gap) a es
     unfolding remember
     steps m a [] l k = tt
     steps m a (e ∷ es) l k =
         let i : e ≡ a + c .gap = omega (arith, k .0 .0, k .0 .1, earliest-plain (remember m a), latest-plain t (remember m a)) in
         (i, steps (remember m a) e es (omega arith) (k .1))
 
-    near : (m : Past) (es : List ℕ) → All (λ e. e ≤ t) m → Chain c t m es → First-near (c .gap) t es × Later-exact (c .gap) t es
+    near : (m : Past) (es : List ℕ) → All (λ e. e ≤ t) m → Chain c none t m es → First-near (c .gap) t es × Later-exact (c .gap) t es
     near m [] a k = (tt, tt)
     near m (e ∷ es) a k =
         let rest : e ≤ t → First-near (c .gap) t es × Later-exact (c .gap) t es = λ l. near (remember m e) es (all-remember (λ e. e ≤ t) m e a l) (k .1) in
@@ -186,29 +186,33 @@ module _ (c : Connection) (P : Plain c) where
         subst (λ (b : Bool). Near-by c t m e b (nth-before (burst c) m)) (sym first-kind)
         (subst (Near-by c t m e false) (sym (ap (λ (n : ℕ). nth-before n m) none-at-once)) (omega (arith, cond-is (c .gap) (c .window) (eq-eqb (burst c) 0 none-at-once))))
 
-    steps-beyond : (m : List ℕ) (a : ℕ) (es : List ℕ) → In-steps (c .gap) a es → Beyond c t (a ∷ m) es
+    steps-beyond : (m : List ℕ) (a : ℕ) (es : List ℕ) → In-steps (c .gap) a es → Beyond c none t (a ∷ m) es
     steps-beyond m a [] k = tt
     steps-beyond m a (e ∷ es) k = (plain-near (a ∷ m) e (omega (arith, k .0)), steps-beyond (a ∷ m) e es (k .1))
 
-    beyond-of : (m es : List ℕ) → First-near (c .gap) t es → Later-exact (c .gap) t es → Beyond c t m es
+    beyond-of : (m es : List ℕ) → First-near (c .gap) t es → Later-exact (c .gap) t es → Beyond c none t m es
     beyond-of m [] n x = tt
     beyond-of m (e ∷ es) n x = go (split e t) (λ l. beyond-of (e ∷ m) es (n .1 l) (x .1 l))
       where
-        go : (e ≤ t) ⊎ (t < e) → (e ≤ t → Beyond c t (e ∷ m) es) → Beyond c t m (e ∷ es)
+        go : (e ≤ t) ⊎ (t < e) → (e ≤ t → Beyond c none t (e ∷ m) es) → Beyond c none t m (e ∷ es)
         go (inl l) f = (λ k. absurd (omega arith), f l)
         go (inr l) f = (plain-near m e (omega (arith, n .0 l)), steps-beyond m e es (x .0 l))
 
-    queue-plain : (h : Past) (es : List ℕ) → Base-queue c t h es → Memory-kept c t h es → Queue c t h es
+    queue-plain : (h : Past) (es : List ℕ) → Base-queue c t h es → Memory-kept c t h es → Queue c none t h es
     queue-plain h es q k = record {
       few = k .few;
       last-rows = k .last-rows;
       rise = k .rise;
-      left-eligible = k .left-eligible;
+      left-eligible = all-map (λ x l. omega arith) (departed-of h es) (k .left-eligible);
       beyond = beyond-of (departed-of h es) es (q .first-beyond) (q .later-beyond);
     }
 
-    memory-of : (h : Past) (es : List ℕ) → Queue c t h es → Memory-kept c t h es
-    memory-of h es q = record { few = q .few; last-rows = q .last-rows; rise = q .rise; left-eligible = q .left-eligible }
+    -- what has left was eligible: the stand-by queue is off
+    in-reach : (h : Past) (es : List ℕ) → Queue c none t h es → All (λ e. e ≤ t) (departed-of h es)
+    in-reach h es q = all-map (λ x l. omega arith) (departed-of h es) (q .left-eligible)
+
+    memory-of : (h : Past) (es : List ℕ) → Queue c none t h es → Memory-kept c t h es
+    memory-of h es q = record { few = q .few; last-rows = q .last-rows; rise = q .rise; left-eligible = in-reach h es q }
 
     ends : (m : Past) (e : ℕ) (es : List ℕ) → Ends-at (last-of (remember-all m (e ∷ es))) (e ∷ es)
     unfolding remember
@@ -224,16 +228,16 @@ module _ (c : Connection) (P : Plain c) where
     ends-not m e [] i = let z : _≡_ {A = ℕ} 0 1 = cc i in omega arith
     ends-not m e (f ∷ es) i = ends-not (remember m e) f es i
 
-    plain-queue : (h : Past) (es : List ℕ) → Queue c t h es → Base-queue c t h es
+    plain-queue : (h : Past) (es : List ℕ) → Queue c none t h es → Base-queue c t h es
     plain-queue h es q =
         let few : burst c ≤ max-remembered = omega (arith, none-at-once) in
-        let k = near (departed-of h es) es (q .left-eligible) (queue-chain c few t h es q) in
+        let k = near (departed-of h es) es (in-reach h es q) (queue-chain c few none t h es q) in
         record {
           rise = spaced-pairs c es (spaced-of-behind c (departed-of h es) es (spaced-in-order c (departed-of h es) es .0 (q .rise) .1));
           last-row = last-row es (q .last-rows);
           first-beyond = k .0;
           later-beyond = k .1;
-          none-beyond = none-beyond h es (q .last-rows) (q .left-eligible);
+          none-beyond = none-beyond h es (q .last-rows) (in-reach h es q);
           none-accepted = λ i. none-accepted es (q .last-rows ∙ i);
         }
       where
@@ -255,5 +259,5 @@ module _ (c : Connection) (P : Plain c) where
       × ((w : ℕ) → count c w ≡ base-count c w)
       × ((h : Past) (now : ℕ) → next-eligibility c h now ≡ base-eligibility c h now)
       × ((es : List ℕ) → Spaced c es ↔ Base-spaced c es)
-      × ((t : ℕ) (h : Past) (es : List ℕ) → Queue c t h es ↔ (Base-queue c t h es × Memory-kept c t h es))
+      × ((t : ℕ) (h : Past) (es : List ℕ) → Queue c none t h es ↔ (Base-queue c t h es × Memory-kept c t h es))
   as-before = (plain-figures, plain-count, plain-next, plain-spaced, λ t h es. (λ q. (plain-queue t h es q, memory-of t h es q), λ k. queue-plain t h es (k .0) (k .1)))

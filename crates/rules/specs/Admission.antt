@@ -1,8 +1,9 @@
 -- Who may come in: the limits, the window count, the reservation and the level test.
--- Document 01, "Link, connections, places" and "The level test"; document 02, R-2, R-4, R-6, R-8 and R-9.
+-- Document 01, "Link, connections, places" and "The level test"; document 02, R-2, R-4, R-6, R-8, R-9 and R-11.
 use Prim.Native.Nat.{ℕ, zero, suc, _+_, _*_, _-_, _/_, _%_, min}
 use mathlib.Core.Bool.{Bool, true, false, cond, not, _&&_, _||_}
 use mathlib.Core.List.{List, [], _∷_}
+use mathlib.Core.Option.{Option, none, some}
 use lib.Dec.{leb, eqb}
 use lib.ListN.{length, getD, set}
 use Rattle.rules.specs.Words.{within, upto, sum}
@@ -22,11 +23,12 @@ rising low (suc n) (d ∷ ds) = leb low d && (leb d max-bound && rising (suc d) 
 unfoldable pub cost : Link → ℕ → ℕ
 cost l len = len + l .silence
 
--- Link: 1 to 8 levels, S from 1 to its limit, a silence up to its own, the first bound at least S plus the silence
+-- Link: 1 to 8 levels, S from 1 to its limit, a silence up to its own, the stand-by queue 0 or 1, off or on (document 02, R-11), the first bound at least S plus
+-- the silence
 unfoldable pub link-within : Link → Bool
 link-within l =
     within 1 max-levels (l .levels)
-    && (within 1 max-largest (l .largest) && (leb (l .silence) max-silence && rising (cost l (l .largest)) (l .levels) (l .bounds)))
+    && (within 1 max-largest (l .largest) && (leb (l .silence) max-silence && (leb (l .early) 1 && rising (cost l (l .largest)) (l .levels) (l .bounds))))
 
 -- Connection: level 1 to n
 unfoldable pub level-within : Link → Connection → Bool
@@ -102,6 +104,24 @@ reservation l c = count c (c .allowance + bound l (c .level))
 -- all reservations together
 abbrev pub reserved : Link → List Connection → ℕ
 reserved l cs = sum (length cs) (λ c. reservation l (nth cs c))
+
+-- ---- the stand-by queue (document 02, R-11)
+
+-- it is on
+unfoldable pub stand-by-on : Link → Bool
+stand-by-on l = eqb (l .early) 1
+
+-- a connection's packets may go before they are eligible: it is on, and the connection is regulated by its gap
+unfoldable pub goes-early : Link → Connection → Bool
+goes-early l c = stand-by-on l && not (stamped c)
+
+-- how far past the present tick an eligibility may lie while it is on, in ticks: reservation times X
+abbrev pub distance : Link → Connection → ℕ
+distance l c = reservation l c * c .gap
+
+-- .. of a connection whose packets may go early; of another this does not limit it
+unfoldable pub ahead : Link → Connection → Option ℕ
+ahead l c = cond (goes-early l c) (some (distance l c)) none
 
 -- ---- "The level test"
 

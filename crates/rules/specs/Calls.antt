@@ -1,5 +1,6 @@
--- The six calls: their verdicts as one table, and what each does where the verdict is 0. Document 01, "Verdict numbers"; document 02, R-1, R-8 and R-9.
-use Prim.Native.Nat.{ℕ, zero, suc}
+-- The six calls: their verdicts as one table, and what each does where the verdict is 0. Document 01, "Verdict numbers"; document 02, R-1, R-8, R-9
+-- and R-11.
+use Prim.Native.Nat.{ℕ, zero, suc, _+_}
 use mathlib.Core.Bool.{Bool, true, cond, not, _&&_}
 use mathlib.Core.List.{List, [], _∷_, _++_}
 use mathlib.Core.Option.{Option, none}
@@ -8,13 +9,21 @@ use lib.ListN.{length, set}
 use Rattle.rules.specs.Words.{within, first-number}
 use Rattle.rules.specs.Limits.{max-connections, max-reserved, clock-end, max-notices, no-connection-number}
 use Rattle.rules.specs.Model.{Link, Connection, Packet, State, Call, link, admit, offer, notice, close, tick, Short, no-short, Answer, past, figures, with-link, with-connections, with-closed, with-held, with-notices}
-use Rattle.rules.specs.Admission.{link-within, level-within, figures-within, free-number, joining, stands, reservation, reserved, level-test, passes}
+use Rattle.rules.specs.Admission.{link-within, level-within, figures-within, free-number, joining, stands, reservation, stand-by-on, distance, reserved, level-test, passes}
 use Rattle.rules.specs.Service.{suits, eligibility-by, untimely-by, remember, of, ticked, swept, sweeping}
 use Rattle.rules.specs.SoundTest.{sound}
 
 -- an offer is heard by number c if c stands, and is of the second kind exactly where the offer brings a stamp (document 02, R-9)
 unfoldable pub heard : State → ℕ → Option ℕ → Bool
 heard s c st = stands s c && suits (figures s c) st
+
+-- the eligibility of an offer to connection c now, by its stamp if it brings one
+abbrev pub eligibility-now : State → ℕ → Option ℕ → ℕ
+eligibility-now s c st = eligibility-by (figures s c) (past s c) (s .clock) st
+
+-- while the stand-by queue is on: the eligibility "would be more than reservation times X past the present tick" (document 02, R-11)
+unfoldable pub too-far : State → ℕ → Option ℕ → Bool
+too-far s c st = stand-by-on (s .link) && ltb (s .clock + distance (s .link) (figures s c)) (eligibility-now s c st)
 
 -- ---- the table "Verdict numbers", call by call, each in the document's order: number, given exactly when
 
@@ -56,7 +65,9 @@ causes (offer c len tag st) s =
     ∷ (12, leb (reservation (s .link) (figures s c)) (length (of c (s .held))))
     ∷ clock-ended s
     -- its stamp, or the eligibility that it gives, is out of time (document 02, R-9)
-    ∷ (17, untimely-by (figures s c) (past s c) (s .clock) st) ∷ []
+    ∷ (17, untimely-by (figures s c) (past s c) (s .clock) st)
+    -- its eligibility would lie too far past the present tick (document 02, R-11)
+    ∷ (18, too-far s c st) ∷ []
 causes (notice len tag) s =
     no-link-set s
     -- length 0 or above S
@@ -86,10 +97,6 @@ linked s l = with-link s l
 -- the newcomer at the lowest free number: nothing is remembered there, and there is no mark (`Free-number`, SoundState)
 abbrev pub joined : State → Connection → State
 joined s x = with-connections s (joining (s .connections) x) (s .pasts)
-
--- the eligibility of an offer to connection c now, by its stamp if it brings one
-abbrev pub eligibility-now : State → ℕ → Option ℕ → ℕ
-eligibility-now s c st = eligibility-by (figures s c) (past s c) (s .clock) st
 
 abbrev pub packet : State → ℕ → ℕ → ℕ → Option ℕ → Packet
 packet s c len tag st = record { connection = c; len = len; tag = tag; arrival = s .clock; eligibility = eligibility-now s c st }

@@ -62,7 +62,7 @@ seen x =
 
 -- Link A: S 4, bounds 10, 20
 abbrev pub link-a : Call
-link-a = link (record { levels = 2; largest = 4; silence = 0; bounds = 10 ∷ 20 ∷ 0 ∷ 0 ∷ 0 ∷ 0 ∷ 0 ∷ 0 ∷ [] })
+link-a = link (record { levels = 2; largest = 4; silence = 0; early = 0; bounds = 10 ∷ 20 ∷ 0 ∷ 0 ∷ 0 ∷ 0 ∷ 0 ∷ 0 ∷ [] })
 
 -- an admission with level, gap and size
 abbrev pub line : ℕ → ℕ → ℕ → Call
@@ -126,7 +126,7 @@ table =
 -- document 02, R-2: a bound that is longer by the units lengthens the window too, so a level can fail again. A line of gap 1 and size 1 on a link with S 1:
 -- with bound 4 one unit is missing, and with bound 5 one is missing again
 abbrev pub one-level : ℕ → Call
-one-level d = link (record { levels = 1; largest = 1; silence = 0; bounds = d ∷ 0 ∷ 0 ∷ 0 ∷ 0 ∷ 0 ∷ 0 ∷ 0 ∷ [] })
+one-level d = link (record { levels = 1; largest = 1; silence = 0; early = 0; bounds = d ∷ 0 ∷ 0 ∷ 0 ∷ 0 ∷ 0 ∷ 0 ∷ 0 ∷ [] })
 
 abbrev pub longer-bound : List Case
 longer-bound =
@@ -142,7 +142,7 @@ Worked-examples = map seen table ≡ map (λ (x : Case). x .expected) table
 
 -- document 02, R-4: a link with S 4, a silence and two bounds, the second longer by 12. With a silence of 2 a packet of 4 units takes the line for 6 ticks
 abbrev pub link-with-silence : ℕ → ℕ → Call
-link-with-silence silence bound = link (record { levels = 2; largest = 4; silence = silence; bounds = bound ∷ (bound + 12) ∷ 0 ∷ 0 ∷ 0 ∷ 0 ∷ 0 ∷ 0 ∷ [] })
+link-with-silence silence bound = link (record { levels = 2; largest = 4; silence = silence; early = 0; bounds = bound ∷ (bound + 12) ∷ 0 ∷ 0 ∷ 0 ∷ 0 ∷ 0 ∷ 0 ∷ [] })
 
 abbrev pub two-lines : List Call
 two-lines = link-with-silence 2 12 ∷ line 1 12 4 ∷ line 2 24 4 ∷ []
@@ -237,7 +237,7 @@ Queue-but-left c t h es =
     (length h ≤ max-remembered)
     × (remember-all (departed-of h es) es ≡ h)
     × Spaced c (in-order (departed-of h es) es)
-    × Beyond c t (departed-of h es) es
+    × Beyond c none t (departed-of h es) es
 
 abbrev pub But-left : State → Type 0
 But-left s = Queue-but-left (figures s 0) (s .clock) (past s 0) (eligibilities 0 (s .held))
@@ -247,7 +247,7 @@ abbrev pub left-too-early : State
 left-too-early =
     with-held
     (with-connections
-    (with-link fresh (record { levels = 1; largest = 1; silence = 0; bounds = 72 ∷ replicate 7 0 }))
+    (with-link fresh (record { levels = 1; largest = 1; silence = 0; early = 0; bounds = 72 ∷ replicate 7 0 }))
     (set (fresh .connections) 0 (record { level = 1; gap = 2; size = 1; window = 4; average = 4; kind = 0; allowance = 0 }))
     (set (fresh .pasts) 0 (160 ∷ 156 ∷ 152 ∷ 148 ∷ 144 ∷ 140 ∷ 136 ∷ 132 ∷ 128 ∷ 124 ∷ 120 ∷ 116 ∷ 112 ∷ 108 ∷ 104 ∷ 100 ∷ [])))
     (record { connection = 0; len = 1; tag = 71; arrival = 0; eligibility = 160 } ∷ [])
@@ -309,7 +309,7 @@ Worked-closings = map seen closings ≡ map (λ (x : Case). x .expected) closing
 -- packet has left at 5
 abbrev pub before-early : List Call
 before-early =
-    link (record { levels = 2; largest = 2; silence = 0; bounds = 4 ∷ 5 ∷ 0 ∷ 0 ∷ 0 ∷ 0 ∷ 0 ∷ 0 ∷ [] })
+    link (record { levels = 2; largest = 2; silence = 0; early = 0; bounds = 4 ∷ 5 ∷ 0 ∷ 0 ∷ 0 ∷ 0 ∷ 0 ∷ 0 ∷ [] })
     ∷ notice 2 70 ∷ tick ∷ line 1 6 2 ∷ offer 0 2 71 none ∷ line 2 9 1 ∷ offer 1 1 72 none ∷ tick ∷ tick ∷ tick ∷ close 0 ∷ []
 
 -- number 0 is freed, whatever the clock
@@ -392,7 +392,7 @@ A-broken-gap-can-be-told-apart =
 -- packet still waits, and it gets 12
 abbrev pub stamps-broken-calls : List Call → List Call
 stamps-broken-calls others =
-    link (record { levels = 2; largest = 2; silence = 0; bounds = 4 ∷ 8 ∷ 0 ∷ 0 ∷ 0 ∷ 0 ∷ 0 ∷ 0 ∷ [] })
+    link (record { levels = 2; largest = 2; silence = 0; early = 0; bounds = 4 ∷ 8 ∷ 0 ∷ 0 ∷ 0 ∷ 0 ∷ 0 ∷ 0 ∷ [] })
     ∷ admit (record { level = 1; gap = 4; size = 1; window = 0; average = 0; kind = 1; allowance = 4 }) ∷ line 2 8 2
     ∷ replicate 9 tick ++ others ++ tick ∷ offer 0 1 72 (some 6) ∷ offer 0 1 73 (some 10) ∷ tick ∷ offer 0 1 74 (some 12) ∷ []
 
@@ -423,3 +423,78 @@ A-row-of-two =
     Follows (run hub-1 .now) (run hub-2 .now) 0 0 1
     × Carries 1 (own-departures 0 hub-1) (asked-of 0 hub-2)
     × (map (λ (e : Exchange). e .eligibility) (exchanges 0 hub-2) ≡ 5 ∷ [])
+
+-- document 02, R-11: link A with the stand-by queue on, 1, or off, 0
+abbrev pub link-early : ℕ → Call
+link-early early = link (record { levels = 2; largest = 4; silence = 0; early = early; bounds = 10 ∷ 20 ∷ 0 ∷ 0 ∷ 0 ∷ 0 ∷ 0 ∷ 0 ∷ [] })
+
+-- a line of gap 10 and reservation 1 has sent at 0, and its packet has left at 4
+abbrev pub sent-once : ℕ → List Call
+sent-once early = link-early early ∷ line 1 10 4 ∷ line 2 20 4 ∷ offer 0 4 71 none ∷ replicate 4 tick
+
+-- .. a second one, eligible at 10, has been offered at 4
+abbrev pub sent-twice : ℕ → List Call
+sent-twice early = sent-once early ++ offer 0 4 72 none ∷ []
+
+-- S 1 and bound 4: a line of gap 4 has sent at 0 and at 1; its second packet, eligible at 4, has left at 2
+abbrev pub early-hub-1 : List Call
+early-hub-1 =
+    link (record { levels = 1; largest = 1; silence = 0; early = 1; bounds = 4 ∷ 0 ∷ 0 ∷ 0 ∷ 0 ∷ 0 ∷ 0 ∷ 0 ∷ [] })
+    ∷ line 1 4 1 ∷ offer 0 1 71 none ∷ tick ∷ offer 0 1 72 none ∷ tick ∷ []
+
+abbrev pub admission-after-early : List Call → Call → ℕ → List ℕ → Case
+admission-after-early before call number sums = record {
+  before = before;
+  call = call;
+  ticks = 0;
+  expected = record { verdict = 0; number = number; short = no-short; sums = sums; reservations = 1 ∷ []; finishes = 1 ∷ 2 ∷ [] };
+}
+
+abbrev pub early-departures : List Case
+early-departures =
+    -- on or off, nothing else
+    service [] (link-early 2) 0 4 0 []
+    ∷ service [] (link-early 1) 0 0 0 []
+    -- the second packet finishes at 8, two ticks before it is eligible; with the queue off at 14
+    ∷ service (sent-once 1) (offer 0 4 72 none) 10 0 10 (4 ∷ 8 ∷ [])
+    ∷ service (sent-once 0) (offer 0 4 72 none) 10 0 10 (4 ∷ 14 ∷ [])
+    -- at 8 and at 9 the next eligibility, 20, is more than 10 ticks off, at 10 it is not
+    ∷ service (sent-twice 1 ++ replicate 4 tick) (offer 0 4 73 none) 0 18 0 (4 ∷ 8 ∷ [])
+    ∷ service (sent-twice 1 ++ replicate 5 tick) (offer 0 4 73 none) 0 18 0 (4 ∷ 8 ∷ [])
+    ∷ service (sent-twice 1 ++ replicate 6 tick) (offer 0 4 73 none) 4 0 20 (4 ∷ 8 ∷ 14 ∷ [])
+    -- a notice goes before a packet that stands by, and so does one that is eligible
+    ∷ service (sent-twice 1) (notice 1 73) 5 0 4 (4 ∷ 5 ∷ 9 ∷ [])
+    ∷ service (sent-twice 1) (offer 1 4 73 none) 8 0 4 (4 ∷ 8 ∷ 12 ∷ [])
+    -- the packet offered first goes early, whatever its level: line 1 has sent at 0 too; its second, eligible at 20, finishes at 12, and line 0's, eligible at 10, at 16
+    ∷ service (link-early 1 ∷ line 1 10 4 ∷ line 2 20 4 ∷ offer 0 4 71 none ∷ offer 1 4 72 none ∷ replicate 8 tick ++ offer 1 4 73 none ∷ [])
+    (offer 0 4 74 none) 8 0 10 (4 ∷ 8 ∷ 12 ∷ 16 ∷ [])
+    -- nothing interrupts it: line 0's packet of 5, eligible on arrival, waits for line 1's, which began at 4
+    ∷ service (link-early 1 ∷ line 1 10 4 ∷ line 2 20 4 ∷ offer 1 4 71 none ∷ replicate 4 tick ++ offer 1 4 72 none ∷ tick ∷ []) (offer 0 4 73 none) 7 0 5 (4 ∷ 8 ∷ 12 ∷ [])
+    -- a line with an average, 2 in 100 ticks, gap 1 and reservation 2: its third would be eligible at 100
+    ∷ service (link-early 1 ∷ average-line 100 50 ∷ offer 0 1 71 none ∷ tick ∷ offer 0 1 72 none ∷ tick ∷ []) (offer 0 1 73 none) 0 18 0 (1 ∷ 2 ∷ [])
+    -- a connection of the second kind is passed over, though its packet was offered first: it waits for its eligibility, 9, on the idle line
+    ∷ service (link-early 1 ∷ stamped-line 5 ∷ line 2 20 4 ∷ offer 1 4 71 none ∷ replicate 4 tick ++ offer 0 4 72 (some 4) ∷ []) (offer 1 4 73 none) 9 0 20 (4 ∷ 8 ∷ 13 ∷ [])
+    -- R-8's charge counts from the last eligibility, 4, though its packet has left before: until 4 + 4
+    ∷ admission-after-early (early-hub-1 ++ close 0 ∷ replicate 5 tick) (line 1 4 1) 1 (3 ∷ 1 ∷ [])
+    ∷ admission-after-early (early-hub-1 ++ close 0 ∷ replicate 6 tick) (line 1 4 1) 0 (2 ∷ 1 ∷ [])
+    ∷ []
+
+abbrev pub Worked-stand-by : Type 0
+Worked-stand-by = map seen early-departures ≡ map (λ (x : Case). x .expected) early-departures
+
+-- "verdict 1 follows it": at 8 the second packet has left two ticks before its eligibility. This state is sound where the queue is on, and would not be where it is off
+abbrev pub turned-off : State → State
+turned-off s = with-link s (record { levels = s .link .levels; largest = s .link .largest; silence = s .link .silence; early = 0; bounds = s .link .bounds })
+
+abbrev pub Verdict-1-by-the-setting : Type 0
+Verdict-1-by-the-setting =
+    let eight = run (sent-twice 1 ++ replicate 4 tick) .now in
+    map (λ (s : State). answer tick s .verdict) (eight ∷ turned-off eight ∷ []) ≡ 0 ∷ 1 ∷ []
+
+-- a hub whose queue is on cannot be the first of two in a row, as `Follows` asks: that second packet comes to hub 2 at 3, within the delay of 1 and before its stamp, 4
+abbrev pub early-hub-2 : List Call
+early-hub-2 = hub-2 ++ tick ∷ offer 0 1 72 (some 4) ∷ []
+
+abbrev pub Early-before-its-stamp : Type 0
+Early-before-its-stamp =
+    Carries 1 (own-departures 0 early-hub-1) (asked-of 0 early-hub-2) × (map (λ (e : Exchange). e .verdict) (exchanges 0 early-hub-2) ≡ 0 ∷ 17 ∷ [])

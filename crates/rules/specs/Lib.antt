@@ -1,4 +1,4 @@
--- Read in this order: Words, Limits, Model, Admission, Service, SoundState, SoundTest, Calls, Runs, WithoutAverage, Promises, TwoHubs, Examples, WorkedLimits.
+-- Read in this order: Words, Limits, Model, Admission, Service, SoundState, SoundTest, Calls, Runs, WithoutAverage, WithoutStandBy, Promises, TwoHubs, Examples, WorkedLimits.
 pub mod Words
 pub mod Limits
 pub mod Model
@@ -9,6 +9,7 @@ pub mod SoundTest
 pub mod Calls
 pub mod Runs
 pub mod WithoutAverage
+pub mod WithoutStandBy
 pub mod Promises
 pub mod TwoHubs
 pub mod Examples

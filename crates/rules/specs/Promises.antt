@@ -2,21 +2,22 @@
 use Prim.Native.Nat.{ℕ, zero, suc, _+_, _*_, _-_, _≤_, _<_}
 use mathlib.Core.Path.{_≡_}
 use mathlib.Core.Bool.{Bool, true, false, cond, _&&_}
-use mathlib.Core.Logic.{_↔_}
+use mathlib.Core.Logic.{_⊎_, _↔_}
 use mathlib.Core.List.{List, [], _∷_, _++_, map}
 use mathlib.Core.Option.{Option, none, some}
 use lib.Dec.{leb}
 use lib.ListN.{length, getElem?, drop}
-use Rattle.rules.specs.Words.{within, upto, sum, All}
+use Rattle.rules.specs.Words.{within, upto, sum, first-number, All}
 use Rattle.rules.specs.Limits.{max-levels, max-largest, max-silence, max-bound, max-allowance, max-connections, max-reserved, clock-end, beyond-32-bits, max-notices, notice-number}
-use Rattle.rules.specs.Model.{Link, Connection, Past, Packet, State, Call, link, admit, offer, notice, close, tick, Short, no-short, Answer, fresh, no-past, nth, past, figures, closed-at}
-use Rattle.rules.specs.Admission.{rising, cost, link-within, level-within, burst, stamped, average-within, figures-within, owned, stands, joining, bound, largest-bound, rounded-up, count, reservation, reserved, level-sum, level-test}
-use Rattle.rules.specs.Service.{nth-before, next-eligibility, suits, Spaced, of, started, ticked, charge-over}
-use Rattle.rules.specs.SoundState.{Queue, Sound}
+use Rattle.rules.specs.Model.{Link, Connection, Past, Packet, State, Call, link, admit, offer, notice, close, tick, Short, no-short, Answer, fresh, no-past, nth, past, figures, closed-at, with-clock, with-line}
+use Rattle.rules.specs.Admission.{rising, cost, link-within, level-within, burst, stamped, average-within, figures-within, owned, stands, joining, bound, largest-bound, rounded-up, count, reservation, reserved, stand-by-on, distance, ahead, level-sum, level-test}
+use Rattle.rules.specs.Service.{nth-before, next-eligibility, suits, untimely-by, Spaced, of, eligibilities, first, stand-by, line-after-start, started, tick-answer, ticked, charge-over}
+use Rattle.rules.specs.SoundState.{Queue, In-service, Sound}
 use Rattle.rules.specs.SoundTest.{latest-by-gap, latest, sound}
 use Rattle.rules.specs.Calls.{heard, answer, refused-number, eligibility-now, packet}
 use Rattle.rules.specs.WithoutAverage.{Plain, Apart, in-ticks, base-figures-within, base-count, base-eligibility, Base-spaced, Base-queue, Memory-kept}
-use Rattle.rules.specs.Runs.{Departure, History, run, departures, in-hub, bound-of, sender-bounds, allowed, Keeps-its-word, Exchange, exchanges, own-answer, own-stamp-answers}
+use Rattle.rules.specs.WithoutStandBy.{only-link-within, only-start, Only-queue, Only-in-service, only-verdicts}
+use Rattle.rules.specs.Runs.{History, run, departures, in-hub, bound-of, sender-bounds, allowed, Keeps-its-word, Exchange, exchanges, own-answer, own-stamp-answers}
 
 -- ---- demand 1: any call on any state ends with an answer or a numbered refusal (`answer` is a function); a refused call changes nothing
 
@@ -78,6 +79,10 @@ Eligibilities-fit =
 -- .. and so does each time at which a charge can end (document 02, R-8)
 abbrev pub Charges-fit : Type 0
 Charges-fit = (s : State) → Sound s → (c : ℕ) → All (λ e. e + largest-bound (s .link) < beyond-32-bits) (past s c)
+
+-- .. and the farthest eligibility that may be given while the stand-by queue is on (document 02, R-11)
+abbrev pub Distances-fit : Type 0
+Distances-fit = (s : State) → Sound s → (c : ℕ) → s .clock + distance (s .link) (figures s c) < beyond-32-bits
 
 -- ---- which level was short (document 02, R-2)
 
@@ -276,9 +281,10 @@ Counted =
 -- ---- the silence (document 02, R-4): where a link asks for none, what a packet costs, the link's limits and the level test are document 01's own, and no
 -- silence runs. First its formulas, each written out once
 
--- "Link, connections, places": 1 to 8 levels, S from 1 to its limit, bounds that rise strictly, the first at least S
+-- "Link, connections, places": 1 to 8 levels, S from 1 to its limit, bounds that rise strictly, the first at least S; the stand-by queue is off or on (document 02,
+-- R-11)
 abbrev pub base-within : Link → Bool
-base-within l = within 1 max-levels (l .levels) && (within 1 max-largest (l .largest) && rising (l .largest) (l .levels) (l .bounds))
+base-within l = within 1 max-levels (l .levels) && (within 1 max-largest (l .largest) && (leb (l .early) 1 && rising (l .largest) (l .levels) (l .bounds)))
 
 -- "The level test": over all connections of levels 1 to m, d divided by X, rounded up, times size; add S
 abbrev pub base-sum : Link → List Connection → ℕ → ℕ
@@ -324,7 +330,8 @@ The-count-is-reached = (l : Link) (c : Connection) → figures-within l c ≡ tr
 abbrev pub The-count-never-falls : Type 0
 The-count-never-falls = (c : Connection) → 1 ≤ c .gap → (w v : ℕ) → w ≤ v → count c w ≤ count c v
 
--- a connection without an average has document 01's limits, count, eligibility and spacing, and its rows in a sound state are as document 01 says, beside what is asked of the memory
+-- a connection without an average has document 01's limits, count, eligibility and spacing, and its rows in a sound state, where the stand-by
+-- queue is off, are as document 01 says, beside what is asked of the memory
 abbrev pub Without-average : Type 0
 Without-average =
     (c : Connection) → Plain c
@@ -332,7 +339,7 @@ Without-average =
     × ((w : ℕ) → count c w ≡ base-count c w)
     × ((h : Past) (now : ℕ) → next-eligibility c h now ≡ base-eligibility c h now)
     × ((es : List ℕ) → Spaced c es ↔ Base-spaced c es)
-    × ((t : ℕ) (h : Past) (es : List ℕ) → Queue c t h es ↔ (Base-queue c t h es × Memory-kept c t h es))
+    × ((t : ℕ) (h : Past) (es : List ℕ) → Queue c none t h es ↔ (Base-queue c t h es × Memory-kept c t h es))
 
 -- ---- closing (document 02, R-8)
 
@@ -403,7 +410,7 @@ abbrev pub Second : Connection → Type 0
 Second c = (c .kind ≡ 1) × (c .window ≡ 0) × (c .average ≡ 0)
 
 -- its limits; its count, window / X rounded up; its reservation, (a + d) / X rounded up; its spacing; and its rows in a sound state: at most the allowance
--- beyond the clock, beside what is asked of the memory, which says that all rise by X
+-- beyond the clock, beside what is asked of the memory, which says that all rise by X. So it is whether the stand-by queue is on or off (document 02, R-11)
 abbrev pub Second-kind : Type 0
 Second-kind =
     (c : Connection) → Second c
@@ -411,7 +418,7 @@ Second-kind =
     × ((w : ℕ) → count c w ≡ base-count c w)
     × ((l : Link) → reservation l c ≡ rounded-up (c .allowance + bound l (c .level)) (c .gap))
     × ((es : List ℕ) → Spaced c es ↔ Base-spaced c es)
-    × ((t : ℕ) (h : Past) (es : List ℕ) → Queue c t h es ↔ (Memory-kept c t h es × All (λ e. e ≤ t + c .allowance) es))
+    × ((l : Link) (t : ℕ) (h : Past) (es : List ℕ) → Queue c (ahead l c) t h es ↔ (Memory-kept c t h es × All (λ e. e ≤ t + c .allowance) es))
 
 -- the same connection regulated by its gap
 abbrev pub by-its-gap : Connection → Connection
@@ -448,11 +455,16 @@ Seventeen-exactly =
     × (s .clock < clock-end)
     × (No-cause s c stamp → ⊥))
 
--- no packet of a connection leaves before its eligibility plus its length
+-- no packet of a connection of the second kind leaves before its eligibility plus its length, whether the stand-by queue is on or off; nor, where it is off, one of
+-- the first kind (document 02, R-11). Any calls `earlier`, an offer of c that is accepted, any calls `later`
 abbrev pub No-finish-before : Type 0
 No-finish-before =
-    (ks : List Call)
-    → All (λ (d : Departure). (d .what .connection ≡ notice-number → ⊥) → d .what .eligibility + d .what .len ≤ d .finish) (run ks .departed)
+    (earlier later : List Call) (c len tag : ℕ) (st : Option ℕ) (finish : ℕ)
+    → answer (offer c len tag st) (run earlier .now) .verdict ≡ 0
+    → (stamped (figures (run earlier .now) c) ≡ true) ⊎ (stand-by-on (run earlier .now .link) ≡ false)
+    → getElem? (departures c (run (earlier ++ offer c len tag st ∷ later) .departed)) (length (of c (run earlier .accepted)))
+    ≡ some (record { what = packet (run earlier .now) c len tag st; finish = finish })
+    → eligibility-now (run earlier .now) c st + len ≤ finish
 
 -- in place of the second sentence of demand 3: an offer of allowed length to which no cause of 17 applies is never refused for room; while the clock runs it is
 -- accepted, with the stamp plus the allowance as its eligibility, and it leaves within the bound of that. Any calls `earlier`, the offer, any calls `later`
@@ -492,3 +504,85 @@ Bed-nine-and-bed-ten-with-stamps =
     → stamped (figures (run ks .now) c) ≡ true
     → Keeps-its-word c ks
     → exchanges c ks ≡ exchanges d ms
+
+-- ---- the stand-by queue (document 02, R-11). Nothing above asks whether it is on, but where that is said: demand 3, R-3, conservation, R-8 and R-9 hold in both
+-- settings
+
+-- a packet comes into service before its eligibility only where the queue is on, and its connection is of the first kind; no held packet is eligible, no notice
+-- waits, and it is the packet that stands by: no held packet of such a connection was offered before it
+pub record Stands-by (s : State) (p : Packet) : Type 0 where
+  pub is-on : stand-by-on (s .link) ≡ true
+  pub first-kind : stamped (figures s (p .connection)) ≡ false
+  pub it-is : stand-by s ≡ some p
+  pub none-eligible : All (λ q. s .clock < q .eligibility) (s .held)
+  pub no-notice : s .notices ≡ []
+
+abbrev pub Early-comes-last : Type 0
+Early-comes-last =
+    (s : State) (p : Packet) → Sound s → s .to-go ≡ 0 → 1 ≤ started s .to-go → first (started s .serving) (s .held) ≡ some p → s .clock < p .eligibility
+    → Stands-by s p
+
+-- a line whose queue is on does not idle, but for the silence, unless every packet that it holds is of the second kind
+abbrev pub Early-never-idles : Type 0
+Early-never-idles =
+    (s : State) → Sound s → stand-by-on (s .link) ≡ true → s .to-go ≡ 0 → s .silent ≡ 0
+    → (All (λ p. stamped (figures s (p .connection)) ≡ true) (s .held) → ⊥)
+    → 1 ≤ started s .to-go
+
+-- verdict 18, on a sound state with a link: exactly where the queue is on and the eligibility would be more than reservation times X past the present tick, and
+-- neither 10, 11, 12, 13 nor 17 is given
+abbrev pub Eighteen-exactly : Type 0
+Eighteen-exactly =
+    (c len tag : ℕ) (st : Option ℕ) (s : State) → Sound s → (s .link .levels ≡ 0 → ⊥)
+    → answer (offer c len tag st) s .verdict ≡ 18
+    ↔ ((allowed s c len st ≡ true)
+    × (length (of c (s .held)) < reservation (s .link) (figures s c))
+    × (s .clock < clock-end)
+    × (untimely-by (figures s c) (past s c) (s .clock) st ≡ false)
+    × (stand-by-on (s .link) ≡ true)
+    × (s .clock + distance (s .link) (figures s c) < eligibility-now s c st))
+
+-- an offer with a stamp never gets it: the allowance is no longer than that
+abbrev pub Stamps-never-18 : Type 0
+Stamps-never-18 = (c len tag stamp : ℕ) (s : State) → answer (offer c len tag (some stamp)) s .verdict ≡ 18 → ⊥
+
+-- so no flood pushes eligibilities on for ever: while the queue is on, none that is held or remembered lies further past the clock
+abbrev pub Never-far-ahead : Type 0
+Never-far-ahead =
+    (s : State) → Sound s → stand-by-on (s .link) ≡ true → (c : ℕ) → owned (s .connections) c ≡ true
+    → All (λ e. e ≤ s .clock + distance (s .link) (figures s c)) (eligibilities c (s .held))
+    × All (λ e. e ≤ s .clock + distance (s .link) (figures s c)) (past s c)
+
+-- where it is off all is as it was: what an idle line takes, what a sound state asks of a connection's rows and of the packet in service, and the verdict of an offer
+pub record As-without-stand-by (s : State) : Type 0 where
+  pub line-is : (u q : ℕ) → line-after-start s u q ≡ only-start s u q
+  pub rows-are : (c : Connection) (t : ℕ) (h : Past) (es : List ℕ) → Queue c (ahead (s .link) c) t h es ↔ Only-queue c t h es
+  pub service-is : In-service s ↔ Only-in-service (s .held) (s .serving) (s .to-go) (s .clock)
+  pub verdict-is : (c len tag : ℕ) (st : Option ℕ) → answer (offer c len tag st) s .verdict ≡ first-number (only-verdicts c len st s)
+
+-- .. and a link that does not ask for it is off, with the limits that it had
+abbrev pub Without-stand-by : Type 0
+Without-stand-by =
+    ((l : Link) → l .early ≡ 0 → (stand-by-on l ≡ false) × (link-within l ≡ only-link-within l))
+    × ((s : State) → stand-by-on (s .link) ≡ false → As-without-stand-by s)
+
+-- ---- quiet ticks: those in which nothing starts, nothing departs and no number is freed
+
+-- the line: more than a unit is to go; or a silence runs; or nothing is in service, no notice waits, no held packet is eligible and none stands by
+abbrev pub Quiet-line : State → Type 0
+Quiet-line s =
+    (2 ≤ s .to-go)
+    ⊎ (((s .to-go ≡ 0) × (1 ≤ s .silent))
+    ⊎ ((s .to-go ≡ 0) × (s .silent ≡ 0) × (s .notices ≡ []) × All (λ p. s .clock < p .eligibility) (s .held) × (stand-by s ≡ none)))
+
+-- no charge ends with the tick
+abbrev pub Nobody-freed : State → Type 0
+Nobody-freed s = (c : ℕ) → c < max-connections → closed-at s c ≡ true → charge-over (largest-bound (s .link)) (s .clock + 1) (past s c) ≡ false
+
+-- such a tick moves the clock, and takes a unit or a tick of the silence
+abbrev pub passed-by : State → State
+passed-by s = with-line (with-clock s (s .clock + 1)) (s .serving) (s .to-go - 1) (s .silent - 1)
+
+abbrev pub Quiet-ticks-pass : Type 0
+Quiet-ticks-pass =
+    (s : State) → Sound s → (s .link .levels ≡ 0 → ⊥) → s .clock < clock-end → Quiet-line s → Nobody-freed s → answer tick s ≡ tick-answer none (passed-by s)

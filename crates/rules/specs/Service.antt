@@ -1,4 +1,4 @@
--- When a packet may go, which goes next, and one tick of the line. Document 01, "Eligibility" and "One tick"; document 02, R-1, R-4, R-6, R-8 and R-9.
+-- When a packet may go, which goes next, and one tick of the line. Document 01, "Eligibility" and "One tick"; document 02, R-1, R-4, R-6, R-8, R-9 and R-11.
 use Prim.Native.Nat.{ℕ, zero, suc, _+_, _-_, _≤_, max}
 use mathlib.Core.Bool.{Bool, true, false, cond, not, _&&_, _||_}
 use mathlib.Core.List.{List, [], _∷_, map}
@@ -8,7 +8,7 @@ use lib.ListN.{getElem?, take}
 use Rattle.rules.specs.Words.{tabulate}
 use Rattle.rules.specs.Limits.{max-connections, notice-number, max-remembered}
 use Rattle.rules.specs.Model.{Connection, Past, Packet, Notice, State, Answer, no-short, no-connection, no-past, past, figures, closed-at, notice-packet, with-connections, with-closed, with-clock, with-held, with-notices, with-line}
-use Rattle.rules.specs.Admission.{cost, burst, stamped, largest-bound}
+use Rattle.rules.specs.Admission.{cost, burst, stamped, goes-early, largest-bound}
 
 -- ---- "Eligibility"
 
@@ -113,22 +113,36 @@ level-of s c = figures s c .level
 abbrev pub chosen : State → Option Packet
 chosen s = choice (level-of s) (s .clock) (s .held)
 
+-- the packet that stands by: "the first offered held packet of the gap-regulated connections", where the queue is on (document 02, R-11)
+abbrev pub first-early : (ℕ → Bool) → List Packet → Option Packet
+first-early may [] = none
+first-early may (p ∷ ps) = cond (may (p .connection)) (some p) (first-early may ps)
+
+-- whether number c's packets may go early
+abbrev pub early-at : State → ℕ → Bool
+early-at s c = goes-early (s .link) (figures s c)
+
+abbrev pub stand-by : State → Option Packet
+stand-by s = first-early (early-at s) (s .held)
+
 -- ---- "One tick", the three steps
 
 -- the state one tick later, with the packets held, the notices and the line given anew
 abbrev pub later : State → List Packet → List Notice → ℕ → ℕ → ℕ → State
 later s held notices serving to-go silent = with-line (with-notices (with-held (with-clock s (s .clock + 1)) held) notices) serving to-go silent
 
--- the line takes a packet whole; where no held one is eligible the first notice, "in the order offered"; where there is none it stays idle
-abbrev pub takes : Option Packet → List Notice → ℕ × ℕ
-takes (some p) ns = (p .connection, p .len)
-takes none [] = (0, 0)
-takes none (n ∷ ns) = (notice-number, n .len)
+-- the line takes a packet whole: the chosen one; where no held one is eligible the first notice, "in the order offered"; where none waits the packet that stands
+-- by (document 02, R-11); where there is none it stays idle
+abbrev pub takes : Option Packet → List Notice → Option Packet → ℕ × ℕ
+takes (some p) ns o = (p .connection, p .len)
+takes none (n ∷ ns) o = (notice-number, n .len)
+takes none [] (some p) = (p .connection, p .len)
+takes none [] none = (0, 0)
 
 -- 1. an idle line takes the chosen packet; nothing interrupts one that is in service, and none starts before the silence has run. Given the units to go
 -- and the silence: the line then
 abbrev pub line-after-start : State → ℕ → ℕ → ℕ × ℕ
-line-after-start s zero zero = takes (chosen s) (s .notices)
+line-after-start s zero zero = takes (chosen s) (s .notices) (stand-by s)
 line-after-start s zero (suc q) = (s .serving, 0)
 line-after-start s (suc u) q = (s .serving, suc u)
 

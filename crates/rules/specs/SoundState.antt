@@ -1,18 +1,19 @@
 -- A sound state, clause by clause. Document 01, "A sound state"; its first clause, the length of the places table, is the table's own and stands with
--- the code. The clauses on notices, on the silence, on what is remembered and on closed numbers: docs/RULES-AFTER-BASE.md, R-1, R-4, R-6, R-8 and R-9.
-use Prim.Native.Nat.{ℕ, _+_, _≤_, _<_, max}
+-- the code. The clauses on notices, on the silence, on what is remembered and on closed numbers: docs/RULES-AFTER-BASE.md, R-1, R-4, R-6, R-8 and R-9;
+-- those that document 02, R-11, amends while the stand-by queue is on, the packet in service and the distance past the clock: R-11 there.
+use Prim.Native.Nat.{ℕ, zero, suc, _+_, _≤_, _<_, max}
 use mathlib.Core.Path.{_≡_}
 use mathlib.Core.Bool.{Bool, true, false, cond}
 use mathlib.Core.Logic.{_⊎_}
 use mathlib.Core.List.{List, [], _∷_}
 use mathlib.Core.Option.{Option, none, some}
-use lib.Dec.{eqb}
+use lib.Dec.{ltb, eqb}
 use lib.ListN.{length, drop}
 use Rattle.rules.specs.Words.{All}
 use Rattle.rules.specs.Limits.{max-connections, max-reserved, clock-end, max-notices, notice-number, max-remembered}
 use Rattle.rules.specs.Model.{Link, Connection, Past, Packet, Notice, State, no-connection, no-past, fresh, nth, past, figures, closed-at, first-notice}
-use Rattle.rules.specs.Admission.{link-within, level-within, figures-within, owned, bound, burst, stamped, reservation, reserved, level-sum}
-use Rattle.rules.specs.Service.{nth-before, ticks-after, earliest, remember-all, Spaced, of, eligibilities, first, expired}
+use Rattle.rules.specs.Admission.{link-within, level-within, figures-within, owned, bound, burst, stamped, reservation, ahead, reserved, level-sum}
+use Rattle.rules.specs.Service.{nth-before, ticks-after, earliest, remember-all, Spaced, of, eligibilities, first, early-at, expired}
 
 -- ---- the held rows, each by itself
 
@@ -50,21 +51,52 @@ Near-by c t h e true o = e ≤ t + c .allowance
 Near-by c t h e false none = e ≤ max (t + reach c) (ticks-after (c .gap) (nth-before 1 h))
 Near-by c t h e false (some a) = e ≡ earliest c h
 
--- each of es that lies beyond the clock, behind those in h
-abbrev pub Beyond : Connection → ℕ → List ℕ → List ℕ → Type 0
-Beyond c t h [] = Unit {0}
-Beyond c t h (e ∷ es) = (t < e → Near-by c t h e (stamped c) (nth-before (burst c) h)) × Beyond c t (e ∷ h) es
+-- of a connection whose packets may go early (document 02, R-11): whether those in h settle an eligibility beyond the clock. They do if the n-th packet before is held
+-- or remembered; without an average, if the one before lies beyond the clock too
+abbrev pub is-known : Option ℕ → Bool
+is-known none = false
+is-known (some a) = true
 
-pub record Queue (c : Connection) (t : ℕ) (h : Past) (es : List ℕ) : Type 0 where
+abbrev pub lies-beyond : ℕ → Option ℕ → Bool
+lies-beyond t none = false
+lies-beyond t (some a) = ltb t a
+
+abbrev pub settled-by : ℕ → ℕ → List ℕ → Bool
+settled-by zero t h = lies-beyond t (nth-before 1 h)
+settled-by (suc n) t h = is-known (nth-before (suc n) h)
+
+unfoldable pub settles : Connection → ℕ → List ℕ → Bool
+settles c t h = settled-by (burst c) t h
+
+-- .. such an eligibility lies at most r beyond the clock, and where it is settled it is the least that both rules allow
+abbrev pub Near-early : Connection → ℕ → ℕ → List ℕ → ℕ → Type 0
+Near-early c r t h e = (e ≤ t + r) × (settles c t h ≡ true → e ≡ earliest c h)
+
+-- an eligibility beyond the clock, by whether the connection's packets may go early, and then how far past the clock it may lie: a is `ahead`
+abbrev pub Near : Connection → Option ℕ → ℕ → List ℕ → ℕ → Type 0
+Near c none t h e = Near-by c t h e (stamped c) (nth-before (burst c) h)
+Near c (some r) t h e = Near-early c r t h e
+
+-- each of es that lies beyond the clock, behind those in h
+abbrev pub Beyond : Connection → Option ℕ → ℕ → List ℕ → List ℕ → Type 0
+Beyond c a t h [] = Unit {0}
+Beyond c a t h (e ∷ es) = (t < e → Near c a t h e) × Beyond c a t (e ∷ h) es
+
+-- how far past the clock what has left may have been eligible
+abbrev pub margin : Option ℕ → ℕ
+margin none = 0
+margin (some r) = r
+
+pub record Queue (c : Connection) (a : Option ℕ) (t : ℕ) (h : Past) (es : List ℕ) : Type 0 where
   -- at most 16 are remembered, the newest of them those of the last rows
   pub few : length h ≤ max-remembered
   pub last-rows : remember-all (departed-of h es) es ≡ h
   -- those remembered and no longer held, and then the rows, keep the spacing
   pub rise : Spaced c (in-order (departed-of h es) es)
-  -- what has left was eligible
-  pub left-eligible : All (λ e. e ≤ t) (departed-of h es)
+  -- what has left was eligible, or not further from it than it may lie
+  pub left-eligible : All (λ e. e ≤ t + margin a) (departed-of h es)
   -- no row lies further beyond the clock than the rules put it
-  pub beyond : Beyond c t (departed-of h es) es
+  pub beyond : Beyond c a t (departed-of h es) es
 
 -- ---- the notices, each by itself: a length from 1 to S, arrival at most the clock
 
@@ -75,16 +107,16 @@ pub record Notice-fits (l : Link) (t : ℕ) (n : Notice) : Type 0 where
 
 -- ---- the line
 
--- a packet in service: the first row of its connection, eligible, with 1 to its length units to go
-pub record In-service-of (held : List Packet) (serving to-go t : ℕ) : Type 0 where
+-- a packet in service: the first row of its connection, eligible unless it may go early, with 1 to its length units to go
+pub record In-service-of (early : Bool) (held : List Packet) (serving to-go t : ℕ) : Type 0 where
   pub it : Packet
   pub is-first : first serving held ≡ some it
-  pub eligible : it .eligibility ≤ t
+  pub eligible : early ≡ false → it .eligibility ≤ t
   pub some-to-go : 1 ≤ to-go
   pub to-go-le : to-go ≤ it .len
 
 abbrev pub In-service : State → Type 0
-In-service s = In-service-of (s .held) (s .serving) (s .to-go) (s .clock)
+In-service s = In-service-of (early-at s (s .serving)) (s .held) (s .serving) (s .to-go) (s .clock)
 
 -- a notice in service: the first one, marked by the queue's number, with 1 to its length units to go
 pub record Notice-in-service-of (notices : List Notice) (serving to-go : ℕ) : Type 0 where
@@ -133,7 +165,7 @@ pub record Orderly (s : State) : Type 0 where
   pub dated : All (Dated (s .clock)) (s .held)
   -- no connection holds more than its reservation, and its rows are in order
   pub room : (c : ℕ) → owned (s .connections) c ≡ true → length (of c (s .held)) ≤ reservation (s .link) (figures s c)
-  pub queue : (c : ℕ) → owned (s .connections) c ≡ true → Queue (figures s c) (s .clock) (past s c) (eligibilities c (s .held))
+  pub queue : (c : ℕ) → owned (s .connections) c ≡ true → Queue (figures s c) (ahead (s .link) (figures s c)) (s .clock) (past s c) (eligibilities c (s .held))
   -- the notices fill no more than their places
   pub few-notices : length (s .notices) ≤ max-notices
   pub notices-fit : All (Notice-fits (s .link) (s .clock)) (s .notices)

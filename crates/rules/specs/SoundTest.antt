@@ -1,6 +1,6 @@
 -- The sound state as a test that computes, in the passes that the code makes. It need not be believed: `Test-is-exact` (Promises) says that it is true
 -- exactly of a sound state. Document 01, "A sound state".
-use Prim.Native.Nat.{ℕ, _+_, max}
+use Prim.Native.Nat.{ℕ, _+_, max, min}
 use mathlib.Core.Bool.{Bool, true, false, cond, not, _&&_, _||_}
 use mathlib.Core.List.{List, [], _∷_, _++_}
 use mathlib.Core.Option.{Option, none, some}
@@ -9,14 +9,14 @@ use lib.ListN.{length}
 use Rattle.rules.specs.Words.{within, every, each}
 use Rattle.rules.specs.Limits.{max-levels, max-connections, max-reserved, clock-end, max-notices, notice-number, max-remembered}
 use Rattle.rules.specs.Model.{Link, Connection, Past, Packet, Notice, State, nth, past, figures, closed-at, first-notice}
-use Rattle.rules.specs.Admission.{link-within, level-within, figures-within, owned, largest-bound, burst, stamped, reservation, reserved, passes}
-use Rattle.rules.specs.Service.{nth-before, ticks-after, earliest, remember-all, of, eligibilities, first, charge-over}
-use Rattle.rules.specs.SoundState.{departed-of, reach}
+use Rattle.rules.specs.Admission.{link-within, level-within, figures-within, owned, largest-bound, burst, stamped, reservation, ahead, reserved, passes}
+use Rattle.rules.specs.Service.{nth-before, ticks-after, earliest, remember-all, of, eligibilities, first, early-at, charge-over}
+use Rattle.rules.specs.SoundState.{departed-of, reach, settles, margin}
 
 -- ---- with no link set
 
 abbrev pub all-zero : Link → Bool
-all-zero l = eqb (l .largest) 0 && (eqb (l .silence) 0 && (eqb (length (l .bounds)) max-levels && each (λ d. eqb d 0) (l .bounds)))
+all-zero l = eqb (l .largest) 0 && (eqb (l .silence) 0 && (eqb (l .early) 0 && (eqb (length (l .bounds)) max-levels && each (λ d. eqb d 0) (l .bounds))))
 
 -- a free number: everything unused is zero
 abbrev pub blank : Connection → Bool
@@ -69,29 +69,38 @@ latest-by-gap c t h = max (ticks-after (c .gap) (nth-before 1 h)) (far-as (t + r
 unfoldable pub latest : Connection → ℕ → Past → ℕ
 latest c t h = cond (stamped c) (t + c .allowance) (latest-by-gap c t h)
 
--- an eligibility e behind those in h: not too early, and not too late
-abbrev pub in-pace : Connection → ℕ → Past → ℕ → Bool
-in-pace c t h e = leb (earliest c h) e && leb e (max t (latest c t h))
+-- .. whose packets may go early, r past the clock: no later than that, and where those in h settle it no later than they allow (document 02, R-11)
+unfoldable pub latest-early : Connection → ℕ → ℕ → Past → ℕ
+latest-early c r t h = cond (settles c t h) (min (t + r) (max t (earliest c h))) (t + r)
+
+abbrev pub last-tick : Connection → Option ℕ → ℕ → Past → ℕ
+last-tick c none t h = max t (latest c t h)
+last-tick c (some r) t h = latest-early c r t h
+
+-- an eligibility e behind those in h: not too early, and not too late. a: `ahead`
+abbrev pub in-pace : Connection → Option ℕ → ℕ → Past → ℕ → Bool
+in-pace c a t h e = leb (earliest c h) e && leb e (last-tick c a t h)
 
 -- what is remembered of connection c and no longer held
 abbrev pub departed-by : State → ℕ → Past
 departed-by s c = departed-of (past s c) (eligibilities c (s .held))
 
 -- one pass over the rows, behind those in `before`; of each connection only what is remembered is kept. old: what it was before the first row
-abbrev pub paced : List Connection → ℕ → (ℕ → Past) → List Packet → List Packet → Bool
-paced cs t old before [] = true
-paced cs t old before (p ∷ ps) =
-    in-pace (nth cs (p .connection)) t (remember-all (old (p .connection)) (eligibilities (p .connection) before)) (p .eligibility)
-    && paced cs t old (before ++ p ∷ []) ps
+abbrev pub paced : Link → List Connection → ℕ → (ℕ → Past) → List Packet → List Packet → Bool
+paced l cs t old before [] = true
+paced l cs t old before (p ∷ ps) =
+    in-pace (nth cs (p .connection)) (ahead l (nth cs (p .connection))) t (remember-all (old (p .connection)) (eligibilities (p .connection) before)) (p .eligibility)
+    && paced l cs t old (before ++ p ∷ []) ps
 
--- what is remembered of a connection and no longer held, newest first: it keeps the spacing, and lies at or before t
+-- what is remembered of a connection and no longer held, newest first: it keeps the spacing, and lies at or before t, which is the clock, or as far past it as a
+-- packet may go early
 abbrev pub left-in-time : Connection → ℕ → Past → Bool
 left-in-time c t [] = true
 left-in-time c t (e ∷ h) = leb (earliest c h) e && (leb e t && left-in-time c t h)
 
 -- .. of a connection that holds n packets, no more than its reservation
 abbrev pub left-sound : Link → Connection → ℕ → ℕ → Past → Bool
-left-sound l c t n old = leb n (reservation l c) && left-in-time c t old
+left-sound l c t n old = leb n (reservation l c) && left-in-time c (t + margin (ahead l c)) old
 
 abbrev pub same-numbers : List ℕ → List ℕ → Bool
 same-numbers [] [] = true
@@ -114,7 +123,7 @@ behind-pass s c = not (owned (s .connections) c) || kept-sound (past s c) (remem
 abbrev pub queues-sound : State → Bool
 queues-sound s =
     every max-connections (before-pass s)
-    && (paced (s .connections) (s .clock) (departed-by s) [] (s .held) && every max-connections (behind-pass s))
+    && (paced (s .link) (s .connections) (s .clock) (departed-by s) [] (s .held) && every max-connections (behind-pass s))
 
 -- a closed connection holds nothing, and its charge is not over
 abbrev pub closed-sound : State → ℕ → Bool
@@ -135,9 +144,10 @@ notices-sound s = leb (length (s .notices)) max-notices && each (notice-sound (s
 
 -- ---- the line
 
-abbrev pub serves : Option Packet → ℕ → ℕ → Bool
-serves none to-go t = false
-serves (some p) to-go t = within 1 (p .len) to-go && leb (p .eligibility) t
+-- the packet in service: eligible, unless it may go early
+abbrev pub serves : Bool → Option Packet → ℕ → ℕ → Bool
+serves early none to-go t = false
+serves early (some p) to-go t = within 1 (p .len) to-go && (early || leb (p .eligibility) t)
 
 abbrev pub serves-notice : Option Notice → ℕ → Bool
 serves-notice none to-go = false
@@ -147,7 +157,7 @@ abbrev pub busy-sound : State → Bool
 busy-sound s =
     cond (eqb (s .serving) notice-number)
     (serves-notice (first-notice (s .notices)) (s .to-go))
-    (serves (first (s .serving) (s .held)) (s .to-go) (s .clock))
+    (serves (early-at s (s .serving)) (first (s .serving) (s .held)) (s .to-go) (s .clock))
 
 unfoldable pub line-sound : State → Bool
 line-sound s = cond (eqb (s .to-go) 0) (eqb (s .serving) 0 && leb (s .silent) (s .link .silence)) (eqb (s .silent) 0 && busy-sound s)

@@ -12,14 +12,16 @@ use Rattle.rules.specs.Words.{All}
 use Rattle.rules.specs.Limits.{clock-end}
 use Rattle.rules.specs.Model.{Packet, State, Call, offer, figures}
 use Rattle.rules.specs.Admission.{stamped}
-use Rattle.rules.specs.Service.{of}
+use Rattle.rules.specs.Service.{of, early-at}
 use Rattle.rules.specs.Calls.{heard, answer}
 use Rattle.rules.specs.Runs.{Departure, run, departures, own-departures, bound-of, Keeps-its-word, Asked, Exchange, exchanges}
 use Rattle.rules.specs.Promises.{Left-by}
 
 -- the connections fit: c2 is of the second kind, with the gap and the size of c, and its allowance is the bound of c plus the delay of the line between the hubs.
--- c may be of either kind, so a row may be longer than two
+-- c may be of either kind, so a row may be longer than two. Its packets do not go early: it is of the second kind, or the stand-by queue of hub 1 is off (document
+-- 02, R-11); else a packet may come to hub 2 before its stamp, and gets 17
 pub record Follows (first second : State) (c c2 delay : ℕ) : Type 0 where
+  pub never-early : early-at first c ≡ false
   pub second-kind : stamped (figures second c2) ≡ true
   pub same-gap : figures second c2 .gap ≡ figures first c .gap
   pub same-size : figures second c2 .size ≡ figures first c .size

@@ -7,7 +7,7 @@ use mathlib.Core.List.{List, [], _∷_, _++_, map}
 use mathlib.Core.Option.{none, some}
 use lib.ListN.{length, getD, replicate}
 use Rattle.rules.specs.Limits.{max-levels, max-connections}
-use Rattle.rules.specs.Model.{Link, Connection, Past, Packet, Notice, State, Call, link, admit, offer, notice, close, tick, no-link, no-connection, no-past, fresh, with-closed}
+use Rattle.rules.specs.Model.{Link, Connection, Past, Packet, Notice, State, Call, link, admit, offer, notice, close, tick, no-link, no-connection, no-past, fresh, with-closed, with-line}
 use Rattle.rules.specs.Calls.{answer}
 use Rattle.rules.specs.Runs.{Departure, run-from}
 use Rattle.rules.specs.Examples.{line, average-line, gap-3}
@@ -37,7 +37,11 @@ outcome x = record {
 
 -- levels, S, silence, bounds; 0 behind them
 abbrev pub wire : ℕ → ℕ → ℕ → List ℕ → Link
-wire levels largest silence bounds = record { levels = levels; largest = largest; silence = silence; bounds = bounds ++ replicate (max-levels - length bounds) 0 }
+wire levels largest silence bounds = record { levels = levels; largest = largest; silence = silence; early = 0; bounds = bounds ++ replicate (max-levels - length bounds) 0 }
+
+-- document 02, R-11: S 4, bounds 10, 20, the stand-by queue off, 0, or on, 1
+abbrev pub wire-by : ℕ → Link
+wire-by early = record { levels = 2; largest = 4; silence = 0; early = early; bounds = 10 ∷ 20 ∷ 0 ∷ 0 ∷ 0 ∷ 0 ∷ 0 ∷ 0 ∷ [] }
 
 -- level, gap, size
 abbrev pub connection : ℕ → ℕ → ℕ → Connection
@@ -124,6 +128,24 @@ stamps-four t =
     idle (t + 10) wire-a (by-stamps 5 6 ∷ []) (((t + 15) ∷ (t + 10) ∷ (t + 5) ∷ t ∷ []) ∷ [])
     (unit 0 71 t t ∷ unit 0 72 t (t + 5) ∷ unit 0 73 t (t + 10) ∷ unit 0 74 t (t + 15) ∷ []) []
 
+-- the same line of gap 5 and reservation 2 where the queue is on: its eligibilities lie at most 10 past the clock t. One that it has sent lay at e; it holds one
+-- with the eligibility e, or two; that one is in service, with its unit to go
+abbrev pub sent-at : ℕ → ℕ → State
+sent-at t e = idle t (wire-by 1) (connection 1 5 3 ∷ []) (last-at e ∷ []) [] []
+
+abbrev pub stands-at : ℕ → ℕ → ℕ → State
+stands-at early t e = idle t (wire-by early) (connection 1 5 3 ∷ []) (last-at e ∷ []) (unit 0 71 t e ∷ []) []
+
+abbrev pub two-stand : ℕ → ℕ → ℕ → State
+two-stand t e f = idle t (wire-by 1) (connection 1 5 3 ∷ []) ((f ∷ e ∷ []) ∷ []) (unit 0 71 t e ∷ unit 0 72 t f ∷ []) []
+
+abbrev pub goes-at : ℕ → ℕ → ℕ → State
+goes-at early t e = with-line (stands-at early t e) 0 1 0
+
+-- .. and one of the second kind
+abbrev pub stamp-goes-at : ℕ → ℕ → State
+stamp-goes-at t e = with-line (idle t (wire-by 1) (by-stamps 5 6 ∷ []) (last-at e ∷ []) (unit 0 71 t e ∷ []) []) 0 1 0
+
 -- link A and n notices of one unit, at clock t
 abbrev pub waits : ℕ → ℕ → State
 waits t n = idle t wire-a [] [] [] (replicate n (record { len = 1; tag = 9; arrival = t }))
@@ -133,6 +155,12 @@ waits t n = idle t wire-a [] [] [] (replicate n (record { len = 1; tag = 9; arri
 abbrev pub three : List ℕ → List ℕ → List ℕ → State
 three es order notes =
     idle 10 wire-a (connection 2 20 1 ∷ connection 1 10 1 ∷ connection 1 10 1 ∷ []) (map last-at es) (map (λ c. unit c (70 + c) 0 (getD es c 0)) order)
+    (map (λ tag. record { len = 1; tag = tag; arrival = 10 }) notes)
+
+-- .. the same where the queue is on
+abbrev pub three-early : List ℕ → List ℕ → List ℕ → State
+three-early es order notes =
+    idle 10 (wire-by 1) (connection 2 20 1 ∷ connection 1 10 1 ∷ connection 1 10 1 ∷ []) (map last-at es) (map (λ c. unit c (70 + c) 0 (getD es c 0)) order)
     (map (λ tag. record { len = 1; tag = tag; arrival = 10 }) notes)
 
 -- ---- rows: a call gives a verdict and a number; a tick and those after it send these, one in each tick
@@ -284,6 +312,30 @@ stamp-limits =
     ∷ gives (stamps-one 7 13) tick 0 0
     ∷ []
 
+-- document 02, R-11: the setting, the distance, and what a sound state asks where the queue is on
+abbrev pub stand-by-limits : List Trial
+stand-by-limits =
+    gives fresh (link (wire-by 1)) 0 0
+    ∷ gives fresh (link (wire-by 2)) 4 0
+    -- the last eligibility 17: the next one, 22, is 10 past the present tick at 12
+    ∷ gives (sent-at 12 17) (offer 0 1 73 none) 0 22
+    ∷ gives (sent-at 11 17) (offer 0 1 73 none) 18 0
+    -- the last eligibility at most 10 past the clock, sent or held; the second held one 5 after the first
+    ∷ gives (sent-at 7 17) tick 0 0
+    ∷ sends (stands-at 1 7 17) ((0, 71) ∷ [])
+    ∷ sends (two-stand 7 11 16) ((0, 71) ∷ (0, 72) ∷ [])
+    -- .. at most 10 past the clock behind one that is eligible
+    ∷ sends (two-stand 7 7 17) ((0, 71) ∷ (0, 72) ∷ [])
+    -- in service before it is eligible
+    ∷ sends (goes-at 1 7 17) ((0, 71) ∷ [])
+    -- 12 and 13 before 18
+    ∷ gives (two-stand 7 11 16) (offer 0 1 73 none) 12 0
+    ∷ gives (sent-at 4_000_000_000 4_000_000_010) (offer 0 1 73 none) 13 0
+    -- an eligible packet first, then a notice, then the one that was offered first, whatever its level
+    ∷ sends (three-early (12 ∷ 10 ∷ 13 ∷ []) (0 ∷ 1 ∷ 2 ∷ []) []) ((1, 71) ∷ (0, 70) ∷ (2, 72) ∷ [])
+    ∷ sends (three-early (13 ∷ 13 ∷ 13 ∷ []) (0 ∷ 2 ∷ 1 ∷ []) (9 ∷ [])) ((254, 9) ∷ (0, 70) ∷ (2, 72) ∷ (1, 71) ∷ [])
+    ∷ []
+
 -- states that are not sound: number 1 first
 abbrev pub not-sound : List Trial
 not-sound =
@@ -300,6 +352,14 @@ not-sound =
     ∷ gives (charged 27) tick 1 0
     -- a packet farther than the allowance beyond the clock (document 02, R-9)
     ∷ gives (stamps-one 7 14) tick 1 0
+    -- document 02, R-11: farther than the distance, sent or held; not 5 after the one before, which lies beyond the clock too
+    ∷ gives (sent-at 7 18) tick 1 0
+    ∷ gives (stands-at 1 7 18) tick 1 0
+    ∷ gives (two-stand 7 11 17) tick 1 0
+    -- .. where the queue is off as before: at most 5 beyond the clock, and eligible in service; of the second kind so in either setting
+    ∷ gives (stands-at 0 7 13) tick 1 0
+    ∷ gives (goes-at 0 7 8) tick 1 0
+    ∷ gives (stamp-goes-at 7 8) tick 1 0
     ∷ []
 
 -- "Verdict numbers": otherwise the lowest that applies. Calls with several causes
@@ -350,5 +410,5 @@ As-worked rows = map outcome rows ≡ map (λ (x : Trial). x .expected) rows
 
 abbrev pub Worked-limits : Type 0
 Worked-limits =
-    As-worked link-limits × As-worked admission-limits × As-worked service-limits × As-worked close-limits × As-worked stamp-limits × As-worked not-sound
+    As-worked link-limits × As-worked admission-limits × As-worked service-limits × As-worked close-limits × As-worked stamp-limits × As-worked stand-by-limits × As-worked not-sound
     × As-worked causes × As-worked ties

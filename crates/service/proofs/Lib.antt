@@ -1,5 +1,6 @@
 pub mod ChoiceLaws
 pub mod LeadLaws
+pub mod EarlyLaws
 pub mod TickLaws
 pub mod ReadyLaws
 pub mod QuietLaws

@@ -1,9 +1,10 @@
 -- How many ticks are quiet, in each case that the code tells apart.
 use Prim.Native.Nat.{ℕ, zero, suc, _+_, _*_, _-_, _≤_, _<_, min}
 use native.Mathlib.Omega.{arith}
-use mathlib.Core.Path.{_≡_, refl, ap, _∙_}
+use mathlib.Core.Path.{_≡_, refl, sym, ap, _∙_}
 use mathlib.Core.Bool.{true, false}
 use mathlib.Core.List.{List, [], _∷_}
+use mathlib.Core.Option.{Option, none, some}
 use lib.ListN.{length, getD, drop}
 use lib.Dec.{leb}
 use lib.Seq.{drop-length}
@@ -13,12 +14,14 @@ use Rattle.rules.specs.declared.Packet.{Packet}
 use Rattle.rules.specs.declared.Notice.{Notice}
 use Rattle.rules.specs.Model.{State}
 use Rattle.rules.specs.Admission.{largest-bound}
+use Rattle.rules.specs.Service.{stand-by}
 use Rattle.rules.specs.SoundTest.{sound}
 use Rattle.rules.proofs.Tests.{never}
 use Rattle.rules.proofs.SoundExact.{exact}
 use Rattle.connections.specs.Members.{first-closed}
 use Rattle.tables.specs.Places.{rows}
 use Rattle.tables.proofs.PlacesLaws.{rows-stop, rows-more, rows-from}
+use Rattle.state.specs.Told.{is-some}
 use Rattle.service.specs.Quiet.{first-eligible, first-starts, quiet-for, charged-for, quiet-ticks}
 use Rattle.service.proofs.QuietLaws.{Quiets, quiets}
 
@@ -69,42 +72,62 @@ module _ (t : List ℕ) (clock : ℕ) where
   first-is l n = ap (λ (ps : List Packet). first-starts ps clock) (rows-from t 0 (rows-more t 0 l n (omega arith)))
 
 -- where it is eligible, there is nothing to wait for
-pub first-now : (ps : List Packet) (clock : ℕ) → first-starts ps clock ≡ true → 0 ≡ first-eligible ps - clock
+first-now : (ps : List Packet) (clock : ℕ) → first-starts ps clock ≡ true → 0 ≡ first-eligible ps - clock
 first-now [] clock e = never e
 first-now (p ∷ ps) clock e = omega (arith, leb-true (p .eligibility) clock e)
 
 -- ---- the line
 
-module _ (u silent : ℕ) (held : List Packet) (ns : List Notice) (clock : ℕ) where
-  pub in-service-for : (u ≡ 0 → ⊥) → u - 1 ≡ quiet-for u silent held ns clock
+module _ (u silent : ℕ) (held : List Packet) (ns : List Notice) (o : Option Packet) (clock : ℕ) where
+  pub in-service-for : (u ≡ 0 → ⊥) → u - 1 ≡ quiet-for u silent held ns o clock
   in-service-for n = go u n
     where
-      go : (v : ℕ) → (v ≡ 0 → ⊥) → v - 1 ≡ quiet-for v silent held ns clock
+      go : (v : ℕ) → (v ≡ 0 → ⊥) → v - 1 ≡ quiet-for v silent held ns o clock
       go zero n = absurd (n refl)
       go (suc v) n = omega arith
 
   -- the rest of a silence
-  pub silent-for : u ≡ 0 → (silent ≡ 0 → ⊥) → silent ≡ quiet-for u silent held ns clock
+  pub silent-for : u ≡ 0 → (silent ≡ 0 → ⊥) → silent ≡ quiet-for u silent held ns o clock
   silent-for z n = rw z (go silent n)
     where
-      go : (q : ℕ) → (q ≡ 0 → ⊥) → q ≡ quiet-for 0 q held ns clock
+      go : (q : ℕ) → (q ≡ 0 → ⊥) → q ≡ quiet-for 0 q held ns o clock
       go zero n = absurd (n refl)
       go (suc q) n = refl
 
   -- a notice that waits starts at once
-  pub notice-waits : u ≡ 0 → silent ≡ 0 → (length ns ≡ 0 → ⊥) → 0 ≡ quiet-for u silent held ns clock
+  pub notice-waits : u ≡ 0 → silent ≡ 0 → (length ns ≡ 0 → ⊥) → 0 ≡ quiet-for u silent held ns o clock
   notice-waits z y n = rw (z, y) (go ns n)
     where
-      go : (ms : List Notice) → (length ms ≡ 0 → ⊥) → 0 ≡ quiet-for 0 0 held ms clock
+      go : (ms : List Notice) → (length ms ≡ 0 → ⊥) → 0 ≡ quiet-for 0 0 held ms o clock
       go [] n = absurd (n refl)
       go (m ∷ ms) n = refl
 
-  pub idle-for : u ≡ 0 → silent ≡ 0 → length ns ≡ 0 → first-eligible held - clock ≡ quiet-for u silent held ns clock
-  idle-for z y n = rw (z, y) (go ns n)
-    where
-      go : (ms : List Notice) → length ms ≡ 0 → first-eligible held - clock ≡ quiet-for 0 0 held ms clock
-      go [] n = refl
-      go (m ∷ ms) n = absurd (omega arith)
+  module _ (z : u ≡ 0) (y : silent ≡ 0) (n : length ns ≡ 0) where
+    -- so does the first packet, where it is eligible
+    pub packet-waits : first-starts held clock ≡ true → 0 ≡ quiet-for u silent held ns o clock
+    packet-waits e = rw (z, y) (go ns n o)
+      where
+        go : (ms : List Notice) → length ms ≡ 0 → (b : Option Packet) → 0 ≡ quiet-for 0 0 held ms b clock
+        go [] l none = first-now held clock e
+        go [] l (some p) = refl
+        go (m ∷ ms) l b = absurd (omega arith)
+
+    -- .. and one that stands by
+    pub stands-by-now : is-some o ≡ true → 0 ≡ quiet-for u silent held ns o clock
+    stands-by-now e = rw (z, y) (go ns n o e)
+      where
+        go : (ms : List Notice) → length ms ≡ 0 → (b : Option Packet) → is-some b ≡ true → 0 ≡ quiet-for 0 0 held ms b clock
+        go [] l none e = never e
+        go [] l (some p) e = refl
+        go (m ∷ ms) l b e = absurd (omega arith)
+
+    pub idle-for : is-some o ≡ false → first-eligible held - clock ≡ quiet-for u silent held ns o clock
+    idle-for e = rw (z, y) (go ns n o e)
+      where
+        go : (ms : List Notice) → length ms ≡ 0 → (b : Option Packet) → is-some b ≡ false → first-eligible held - clock ≡ quiet-for 0 0 held ms b clock
+        go [] l none e = refl
+        go [] l (some p) e = never (sym e)
+        go (m ∷ ms) l b e = absurd (omega arith)
 
 -- ---- those that are passed over
 
@@ -117,7 +140,7 @@ module _ (s : State) (ok : sound s ≡ true) (left : ℕ) where
     pub clock-in-time : s .clock ≤ clock-end
     clock-in-time = exact s .0 ok .with-one n .orderly .clock-le
 
-    pub some-quiet : (k : ℕ) → k ≡ min (min (min (quiet-for (s .to-go) (s .silent) (s .held) (s .notices) (s .clock)) (clock-end - s .clock)) (charged-for (first-closed (s .pasts) (s .closed)) (largest-bound (s .link)) (s .clock))) left → k ≡ quiet-ticks left s
+    pub some-quiet : (k : ℕ) → k ≡ min (min (min (quiet-for (s .to-go) (s .silent) (s .held) (s .notices) (stand-by s) (s .clock)) (clock-end - s .clock)) (charged-for (first-closed (s .pasts) (s .closed)) (largest-bound (s .link)) (s .clock))) left → k ≡ quiet-ticks left s
     unfolding quiet-ticks
     some-quiet k e = rw (ok, ne-eqb (s .link .levels) 0 n) e
 

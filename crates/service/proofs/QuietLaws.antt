@@ -1,29 +1,31 @@
 -- Ticks in which nothing starts and nothing departs: what the rules answer to each, and the state after it.
 use Prim.Native.Nat.{ℕ, zero, suc, _+_, _-_, _≤_, _<_, min}
 use native.Mathlib.Omega.{arith}
-use mathlib.Core.Path.{_≡_, refl, sym, ap, _∙_, subst}
+use mathlib.Core.Path.{_≡_, refl, sym, subst}
 use mathlib.Core.Bool.{Bool, true, false, not, cond, _&&_}
 use mathlib.Core.List.{List, [], _∷_}
 use mathlib.Core.Logic.{_⊎_, inl, inr}
-use mathlib.Core.Option.{none}
+use mathlib.Core.Option.{Option, none, some}
 use lib.Dec.{eqb}
 use lib.ListN.{length, getD}
-use borrow.Author.Tests.{ne-eqb, lt-leb, eqb-false, not-true}
+use borrow.Author.Tests.{lt-leb, eqb-false, not-true}
 use Rattle.rules.specs.Words.{All}
-use Rattle.rules.specs.Limits.{max-connections, clock-end}
+use Rattle.rules.specs.Limits.{clock-end}
 use Rattle.rules.specs.declared.Packet.{Packet}
 use Rattle.rules.specs.declared.Notice.{Notice}
 use Rattle.rules.specs.Model.{Past, State, tick, Answer, past, closed-at}
 use Rattle.rules.specs.Admission.{largest-bound}
-use Rattle.rules.specs.SoundState.{Sound-with-link, Sound, Idle, Serves}
+use Rattle.rules.specs.SoundState.{Sound-with-link, Sound}
 use Rattle.rules.specs.SoundTest.{sound}
-use Rattle.rules.specs.Service.{choice, level-of, tick-answer, ticked, charge-over, expired, swept, sweeping}
-use Rattle.rules.specs.Calls.{verdicts, verdict, settle, answer}
+use Rattle.rules.specs.Service.{stand-by, tick-answer, charge-over}
+use Rattle.rules.specs.Calls.{answer}
+use Rattle.rules.specs.Promises.{Quiet-line, Nobody-freed}
 use Rattle.rules.proofs.Tests.{never, and-true}
-use Rattle.rules.proofs.Standing.{open-unexpired, charged-unexpired, unexpired-charged, nothing-swept}
+use Rattle.rules.proofs.Standing.{unexpired-charged}
 use Rattle.rules.proofs.Lists.{all-map}
 use Rattle.rules.proofs.SoundExact.{exact}
 use Rattle.rules.proofs.SoundKept.{kept}
+use Rattle.rules.proofs.Quiet.{quiet-passes}
 use Rattle.connections.specs.Members.{last-of, first-closed}
 use Rattle.connections.proofs.ClosingLaws.{first-before}
 use Rattle.service.specs.Quiet.{passed, first-eligible, quiet-for, charged-for, quiet-ticks}
@@ -32,9 +34,10 @@ use Rattle.service.specs.Quiet.{passed, first-eligible, quiet-for, charg
 abbrev None-before : ℕ → List Packet → Type 0
 None-before t ps = All (λ p. t ≤ p .eligibility) ps
 
--- for k ticks the line is idle, no packet is eligible and no notice waits, or the line is silent, or something is in service and keeps a unit to go
+-- for k ticks the line is idle, no packet is eligible, no notice waits and no packet stands by, or the line is silent, or something is in service and keeps a unit
+-- to go
 abbrev Still : State → ℕ → Type 0
-Still s k = ((s .to-go ≡ 0) × (s .silent ≡ 0) × None-before (s .clock + k) (s .held) × (s .notices ≡ [])) ⊎ (((s .to-go ≡ 0) × (k ≤ s .silent)) ⊎ (k < s .to-go))
+Still s k = ((s .to-go ≡ 0) × (s .silent ≡ 0) × None-before (s .clock + k) (s .held) × (s .notices ≡ []) × (stand-by s ≡ none)) ⊎ (((s .to-go ≡ 0) × (k ≤ s .silent)) ⊎ (k < s .to-go))
 
 -- for k ticks no charge ends: each that is closed has sent, and its time lies behind them
 abbrev Charged : State → ℕ → Type 0
@@ -50,76 +53,29 @@ pub record Quiet (s : State) (k : ℕ) : Type 0 where
 
 -- ---- one tick
 
-module _ (level : ℕ → ℕ) (t : ℕ) where
-  none-chosen : (ps : List Packet) → None-before (suc t) ps → choice level t ps ≡ none
-  none-chosen [] h = refl
-  none-chosen (p ∷ ps) h = rw (lt-leb (p .eligibility) t (omega (arith, h .0))) (none-chosen ps (h .1))
-
 -- the clock moves on, and nothing departs
 abbrev quiet-answer : State → Answer
 quiet-answer s = tick-answer none (passed s 1)
 
 module _ (s : State) (k : ℕ) (Q : Quiet s (suc k)) where
-  tick-good : verdict tick s ≡ 0
-  unfolding verdicts
-  tick-good =
-      rw (exact s .1 (Q .sound-state), ne-eqb (s .link .levels) 0 (Q .set), lt-leb clock-end (s .clock) (omega (arith, Q .in-time)))
+  -- the first of them is a quiet tick of the rules
+  line-quiet : Still s (suc k) → Quiet-line s
+  line-quiet (inl (z, y, h, n, o)) = inr (inr (z, y, n, all-map (λ p b. omega arith) (s .held) h, o))
+  line-quiet (inr (inl (z, l))) = inr (inl (z, omega arith))
+  line-quiet (inr (inr l)) = inl (omega arith)
 
-  not-serving : s .to-go ≡ 0 → s .serving ≡ 0
-  not-serving z = go (Q .sound-state .with-one (Q .set) .orderly .line)
+  nobody-freed : Nobody-freed s
+  nobody-freed c _ e = let q = Q .charged c e in charge-left (past s c) (q .0) (q .1)
     where
-      go : Idle s ⊎ Serves s → s .serving ≡ 0
-      go (inl i) = i .1
-      go (inr (inl v)) = absurd (omega (arith, v .some-to-go))
-      go (inr (inr v)) = absurd (omega (arith, v .some-to-go))
-
-  line-quiet : Still s (suc k) → ticked s ≡ quiet-answer s
-  line-quiet (inl (z, y, h, n)) =
-      let e : 0 - 1 ≡ 0 = omega arith in
-      let f = none-chosen (level-of s) (s .clock) (s .held) (all-map (λ p b. omega arith) (s .held) h) in
-      rw (z, y, not-serving z, f, n, e)
-  line-quiet (inr (inl (z, l))) = go (s .silent) refl
-    where
-      go : (q : ℕ) → s .silent ≡ q → ticked s ≡ quiet-answer s
-      go zero e = absurd (omega arith)
-      go (suc q) e = let f : 0 - 1 ≡ 0 = omega arith in rw (z, e, not-serving z, f)
-  line-quiet (inr (inr l)) = go (s .to-go) refl
-    where
-      none-silent : s .silent ≡ 0
-      none-silent = Q .sound-state .with-one (Q .set) .orderly .silent-alone (omega arith)
-
-      go : (u : ℕ) → s .to-go ≡ u → ticked s ≡ quiet-answer s
-      go zero e = absurd (omega arith)
-      go (suc zero) e = absurd (omega arith)
-      go (suc (suc u)) e =
-          let f : suc (suc u) - 1 ≡ suc u = omega arith in
-          let g : 0 - 1 ≡ 0 = omega arith in
-          rw (e, f, none-silent, g)
-
-  -- nobody is freed in it
-  charge-left : (bound t : ℕ) (h : Past) → 1 ≤ length h → t < last-of h + bound → charge-over bound t h ≡ false
-  charge-left bound t [] l e = absurd (omega arith)
-  charge-left bound t (x ∷ h) l e = lt-leb (x + bound) t (omega arith)
-
-  none-freed : (c : ℕ) → c < max-connections → expired (passed s 1) c ≡ false
-  none-freed c l = go (closed-at s c) refl
-    where
-      go : (b : Bool) → closed-at s c ≡ b → expired (passed s 1) c ≡ false
-      go true e =
-          let q = Q .charged c e in
-          charged-unexpired (passed s 1) c (charge-left (largest-bound (s .link)) (s .clock + 1) (past s c) (q .0) (omega (arith, q .1)))
-      go false e = open-unexpired (passed s 1) c e
-
-  nobody-freed : swept (passed s 1) ≡ passed s 1
-  nobody-freed =
-      let O = Q .sound-state .with-one (Q .set) .orderly in
-      nothing-swept (passed s 1) (O .numbers) (O .one-past-each) (O .one-mark-each) none-freed
+      charge-left : (h : Past) → 1 ≤ length h → s .clock + suc k < last-of h + largest-bound (s .link) → charge-over (largest-bound (s .link)) (s .clock + 1) h ≡ false
+      charge-left [] l i = absurd (omega arith)
+      charge-left (x ∷ h) l i = lt-leb (x + largest-bound (s .link)) (s .clock + 1) (omega arith)
 
   pub one-quiet-tick : answer tick s ≡ quiet-answer s
-  one-quiet-tick = ap (settle tick s) tick-good ∙ ap sweeping (line-quiet (Q .still)) ∙ ap (tick-answer none) nobody-freed
+  one-quiet-tick = quiet-passes s (Q .sound-state) (Q .set) (omega (arith, Q .in-time)) (line-quiet (Q .still)) nobody-freed
 
   still-then : Still s (suc k) → Still (passed s 1) k
-  still-then (inl (z, y, h, n)) = inl (omega arith, omega arith, all-map (λ p b. omega arith) (s .held) h, n)
+  still-then (inl (z, y, h, n, o)) = inl (omega arith, omega arith, all-map (λ p b. omega arith) (s .held) h, n, o)
   still-then (inr (inl (z, l))) = inr (inl (omega arith, omega arith))
   still-then (inr (inr l)) = inr (inr (omega arith))
 
@@ -155,14 +111,16 @@ all-later : (t : ℕ) (ps : List Packet) → t ≤ first-eligible ps → None-be
 all-later t [] h = tt
 all-later t (p ∷ ps) h = (omega arith, all-later t ps (omega arith))
 
-still-for : (s : State) (k : ℕ) → 0 < k → k ≤ quiet-for (s .to-go) (s .silent) (s .held) (s .notices) (s .clock) → Still s k
-still-for s k p h = go (s .to-go) refl (s .silent) refl (s .notices) refl h
+still-for : (s : State) (k : ℕ) → 0 < k → k ≤ quiet-for (s .to-go) (s .silent) (s .held) (s .notices) (stand-by s) (s .clock) → Still s k
+still-for s k p h = go (s .to-go) refl (s .silent) refl (s .notices) refl (stand-by s) refl h
   where
-    go : (u : ℕ) → s .to-go ≡ u → (q : ℕ) → s .silent ≡ q → (ns : List Notice) → s .notices ≡ ns → k ≤ quiet-for u q (s .held) ns (s .clock) → Still s k
-    go zero e zero f [] i l = inl (e, f, all-later (s .clock + k) (s .held) (omega arith), i)
-    go zero e zero f (n ∷ ns) i l = absurd (omega arith)
-    go zero e (suc q) f ns i l = inr (inl (e, omega arith))
-    go (suc u) e q f ns i l = inr (inr (omega arith))
+    go : (u : ℕ) → s .to-go ≡ u → (q : ℕ) → s .silent ≡ q → (ns : List Notice) → s .notices ≡ ns → (o : Option Packet) → stand-by s ≡ o
+        → k ≤ quiet-for u q (s .held) ns o (s .clock) → Still s k
+    go zero e zero f [] i none j l = inl (e, f, all-later (s .clock + k) (s .held) (omega arith), i, j)
+    go zero e zero f [] i (some r) j l = absurd (omega arith)
+    go zero e zero f (n ∷ ns) i o j l = absurd (omega arith)
+    go zero e (suc q) f ns i o j l = inr (inl (e, omega arith))
+    go (suc u) e q f ns i o j l = inr (inr (omega arith))
 
 -- .. and no charge ends in them
 charged-still : (s : State) (k : ℕ) → Sound-with-link s → 0 < k → k ≤ charged-for (first-closed (s .pasts) (s .closed)) (largest-bound (s .link)) (s .clock) → Charged s k
@@ -194,7 +152,7 @@ unfolding quiet-ticks
 quiets left s n = go (sound s && not (eqb (s .link .levels) 0)) refl n
   where
     k : ℕ
-    k = min (min (min (quiet-for (s .to-go) (s .silent) (s .held) (s .notices) (s .clock)) (clock-end - s .clock)) (charged-for (first-closed (s .pasts) (s .closed)) (largest-bound (s .link)) (s .clock))) left
+    k = min (min (min (quiet-for (s .to-go) (s .silent) (s .held) (s .notices) (stand-by s) (s .clock)) (clock-end - s .clock)) (charged-for (first-closed (s .pasts) (s .closed)) (largest-bound (s .link)) (s .clock))) left
 
     go : (b : Bool) → (sound s && not (eqb (s .link .levels) 0)) ≡ b → (cond b k 0 ≡ 0 → ⊥) → Quiets left s (cond b k 0)
     go true e z =

@@ -12,7 +12,7 @@ use Rattle.rules.specs.declared.Packet.{Packet}
 use Rattle.rules.specs.Limits.{clock-end, notice-number}
 use Rattle.rules.specs.Words.{All}
 use Rattle.rules.specs.Model.{first-notice}
-use Rattle.rules.specs.Service.{first}
+use Rattle.rules.specs.Service.{first, early-at}
 use Rattle.rules.specs.SoundTest.{serves, serves-notice, busy-sound, line-sound}
 use Rattle.rules.proofs.Sums.{cond-is}
 use Rattle.rules.proofs.Tests.{never, and-true}
@@ -37,16 +37,16 @@ module _ (h : Hub) (cs t q : List ℕ) where
   served-held : line-sound (view h (tables cs t q)) ≡ true → (h .«to_go» ≡ 0 → ⊥) → (h .serving ≡ notice-number → ⊥) → place (h .serving) (rows t) < length (rows t)
   served-held l n away =
       go (first (h .serving) (rows t)) refl
-      (sym (cond-is (serves-notice (first-notice (notices-in q)) (h .«to_go»)) (serves (first (h .serving) (rows t)) (h .«to_go») (h .clock)) (ne-eqb (h .serving) notice-number away)) ∙ served l n)
+      (sym (cond-is (serves-notice (first-notice (notices-in q)) (h .«to_go»)) (serves (early-at (view h (tables cs t q)) (h .serving)) (first (h .serving) (rows t)) (h .«to_go») (h .clock)) (ne-eqb (h .serving) notice-number away)) ∙ served l n)
     where
-      go : (o : Option Packet) → first (h .serving) (rows t) ≡ o → serves o (h .«to_go») (h .clock) ≡ true → place (h .serving) (rows t) < length (rows t)
+      go : (o : Option Packet) → first (h .serving) (rows t) ≡ o → serves (early-at (view h (tables cs t q)) (h .serving)) o (h .«to_go») (h .clock) ≡ true → place (h .serving) (rows t) < length (rows t)
       go none e s = never s
       go (some p) e s = first-held (h .serving) (rows t) p e
 
   served-first : line-sound (view h (tables cs t q)) ≡ true → (h .«to_go» ≡ 0 → ⊥) → h .serving ≡ notice-number → 0 < length (rows q)
   served-first l n e =
       go (rows q)
-      (sym (cond-is (serves-notice (first-notice (notices-in q)) (h .«to_go»)) (serves (first (h .serving) (rows t)) (h .«to_go») (h .clock)) (eq-eqb (h .serving) notice-number e)) ∙ served l n)
+      (sym (cond-is (serves-notice (first-notice (notices-in q)) (h .«to_go»)) (serves (early-at (view h (tables cs t q)) (h .serving)) (first (h .serving) (rows t)) (h .«to_go») (h .clock)) (eq-eqb (h .serving) notice-number e)) ∙ served l n)
     where
       go : (ps : List Packet) → serves-notice (first-notice (map notice-of ps)) (h .«to_go») ≡ true → 0 < length ps
       go [] s = never s

@@ -7,24 +7,25 @@ use mathlib.Core.List.{List, [], _∷_, map}
 use mathlib.Core.Option.{Option, none, some}
 use lib.Dec.{leb, eqb}
 use lib.ListN.{length, drop}
-use borrow.Author.Tests.{eq-eqb, eqb-true}
+use borrow.Author.Tests.{eq-eqb, eqb-true, eqb-false}
 use Rattle.rules.specs.declared.Packet.{Packet}
 use Rattle.rules.specs.declared.Notice.{Notice}
 use Rattle.rules.specs.Words.{All, each}
 use Rattle.rules.specs.Limits.{notice-number}
 use Rattle.rules.specs.Model.{Answer, with-line}
-use Rattle.rules.specs.Service.{goes-first, better, choice, takes, line-after-start, started, after-unit, ticked}
+use Rattle.rules.specs.Service.{goes-first, better, choice, first-early, takes, line-after-start, started, after-unit, ticked}
 use Rattle.rules.proofs.Sums.{cond-ind}
 use Rattle.rules.proofs.Tests.{never, and-true}
+use Rattle.rules.proofs.Rows.{nil-of}
 use Rattle.rules.proofs.Line.{last-of-packet, last-of-notice}
 use Rattle.tables.specs.Places.{rows, written-places, table-of, place, row-at, cut, no-packet}
 use Rattle.tables.specs.Notices.{notices-length, notice-of, notices-in, written-notices, marked, notices-formed}
 use Rattle.tables.proofs.PlacesLaws.{without-cut, first-place, row-is, rows-from}
-use Rattle.tables.proofs.NoticeLaws.{marked-row, marked-rows, first-row, notices-length-is, rows-marked, notices-table, notices-back}
+use Rattle.tables.proofs.NoticeLaws.{marked-row, marked-rows, first-row, notices-length-is, rows-marked, notices-back}
 use Rattle.state.specs.declared.Hub.{Hub}
 use Rattle.state.specs.declared.Told.{Told}
 use Rattle.service.specs.declared.Best.{Best}
-use Rattle.service.specs.Candidates.{best-of, level-in}
+use Rattle.service.specs.Candidates.{best-of, level-in, early-in}
 use Rattle.state.specs.View.{Tables, tables, view, hub-of}
 use Rattle.service.specs.Gives.{passed-on, Gives}
 use Rattle.service.specs.Ready.{In-place}
@@ -43,22 +44,17 @@ told-on h gone packet = passed-on (view h any) gone packet
 
 -- ---- step 1
 
--- the first row of the table of notices, used or not, is what an idle line takes of it
-first-taken : (q : List ℕ) → notices-formed q ≡ true → _≡_ {A = ℕ × ℕ} (takes none (notices-in q)) (row-at q 0 .connection, row-at q 0 .len)
-unfolding table-of
-first-taken q f = go (rows q) refl
-  where
-    go : (ps : List Packet) → rows q ≡ ps → _≡_ {A = ℕ × ℕ} (takes none (notices-in q)) (row-at q 0 .connection, row-at q 0 .len)
-    go [] e = ap (λ (ps : List Packet). takes none (map notice-of ps)) e ∙ sym (unused (notices-table q f ∙ ap (table-of notices-length) e))
-      where
-        unused : q ≡ table-of notices-length [] → _≡_ {A = ℕ × ℕ} (row-at q 0 .connection, row-at q 0 .len) (0, 0)
-        unused i = ap (λ (l : List ℕ). (row-at l 0 .connection, row-at l 0 .len)) i
-    go (p ∷ ps) e =
-        let l : 0 < length (rows q) = omega (arith, ap length e) in
-        let r = rows-from q 0 l in
-        let m = and-true (marked (row-at q 0)) _ (ap (each marked) (sym r) ∙ rows-marked q f) in
-        ap (λ (ns : List Notice). takes none ns) (first-row q l)
-        ∙ ap (λ (n : ℕ). (n, row-at q 0 .len)) (sym (eqb-true _ _ (and-true (eqb (row-at q 0 .connection) notice-number) _ (m .0) .0)))
+-- a notice waits
+pub some-waits : (q : List ℕ) → eqb (length (rows q)) 0 ≡ false → 0 < length (rows q)
+some-waits q e = omega (arith, eqb-false (length (rows q)) 0 e)
+
+-- a notice's row names it by the notices' number
+first-taken : (q : List ℕ) (o : Option Packet) → notices-formed q ≡ true → 0 < length (rows q) → _≡_ {A = ℕ × ℕ} (takes none (notices-in q) o) (row-at q 0 .connection, row-at q 0 .len)
+first-taken q o f l =
+    let r = rows-from q 0 l in
+    let m = and-true (marked (row-at q 0)) _ (ap (each marked) (sym r) ∙ rows-marked q f) in
+    ap (λ (ns : List Notice). takes none ns o) (first-row q l)
+    ∙ ap (λ (n : ℕ). (n, row-at q 0 .len)) (sym (eqb-true _ _ (and-true (eqb (row-at q 0 .connection) notice-number) _ (m .0) .0)))
 
 module _ (h : Hub) (cs t q : List ℕ) where
   pub busy : (h .«to_go» ≡ 0 → ⊥) → h ≡ hub-of (started (view h (tables cs t q)))
@@ -77,6 +73,10 @@ module _ (h : Hub) (cs t q : List ℕ) where
       go zero (suc d) i e = ap (λ (u : ℕ). lined h (h .serving, u) (h .silent)) i
       go (suc u) d i e = absurd (omega arith)
 
+  -- the packet that stands by, if one does
+  abbrev standing : Option Packet
+  standing = first-early (early-in (h .link) cs) (rows t)
+
   module _ (b : Best) (z : h .«to_go» ≡ 0) (y : h .silent ≡ 0) (e : b ≡ best-of (choice (level-in cs) (h .clock) (rows t))) where
     -- an idle line takes what was chosen
     pub takes-packet : b .found ≡ true → lined h (b .packet .connection, b .packet .len) 0 ≡ hub-of (started (view h (tables cs t q)))
@@ -84,19 +84,33 @@ module _ (h : Hub) (cs t q : List ℕ) where
         ap (λ (d : Best). lined h (d .packet .connection, d .packet .len) 0) e
         ∙ rw (z, y) (go (choice (level-in cs) (h .clock) (rows t)) (sym (ap (λ (d : Best). d .found) e) ∙ f))
       where
-        go : (o : Option Packet) → best-of o .found ≡ true → lined h (best-of o .packet .connection, best-of o .packet .len) 0 ≡ lined h (takes o (notices-in q)) 0
+        go : (o : Option Packet) → best-of o .found ≡ true → lined h (best-of o .packet .connection, best-of o .packet .len) 0 ≡ lined h (takes o (notices-in q) standing) 0
         go none i = never i
         go (some p) i = refl
 
-    -- where nothing was chosen, the first notice; an unused row is nothing
-    pub takes-notice : b .found ≡ false → notices-formed q ≡ true → lined h (row-at q 0 .connection, row-at q 0 .len) 0 ≡ hub-of (started (view h (tables cs t q)))
-    takes-notice f n =
-        ap (λ (l : ℕ × ℕ). lined h l 0) (sym (first-taken q n))
-        ∙ rw (z, y) (go (choice (level-in cs) (h .clock) (rows t)) (sym (ap (λ (d : Best). d .found) e) ∙ f))
-      where
-        go : (o : Option Packet) → best-of o .found ≡ false → lined h (takes none (notices-in q)) 0 ≡ lined h (takes o (notices-in q)) 0
-        go none i = refl
-        go (some p) i = never (sym i)
+    module _ (f : b .found ≡ false) where
+      -- nothing was chosen
+      none-chosen : lined h (takes none (notices-in q) standing) 0 ≡ hub-of (started (view h (tables cs t q)))
+      none-chosen = rw (z, y) (go (choice (level-in cs) (h .clock) (rows t)) (sym (ap (λ (d : Best). d .found) e) ∙ f))
+        where
+          go : (o : Option Packet) → best-of o .found ≡ false → lined h (takes none (notices-in q) standing) 0 ≡ lined h (takes o (notices-in q) standing) 0
+          go none i = refl
+          go (some p) i = never (sym i)
+
+      -- then the first notice
+      pub takes-notice : notices-formed q ≡ true → 0 < length (rows q) → lined h (row-at q 0 .connection, row-at q 0 .len) 0 ≡ hub-of (started (view h (tables cs t q)))
+      takes-notice n l = ap (λ (l : ℕ × ℕ). lined h l 0) (sym (first-taken q standing n l)) ∙ none-chosen
+
+      -- where there is none, the packet that stands by; an unused row is nothing
+      pub takes-early : length (rows q) ≡ 0 → (d : Best) → d ≡ best-of standing → lined h (d .packet .connection, d .packet .len) 0 ≡ hub-of (started (view h (tables cs t q)))
+      takes-early n d i =
+          ap (λ (r : Best). lined h (r .packet .connection, r .packet .len) 0) i ∙ go standing
+          ∙ ap (λ (ps : List Packet). lined h (takes none (map notice-of ps) standing) 0) (sym (nil-of (rows q) n))
+          ∙ none-chosen
+        where
+          go : (o : Option Packet) → lined h (best-of o .packet .connection, best-of o .packet .len) 0 ≡ lined h (takes none [] o) 0
+          go none = refl
+          go (some p) = refl
 
 -- ---- what the next steps need is there after step 1
 
@@ -105,24 +119,30 @@ abbrev Held : List Packet → Option Packet → Type 0
 Held ps none = Unit {0}
 Held ps (some p) = (place (p .connection) ps < length ps) × (p .connection ≡ notice-number → ⊥)
 
+module _ (q : Packet) (ps : List Packet) where
+  here : (q .connection ≡ notice-number → ⊥) → Held (q ∷ ps) (some q)
+  here a = (rw (eq-eqb (q .connection) (q .connection) refl) (omega arith), a)
+
+  behind : (o : Option Packet) → Held ps o → Held (q ∷ ps) o
+  behind none k = tt
+  behind (some p) k = (cond-ind (λ (n : ℕ). n < length (q ∷ ps)) (eqb (q .connection) (p .connection)) (λ _. omega arith) (λ _. omega (arith, k .0)), k .1)
+
 module _ (level : ℕ → ℕ) (t : ℕ) where
   choice-held : (ps : List Packet) → All (λ p. p .connection ≡ notice-number → ⊥) ps → Held ps (choice level t ps)
   choice-held [] a = tt
   choice-held (q ∷ ps) a =
       cond-ind (Held (q ∷ ps)) (leb (q .eligibility) t) {x = better level q (choice level t ps)} {y = choice level t ps}
       (λ _. taken (choice level t ps) (choice-held ps (a .1)))
-      (λ _. behind (choice level t ps) (choice-held ps (a .1)))
+      (λ _. behind q ps (choice level t ps) (choice-held ps (a .1)))
     where
-      here : Held (q ∷ ps) (some q)
-      here = (rw (eq-eqb (q .connection) (q .connection) refl) (omega arith), a .0)
-
-      behind : (o : Option Packet) → Held ps o → Held (q ∷ ps) o
-      behind none k = tt
-      behind (some p) k = (cond-ind (λ (n : ℕ). n < length (q ∷ ps)) (eqb (q .connection) (p .connection)) (λ _. omega arith) (λ _. omega (arith, k .0)), k .1)
-
       taken : (o : Option Packet) → Held ps o → Held (q ∷ ps) (better level q o)
-      taken none k = here
-      taken (some p) k = cond-ind (Held (q ∷ ps)) (goes-first level q p) {x = some q} {y = some p} (λ _. here) (λ _. behind (some p) k)
+      taken none k = here q ps (a .0)
+      taken (some p) k = cond-ind (Held (q ∷ ps)) (goes-first level q p) {x = some q} {y = some p} (λ _. here q ps (a .0)) (λ _. behind q ps (some p) k)
+
+early-held : (may : ℕ → Bool) (ps : List Packet) → All (λ p. p .connection ≡ notice-number → ⊥) ps → Held ps (first-early may ps)
+early-held may [] a = tt
+early-held may (q ∷ ps) a =
+    cond-ind (Held (q ∷ ps)) (may (q .connection)) {x = some q} {y = first-early may ps} (λ _. here q ps (a .0)) (λ _. behind q ps (first-early may ps) (early-held may ps (a .1)))
 
 module _ (h : Hub) (cs t q : List ℕ) (others : All (λ p. p .connection ≡ notice-number → ⊥) (rows t)) (f : In-place h t q) where
   abbrev after : ℕ → ℕ → ℕ × ℕ
@@ -136,12 +156,18 @@ module _ (h : Hub) (cs t q : List ℕ) (others : All (λ p. p .connection ≡ no
   served : (u silent : ℕ) → h .«to_go» ≡ u → Served (after u silent)
   served (suc u) silent e = record { packet = λ n a. f .line (λ z. omega arith) a; notice = λ n i. f .notice-line (λ z. omega arith) i }
   served zero (suc silent) e = record { packet = λ n a. absurd (n refl); notice = λ n i. absurd (n refl) }
-  served zero zero e = go (choice (level-in cs) (h .clock) (rows t)) (choice-held (level-in cs) (h .clock) (rows t) others) (rows q) refl
+  served zero zero e =
+      go (choice (level-in cs) (h .clock) (rows t)) (choice-held (level-in cs) (h .clock) (rows t) others) (rows q) refl
+      (first-early (early-in (h .link) cs) (rows t)) (early-held (early-in (h .link) cs) (rows t) others)
     where
-      go : (o : Option Packet) → Held (rows t) o → (ps : List Packet) → rows q ≡ ps → Served (takes o (map notice-of ps))
-      go (some p) k ps i = record { packet = λ n a. k .0; notice = λ n e. absurd (k .1 e) }
-      go none k [] i = record { packet = λ n a. absurd (n refl); notice = λ n e. absurd (n refl) }
-      go none k (p ∷ ps) i = record { packet = λ n a. absurd (a refl); notice = λ n e. omega (arith, ap length i) }
+      packet-served : (p : Packet) → Held (rows t) (some p) → Served (p .connection, p .len)
+      packet-served p k = record { packet = λ n a. k .0; notice = λ n e. absurd (k .1 e) }
+
+      go : (o : Option Packet) → Held (rows t) o → (ps : List Packet) → rows q ≡ ps → (b : Option Packet) → Held (rows t) b → Served (takes o (map notice-of ps) b)
+      go (some p) k ps i b r = packet-served p k
+      go none k (p ∷ ps) i b r = record { packet = λ n a. absurd (a refl); notice = λ n e. omega (arith, ap length i) }
+      go none k [] i (some p) r = packet-served p r
+      go none k [] i none r = record { packet = λ n a. absurd (n refl); notice = λ n e. absurd (n refl) }
 
   pub in-place-then : (g : Hub) → g ≡ hub-of (started (view h (tables cs t q))) → In-place g t q
   in-place-then g e =

@@ -1,13 +1,15 @@
--- The choice as one pass upward: the best packet so far, and the next one of the rows. Document 01, "One tick", step 1.
+-- The choice as one pass upward: the best packet so far, and the next one of the rows; and who may send early. Document 01, "One tick", step 1; document 02, R-11.
 use Prim.Native.Nat.{ℕ, _+_, _*_, _≤_}
 use mathlib.Core.Path.{_≡_}
-use mathlib.Core.Bool.{true, cond}
+use mathlib.Core.Bool.{Bool, true, cond}
 use mathlib.Core.List.{List}
 use mathlib.Core.Option.{Option, none, some}
 use lib.Dec.{leb}
 use lib.ListN.{length}
+use Rattle.rules.specs.declared.Link.{Link}
 use Rattle.rules.specs.declared.Packet.{Packet}
 use Rattle.rules.specs.Model.{nth}
+use Rattle.rules.specs.Admission.{goes-early}
 use Rattle.rules.specs.Service.{better}
 use Rattle.tables.specs.Places.{row-at}
 use Rattle.connections.specs.Members.{connections-in}
@@ -18,6 +20,10 @@ use Rattle.service.specs.declared.Lead.{Lead}
 -- the level of connection c, by the table of connections
 abbrev pub level-in : List ℕ → ℕ → ℕ
 level-in cs c = nth (connections-in cs) c .level
+
+-- whether its packets may go early, by the link and that table
+abbrev pub early-in : Link → List ℕ → ℕ → Bool
+early-in l cs c = goes-early l (nth (connections-in cs) c)
 
 -- a packet or nothing, as the code gives it
 abbrev pub best-of : Option Packet → Best

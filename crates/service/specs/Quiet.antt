@@ -1,14 +1,16 @@
 -- QUIET TICKS: those in which nothing starts, nothing departs and no charge ends, so that many can be passed over at once. Document 01, "One tick"; document 02,
--- R-1, R-4 and R-8.
+-- R-1, R-4, R-8 and R-11.
 use Prim.Native.Nat.{ℕ, zero, suc, _+_, _-_, min}
 use mathlib.Core.Bool.{Bool, false, not, cond, _&&_}
 use mathlib.Core.List.{List, [], _∷_}
+use mathlib.Core.Option.{Option, none, some}
 use lib.Dec.{eqb, leb}
 use Rattle.rules.specs.declared.Packet.{Packet}
 use Rattle.rules.specs.declared.Notice.{Notice}
 use Rattle.rules.specs.Limits.{clock-end}
 use Rattle.rules.specs.Model.{State, with-clock, with-line}
 use Rattle.rules.specs.Admission.{largest-bound}
+use Rattle.rules.specs.Service.{stand-by}
 use Rattle.rules.specs.SoundTest.{sound}
 use Rattle.connections.specs.Members.{first-closed}
 
@@ -26,13 +28,14 @@ abbrev pub first-starts : List Packet → ℕ → Bool
 first-starts [] clock = false
 first-starts (p ∷ ps) clock = leb (p .eligibility) clock
 
--- the ticks in which nothing starts and nothing departs: until a packet is eligible, if no notice waits, or the rest of a silence, or all but the last unit
--- of what is in service
-abbrev pub quiet-for : ℕ → ℕ → List Packet → List Notice → ℕ → ℕ
-quiet-for zero zero held [] clock = first-eligible held - clock
-quiet-for zero zero held (n ∷ ns) clock = 0
-quiet-for zero (suc silent) held ns clock = suc silent
-quiet-for (suc to-go) silent held ns clock = to-go
+-- the ticks in which nothing starts and nothing departs: until a packet is eligible, if no notice waits and no packet stands by, or the rest of a silence, or all
+-- but the last unit of what is in service
+abbrev pub quiet-for : ℕ → ℕ → List Packet → List Notice → Option Packet → ℕ → ℕ
+quiet-for zero zero held [] none clock = first-eligible held - clock
+quiet-for zero zero held [] (some p) clock = 0
+quiet-for zero zero held (n ∷ ns) o clock = 0
+quiet-for zero (suc silent) held ns o clock = suc silent
+quiet-for (suc to-go) silent held ns o clock = to-go
 
 -- the ticks in which no charge ends: up to the one before the earliest end, which is the earliest last eligibility of those that are closed plus the largest bound;
 -- `first` is one more than that eligibility, and 0 where none is closed
@@ -44,5 +47,5 @@ charged-for (suc last) bound clock = suc last + bound - 2 - clock
 unfoldable pub quiet-ticks : ℕ → State → ℕ
 quiet-ticks left s =
     cond (sound s && not (eqb (s .link .levels) 0))
-    (min (min (min (quiet-for (s .to-go) (s .silent) (s .held) (s .notices) (s .clock)) (clock-end - s .clock)) (charged-for (first-closed (s .pasts) (s .closed)) (largest-bound (s .link)) (s .clock))) left)
+    (min (min (min (quiet-for (s .to-go) (s .silent) (s .held) (s .notices) (stand-by s) (s .clock)) (clock-end - s .clock)) (charged-for (first-closed (s .pasts) (s .closed)) (largest-bound (s .link)) (s .clock))) left)
     0

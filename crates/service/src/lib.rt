@@ -1,5 +1,5 @@
-// One tick of the line: the choice of the next packet in one pass over the rows, and the three steps. Document 01, "One tick"; document 02, R-1
-// and R-4.
+// One tick of the line: the choice of the next packet in one pass over the rows, the packet that stands by, and the three steps. Document 01, "One tick";
+// document 02, R-1, R-4 and R-11.
 pub mod quiet; // quiet.rt: ticks in which nothing starts, nothing departs and no charge ends
 
 ghost use mathlib.Core.Path.{_≡_};
@@ -8,17 +8,18 @@ ghost use mathlib.Core.List.{List};
 ghost use Prim.Native.Nat.{ℕ, _+_, _*_, _-_, _<_, _≤_};
 ghost use Rattle.rules.specs.Limits.{clock-end, notice-number};
 ghost use Rattle.rules.specs.Model.{with-line};
-ghost use Rattle.rules.specs.Service.{choice, started, after-unit, ticked};
+ghost use Rattle.rules.specs.Service.{choice, first-early, started, after-unit, ticked};
 ghost use lib.ListN.{length};
 ghost use Rattle.tables.specs.Places.{rows, written-places, places-length};
 ghost use Rattle.connections.specs.Members.{members-length};
-ghost use Rattle.service.specs.Candidates.{best-of, level-in, Leads, Leads-with};
+ghost use Rattle.service.specs.Candidates.{best-of, level-in, early-in, Leads, Leads-with};
 ghost use Rattle.state.specs.View.{Tables, tables, before, view, hub-of};
 ghost use Rattle.service.specs.Gives.{passed-on, Gives};
 ghost use Rattle.service.specs.Ready.{In-place, Ready};
 ghost use Rattle.tables.specs.Notices.{notices-formed};
 use limits::NOTICE_NUMBER;
 use limits::PACKET_WIDTH;
+use rules::Link;
 use rules::Packet;
 use state::Hub;
 use state::Told;
@@ -97,6 +98,35 @@ pub fn choose(members: &[u32], places: &[u32], clock: u32) -> Best
     }
 }
 
+// The packet that stands by: the first row, in the order offered, whose connection may send early. Where the queue is off no row is looked at.
+fn stand_by(l: Link, members: &[u32], places: &[u32]) -> Best
+    requires { ⌜ (now places ≡ written-places (rows (now places))) × (length (now places) ≡ places-length) × (length (now members) ≡ members-length) ⌝ }
+    ensures { λ r. ⌜ r ≡ best-of (first-early (early-in l (now (members .entry))) (rows (now (places .entry)))) ⌝ }
+{
+    if !connections::stand_by::is_on(l) {
+        return Best {
+            found: false,
+            packet: tables::no_packet(),
+        };
+    }
+    let n = tables::count(places);
+    let mut i: usize = 0;
+    while i < n {
+        let x = connections::figures_of(members, places[PACKET_WIDTH * i]);
+        if connections::stand_by::goes_early(l, x) {
+            return Best {
+                found: true,
+                packet: tables::row(places, i),
+            };
+        }
+        i += 1;
+    }
+    Best {
+        found: false,
+        packet: tables::no_packet(),
+    }
+}
+
 // The hub with the line given anew.
 fn with_line(h: Hub, serving: u32, to_go: u32, silent: u32) -> Hub
     ensures { λ r. ⌜ ((t : Tables) → r ≡ hub-of (with-line (view h t) serving «to_go» silent)) ⌝ }
@@ -118,8 +148,8 @@ pub fn without(a: u32, b: u32) -> u32
     a - b
 }
 
-// Step 1: an idle line takes the chosen packet, else the first notice. Nothing interrupts what is in service, and nothing starts before the silence has
-// run, so no row is looked at then.
+// Step 1: an idle line takes the chosen packet, else the first notice, else the packet that stands by. Nothing interrupts what is in service, and nothing
+// starts before the silence has run, so no row is looked at then.
 fn start(h: Hub, members: &[u32], places: &[u32], notices: &[u32]) -> Hub
     requires { ⌜ (now places ≡ written-places (rows (now places))) × (length (now places) ≡ places-length) × (notices-formed (now notices) ≡ true) × (length (now members) ≡ members-length) ⌝ }
     ensures { λ r. ⌜ r ≡ hub-of (started (view h (before members places notices))) ⌝ }
@@ -134,9 +164,13 @@ fn start(h: Hub, members: &[u32], places: &[u32], notices: &[u32]) -> Hub
     if best.found {
         return with_line(h, best.packet.connection, best.packet.len, 0);
     }
-    // where there is no notice its row is unused, and the zeros leave the line idle
-    let first = tables::row(notices, 0);
-    with_line(h, first.connection, first.len, 0)
+    if !tables::none(notices) {
+        let first = tables::row(notices, 0);
+        return with_line(h, first.connection, first.len, 0);
+    }
+    // where none stands by the packet is an unused row, and its zeros leave the line idle
+    let early = stand_by(h.link, members, places);
+    with_line(h, early.packet.connection, early.packet.len, 0)
 }
 
 // Step 3: the clock moves on. The answer is the departed packet or nothing.

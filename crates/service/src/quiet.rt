@@ -5,12 +5,15 @@ ghost use Prim.Native.Nat.{_+_, _-_, _≤_, min};
 ghost use lib.ListN.{length};
 ghost use Rattle.rules.specs.Limits.{clock-end};
 ghost use Rattle.rules.specs.Admission.{bound};
+ghost use Rattle.rules.specs.Service.{first-early};
 ghost use Rattle.rules.specs.SoundTest.{sound};
 ghost use Rattle.tables.specs.Places.{rows, written-places, places-length};
 ghost use Rattle.tables.specs.Notices.{notices-in};
 ghost use Rattle.connections.specs.Members.{members-length, first-in, members-formed};
 ghost use Rattle.state.specs.View.{Tables, given, before, view, hub-of};
+ghost use Rattle.service.specs.Candidates.{early-in};
 ghost use Rattle.service.specs.Quiet.{passed, first-eligible, first-starts, quiet-for, charged-for, quiet-ticks};
+use super::stand_by;
 use super::without;
 use limits::CLOCK_END;
 use limits::PACKET_WIDTH;
@@ -57,10 +60,10 @@ fn first_starts(places: &[u32], clock: u32) -> bool
     places[4] <= clock
 }
 
-// The ticks in which nothing starts and nothing departs, by the line, the places and the notices alone.
-fn quiet_for(h: Hub, places: &[u32], notices: &[u32]) -> u32
-    requires { ⌜ (now places ≡ written-places (rows (now places))) × (length (now places) ≡ places-length) ⌝ }
-    ensures { λ r. ⌜ r ≡ quiet-for (h .«to_go») (h .silent) (rows (now (places .entry))) (notices-in (now (notices .entry))) (h .clock) ⌝ }
+// The ticks in which nothing starts and nothing departs, by the line, the places, the notices and who may send early.
+fn quiet_for(h: Hub, members: &[u32], places: &[u32], notices: &[u32]) -> u32
+    requires { ⌜ (now places ≡ written-places (rows (now places))) × (length (now places) ≡ places-length) × (length (now members) ≡ members-length) ⌝ }
+    ensures { λ r. ⌜ r ≡ quiet-for (h .«to_go») (h .silent) (rows (now (places .entry))) (notices-in (now (notices .entry))) (first-early (early-in (h .link) (now (members .entry))) (rows (now (places .entry)))) (h .clock) ⌝ }
 {
     if h.to_go != 0 {
         return h.to_go - 1;
@@ -75,6 +78,10 @@ fn quiet_for(h: Hub, places: &[u32], notices: &[u32]) -> u32
     }
     // so does the first packet, where it is eligible
     if first_starts(places, h.clock) {
+        return 0;
+    }
+    // and so does one that stands by
+    if stand_by(h.link, members, places).found {
         return 0;
     }
     wait(places, h.clock)
@@ -116,7 +123,7 @@ pub fn quiet_ticks(h: Hub, members: &[u32], places: &[u32], notices: &[u32], lef
     if h.link.levels == 0 {
         return 0;
     }
-    let still = least(quiet_for(h, places, notices), CLOCK_END - h.clock);
+    let still = least(quiet_for(h, members, places, notices), CLOCK_END - h.clock);
     let rest = least_wide(still, charged_for(h, members));
     if rest < left as u32 {
         return rest as u16;

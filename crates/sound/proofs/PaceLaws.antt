@@ -1,12 +1,13 @@
 -- Laws of the pass over the rows: their counts, a table that remembers them, and what is asked before the pass, in it and behind it.
-use Prim.Native.Nat.{ℕ, zero, suc, _+_, _-_, _≤_, _<_, max}
+use Prim.Native.Nat.{ℕ, zero, suc, _+_, _*_, _-_, _≤_, _<_, max, min}
 use native.Mathlib.Omega.{arith}
+use native.Mathlib.Nat.{mul-le-mul-right, mul-le-mul-left}
 use native.Mathlib.Numerals.{add-one}
 use mathlib.Core.Path.{_≡_, refl, sym, ap, _∙_, subst}
 use mathlib.Core.Bool.{Bool, true, false, cond, not, _&&_, _||_}
 use mathlib.Core.Logic.{_⊎_, inl, inr}
 use mathlib.Core.List.{List, [], _∷_, _++_, map}
-use mathlib.Core.Option.{none, some}
+use mathlib.Core.Option.{Option, none, some}
 use lib.Dec.{leb, ltb, eqb}
 use lib.ListN.{length, getD, set, take, drop, replicate, length-set, length-map, length-append, length-take, length-drop, getD-replicate, drop-of-length-le}
 use lib.Seq.{sets, getD-set-same, getD-set-other, take-suc, take-length, drop-cons, ext-getD}
@@ -15,12 +16,14 @@ use Rattle.rules.specs.declared.Link.{Link}
 use Rattle.rules.specs.declared.Connection.{Connection}
 use Rattle.rules.specs.declared.Packet.{Packet}
 use Rattle.rules.specs.Words.{All, every}
-use Rattle.rules.specs.Limits.{max-connections, max-reserved, max-remembered}
+use Rattle.rules.specs.Limits.{max-connections, max-reserved, max-remembered, beyond-32-bits}
 use Rattle.rules.specs.Model.{Past, nth, no-past}
-use Rattle.rules.specs.Admission.{burst, stamped, owned, largest-bound, reservation}
+use Rattle.rules.specs.Admission.{bound, burst, stamped, owned, largest-bound, reservation, goes-early, distance, ahead}
 use Rattle.rules.specs.Service.{earliest, nth-before, ticks-after, remember, remember-all, of, eligibilities, charge-over}
-use Rattle.rules.specs.SoundState.{departed-of}
-use Rattle.rules.specs.SoundTest.{latest-by-gap, latest, in-pace, departed-by, paced, left-in-time, left-sound, same-numbers, before-pass, behind-pass, closed-sound}
+use Rattle.rules.specs.SoundState.{departed-of, settles, margin}
+use Rattle.rules.specs.SoundTest.{latest-by-gap, latest, latest-early, last-tick, in-pace, departed-by, paced, left-in-time, left-sound, same-numbers, before-pass, behind-pass, closed-sound}
+use Rattle.rules.proofs.Count.{count-le}
+use Rattle.rules.proofs.Figures.{reservation-is, ahead-on, ahead-off}
 use Rattle.rules.proofs.Lists.{all-at, all-from, all-set}
 use Rattle.rules.proofs.Memory.{remember-few, remember-all-snoc}
 use Rattle.rules.proofs.Rows.{of-snoc-same, of-snoc-other, eligibilities-snoc-same, eligibilities-snoc-other}
@@ -36,13 +39,13 @@ use Rattle.tables.proofs.PlacesLaws.{row-is, rows-from}
 use Rattle.connections.specs.declared.Member.{Member}
 use Rattle.connections.specs.Members.{member-width, members-length, connection-of, past-of, connections-in, pasts-in, closed-in, used-in, first-in, written-table, member-formed, rows-formed}
 use Rattle.connections.specs.Within.{Within}
-use Rattle.connections.proofs.FigureLaws.{figure-limits}
+use Rattle.connections.proofs.FigureLaws.{reservation-free, entry-limits}
 use Rattle.connections.proofs.MemberLaws.{copied-over, closed-is, connections-length, pasts-length, closed-length}
 use Rattle.connections.proofs.RegulatorLaws.{at-some, at-none}
 use Rattle.connections.proofs.WrittenLaws.{Few, formed-parts, pasts-few, rows-length, table-written, connections-back, pasts-back, closed-back, used-back, first-back, table-formed}
 use Rattle.state.specs.declared.Hub.{Hub}
 use Rattle.state.specs.View.{Tables, view}
-use Rattle.sound.specs.Pace.{Counts, counted, Countable, past-in, with-past, Remembers, past-with, Names, left-with, closed-with}
+use Rattle.sound.specs.Pace.{Counts, counted, Countable, past-in, with-past, Remembers, past-with, Names, left-with, closed-with, Reserves}
 use Rattle.sound.proofs.PartLaws.{both-ways}
 
 -- ---- the rows of each connection, counted
@@ -280,11 +283,38 @@ module _ (h : Hub) (t : List ℕ) (c n : ℕ) (x : Connection) (i : x ≡ nth (c
         fails (leb n (reservation (h .link) (nth (connections-in t) c))) _ (lt-leb n (reservation (h .link) (nth (connections-in t) c)) (omega (arith, ap (reservation (h .link)) i)))
         ∙ sym asked
 
-    pub not-too-many : n ≤ r → (z : Connection) (new : Past) → z ≡ nth (connections-in t) c → new ≡ past-in t c → (b : Bool) → b ≡ left-in-time z (h .clock) new → b ≡ left-with h t n c
-    not-too-many l z new j k b f =
+    pub not-too-many : n ≤ r → (last : ℕ) → last ≡ h .clock + margin (ahead (h .link) x) → (z : Connection) (new : Past) → z ≡ nth (connections-in t) c → new ≡ past-in t c
+        → (b : Bool) → b ≡ left-in-time z last new → b ≡ left-with h t n c
+    not-too-many l last g z new j k b f =
         goes-on (leb n (reservation (h .link) (nth (connections-in t) c))) _ b (le-leb n (reservation (h .link) (nth (connections-in t) c)) (omega (arith, ap (reservation (h .link)) i)))
-        (f ∙ ap (λ (y : Connection). left-in-time y (h .clock) new) j ∙ ap (left-in-time (nth (connections-in t) c) (h .clock)) k)
+        (f
+        ∙ ap (λ (y : Connection). left-in-time y last new) j
+        ∙ ap (left-in-time (nth (connections-in t) c) last) k
+        ∙ ap (λ (a : ℕ). left-in-time (nth (connections-in t) c) a (past-in t c)) (g ∙ ap (λ (y : Connection). h .clock + margin (ahead (h .link) y)) i))
         ∙ sym asked
+
+-- the figures of a number within the limits: its reservation can be counted
+pub reserves : (l : Link) (cs : List Connection) → Within l cs → (c : ℕ) (x : Connection) → x ≡ nth cs c → Reserves l x
+reserves l cs W c x e = let k = entry-limits l cs W c x e in (k .free-blank, k .owner-gap, k .reach-fits)
+
+-- up to where what has left may lie, by whether its packets may go early
+module _ (l : Link) (x : Connection) where
+  pub left-past : goes-early l x ≡ true → (t a d : ℕ) → a ≡ t → d ≡ distance l x → a + d ≡ t + margin (ahead l x)
+  left-past e t a d f g = rw (ahead-on l x e, f, g)
+
+  pub left-by-now : goes-early l x ≡ false → (t a : ℕ) → a ≡ t → a ≡ t + margin (ahead l x)
+  left-by-now e t a f = omega (arith, ap margin (ahead-off l x e))
+
+  -- a reservation that can be counted leaves room for the clock beside the distance
+  pub distance-room : Reserves l x → x .gap < beyond-32-bits → (t : ℕ) → t < beyond-32-bits → t + distance l x < beyond-32-bits * beyond-32-bits
+  distance-room R g t k = fits (reservation l x) (x .gap) (few (same (x .level) 0)) g
+    where
+      few : (x .level ≡ 0) ⊎ (x .level ≡ 0 → ⊥) → reservation l x < beyond-32-bits
+      few (inl z) = omega (arith, ap (reservation l) (R .0 z), reservation-free l)
+      few (inr n) = omega (arith, reservation-is l x, count-le x (x .allowance + bound l (x .level)) (R .1 n), R .2)
+
+      fits : (a b : ℕ) → a < beyond-32-bits → b < beyond-32-bits → t + a * b < beyond-32-bits * beyond-32-bits
+      fits a b h i = omega (arith, k, mul-le-mul-right {m = a} {n = beyond-32-bits - 1} b (omega arith), mul-le-mul-left {m = b} {n = beyond-32-bits - 1} (beyond-32-bits - 1) (omega arith))
 
 -- ---- the pass
 
@@ -317,7 +347,32 @@ module _ (c : Connection) (t : ℕ) (h : Past) where
   unfolding latest
   latest-gap e = rw e
 
-module _ (t places : List ℕ) (clock i : ℕ) (h : i < length (rows places)) where
+-- .. where its packets may go early: three cases
+module _ (c : Connection) (r t : ℕ) (h : Past) (a b : ℕ) (e : a ≡ t) (f : b ≡ r) where
+  pub early-open : settles c t h ≡ false → a + b ≡ latest-early c r t h
+  unfolding latest-early
+  early-open o = rw (e, f, o)
+
+  module _ (o : settles c t h ≡ true) (u v w : ℕ) (i : u ≡ t) (j : v ≡ earliest c h) (k : w ≡ max u v) where
+    settled : latest-early c r t h ≡ min (a + b) w
+    unfolding latest-early
+    settled = rw (o, k, e, f, i, j)
+
+    pub early-far : a + b < w → a + b ≡ latest-early c r t h
+    early-far l = sym (settled ∙ omega arith)
+
+    pub early-settled : w ≤ a + b → w ≡ latest-early c r t h
+    early-settled l = sym (settled ∙ omega arith)
+
+-- .. and either way
+module _ (l : Link) (c : Connection) (t : ℕ) (h : Past) where
+  pub last-early : goes-early l c ≡ true → latest-early c (distance l c) t h ≡ last-tick c (ahead l c) t h
+  last-early e = ap (λ (a : Option ℕ). last-tick c a t h) (sym (ahead-on l c e))
+
+  pub last-eligible : goes-early l c ≡ false → max t (latest c t h) ≡ last-tick c (ahead l c) t h
+  last-eligible e = ap (λ (a : Option ℕ). last-tick c a t h) (sym (ahead-off l c e))
+
+module _ (l : Link) (t places : List ℕ) (clock i : ℕ) (h : i < length (rows places)) where
   abbrev passed : List Packet
   passed = take i (rows places)
 
@@ -327,9 +382,9 @@ module _ (t places : List ℕ) (clock i : ℕ) (h : i < length (rows places)) wh
   -- one more row remembered
   pub pass-next : (u v : List ℕ) → Remembers t u (past-with t passed) → (p : Packet) → p ≡ row → p .connection < max-connections
       → v ≡ with-past u (p .connection) (remember (past-in u (p .connection)) (p .eligibility)) → Remembers t v (past-with t (take (i + 1) (rows places)))
-  pass-next u v R p e l f =
+  pass-next u v R p e k f =
       subst (λ (ps : List Packet). Remembers t v (past-with t ps)) (sym (rows-next places i h ∙ ap (λ (q : Packet). passed ++ q ∷ []) (sym e)))
-      (remembers-put t u (past-with t passed) R c (remember (past-in u c) (p .eligibility)) l (remember-few (past-in u c) (p .eligibility)) v f (past-with t (passed ++ p ∷ [])) own others)
+      (remembers-put t u (past-with t passed) R c (remember (past-in u c) (p .eligibility)) k (remember-few (past-in u c) (p .eligibility)) v f (past-with t (passed ++ p ∷ [])) own others)
     where
       c : ℕ
       c = p .connection
@@ -338,29 +393,29 @@ module _ (t places : List ℕ) (clock i : ℕ) (h : i < length (rows places)) wh
       own =
           ap (remember-all (past-in t c)) (eligibilities-snoc-same c passed p refl)
           ∙ remember-all-snoc (past-in t c) (eligibilities c passed) (p .eligibility)
-          ∙ ap (λ (m : Past). remember m (p .eligibility)) (sym (R .pasts c l))
+          ∙ ap (λ (m : Past). remember m (p .eligibility)) (sym (R .pasts c k))
 
-      others : (k : ℕ) → (k ≡ c → ⊥) → past-with t (passed ++ p ∷ []) k ≡ past-with t passed k
-      others k n = ap (remember-all (past-in t k)) (eligibilities-snoc-other k passed p (λ j. n (sym j)))
+      others : (j : ℕ) → (j ≡ c → ⊥) → past-with t (passed ++ p ∷ []) j ≡ past-with t passed j
+      others j n = ap (remember-all (past-in t j)) (eligibilities-snoc-other j passed p (λ i. n (sym i)))
 
   -- and the test of it
-  module _ (u : List ℕ) (R : Remembers t u (past-with t passed)) (p : Packet) (e : p ≡ row) (l : p .connection < max-connections) (r : Bool)
-      (f : r ≡ in-pace (nth (connections-in u) (p .connection)) clock (past-in u (p .connection)) (p .eligibility)) where
+  module _ (u : List ℕ) (R : Remembers t u (past-with t passed)) (p : Packet) (e : p ≡ row) (k : p .connection < max-connections) (r : Bool)
+      (f : r ≡ in-pace (nth (connections-in u) (p .connection)) (ahead l (nth (connections-in u) (p .connection))) clock (past-in u (p .connection)) (p .eligibility)) where
     abbrev rest : ℕ → Bool
-    rest j = paced (connections-in t) clock (past-in t) (take j (rows places)) (drop j (rows places))
+    rest j = paced l (connections-in t) clock (past-in t) (take j (rows places)) (drop j (rows places))
 
     step : rest i ≡ (r && rest (i + 1))
     step =
-        ap (paced (connections-in t) clock (past-in t) passed) (rows-from places i h ∙ ap (λ (q : Packet). q ∷ drop (suc i) (rows places)) (sym e))
-        ∙ ap (λ (b : Bool). b && paced (connections-in t) clock (past-in t) (passed ++ p ∷ []) (drop (suc i) (rows places))) (sym asked)
-        ∙ ap (λ (ps : List Packet). r && paced (connections-in t) clock (past-in t) ps (drop (suc i) (rows places))) (sym (rows-next places i h ∙ ap (λ (q : Packet). passed ++ q ∷ []) (sym e)))
-        ∙ ap (λ (j : ℕ). r && paced (connections-in t) clock (past-in t) (take (i + 1) (rows places)) (drop j (rows places))) (sym (add-one i))
+        ap (paced l (connections-in t) clock (past-in t) passed) (rows-from places i h ∙ ap (λ (q : Packet). q ∷ drop (suc i) (rows places)) (sym e))
+        ∙ ap (λ (b : Bool). b && paced l (connections-in t) clock (past-in t) (passed ++ p ∷ []) (drop (suc i) (rows places))) (sym asked)
+        ∙ ap (λ (ps : List Packet). r && paced l (connections-in t) clock (past-in t) ps (drop (suc i) (rows places))) (sym (rows-next places i h ∙ ap (λ (q : Packet). passed ++ q ∷ []) (sym e)))
+        ∙ ap (λ (j : ℕ). r && paced l (connections-in t) clock (past-in t) (take (i + 1) (rows places)) (drop j (rows places))) (sym (add-one i))
       where
-        asked : r ≡ in-pace (nth (connections-in t) (p .connection)) clock (past-with t passed (p .connection)) (p .eligibility)
+        asked : r ≡ in-pace (nth (connections-in t) (p .connection)) (ahead l (nth (connections-in t) (p .connection))) clock (past-with t passed (p .connection)) (p .eligibility)
         asked =
             f
-            ∙ ap (λ (m : Past). in-pace (nth (connections-in u) (p .connection)) clock m (p .eligibility)) (R .pasts (p .connection) l)
-            ∙ ap (λ (cs : List Connection). in-pace (nth cs (p .connection)) clock (past-with t passed (p .connection)) (p .eligibility)) (R .same)
+            ∙ ap (λ (m : Past). in-pace (nth (connections-in u) (p .connection)) (ahead l (nth (connections-in u) (p .connection))) clock m (p .eligibility)) (R .pasts (p .connection) k)
+            ∙ ap (λ (cs : List Connection). in-pace (nth cs (p .connection)) (ahead l (nth cs (p .connection))) clock (past-with t passed (p .connection)) (p .eligibility)) (R .same)
 
     pub pass-stops : r ≡ false → false ≡ rest i
     pass-stops z = sym (step ∙ ap (λ (b : Bool). b && rest (i + 1)) z)
@@ -368,17 +423,18 @@ module _ (t places : List ℕ) (clock i : ℕ) (h : i < length (rows places)) wh
     pub pass-goes : r ≡ true → rest (i + 1) ≡ rest i
     pass-goes z = sym (step ∙ ap (λ (b : Bool). b && rest (i + 1)) z)
 
-pub pass-end : (t places : List ℕ) (clock i : ℕ) → i ≡ length (rows places) → true ≡ paced (connections-in t) clock (past-in t) (take i (rows places)) (drop i (rows places))
-pass-end t places clock i e = ap (paced (connections-in t) clock (past-in t) (take i (rows places))) (sym (drop-of-length-le (rows places) {i = i} (omega arith)))
+pub pass-end : (l : Link) (t places : List ℕ) (clock i : ℕ) → i ≡ length (rows places) → true ≡ paced l (connections-in t) clock (past-in t) (take i (rows places)) (drop i (rows places))
+pass-end l t places clock i e = ap (paced l (connections-in t) clock (past-in t) (take i (rows places))) (sym (drop-of-length-le (rows places) {i = i} (omega arith)))
 
 pub remembers-all : (t u places : List ℕ) (i : ℕ) → i ≡ length (rows places) → Remembers t u (past-with t (take i (rows places))) → Remembers t u (past-with t (rows places))
 remembers-all t u places i e R = subst (λ (ps : List Packet). Remembers t u (past-with t ps)) (ap (λ (k : ℕ). take k (rows places)) e ∙ take-length (rows places)) R
 
 -- ---- all numbers
 
-paced-agree : (cs : List Connection) (t : ℕ) (old new : ℕ → Past) (before ps : List Packet) → All (λ p. old (p .connection) ≡ new (p .connection)) ps → paced cs t old before ps ≡ paced cs t new before ps
-paced-agree cs t old new before [] h = refl
-paced-agree cs t old new before (p ∷ ps) h = rw (h .0, paced-agree cs t old new (before ++ p ∷ []) ps (h .1))
+paced-agree : (l : Link) (cs : List Connection) (t : ℕ) (old new : ℕ → Past) (before ps : List Packet) → All (λ p. old (p .connection) ≡ new (p .connection)) ps
+    → paced l cs t old before ps ≡ paced l cs t new before ps
+paced-agree l cs t old new before [] h = refl
+paced-agree l cs t old new before (p ∷ ps) h = rw (h .0, paced-agree l cs t old new (before ++ p ∷ []) ps (h .1))
 
 -- no row is of a free number
 free-rows : (cs : List Connection) (ps : List Packet) (c : ℕ) → All (λ p. owned cs (p .connection) ≡ true) ps → owned cs c ≡ false → of c ps ≡ []
@@ -411,10 +467,10 @@ module _ (h : Hub) (t : Tables) (names : Names (t .members) (t .places)) (seen :
             ∙ ap (λ (k : ℕ). not (owned (connections-in (t .members)) c) || left-sound (h .link) (nth (connections-in (t .members)) c) (h .clock) k (past-in u c)) (T .counts c l)
             ∙ ap (λ (m : Past). not (owned (connections-in (t .members)) c) || left-sound (h .link) (nth (connections-in (t .members)) c) (h .clock) (length (of c held)) m) (left c l)
 
-    pub paced-all : paced (connections-in u) (h .clock) (past-in u) [] held ≡ paced (connections-in (t .members)) (h .clock) (departed-by (view h t)) [] held
+    pub paced-all : paced (h .link) (connections-in u) (h .clock) (past-in u) [] held ≡ paced (h .link) (connections-in (t .members)) (h .clock) (departed-by (view h t)) [] held
     paced-all =
-        ap (λ (cs : List Connection). paced cs (h .clock) (past-in u) [] held) (U .same)
-        ∙ paced-agree (connections-in (t .members)) (h .clock) (past-in u) (departed-by (view h t)) [] held
+        ap (λ (cs : List Connection). paced (h .link) cs (h .clock) (past-in u) [] held) (U .same)
+        ∙ paced-agree (h .link) (connections-in (t .members)) (h .clock) (past-in u) (departed-by (view h t)) [] held
         (all-from (λ p. past-in u (p .connection) ≡ departed-by (view h t) (p .connection)) held no-packet
         (λ k l. left (getD held k no-packet .connection) (subst (λ (p : Packet). p .connection < max-connections) (sym (row-is (t .places) k l)) (named (t .members) (t .places) names k l))))
 

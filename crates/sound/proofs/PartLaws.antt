@@ -3,21 +3,22 @@ use Prim.Native.Nat.{ℕ, zero, suc, _+_, _*_, _/_, _%_, _≤_, _<_}
 use native.Mathlib.Omega.{arith}
 use native.Mathlib.Numerals.{add-one}
 use mathlib.Core.Path.{_≡_, refl, sym, ap, _∙_, subst}
-use mathlib.Core.Bool.{Bool, true, false, cond, not, _&&_}
+use mathlib.Core.Bool.{Bool, true, false, cond, not, _&&_, _||_}
 use mathlib.Core.Logic.{_⊎_, inl, inr, ⊎-elim}
 use mathlib.Core.List.{List, [], _∷_, map}
 use mathlib.Core.Option.{Option, some}
 use lib.Dec.{leb, eqb}
 use lib.ListN.{length, getD, take, drop, length-map, length-take, length-drop, drop-of-length-le}
 use lib.Seq.{drop-cons, drop-length, getD-drop}
-use borrow.Author.Tests.{not-true, not-false, le-leb, eqb-true, eq-eqb, ne-eqb}
+use borrow.Author.Tests.{not-true, not-false, le-leb, lt-leb, eqb-true, eq-eqb, ne-eqb}
+use Rattle.rules.specs.declared.Link.{Link}
 use Rattle.rules.specs.declared.Connection.{Connection}
 use Rattle.rules.specs.declared.Packet.{Packet}
 use Rattle.rules.specs.declared.Notice.{Notice}
 use Rattle.rules.specs.Words.{within, every, each}
 use Rattle.rules.specs.Limits.{max-connections, max-reserved, max-notices, max-remembered, notice-number}
 use Rattle.rules.specs.Model.{State, Past, no-connection, nth, first-notice}
-use Rattle.rules.specs.Admission.{link-within, level-within, figures-within, owned, reserved, passes}
+use Rattle.rules.specs.Admission.{link-within, level-within, figures-within, owned, reserved, passes, goes-early}
 use Rattle.rules.specs.Service.{first}
 use Rattle.rules.specs.SoundTest.{all-zero, blank, free-sound, one-each, nothing-used, connection-sound, number-sound, admissions-sound, row-sound}
 use Rattle.rules.specs.SoundTest.{notice-sound, notices-sound, serves, serves-notice, busy-sound, sound}
@@ -408,20 +409,48 @@ module _ (h : Hub) (t : Tables) where
 
   -- a packet of a level
   module _ (ne : h .serving ≡ notice-number → ⊥) where
-    serving : busy-sound (view h t) ≡ serves (first (h .serving) (rows (t .places))) (h .«to_go») (h .clock)
+    abbrev early : Bool
+    early = goes-early (h .link) (nth (connections-in (t .members)) (h .serving))
+
+    serving : busy-sound (view h t) ≡ serves early (first (h .serving) (rows (t .places))) (h .«to_go») (h .clock)
     serving = cond-is _ _ (ne-eqb (h .serving) notice-number ne)
 
     pub no-row : length (rows (t .places)) ≤ place (h .serving) (rows (t .places)) → false ≡ busy-sound (view h t)
-    no-row l = sym (serving ∙ ap (λ (o : Option Packet). serves o (h .«to_go») (h .clock)) (first-none (h .serving) (rows (t .places)) l))
+    no-row l = sym (serving ∙ ap (λ (o : Option Packet). serves early o (h .«to_go») (h .clock)) (first-none (h .serving) (rows (t .places)) l))
 
     pub row-served : {i : ℕ} → i ≡ place (h .serving) (rows (t .places)) → i < length (rows (t .places)) → {p : Packet} → p ≡ row-at (t .places) i
-        → (within 1 (p .len) (h .«to_go») && leb (p .eligibility) (h .clock)) ≡ busy-sound (view h t)
-    row-served {i} at l {p} is =
+        → {r : Bool} → r ≡ serves early (some p) (h .«to_go») (h .clock) → r ≡ busy-sound (view h t)
+    row-served {i} at l {p} is {r} f =
         let found : first (h .serving) (rows (t .places)) ≡ some p =
         first-place (h .serving) (rows (t .places)) (omega arith)
         ∙ ap (λ (j : ℕ). some (getD (rows (t .places)) j no-packet)) (sym at)
         ∙ ap some (row-is (t .places) i l ∙ sym is) in
-        sym (serving ∙ ap (λ (o : Option Packet). serves o (h .«to_go») (h .clock)) found)
+        f ∙ sym (serving ∙ ap (λ (o : Option Packet). serves early o (h .«to_go») (h .clock)) found)
+
+-- the packet p of a level: it is eligible, or what else lets it go decides
+units-alone : (units early : Bool) → units ≡ (units && (early || true))
+units-alone true true = refl
+units-alone true false = refl
+units-alone false early = refl
+
+units-early : (units early : Bool) → (units && early) ≡ (units && (early || false))
+units-early true true = refl
+units-early true false = refl
+units-early false early = refl
+
+module _ (l : Link) (cs : List Connection) (serving to-go clock : ℕ) (p : Packet) where
+  abbrev goes : Bool
+  goes = goes-early l (nth cs serving)
+
+  pub served-eligible : p .eligibility ≤ clock → within 1 (p .len) to-go ≡ serves goes (some p) to-go clock
+  served-eligible k = units-alone (within 1 (p .len) to-go) goes ∙ ap (λ (b : Bool). within 1 (p .len) to-go && (goes || b)) (sym (le-leb (p .eligibility) clock k))
+
+  pub served-early : clock < p .eligibility → {x : Connection} → x ≡ nth cs serving → {r : Bool} → r ≡ goes-early l x
+      → (within 1 (p .len) to-go && r) ≡ serves goes (some p) to-go clock
+  served-early k e f =
+      ap (λ (b : Bool). within 1 (p .len) to-go && b) (f ∙ ap (goes-early l) e)
+      ∙ units-early (within 1 (p .len) to-go) goes
+      ∙ ap (λ (b : Bool). within 1 (p .len) to-go && (goes || b)) (sym (lt-leb (p .eligibility) clock k))
 
 -- ---- the whole
 

@@ -1,15 +1,17 @@
 -- What the pass over the rows keeps of each connection: how many rows it has, and a table of connections that remembers them one by one. Document 01, "A sound
--- state"; docs/RULES-AFTER-BASE.md, R-6 and R-8.
-use Prim.Native.Nat.{ℕ, _+_, _<_, _≤_}
+-- state"; docs/RULES-AFTER-BASE.md, R-6, R-8 and R-11.
+use Prim.Native.Nat.{ℕ, _+_, _≤_, _<_}
 use mathlib.Core.Path.{_≡_}
 use mathlib.Core.Bool.{Bool, true, false, not, _&&_, _||_}
 use mathlib.Core.List.{List}
 use lib.Dec.{eqb}
 use lib.ListN.{length, getD, set}
+use Rattle.rules.specs.declared.Link.{Link}
+use Rattle.rules.specs.declared.Connection.{Connection}
 use Rattle.rules.specs.declared.Packet.{Packet}
-use Rattle.rules.specs.Limits.{max-connections, max-reserved}
-use Rattle.rules.specs.Model.{Past, nth, no-past}
-use Rattle.rules.specs.Admission.{owned, largest-bound}
+use Rattle.rules.specs.Limits.{max-connections, max-reserved, beyond-32-bits}
+use Rattle.rules.specs.Model.{Past, nth, no-connection, no-past}
+use Rattle.rules.specs.Admission.{owned, bound, largest-bound}
 use Rattle.rules.specs.Service.{of, remember-all, eligibilities, charge-over}
 use Rattle.rules.specs.SoundTest.{left-sound}
 use Rattle.tables.specs.Places.{rows, row-at}
@@ -56,6 +58,10 @@ past-with t ps c = remember-all (past-in t c) (eligibilities c ps)
 -- each row names a number that has an owner
 abbrev pub Names : List ℕ → List ℕ → Type 0
 Names t places = (k : ℕ) → k < length (rows places) → owned (connections-in t) (row-at places k .connection) ≡ true
+
+-- its figures are such that the reservation of a connection can be counted in 64 bits, and so the distance (R-11)
+abbrev pub Reserves : Link → Connection → Type 0
+Reserves l x = (x .level ≡ 0 → x ≡ no-connection) × ((x .level ≡ 0 → ⊥) → 1 ≤ x .gap) × (x .allowance + bound l (x .level) < beyond-32-bits)
 
 -- ---- what is asked of number c, of which n packets are held
 

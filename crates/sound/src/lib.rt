@@ -5,12 +5,14 @@ mod sums; // sums.rt: the two numbers behind the rows of the table of connection
 ghost use mathlib.Core.Path.{_≡_};
 ghost use mathlib.Core.Bool.{true};
 ghost use mathlib.Core.List.{List};
+ghost use mathlib.Core.Option.{some};
 ghost use Prim.Native.Nat.{ℕ, _<_};
 ghost use lib.ListN.{length};
 ghost use Rattle.rules.specs.Words.{every, each};
 ghost use Rattle.rules.specs.Limits.{max-connections};
-ghost use Rattle.rules.specs.Admission.{passes};
-ghost use Rattle.rules.specs.SoundTest.{all-zero, number-sound, admissions-sound, row-sound, rows-sound, notice-sound, notices-sound, busy-sound, line-sound};
+ghost use Rattle.rules.specs.Model.{nth};
+ghost use Rattle.rules.specs.Admission.{passes, goes-early};
+ghost use Rattle.rules.specs.SoundTest.{all-zero, number-sound, admissions-sound, row-sound, rows-sound, notice-sound, notices-sound, serves, busy-sound, line-sound};
 ghost use Rattle.tables.specs.Table.{formed};
 ghost use Rattle.tables.specs.Places.{packet-width, places-length, rows};
 ghost use Rattle.tables.specs.Notices.{notice-of, marked, notices-formed};
@@ -19,6 +21,7 @@ ghost use Rattle.connections.specs.Within.{Within};
 ghost use Rattle.state.specs.View.{tables, before, view, tables-formed, sound-hub};
 ghost use Rattle.sound.specs.Parts.{Held, Waiting, unused, linked-sound};
 use connections::Member;
+use connections::stand_by::goes_early;
 use limits::CLOCK_END;
 use limits::MAX_CONNECTIONS;
 use limits::MAX_REMEMBERED;
@@ -153,7 +156,7 @@ fn blank_ok(l: Link) -> bool
     ensures { λ r. ⌜ r ≡ all-zero l ⌝ }
 {
     let bounds = l.bounds;
-    (l.largest == 0) & ((l.silence == 0) & zero_from(&bounds, 0))
+    (l.largest == 0) & ((l.silence == 0) & ((l.early == 0) & zero_from(&bounds, 0)))
 }
 
 // Everything is zero: the link, the clock, the tables and the line.
@@ -291,10 +294,29 @@ fn notices_ok(h: Hub, notices: &[u32], waiting: usize) -> bool
 
 // ---- the line
 
-// What is in service has one unit to go or more: the first row of its connection, eligible, has so many; or the first notice has.
-fn service_ok(h: Hub, places: &[u32], held: usize, notices: &[u32], waiting: usize) -> bool
-    requires { ⌜ Held (now places) held × Waiting (now notices) waiting ⌝ }
-    ensures { λ r. ⌜ ((m : List ℕ) → r ≡ busy-sound (view h (tables m (now (places .entry)) (now (notices .entry))))) ⌝ }
+// The row p in service has one unit to go or more and no more than its length, and is eligible, unless its connection's packets may go before they are.
+fn serves_row(h: Hub, members: &[u32], p: Packet) -> bool
+    requires { ⌜ length (now members) ≡ members-length ⌝ }
+    ensures { λ r. ⌜ r ≡ serves (goes-early (h .link) (nth (connections-in (now (members .entry))) (h .serving))) (some p) (h .«to_go») (h .clock) ⌝ }
+{
+    let units = (1 <= h.to_go) & (h.to_go <= p.len);
+    if p.eligibility <= h.clock {
+        return units;
+    }
+    units & goes_early(h.link, connections::figures_of(members, h.serving))
+}
+
+// What is in service has one unit to go or more: the first row of its connection has so many, or the first notice.
+fn service_ok(
+    h: Hub,
+    members: &[u32],
+    places: &[u32],
+    held: usize,
+    notices: &[u32],
+    waiting: usize,
+) -> bool
+    requires { ⌜ Held (now places) held × Waiting (now notices) waiting × (length (now members) ≡ members-length) ⌝ }
+    ensures { λ r. ⌜ r ≡ busy-sound (view h (before members places notices)) ⌝ }
 {
     if h.serving == NOTICE_NUMBER {
         if waiting == 0 {
@@ -308,13 +330,20 @@ fn service_ok(h: Hub, places: &[u32], held: usize, notices: &[u32], waiting: usi
         return false;
     }
     let p = tables::row(places, i);
-    (1 <= h.to_go) & (h.to_go <= p.len) & (p.eligibility <= h.clock)
+    serves_row(h, members, p)
 }
 
 // An idle line serves nobody, and has no more silence to run than the link's; a line that serves has none.
-fn line_ok(h: Hub, places: &[u32], held: usize, notices: &[u32], waiting: usize) -> bool
-    requires { ⌜ Held (now places) held × Waiting (now notices) waiting ⌝ }
-    ensures { λ r. ⌜ ((m : List ℕ) → r ≡ line-sound (view h (tables m (now (places .entry)) (now (notices .entry))))) ⌝ }
+fn line_ok(
+    h: Hub,
+    members: &[u32],
+    places: &[u32],
+    held: usize,
+    notices: &[u32],
+    waiting: usize,
+) -> bool
+    requires { ⌜ Held (now places) held × Waiting (now notices) waiting × (length (now members) ≡ members-length) ⌝ }
+    ensures { λ r. ⌜ r ≡ line-sound (view h (before members places notices)) ⌝ }
 {
     if h.to_go == 0 {
         return (h.serving == 0) & (h.silent <= h.link.silence);
@@ -322,7 +351,7 @@ fn line_ok(h: Hub, places: &[u32], held: usize, notices: &[u32], waiting: usize)
     if h.silent != 0 {
         return false;
     }
-    service_ok(h, places, held, notices, waiting)
+    service_ok(h, members, places, held, notices, waiting)
 }
 
 // ---- the whole
@@ -348,7 +377,7 @@ fn linked_ok(
     if !notices_ok(h, notices, waiting) {
         return false;
     }
-    line_ok(h, places, held, notices, waiting)
+    line_ok(h, members, places, held, notices, waiting)
 }
 
 // Whether a hub with its tables of connections, of places and of notices is sound.

@@ -2,27 +2,33 @@
 ghost use mathlib.Core.Path.{_≡_};
 ghost use mathlib.Core.Bool.{true, _&&_};
 ghost use mathlib.Core.List.{List, []};
-ghost use Prim.Native.Nat.{ℕ, _<_, _≤_};
+ghost use Prim.Native.Nat.{ℕ, _+_, _≤_, _<_};
 ghost use lib.ListN.{length, getD, drop};
 ghost use Rattle.rules.specs.Limits.{max-connections, max-reserved, max-remembered};
 ghost use Rattle.rules.specs.Words.{every};
 ghost use Rattle.rules.specs.Model.{nth};
-ghost use Rattle.rules.specs.Admission.{burst};
+ghost use Rattle.rules.specs.Admission.{burst, distance, ahead};
 ghost use Rattle.rules.specs.Service.{remember};
-ghost use Rattle.rules.specs.SoundTest.{latest-by-gap, latest, in-pace, paced, left-in-time, queues-sound, closed-sound};
+ghost use Rattle.rules.specs.SoundState.{margin};
+ghost use Rattle.rules.specs.SoundTest.{latest-by-gap, latest, latest-early, last-tick, in-pace, paced, left-in-time, queues-sound, closed-sound};
 ghost use Rattle.tables.specs.Places.{rows};
 ghost use Rattle.connections.specs.Members.{connection-of, past-of, connections-in, member-formed, rows-formed};
 ghost use Rattle.connections.specs.Within.{Within};
 ghost use Rattle.state.specs.View.{tables, view};
-ghost use Rattle.sound.specs.Pace.{Counts, counted, Countable, past-in, with-past, Remembers, past-with, Names, left-with, closed-with};
+ghost use Rattle.sound.specs.Pace.{Counts, counted, Countable, past-in, with-past, Remembers, past-with, Names, left-with, closed-with, Reserves};
 use super::wide;
 use connections::Member;
 use connections::closing::charge_over;
 use connections::regulator::after_nth;
 use connections::regulator::earliest_behind;
 use connections::regulator::greatest;
+use connections::stand_by::distance;
+use connections::stand_by::goes_early;
+use connections::stand_by::settles;
 use limits::MAX_CONNECTIONS;
 use limits::MEMBERS;
+use rules::Connection;
+use rules::Link;
 use rules::Packet;
 use state::Hub;
 
@@ -72,18 +78,29 @@ fn forget_rows(table: &mut [u32], seen: &[u32])
     }
 }
 
-// What is remembered keeps the spacing, and lies at or before the clock.
-fn left_in_time(m: Member, clock: u32) -> bool
+// The last tick at which what has left may lie: the clock, or the distance past it where the connection's packets may go before they are eligible.
+fn last_left(l: Link, x: Connection, clock: u32) -> u64
+    requires { ⌜ Reserves l x ⌝ }
+    ensures { λ r. ⌜ r ≡ clock + margin (ahead l x) ⌝ }
+{
+    if goes_early(l, x) {
+        return wide(clock) + distance(l, x);
+    }
+    wide(clock)
+}
+
+// What is remembered keeps the spacing, and lies at or before the tick `last`.
+fn left_in_time(m: Member, last: u64) -> bool
     requires { ⌜ (member-formed m ≡ true) × (burst (connection-of m) ≤ max-remembered) ⌝ }
-    ensures { λ r. ⌜ r ≡ left-in-time (connection-of m) clock (past-of m) ⌝ }
+    ensures { λ r. ⌜ r ≡ left-in-time (connection-of m) last (past-of m) ⌝ }
 {
     let mut k: u32 = 0;
     while k < m.known {
-        let e = connections::regulator::tick_at(m, k);
-        if wide(e) < earliest_behind(m, k + 1) {
+        let e = wide(connections::regulator::tick_at(m, k));
+        if e < earliest_behind(m, k + 1) {
             return false;
         }
-        if clock < e {
+        if last < e {
             return false;
         }
         k += 1;
@@ -104,7 +121,7 @@ fn left_ok(h: Hub, table: &[u32], c: usize, n: u32) -> bool
         return false;
     }
     let m = connections::member_at(table, c);
-    left_in_time(m, h.clock)
+    left_in_time(m, last_left(h.link, x, h.clock))
 }
 
 // All numbers, with the rows that were counted.
@@ -152,24 +169,52 @@ fn latest_of(m: Member, clock: u32) -> u64
     latest_by_gap(m, clock)
 }
 
+// How late the next eligibility may be, of a connection whose packets may go before they are eligible: the distance past the clock, and where those that are
+// remembered settle it no later than they allow.
+fn latest_early(l: Link, m: Member, clock: u32) -> u64
+    requires { ⌜ (m .known ≤ max-remembered) × (burst (connection-of m) ≤ max-remembered) × Reserves l (connection-of m) ⌝ }
+    ensures { λ r. ⌜ r ≡ latest-early (connection-of m) (distance l (connection-of m)) clock (past-of m) ⌝ }
+{
+    let farthest = wide(clock) + distance(l, m.figures);
+    if !settles(m, clock) {
+        return farthest;
+    }
+    let settled = greatest(wide(clock), earliest_behind(m, 0));
+    if farthest < settled {
+        return farthest;
+    }
+    settled
+}
+
+// The last tick at which the next eligibility may lie.
+fn last_tick(l: Link, m: Member, clock: u32) -> u64
+    requires { ⌜ (m .known ≤ max-remembered) × (burst (connection-of m) ≤ max-remembered) × Reserves l (connection-of m) ⌝ }
+    ensures { λ r. ⌜ r ≡ last-tick (connection-of m) (ahead l (connection-of m)) clock (past-of m) ⌝ }
+{
+    if goes_early(l, m.figures) {
+        return latest_early(l, m, clock);
+    }
+    greatest(wide(clock), latest_of(m, clock))
+}
+
 // Whether the eligibility e keeps the pace behind those that are remembered.
-fn in_pace(m: Member, clock: u32, e: u32) -> bool
-    requires { ⌜ (m .known ≤ max-remembered) × (burst (connection-of m) ≤ max-remembered) ⌝ }
-    ensures { λ r. ⌜ r ≡ in-pace (connection-of m) clock (past-of m) e ⌝ }
+fn in_pace(l: Link, m: Member, clock: u32, e: u32) -> bool
+    requires { ⌜ (m .known ≤ max-remembered) × (burst (connection-of m) ≤ max-remembered) × Reserves l (connection-of m) ⌝ }
+    ensures { λ r. ⌜ r ≡ in-pace (connection-of m) (ahead l (connection-of m)) clock (past-of m) e ⌝ }
 {
     let at = wide(e);
-    (earliest_behind(m, 0) <= at) & (at <= greatest(wide(clock), latest_of(m, clock)))
+    (earliest_behind(m, 0) <= at) & (at <= last_tick(l, m, clock))
 }
 
 // Whether the row p keeps the pace of its connection; if so, it is remembered.
 fn pass_row(h: Hub, table: &mut [u32], p: Packet) -> bool
     requires { ⌜ (rows-formed (now table) ≡ true) × (p .connection < max-connections) × Within (h .link) (connections-in (now table)) ⌝ }
-    ensures { λ r. ⌜ r ≡ in-pace (nth (connections-in (now (table .entry))) (p .connection)) (h .clock) (past-in (now (table .entry)) (p .connection)) (p .eligibility) ⌝ }
+    ensures { λ r. ⌜ r ≡ in-pace (nth (connections-in (now (table .entry))) (p .connection)) (ahead (h .link) (nth (connections-in (now (table .entry))) (p .connection))) (h .clock) (past-in (now (table .entry)) (p .connection)) (p .eligibility) ⌝ }
     ensures { λ r. ⌜ (r ≡ true → now (table .exit) ≡ with-past (now (table .entry)) (p .connection) (remember (past-in (now (table .entry)) (p .connection)) (p .eligibility))) ⌝ }
 {
     let c = p.connection as usize;
     let m = connections::member_at(table, c);
-    if !in_pace(m, h.clock, p.eligibility) {
+    if !in_pace(h.link, m, h.clock, p.eligibility) {
         return false;
     }
     connections::put_past(table, c, p.eligibility);
@@ -179,7 +224,7 @@ fn pass_row(h: Hub, table: &mut [u32], p: Packet) -> bool
 // Whether each row keeps its pace; if so, all rows are remembered.
 fn scan(h: Hub, table: &mut [u32], places: &[u32], held: usize) -> bool
     requires { ⌜ (held ≡ length (rows (now places))) × (rows-formed (now table) ≡ true) × Names (now table) (now places) × Within (h .link) (connections-in (now table)) ⌝ }
-    ensures { λ r. ⌜ r ≡ paced (connections-in (now (table .entry))) (h .clock) (past-in (now (table .entry))) [] (rows (now (places .entry))) ⌝ }
+    ensures { λ r. ⌜ r ≡ paced (h .link) (connections-in (now (table .entry))) (h .clock) (past-in (now (table .entry))) [] (rows (now (places .entry))) ⌝ }
     ensures { λ r. ⌜ (r ≡ true → Remembers (now (table .entry)) (now (table .exit)) (past-with (now (table .entry)) (rows (now (places .entry))))) ⌝ }
 {
     let mut i: usize = 0;

@@ -48,6 +48,7 @@ enum Wanted {
         levels: u8,
         largest: u16,
         silence: u8,
+        early: u8,
         d1: u16,
         d2: u16,
         d3: u16,
@@ -282,7 +283,7 @@ fn begin_ticks(h: Hub, ticks: u16, at: u32, used: usize) -> Stepped
     }
 }
 
-// What a record asks. Two kinds of record ask for an admission, and two make an offer, so that each step stands in one place of the text and is compiled into the loop of steps.
+// What a record asks. Two kinds of record set a link, two ask for an admission, and two make an offer, so that each step stands in one place of the text and is compiled into the loop of steps.
 fn asked_by(what: Record) -> Wanted
     ensures { λ r. ⌜ asks-as r ≡ asks what ⌝ }
 {
@@ -303,6 +304,34 @@ fn asked_by(what: Record) -> Wanted
             levels: levels,
             largest: largest,
             silence: silence,
+            early: 0,
+            d1: d1,
+            d2: d2,
+            d3: d3,
+            d4: d4,
+            d5: d5,
+            d6: d6,
+            d7: d7,
+            d8: d8,
+        },
+        Record::LinkStandBy {
+            levels,
+            largest,
+            silence,
+            early,
+            d1,
+            d2,
+            d3,
+            d4,
+            d5,
+            d6,
+            d7,
+            d8,
+        } => Wanted::ToLink {
+            levels: levels,
+            largest: largest,
+            silence: silence,
+            early: early,
             d1: d1,
             d2: d2,
             d3: d3,
@@ -379,6 +408,7 @@ fn record_step(
             levels,
             largest,
             silence,
+            early,
             d1,
             d2,
             d3,
@@ -388,7 +418,20 @@ fn record_step(
             d7,
             d8,
         } => {
-            let l = named::link_named(levels, largest, silence, d1, d2, d3, d4, d5, d6, d7, d8);
+            let l = named::stand_by_named(
+                levels,
+                largest,
+                silence,
+                early,
+                d1,
+                d2,
+                d3,
+                d4,
+                d5,
+                d6,
+                d7,
+                d8,
+            );
             link_step(h, members, places, notices, l, to, used, out)
         }
         Wanted::ToAdmit { x } => admit_step(h, members, places, notices, x, to, used, out),

@@ -3,61 +3,64 @@ use mathlib.Core.Path.{_≡_, refl, ap, _∙_, subst}
 use mathlib.Core.Bool.{true}
 use mathlib.Core.List.{List, [], _∷_, _++_}
 use mathlib.Core.Option.{some}
-use Prim.Native.Nat.{ℕ, _%_, _<_, _≤_}
+use Prim.Native.Nat.{ℕ, _+_, _%_, _<_}
 use native.Mathlib.Omega.{arith}
-use lib.ListN.{length, getD, take, drop, replicate, length-replicate}
-use Rattle.fields.specs.Numbers.{little, number, put-fields, get-fields, sum, Fit}
-use Rattle.fields.specs.Kinds.{bytes}
-use Rattle.traces.specs.Kinds.{LK, CN, CS, CL, PK, PS, NQ, TK}
-use Rattle.fields.specs.Formats.{starts, read-kinds, laid}
+use lib.ListN.{length, getD, take, drop}
+use Rattle.fields.specs.Numbers.{little, number, put-fields, get-fields, sum}
+use Rattle.fields.specs.Kinds.{Kind, bytes}
+use Rattle.traces.specs.Kinds.{levels-allowed, LK, LE, CN, CS, CL, PK, PS, NQ, TK}
+use Rattle.fields.specs.Formats.{starts, read-kind, read-kinds, laid}
 use Rattle.traces.specs.Trace.{trace, trace-table, longest-record, link-layout, trace-layout}
 use Rattle.fields.specs.Laws.{Written, Reads-back-what-is-written, Has-the-length-of}
-use Rattle.traces.specs.declared.Record.the-variants.{Link, Admit, AdmitStamped, Close, Offer, OfferStamped, Notice, Ticks, Malformed}
-use Rattle.fields.proofs.NumberLaws.{one-byte, length-get}
+use Rattle.traces.specs.declared.Record.{Record}
+use Rattle.traces.specs.declared.Record.the-variants.{Link, LinkStandBy, Admit, AdmitStamped, Close, Offer, OfferStamped, Notice, Ticks, Malformed}
+use Rattle.fields.proofs.NumberLaws.{one-byte}
 use Rattle.fields.proofs.FormatLaws.{made-of, Fair, All-fair, two-letters, plain-fair, kind-back, length-bytes}
 use Rattle.fields.proofs.WindowLaws.{All-within}
 use Rattle.fields.proofs.MarkLaws.{distinct, absent}
-use Rattle.traces.proofs.LinkLaws.{sum-link, allowed-range, range-allowed, has-bytes, laid-out, written-in-range, written-as, taken-all, layout-of-link}
+use Rattle.traces.proofs.LinkLaws.{sum-link, sum-stand-by, allowed-range, range-allowed, has-bytes, laid-out, written-in-range, written-as, taken-all, layout-of-link}
 
 pub trace-marks : distinct (trace .kinds) ≡ true
 unfolding distinct absent number
 trace-marks = refl
 
--- A link is read back from its numbers: the bounds past n are 0.
-link-same : (n s silence d1 d2 d3 d4 d5 d6 d7 d8 : ℕ)
-    → let ds = d1 ∷ d2 ∷ d3 ∷ d4 ∷ d5 ∷ d6 ∷ d7 ∷ d8 ∷ [] in
-    sum (drop n ds) ≡ 0
-    → made-of LK (n ∷ s ∷ silence ∷ take n ds) ≡ Link n s silence d1 d2 d3 d4 d5 d6 d7 d8
-link-same n s silence d1 d2 d3 d4 d5 d6 d7 d8 z =
-    let ds = d1 ∷ d2 ∷ d3 ∷ d4 ∷ d5 ∷ d6 ∷ d7 ∷ d8 ∷ [] in
+-- A record made of the first n of eight numbers that are 0 from the n-th on, with 0 past them, is made of all eight.
+of-all : (n : ℕ) (ds : List ℕ) (make : ℕ → ℕ → ℕ → ℕ → ℕ → ℕ → ℕ → ℕ → Record) → sum (drop n ds) ≡ 0
+    → let xs = take n ds in
+    make (getD xs 0 0) (getD xs 1 0) (getD xs 2 0) (getD xs 3 0) (getD xs 4 0) (getD xs 5 0) (getD xs 6 0) (getD xs 7 0)
+    ≡ make (getD ds 0 0) (getD ds 1 0) (getD ds 2 0) (getD ds 3 0) (getD ds 4 0) (getD ds 5 0) (getD ds 6 0) (getD ds 7 0)
+of-all n ds make z =
     rw (taken-all n ds 0 z, taken-all n ds 1 z, taken-all n ds 2 z, taken-all n ds 3 z, taken-all n ds 4 z, taken-all n ds 5 z, taken-all n ds 6 z, taken-all n ds 7 z)
 
--- A link that is written is read back. `ds` are its eight bounds.
-link-back : (n s silence : ℕ) (ds rest : List ℕ) → 1 ≤ n → n ≤ 8 → Fit (1 ∷ 2 ∷ 1 ∷ replicate n 2) (n ∷ s ∷ silence ∷ take n ds)
-    → read-kinds (trace .kinds) (bytes LK (n ∷ s ∷ silence ∷ take n ds) ++ rest) ≡ some (made-of LK (n ∷ s ∷ silence ∷ take n ds), length (bytes LK (n ∷ s ∷ silence ∷ take n ds)))
-unfolding read-kinds starts bytes put-fields little
-link-back n s silence ds rest h k fit =
-    let e : n % 256 ≡ n = omega arith in
-    kind-back LK (n ∷ s ∷ silence ∷ take n ds) rest (n % 256) refl fit (ap (LK .allows) e ∙ range-allowed n h k) (ap (LK .widths) e)
-
--- The same of its layout.
-link-told : (n s silence d1 d2 d3 d4 d5 d6 d7 d8 : ℕ) (rest : List ℕ)
-    → let ds = d1 ∷ d2 ∷ d3 ∷ d4 ∷ d5 ∷ d6 ∷ d7 ∷ d8 ∷ [] in
-    Written (link-layout n s silence ds)
-    → read-kinds (trace .kinds) (laid (link-layout n s silence ds) ++ rest) ≡ some (Link n s silence d1 d2 d3 d4 d5 d6 d7 d8, length (laid (link-layout n s silence ds)))
+-- A link of kind k that is written is read back: its mark has two letters, it allows each n that a link has, and its bytes are read as of its kind.
+-- `ds` are its eight bounds.
+link-told : (k : Kind Record) (n : ℕ) (figures ds rest : List ℕ) (r : Record)
+    → length (k .mark) ≡ 2
+    → (levels-allowed n ≡ true → k .allows n ≡ true)
+    → ((xs : List ℕ) → read-kinds (trace .kinds) (bytes k (n ∷ xs) ++ rest) ≡ read-kind k (n % 256) (bytes k (n ∷ xs) ++ rest))
+    → (sum (drop n ds) ≡ 0 → made-of k (n ∷ figures ++ take n ds) ≡ r)
+    → Written (link-layout k n figures ds)
+    → read-kinds (trace .kinds) (laid (link-layout k n figures ds) ++ rest) ≡ some (r, length (laid (link-layout k n figures ds)))
 unfolding laid
-link-told n s silence d1 d2 d3 d4 d5 d6 d7 d8 rest w =
-    let ds = d1 ∷ d2 ∷ d3 ∷ d4 ∷ d5 ∷ d6 ∷ d7 ∷ d8 ∷ [] in
-    let there = laid-out n s silence ds w in
+link-told k n figures ds rest r two allowed picked same w =
+    let there = laid-out k n figures ds w in
     let is = written-in-range n ds there in
-    let as-numbers = written-as n s silence ds there in
+    let e : n % 256 ≡ n = omega arith in
+    let xs = n ∷ figures ++ take n ds in
+    let as-numbers = written-as k n figures ds there in
     rw as-numbers
-    (link-back n s silence ds rest (is .0) (is .1) (subst Written as-numbers w)
-    ∙ ap (λ r. some (r, length (bytes LK (n ∷ s ∷ silence ∷ take n ds)))) (link-same n s silence d1 d2 d3 d4 d5 d6 d7 d8 (is .2)))
+    (picked (figures ++ take n ds)
+    ∙ kind-back k xs rest (n % 256) two (subst Written as-numbers w) (ap (k .allows) e ∙ allowed (range-allowed n (is .0) (is .1))) (ap (k .widths) e)
+    ∙ ap (λ q. some (q, length (bytes k xs))) (same (is .2)))
 
 pub trace-back : Reads-back-what-is-written trace
-unfolding read-kinds starts laid bytes
-trace-back (Link n s silence d1 d2 d3 d4 d5 d6 d7 d8) rest w = link-told n s silence d1 d2 d3 d4 d5 d6 d7 d8 rest w
+unfolding read-kinds starts laid bytes put-fields little
+trace-back (Link n s silence d1 d2 d3 d4 d5 d6 d7 d8) rest w =
+    let ds = d1 ∷ d2 ∷ d3 ∷ d4 ∷ d5 ∷ d6 ∷ d7 ∷ d8 ∷ [] in
+    link-told LK n (s ∷ silence ∷ []) ds rest _ refl (λ a. a) (λ xs. refl) (of-all n ds (Link n s silence)) w
+trace-back (LinkStandBy n s silence early d1 d2 d3 d4 d5 d6 d7 d8) rest w =
+    let ds = d1 ∷ d2 ∷ d3 ∷ d4 ∷ d5 ∷ d6 ∷ d7 ∷ d8 ∷ [] in
+    link-told LE n (s ∷ silence ∷ early ∷ []) ds rest _ refl (λ a. a) (λ xs. refl) (of-all n ds (LinkStandBy n s silence early)) w
 trace-back (Admit level gap size window average) rest w = kind-back CN (level ∷ gap ∷ size ∷ window ∷ average ∷ []) rest _ refl w refl refl
 trace-back (AdmitStamped level gap size allowance) rest w = kind-back CS (level ∷ gap ∷ size ∷ allowance ∷ []) rest _ refl w refl refl
 trace-back (Close connection) rest w = kind-back CL (connection ∷ []) rest _ refl w refl refl
@@ -67,23 +70,23 @@ trace-back (Notice len tag) rest w = kind-back NQ (len ∷ tag ∷ []) rest _ re
 trace-back (Ticks ticks) rest w = kind-back TK (ticks ∷ []) rest _ refl w refl refl
 trace-back Malformed rest w = absurd w
 
-link-layout-same : (bs : List ℕ) → LK .allows (getD bs 2 0) ≡ true
-    → trace-layout (made-of LK (get-fields (LK .widths (getD bs 2 0)) bs 2)) ≡ some (LK, get-fields (LK .widths (getD bs 2 0)) bs 2)
-unfolding get-fields
-link-layout-same bs a =
-    let n = getD bs 2 0 in
-    let r = allowed-range n a in
-    let ds = get-fields (replicate n 2) bs 6 in
-    let e : number 1 bs 2 ≡ n = one-byte bs 2 in
-    rw e (layout-of-link n (number 2 bs 3) (number 1 bs 5) ds (length-get (replicate n 2) bs 6 ∙ length-replicate n 2) (r .0) (r .1))
-
+-- What is read of a kind of links has its numbers as its layout.
 link-fair : Fair trace-layout LK
 unfolding get-fields
 link-fair =
     record {
       letters = two-letters 0x4C 0x4B (omega arith) (omega arith);
       same-widths = λ bs a. ap (LK .widths) (one-byte bs 2);
-      same-layout = λ bs a. link-layout-same bs a;
+      same-layout = λ bs a. rw (one-byte bs 2) (layout-of-link LK (getD bs 2 0) (number 2 bs 3 ∷ number 1 bs 5 ∷ []) bs 6 a);
+    }
+
+stand-by-fair : Fair trace-layout LE
+unfolding get-fields
+stand-by-fair =
+    record {
+      letters = two-letters 0x4C 0x45 (omega arith) (omega arith);
+      same-widths = λ bs a. ap (LE .widths) (one-byte bs 2);
+      same-layout = λ bs a. rw (one-byte bs 2) (layout-of-link LE (getD bs 2 0) (number 2 bs 3 ∷ number 1 bs 5 ∷ number 1 bs 6 ∷ []) bs 7 a);
     }
 
 pub trace-fair : All-fair trace-layout (trace .kinds)
@@ -91,18 +94,21 @@ unfolding All-fair get-fields
 trace-fair = (
   link-fair,
   (
-    plain-fair CN (two-letters 0x43 0x4E (omega arith) (omega arith)) (λ b c. refl) (λ bs a. refl),
+    stand-by-fair,
     (
-      plain-fair CS (two-letters 0x43 0x53 (omega arith) (omega arith)) (λ b c. refl) (λ bs a. refl),
+      plain-fair CN (two-letters 0x43 0x4E (omega arith) (omega arith)) (λ b c. refl) (λ bs a. refl),
       (
-        plain-fair CL (two-letters 0x43 0x4C (omega arith) (omega arith)) (λ b c. refl) (λ bs a. refl),
+        plain-fair CS (two-letters 0x43 0x53 (omega arith) (omega arith)) (λ b c. refl) (λ bs a. refl),
         (
-          plain-fair PK (two-letters 0x50 0x4B (omega arith) (omega arith)) (λ b c. refl) (λ bs a. refl),
+          plain-fair CL (two-letters 0x43 0x4C (omega arith) (omega arith)) (λ b c. refl) (λ bs a. refl),
           (
-            plain-fair PS (two-letters 0x50 0x53 (omega arith) (omega arith)) (λ b c. refl) (λ bs a. refl),
+            plain-fair PK (two-letters 0x50 0x4B (omega arith) (omega arith)) (λ b c. refl) (λ bs a. refl),
             (
-              plain-fair NQ (two-letters 0x4E 0x51 (omega arith) (omega arith)) (λ b c. refl) (λ bs a. refl),
-              (plain-fair TK (two-letters 0x54 0x4B (omega arith) (omega arith)) (λ b c. refl) (λ bs a. refl), tt),
+              plain-fair PS (two-letters 0x50 0x53 (omega arith) (omega arith)) (λ b c. refl) (λ bs a. refl),
+              (
+                plain-fair NQ (two-letters 0x4E 0x51 (omega arith) (omega arith)) (λ b c. refl) (λ bs a. refl),
+                (plain-fair TK (two-letters 0x54 0x4B (omega arith) (omega arith)) (λ b c. refl) (λ bs a. refl), tt),
+              ),
             ),
           ),
         ),
@@ -111,11 +117,19 @@ trace-fair = (
   ),
 )
 
+-- The bytes of a link are as many as its kind says.
+link-length : (k : Kind Record) (n : ℕ) (figures ds : List ℕ) → 0 < length (laid (link-layout k n figures ds))
+    → length (laid (link-layout k n figures ds)) ≡ length (k .mark) + sum (k .widths n)
+unfolding laid
+link-length k n figures ds h =
+    ap (λ l. length (laid l)) (written-as k n figures ds (has-bytes k n figures ds h)) ∙ length-bytes k (n ∷ figures ++ take n ds)
+
 pub trace-length : Has-the-length-of trace trace-table
 unfolding laid sum
 trace-length (Link n s silence d1 d2 d3 d4 d5 d6 d7 d8) h =
-    let ds = d1 ∷ d2 ∷ d3 ∷ d4 ∷ d5 ∷ d6 ∷ d7 ∷ d8 ∷ [] in
-    ap (λ l. length (laid l)) (written-as n s silence ds (has-bytes n s silence ds h)) ∙ length-bytes LK (n ∷ s ∷ silence ∷ take n ds) ∙ sum-link n
+    link-length LK n (s ∷ silence ∷ []) (d1 ∷ d2 ∷ d3 ∷ d4 ∷ d5 ∷ d6 ∷ d7 ∷ d8 ∷ []) h ∙ sum-link n
+trace-length (LinkStandBy n s silence early d1 d2 d3 d4 d5 d6 d7 d8) h =
+    link-length LE n (s ∷ silence ∷ early ∷ []) (d1 ∷ d2 ∷ d3 ∷ d4 ∷ d5 ∷ d6 ∷ d7 ∷ d8 ∷ []) h ∙ sum-stand-by n
 trace-length (Admit level gap size window average) h = length-bytes CN (level ∷ gap ∷ size ∷ window ∷ average ∷ [])
 trace-length (AdmitStamped level gap size allowance) h = length-bytes CS (level ∷ gap ∷ size ∷ allowance ∷ [])
 trace-length (Close connection) h = length-bytes CL (connection ∷ [])
@@ -125,13 +139,13 @@ trace-length (Notice len tag) h = length-bytes NQ (len ∷ tag ∷ [])
 trace-length (Ticks ticks) h = length-bytes TK (ticks ∷ [])
 trace-length Malformed h = absurd (omega arith)
 
--- The longest trace record is a link of eight levels.
+-- The longest trace record is an `LE` of eight levels.
 pub trace-within : All-within longest-record (trace .kinds)
 unfolding All-within sum
 trace-within = (
   λ b a. let r = allowed-range b a in let e = sum-link b in omega arith,
   (
-    λ b a. omega arith,
+    λ b a. let r = allowed-range b a in let e = sum-stand-by b in omega arith,
     (
       λ b a. omega arith,
       (
@@ -142,7 +156,10 @@ trace-within = (
             λ b a. omega arith,
             (
               λ b a. omega arith,
-              (λ b a. omega arith, tt),
+              (
+                λ b a. omega arith,
+                (λ b a. omega arith, tt),
+              ),
             ),
           ),
         ),

@@ -1,23 +1,29 @@
--- Document 01, "Trace and answer records": the trace kinds of its table, in its order; and those of document 02, R-9 and R-8 behind `CN`, R-9 and R-1
--- behind `PK`. `LK` as R-4 has it, `CN` as R-6. Each with the record that its numbers make.
-use mathlib.Core.Bool.{_&&_}
-use mathlib.Core.List.{[], _∷_}
+-- Document 01, "Trace and answer records": the trace kinds of its table, in its order; and those of document 02, R-11 behind `LK`, R-9 and R-8 behind `CN`,
+-- R-9 and R-1 behind `PK`. `LK` as R-4 has it, `CN` as R-6. Each with the record that its numbers make.
+use mathlib.Core.Bool.{Bool, _&&_}
+use mathlib.Core.List.{List, [], _∷_, _++_}
+use Prim.Native.Nat.{ℕ}
 use lib.ListN.{replicate}
 use lib.Dec.{leb}
 use Rattle.fields.specs.Kinds.{Kind, plain}
 use Rattle.traces.specs.declared.Record.{Record}
-use Rattle.traces.specs.declared.Record.the-variants.{Link, Admit, AdmitStamped, Close, Offer, OfferStamped, Notice, Ticks}
+use Rattle.traces.specs.declared.Record.the-variants.{Link, LinkStandBy, Admit, AdmitStamped, Close, Offer, OfferStamped, Notice, Ticks}
 
--- document 02, R-4, as docs/RULES-AFTER-BASE.md lays it out: "n (1), S (2), silence (1), then n bounds (2 each)"; document 01: "malformed means: .. an `LK` with
--- n outside 1 to 8", and "bounds past n are read as 0": they are not among the numbers
+-- document 01: "malformed means: .. an `LK` with n outside 1 to 8"; and so is an `LE`
+abbrev pub levels-allowed : ℕ → Bool
+levels-allowed n = leb 1 n && leb n 8
+
+-- A kind of links: n (1), figures of these widths, "then n bounds (2 each)". "Bounds past n are read as 0": they are not among the numbers
+abbrev pub link-kind : List ℕ → List ℕ → ((ℕ → ℕ) → Record) → Kind Record
+link-kind mark figures make = record { mark = mark; allows = levels-allowed; widths = λ n. 1 ∷ figures ++ replicate n 2; make = make }
+
+-- document 02, R-4, as docs/RULES-AFTER-BASE.md lays it out: "n (1), S (2), silence (1), then n bounds (2 each)"
 abbrev pub LK : Kind Record
-LK =
-    record {
-      mark = 0x4C ∷ 0x4B ∷ [];
-      allows = λ n. leb 1 n && leb n 8;
-      widths = λ n. 1 ∷ 2 ∷ 1 ∷ replicate n 2;
-      make = λ x. Link (x 0) (x 1) (x 2) (x 3) (x 4) (x 5) (x 6) (x 7) (x 8) (x 9) (x 10);
-    }
+LK = link-kind (0x4C ∷ 0x4B ∷ []) (2 ∷ 1 ∷ []) (λ x. Link (x 0) (x 1) (x 2) (x 3) (x 4) (x 5) (x 6) (x 7) (x 8) (x 9) (x 10))
+
+-- document 02, R-11, as docs/RULES-AFTER-BASE.md lays it out: "number of levels n (1), S (2), silence (1), setting (1), the n bounds (2 each)"
+abbrev pub LE : Kind Record
+LE = link-kind (0x4C ∷ 0x45 ∷ []) (2 ∷ 1 ∷ 1 ∷ []) (λ x. LinkStandBy (x 0) (x 1) (x 2) (x 3) (x 4) (x 5) (x 6) (x 7) (x 8) (x 9) (x 10) (x 11))
 
 -- document 02, R-6, as docs/RULES-AFTER-BASE.md lays it out: "level (1), gap (2), size (2), window (2), average gap (2)"
 abbrev pub CN : Kind Record

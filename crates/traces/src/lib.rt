@@ -1,4 +1,4 @@
-// The trace records of document 01, "Trace and answer records", and of document 02, R-1, R-4, R-6, R-8 and R-9: their kinds as values, read and written.
+// The trace records of document 01, "Trace and answer records", and of document 02, R-1, R-4, R-6, R-8, R-9 and R-11: their kinds as values, read and written.
 mod link; // link.rt: links, of which one number says how many follow
 
 ghost use mathlib.Core.Path.{_≡_};
@@ -16,6 +16,8 @@ use fields::read::two;
 
 // The marks of the tables, as they are written; `read` has them as numbers.
 const LK: [u8; 2] = *b"LK";
+
+const LE: [u8; 2] = *b"LE";
 
 const CN: [u8; 2] = *b"CN";
 
@@ -40,6 +42,20 @@ pub enum Record {
         levels: u8,
         largest: u16,
         silence: u8,
+        d1: u16,
+        d2: u16,
+        d3: u16,
+        d4: u16,
+        d5: u16,
+        d6: u16,
+        d7: u16,
+        d8: u16,
+    },
+    LinkStandBy {
+        levels: u8,
+        largest: u16,
+        silence: u8,
+        early: u8,
         d1: u16,
         d2: u16,
         d3: u16,
@@ -121,7 +137,7 @@ fn mark_of(s: &[u8]) -> u16
 {
     let mark = two(s, 0);
     match mark {
-        0x4B4C | 0x4E43 | 0x5343 | 0x4C43 | 0x4B50 | 0x5350 | 0x514E | 0x4B54 => mark,
+        0x4B4C | 0x454C | 0x4E43 | 0x5343 | 0x4C43 | 0x4B50 | 0x5350 | 0x514E | 0x4B54 => mark,
         _ => 0,
     }
 }
@@ -150,7 +166,7 @@ fn offer_stamped(s: &[u8]) -> Record
     }
 }
 
-// The record that the bytes start with: the marks are LK, CN, CS, CL, PK, PS, NQ and TK as numbers.
+// The record that the bytes start with: the marks are LK, LE, CN, CS, CL, PK, PS, NQ and TK as numbers.
 pub fn read(s: &[u8]) -> Found
     ensures { λ r. ⌜ r ≡ read-trace (now (s .entry)) ⌝ }
 {
@@ -158,6 +174,7 @@ pub fn read(s: &[u8]) -> Found
     let first = one(s, 2);
     match mark {
         0x4B4C => link::read(s),
+        0x454C => link::read_stand_by(s),
         0x4E43 => {
             let admit = Record::Admit {
                 level: first,
@@ -220,6 +237,26 @@ fn draft(r: Record) -> Draft
             d7,
             d8,
         } => link::draft(levels, largest, silence, [d1, d2, d3, d4, d5, d6, d7, d8]),
+        Record::LinkStandBy {
+            levels,
+            largest,
+            silence,
+            early,
+            d1,
+            d2,
+            d3,
+            d4,
+            d5,
+            d6,
+            d7,
+            d8,
+        } => link::draft_stand_by(
+            levels,
+            largest,
+            silence,
+            early,
+            [d1, d2, d3, d4, d5, d6, d7, d8],
+        ),
         Record::Admit {
             level,
             gap,

@@ -62,7 +62,7 @@ fn idle(script: &Script) -> Vec<u8> {
 }
 
 /// Those of them that have sent.
-fn idle_behind_a_packet(script: &Script) -> Vec<u8> {
+pub fn idle_behind_a_packet(script: &Script) -> Vec<u8> {
     let mut idle = idle(script);
     idle.retain(|&number| script.hub().last_eligibility(number).is_some());
     idle
@@ -140,7 +140,7 @@ pub fn until_it_holds_nothing(script: &mut Script, number: u8) {
 
 /// Newcomers that show which number is free and how much room is left, and leave nothing: each is
 /// closed before it sends. Of a size that just passes, and of one that just does not.
-fn probe(script: &mut Script) {
+pub fn probe(script: &mut Script) {
     let link = match script.link_set() {
         Some(link) => link,
         None => return,
@@ -271,7 +271,7 @@ pub fn charges(script: &mut Script, size: usize) {
 }
 
 /// Up to 8 levels with bounds far apart.
-fn spread_link(script: &mut Script) -> Option<Link> {
+pub fn spread_link(script: &mut Script) -> Option<Link> {
     let largest = script.random.between16(1, 8);
     let silence = script.some_silence();
     let least = 2 * (largest + u16::from(silence)) + 2;
@@ -301,7 +301,7 @@ fn close_about_its_time(script: &mut Script, link: &Link) {
 }
 
 /// To about the next end, past all of them, or some way.
-fn run_over_ends(script: &mut Script) {
+pub fn run_over_ends(script: &mut Script) {
     let last_end = script.hub().charged().map(|(_, end)| end).max();
     match (script.random.between(0, 5), next_end(script), last_end) {
         (0, _, Some(last_end)) => ticks_about(script, last_end),

@@ -1,7 +1,7 @@
 //! Damaged traces: changed, cut, spliced and made-up bytes.
 
 use super::script::Script;
-use super::{closing, edges, notices, stamps, traffic};
+use super::{closing, early, edges, notices, stamps, traffic};
 use crate::random::Random;
 
 /// A mark and how many bytes follow it.
@@ -25,6 +25,9 @@ const GOOD: [&[u8]; 4] = [
     b"TK\x05\x00",
 ];
 
+/// Numbers of levels with which a link is malformed.
+const BAD_LEVELS: [u8; 5] = [0, 9, 10, 128, 255];
+
 /// What a trace is made of. The records that came later than document 01's are damaged in kinds of
 /// their own, and the lists above stay as they were.
 #[derive(Clone, Copy, Debug, PartialEq, Eq)]
@@ -33,6 +36,7 @@ enum Of {
     Notices,
     Closes,
     Stamps,
+    Early,
 }
 
 /// A record that came later, and its answer.
@@ -68,6 +72,17 @@ const STAMPS: [Later; 2] = [
     },
 ];
 
+const EARLY: [Later; 1] = [Later {
+    record:
+        b"LE\x08\x01\x00\x02\x01\x09\x00\x0A\x00\x0B\x00\x0C\x00\x0D\x00\x0E\x00\x0F\x00\x10\x00",
+    marked: (b"LE", 7),
+    answer: (b"LA", 1),
+}];
+
+/// An `LK` and an `LE` up to their bounds, with any n.
+const LINK: [u8; 6] = *b"LK\0\x01\0\0";
+const LINK_BY_SETTING: [u8; 7] = *b"LE\0\x01\0\0\x01";
+
 impl Of {
     fn later(self) -> &'static [Later] {
         match self {
@@ -75,6 +90,7 @@ impl Of {
             Of::Notices => &NOTICES,
             Of::Closes => &CLOSES,
             Of::Stamps => &STAMPS,
+            Of::Early => &EARLY,
         }
     }
 
@@ -111,7 +127,7 @@ pub fn bad_record(seed: u64, random: &mut Random, size: usize) -> Vec<u8> {
 
 /// Records that are malformed wherever they stand, with all the bytes they seem to need.
 fn bad_marks_and_links() -> Vec<Vec<u8>> {
-    let mut all: Vec<Vec<u8>> = [0, 9, 10, 128, 255].map(link_of_levels).to_vec();
+    let mut all: Vec<Vec<u8>> = BAD_LEVELS.map(|levels| link_of(&LINK, levels)).to_vec();
     all.extend(ANSWERS.map(answer_of));
     all.extend(GOOD.into_iter().flat_map(wrong_marks));
     all
@@ -158,11 +174,19 @@ pub fn bad_stamp(seed: u64, random: &mut Random, size: usize) -> Vec<u8> {
     bad_later(seed, random, size, Of::Stamps)
 }
 
+/// The same for `LE`, in traces with packets that stand by; and `LE`s with n outside 1 to 8.
+pub fn bad_early(seed: u64, random: &mut Random, size: usize) -> Vec<u8> {
+    bad_later(seed, random, size, Of::Early)
+}
+
 /// The cuts come at the end and, in other turns, between records, where the next bytes are read as
 /// the missing fields.
 fn bad_later(seed: u64, random: &mut Random, size: usize, of: Of) -> Vec<u8> {
     let mut trace = good_trace(random, size, of);
     let (mut inside, mut at_the_end) = (Vec::new(), Vec::new());
+    if of == Of::Early {
+        inside.extend(BAD_LEVELS.map(|levels| link_of(&LINK_BY_SETTING, levels)));
+    }
     for later in of.later() {
         inside.push(answer_of(later.answer));
         inside.extend(wrong_marks(later.record));
@@ -197,6 +221,10 @@ pub fn damaged_stamps(_seed: u64, random: &mut Random, size: usize) -> Vec<u8> {
     damaged(random, size, Of::Stamps)
 }
 
+pub fn damaged_early(_seed: u64, random: &mut Random, size: usize) -> Vec<u8> {
+    damaged(random, size, Of::Early)
+}
+
 fn damaged(random: &mut Random, size: usize, of: Of) -> Vec<u8> {
     let mut trace = good_trace(random, size, of);
     for _ in 0..random.between(1, 2) {
@@ -213,6 +241,7 @@ fn good_trace(random: &mut Random, size: usize, of: Of) -> Trace {
         Of::Notices => good_notices(&mut script, random, size),
         Of::Closes => good_closes(&mut script, random, size),
         Of::Stamps => good_stamps(&mut script, random, size),
+        Of::Early => good_early(&mut script, random, size),
     }
     let (bytes, starts) = script.finish();
     Trace { bytes, starts, of }
@@ -251,6 +280,15 @@ fn good_stamps(script: &mut Script, random: &mut Random, size: usize) {
         1 => stamps::reopened(script, size / 8),
         2 => stamps::small(script, 2 * size),
         _ => stamps::mixed(script, size),
+    }
+}
+
+fn good_early(script: &mut Script, random: &mut Random, size: usize) {
+    match random.between(0, 3) {
+        0 => early::links(script, size),
+        1 => early::distances(script, size / 4),
+        2 => early::flooded(script, 4 * size),
+        _ => early::small(script, 2 * size),
     }
 }
 
@@ -342,19 +380,23 @@ fn answer_of((mark, fields): Marked) -> Vec<u8> {
     answer
 }
 
-/// An `LK` with all the bounds that it promises.
-fn link_of_levels(levels: u8) -> Vec<u8> {
-    let mut link = vec![b'L', b'K', levels, 1, 0, 0];
+/// A link with all the bounds that it promises.
+fn link_of(head: &[u8], levels: u8) -> Vec<u8> {
+    let mut link = head.to_vec();
+    link[2] = levels;
     for bound in 1..=u16::from(levels) {
         link.extend_from_slice(&bound.to_le_bytes());
     }
     link
 }
 
-/// An `LK` with n outside 1 to 8.
+/// A link with n outside 1 to 8.
 fn insert_link_of_bad_n(trace: &mut Trace, random: &mut Random) {
     let levels = random.pick([0, 9, 9, 10, 128, 255]);
-    let link = link_of_levels(levels);
+    let link = match trace.of {
+        Of::Early if random.once_in(2) => link_of(&LINK_BY_SETTING, levels),
+        _ => link_of(&LINK, levels),
+    };
     let late = late_start(trace, random);
     let at = random.pick([0, late]);
     insert(trace, at, &link);

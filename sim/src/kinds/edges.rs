@@ -379,6 +379,7 @@ fn some_record(script: &mut Script) -> Vec<u8> {
             levels: 2,
             largest: 4,
             silence: 3,
+            setting: None,
             bounds: [10, 20, 0, 0, 0, 0, 0, 0],
         },
         1 => Record::Connection(Figures::plain(1, 9, 1).with_average(36, 12)),

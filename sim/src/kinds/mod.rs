@@ -4,6 +4,7 @@ mod averages;
 mod beds;
 mod closing;
 mod damage;
+mod early;
 mod edges;
 mod notices;
 mod script;
@@ -12,15 +13,76 @@ mod silence;
 mod stamps;
 mod traffic;
 
+use crate::link::{OFF, ON};
 use crate::random::Random;
 use script::Script;
 
 enum Maker {
     /// Good records, carried out while they are written.
     Scripted(fn(&mut Script, usize)),
+    /// The scripted kinds of these names in turn, their links with a setting.
+    Set(u8, &'static [&'static str]),
     /// Bytes of any sort.
     Bytes(fn(u64, &mut Random, usize) -> Vec<u8>),
 }
+
+/// The kinds whose hubs stand by too: of traffic, of notices and silences, of averages and places, of
+/// closes, of stamps.
+const TRAFFIC: [&str; 9] = [
+    "quiet",
+    "flooded",
+    "wild",
+    "midrun",
+    "ties",
+    "reserve",
+    "bigpackets",
+    "refusals",
+    "tight",
+];
+const NOTICES: [&str; 7] = [
+    "notices",
+    "noticeflood",
+    "noticefull",
+    "noticerefusals",
+    "silence",
+    "silencesplit",
+    "silencelinks",
+];
+const AVERAGES: [&str; 6] = [
+    "bursts",
+    "averageflood",
+    "averagefigures",
+    "averagememory",
+    "beds",
+    "short",
+];
+const CLOSES: [&str; 7] = [
+    "closes",
+    "closesmall",
+    "closeturns",
+    "closecharges",
+    "closerefusals",
+    "closebeds",
+    "closereopened",
+];
+const STAMPS: [&str; 6] = [
+    "stamps",
+    "stamprelays",
+    "stampsmall",
+    "stampfull",
+    "stampfigures",
+    "stampreopened",
+];
+const SOME: [&str; 8] = [
+    "flooded",
+    "stampsmall",
+    "closesmall",
+    "averageflood",
+    "silence",
+    "noticeflood",
+    "wild",
+    "refusals",
+];
 
 /// A kind of traces and its usual size (steps, not bytes).
 pub struct Kind {
@@ -30,7 +92,7 @@ pub struct Kind {
 }
 
 #[rustfmt::skip] // One line for each kind.
-pub const KINDS: [Kind; 53] = [
+pub const KINDS: [Kind; 68] = [
     Kind { name: "quiet", size: 60, maker: Maker::Scripted(traffic::quiet) },
     Kind { name: "flooded", size: 60, maker: Maker::Scripted(traffic::flooded) },
     Kind { name: "wild", size: 60, maker: Maker::Scripted(traffic::wild) },
@@ -84,6 +146,21 @@ pub const KINDS: [Kind; 53] = [
     Kind { name: "badstamp", size: 20, maker: Maker::Bytes(damage::bad_stamp) },
     Kind { name: "stampend", size: 40, maker: Maker::Scripted(stamps::end) },
     Kind { name: "stamplimit", size: 40, maker: Maker::Scripted(stamps::limit) },
+    Kind { name: "early", size: 60, maker: Maker::Set(ON, &TRAFFIC) },
+    Kind { name: "earlynotices", size: 60, maker: Maker::Set(ON, &NOTICES) },
+    Kind { name: "earlyaverages", size: 60, maker: Maker::Set(ON, &AVERAGES) },
+    Kind { name: "earlycloses", size: 60, maker: Maker::Set(ON, &CLOSES) },
+    Kind { name: "earlystamps", size: 60, maker: Maker::Set(ON, &STAMPS) },
+    Kind { name: "earlyoff", size: 60, maker: Maker::Set(OFF, &SOME) },
+    Kind { name: "earlyflood", size: 10_000, maker: Maker::Scripted(early::flooded) },
+    Kind { name: "earlydistance", size: 20, maker: Maker::Scripted(early::distances) },
+    Kind { name: "earlysmall", size: 400, maker: Maker::Scripted(early::small) },
+    Kind { name: "earlycharges", size: 12, maker: Maker::Scripted(early::charges) },
+    Kind { name: "earlylinks", size: 30, maker: Maker::Scripted(early::links) },
+    Kind { name: "earlydamage", size: 30, maker: Maker::Bytes(damage::damaged_early) },
+    Kind { name: "badearly", size: 20, maker: Maker::Bytes(damage::bad_early) },
+    Kind { name: "earlyend", size: 40, maker: Maker::Scripted(early::end) },
+    Kind { name: "earlylimit", size: 40, maker: Maker::Scripted(early::limit) },
 ];
 
 impl Kind {
@@ -91,18 +168,30 @@ impl Kind {
         KINDS.iter().find(|kind| kind.name == name)
     }
 
-    /// The trace of a seed, of the usual size if none is asked for.
+    /// The trace of a seed, of the usual size if none is asked for; of kinds in turn, the usual size of
+    /// the one whose turn it is.
     pub fn trace(&self, seed: u64, size: Option<usize>) -> Vec<u8> {
-        let size = size.unwrap_or(self.size);
+        let mut script = Script::new(self.mixed(seed));
+        let usual = size.unwrap_or(self.size);
         match self.maker {
             Maker::Scripted(make) => {
-                let mut script = Script::new(self.mixed(seed));
                 script.set_seed(seed);
-                make(&mut script, size);
-                script.finish().0
+                make(&mut script, usual);
             }
-            Maker::Bytes(make) => make(seed, &mut Random::new(self.mixed(seed)), size),
+            Maker::Set(setting, names) => {
+                let turns = names.len() as u64;
+                script.links_by(Some(setting));
+                script.set_seed(seed / turns);
+                let kind = Kind::named(names[(seed % turns) as usize]);
+                if let Some((size, Maker::Scripted(make))) =
+                    kind.map(|kind| (size.unwrap_or(kind.size), &kind.maker))
+                {
+                    make(&mut script, size);
+                }
+            }
+            Maker::Bytes(make) => return make(seed, &mut Random::new(self.mixed(seed)), usual),
         }
+        script.finish().0
     }
 
     /// Other numbers for each kind.

@@ -20,6 +20,7 @@ pub struct Script {
     bytes: Vec<u8>,
     starts: Vec<usize>,
     mixed_in: Option<Mixed>,
+    setting: Option<u8>,
 }
 
 /// Calls that come before one `TK` in so many.
@@ -38,6 +39,7 @@ impl Script {
             bytes: Vec::new(),
             starts: Vec::new(),
             mixed_in: None,
+            setting: None,
         }
     }
 
@@ -101,6 +103,11 @@ impl Script {
             .pick([0, 0, 0, 0, 1, MOST_SILENCE, MOST_SILENCE + 1, any])
     }
 
+    /// From now on links come with a setting, or without.
+    pub fn links_by(&mut self, setting: Option<u8>) {
+        self.setting = setting;
+    }
+
     pub fn link(&mut self, largest: u16, silence: u8, used: &[u16]) -> u8 {
         let mut bounds = [0; MOST_LEVELS];
         for (bound, value) in bounds.iter_mut().zip(used) {
@@ -111,6 +118,7 @@ impl Script {
             levels,
             largest,
             silence,
+            setting: self.setting,
             bounds,
         })
     }

@@ -63,7 +63,7 @@ fn ward(script: &mut Script) {
     admit_some(script, wanted);
 }
 
-fn admit_stamped(script: &mut Script) -> u8 {
+pub fn admit_stamped(script: &mut Script) -> u8 {
     match script.link_set() {
         Some(link) => {
             let line = stamped_line(script, &link);
@@ -99,7 +99,7 @@ fn stamped(script: &Script) -> Vec<(u8, Connection)> {
 }
 
 /// An offer of allowed length whose stamp is on an edge of a cause of 17 or beside it.
-fn offer_on_the_edge(script: &mut Script) {
+pub fn offer_on_the_edge(script: &mut Script) {
     let stamped = stamped(script);
     if let Some((number, connection)) = script.random.one_of(&stamped) {
         let stamp = edge_stamp(script, number, &connection);

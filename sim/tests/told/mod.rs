@@ -3,10 +3,19 @@
 
 #![allow(dead_code)] // Each test needs a part of it.
 
-use sim::link::{Figures, MOST_CONNECTIONS};
+use sim::departure::Departure;
+use sim::link::{Figures, Link, MOST_CONNECTIONS};
 use sim::notices::NOTICE_NUMBER;
 use sim::record::{Answer, Record};
 use sim::replay::{Job, Pace};
+
+/// What held an accepted packet up last.
+#[derive(Clone, Copy, Debug, PartialEq, Eq)]
+pub enum By {
+    Nothing,
+    Gap,
+    Window,
+}
 
 /// A connection from its admission on: the eligibilities and the lengths of its packets in the order
 /// accepted.
@@ -30,12 +39,73 @@ impl Line {
         let last = self.eligibilities.last();
         last.map_or(true, |last| clock >= last + largest_bound)
     }
+
+    pub fn gap(&self) -> u64 {
+        u64::from(self.figures.gap)
+    }
+
+    pub fn allowance(&self) -> u64 {
+        self.figures.allowance.map_or(0, u64::from)
+    }
+
+    /// I and n.
+    pub fn average(&self) -> Option<(u64, usize)> {
+        let Figures {
+            window, average, ..
+        } = self.figures;
+        (average > 0).then(|| (u64::from(window), usize::from(window / average)))
+    }
+
+    /// The eligibility by the rule's words, from all that was accepted, and what decided it; by a
+    /// stamp it is that plus the allowance.
+    pub fn next(&self, arrival: u64, stamp: Option<u32>) -> (u64, By) {
+        if let Some(stamp) = stamp {
+            return (u64::from(stamp) + self.allowance(), By::Nothing);
+        }
+        let back = |packets: usize| self.eligibilities.iter().rev().nth(packets - 1);
+        let mut next = (arrival, By::Nothing);
+        if let Some(last) = back(1).filter(|&last| last + self.gap() > next.0) {
+            next = (last + self.gap(), By::Gap);
+        }
+        if let Some((window, packets)) = self.average() {
+            if let Some(nth) = back(packets).filter(|&nth| nth + window > next.0) {
+                next = (nth + window, By::Window);
+            }
+        }
+        next
+    }
+
+    /// The packets that it may hold, by the rules' words.
+    pub fn reservation(&self, link: &Link) -> u64 {
+        let within = self.allowance() + u64::from(link.bound(self.figures.level));
+        let by_gap = |ticks: u64| ticks / self.gap() + u64::from(ticks % self.gap() > 0);
+        match self.average() {
+            None => by_gap(within),
+            Some((window, packets)) => {
+                let packets = packets as u64;
+                let rest = by_gap(within % window).min(packets);
+                by_gap(within).min(within / window * packets + rest)
+            }
+        }
+    }
+
+    /// Whether its packets may go early.
+    pub fn may_go_early(&self, link: &Link) -> bool {
+        link.stands_by() && self.figures.allowance.is_none()
+    }
+
+    /// How far past the present tick an eligibility may lie then: the reservation times X.
+    pub fn distance(&self, link: &Link) -> u64 {
+        self.reservation(link) * self.gap()
+    }
 }
 
-/// A trace so far, with all lines that ever were.
+/// A trace so far, with all lines that ever were and the packets of levels that the last record has let
+/// go.
 pub struct Told {
     pub job: Job,
     pub lines: Vec<Line>,
+    pub departed: Vec<Departure>,
     owners: [Option<usize>; MOST_CONNECTIONS],
 }
 
@@ -44,6 +114,7 @@ impl Told {
         Told {
             job: Job::new(Pace::Passing),
             lines: Vec::new(),
+            departed: Vec::new(),
             owners: [None; MOST_CONNECTIONS],
         }
     }
@@ -83,7 +154,8 @@ impl Told {
     }
 
     /// Carries out a record and follows its answers; gives the last one. What departs is what was
-    /// accepted, in order, and never before its eligibility plus its length.
+    /// accepted, in order, and, unless it may go early, never before its eligibility plus its
+    /// length; never before its arrival plus its length.
     pub fn carry_out(&mut self, record: Record) -> Answer {
         let (mut last, mut departed) = (None, Vec::new());
         let result: Result<(), ()> = self.job.carry_out(record, &mut |answer| {
@@ -94,12 +166,17 @@ impl Told {
             Ok(())
         });
         assert_eq!(result, Ok(()));
+        self.departed.clear();
         for departure in departed {
             if departure.connection != NOTICE_NUMBER {
+                self.departed.push(departure);
+                let link = *self.job.hub().link().expect("a link");
                 let line = self.line_of(departure.connection);
                 assert_eq!(departure.eligibility, line.eligibilities[line.departed]);
                 let length = u64::from(line.lengths[line.departed]);
-                assert!(departure.finish >= departure.eligibility + length);
+                let early = line.may_go_early(&link);
+                assert!(early || departure.finish >= departure.eligibility + length);
+                assert!(departure.finish >= departure.arrival + length);
                 line.departed += 1;
             }
         }

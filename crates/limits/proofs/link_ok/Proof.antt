@@ -22,6 +22,9 @@ returns-4 c = let a = c .before .before .before .before .before .before .before 
 returns-5 : tie.Need-returns-5
 returns-5 c = let a = c .before .before .before .before .before .before .before .before .before .before .args in L.silence-out (a .l) (within-intro 1 max-levels (a .l .levels) (search needs) (search needs)) (within-intro 1 max-largest (a .l .largest) (search needs) (search needs)) (search needs)
 
+returns-6 : tie.Need-returns-6
+returns-6 c = let a = c .before .before .before .before .before .before .before .before .before .before .before .before .args in L.early-out (a .l) (within-intro 1 max-levels (a .l .levels) (search needs) (search needs)) (within-intro 1 max-largest (a .l .largest) (search needs) (search needs)) (search needs) (search needs)
+
 add-bounds-ok : tie.Need-add-bounds-ok
 add-bounds-ok c = search needs
 
@@ -31,12 +34,12 @@ cast-bounds-ok c = search needs
 bounds-ok-requires : tie.Need-bounds-ok-requires
 bounds-ok-requires c κs = search needs
 
-returns-6 : tie.Need-returns-6
-returns-6 c =
-    let a = c .before .before .before .before .before .before .before .before .before .before .before .before .before .before .args in
-    L.bounds-rest (a .l) (within-intro 1 max-levels (a .l .levels) (search needs) (search needs)) (within-intro 1 max-largest (a .l .largest) (search needs) (search needs)) (search needs) (c .bounds-ok .result) (c .bounds-ok .ensures)
+returns-7 : tie.Need-returns-7
+returns-7 c =
+    let a = c .before .before .before .before .before .before .before .before .before .before .before .before .before .before .before .before .args in
+    L.bounds-rest (a .l) (within-intro 1 max-levels (a .l .levels) (search needs) (search needs)) (within-intro 1 max-largest (a .l .largest) (search needs) (search needs)) (search needs) (search needs) (c .bounds-ok .result) (c .bounds-ok .ensures)
 
 pub link-ok-spec : {M : Type 1} → statement M
 link-ok-spec =
     tie.close
-    (tie.spec returns returns-2 returns-3 returns-4 returns-5 add-bounds-ok cast-bounds-ok bounds-ok-requires returns-6)
+    (tie.spec returns returns-2 returns-3 returns-4 returns-5 returns-6 add-bounds-ok cast-bounds-ok bounds-ok-requires returns-7)

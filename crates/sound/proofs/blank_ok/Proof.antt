@@ -12,7 +12,7 @@ zero-from-requires : tie.Need-zero-from-requires
 zero-from-requires c κs = search needs
 
 returns : tie.Need-returns
-returns c = rw (eq-eqb (length (c .before .before .before .before .before .args .l .bounds)) max-levels (search needs), c .zero-from .ensures)
+returns c = rw (eq-eqb (length (c .before .before .before .before .before .before .args .l .bounds)) max-levels (search needs), c .zero-from .ensures)
 
 pub blank-ok-spec : {M : Type 1} → statement M
 blank-ok-spec = tie.close (tie.spec slice-aggregate-zero-from zero-from-requires returns)

@@ -1,4 +1,5 @@
 use Rattle.state.specs.View.{tables}
+use Rattle.connections.proofs.WrittenLaws as W
 use Rattle.sound.proofs.PartLaws as S
 use borrow.Author.Needs.{needs}
 use Rattle.sound.proofs.linked_ok.Statement.{statement}
@@ -36,14 +37,14 @@ returns-3 c =
     (S.stops _ (c .before .notices-ok .ensures (a .members .now) (a .places .now)) (c .if3 .taken)))
 
 line-ok-requires : tie.Need-line-ok-requires
-line-ok-requires c κs = search needs
+line-ok-requires c κs = let s = c .before .before .before .before .before .before .before .before .before in (s .pre .0, s .pre .1, W.members-long (s .args .members .now) (s .pre .2))
 
 returns-4 : tie.Need-returns-4
 returns-4 c =
     let a = c .before .before .before .before .before .before .before .before .before .before .args in
     S.passes-on (c .before .before .before .before .before .before .admissions-ok .ensures (a .places .now) (a .notices .now)) (c .before .before .before .before .before .if1 .left)
     (S.passes-on (c .before .before .before .before .held-ok .ensures (a .notices .now)) (c .before .before .before .if2 .left)
-    (S.passes-on (c .before .before .notices-ok .ensures (a .members .now) (a .places .now)) (c .before .if3 .left) (c .line-ok .ensures (a .members .now))))
+    (S.passes-on (c .before .before .notices-ok .ensures (a .members .now) (a .places .now)) (c .before .if3 .left) (c .line-ok .ensures)))
 
 pub linked-ok-spec : {M : Type 1} → statement M
 linked-ok-spec = tie.close (tie.spec admissions-ok-requires returns held-ok-requires returns-2 notices-ok-requires returns-3 line-ok-requires returns-4)

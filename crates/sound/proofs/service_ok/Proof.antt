@@ -7,42 +7,43 @@ use Rattle.sound.proofs.service_ok.Tie as tie
 
 returns : tie.Need-returns
 returns c =
-    let s = c .before .before .before .before .before in
-    λ m. S.no-notice (s .args .h) (tables m (s .args .places .now) (s .args .notices .now)) (c .before .if1 .taken) (omega (arith, s .pre .1 .count))
+    let s = c .before .before .before .before .before .before in
+    S.no-notice (s .args .h) (tables (s .args .members .now) (s .args .places .now) (s .args .notices .now)) (c .before .if1 .taken) (omega (arith, s .pre .1 .count))
 
 row-requires : tie.Need-row-requires
-row-requires c κs = let s = c .before .before .before .before .before in omega (arith, P.rows-end (s .args .notices .now), s .pre .1 .count, c .if2 .left)
+row-requires c κs = let s = c .before .before .before .before .before .before in omega (arith, P.rows-end (s .args .notices .now), s .pre .1 .count, c .if2 .left)
 
 returns-2 : tie.Need-returns-2
 returns-2 c =
     let r = c .before .before .before in
-    let s = r .before .before .before .before .before .before in
-    λ m.
-    S.notice-units (s .args .h) (tables m (s .args .places .now) (s .args .notices .now)) (r .before .before .if1 .taken)
+    let s = r .before .before .before .before .before .before .before in
+    S.notice-units (s .args .h) (tables (s .args .members .now) (s .args .places .now) (s .args .notices .now)) (r .before .before .if1 .taken)
     (omega (arith, s .pre .1 .count, r .before .if2 .left)) (r .row .ensures)
 
 find-requires : tie.Need-find-requires
-find-requires c κs = c .before .before .before .before .pre .0 .count
+find-requires c κs = c .before .before .before .before .before .pre .0 .count
 
 returns-3 : tie.Need-returns-3
 returns-3 c =
     let f = c .before in
-    let s = f .before .before .before .before .before in
-    λ m.
-    S.no-row (s .args .h) (tables m (s .args .places .now) (s .args .notices .now)) (f .before .if1 .left)
+    let s = f .before .before .before .before .before .before in
+    S.no-row (s .args .h) (tables (s .args .members .now) (s .args .places .now) (s .args .notices .now)) (f .before .if1 .left)
     (omega (arith, s .pre .0 .count, f .find .ensures))
 
 row-requires-2 : tie.Need-row-requires-2
-row-requires-2 c κs = let s = c .before .before .before .before .before .before in omega (arith, P.rows-end (s .args .places .now), s .pre .0 .count)
+row-requires-2 c κs = let s = c .before .before .before .before .before .before .before in omega (arith, P.rows-end (s .args .places .now), s .pre .0 .count)
+
+serves-row-requires : tie.Need-serves-row-requires
+serves-row-requires c κs = c .before .before .before .before .before .before .before .before .pre .2
 
 returns-4 : tie.Need-returns-4
 returns-4 c =
-    let r = c .before .before .before .before .before in
+    let r = c .before in
     let f = r .before .before in
-    let s = f .before .before .before .before .before in
-    λ m.
-    S.row-served (s .args .h) (tables m (s .args .places .now) (s .args .notices .now)) (f .before .if1 .left) (f .find .ensures)
-    (omega (arith, s .pre .0 .count, r .before .if3 .left)) (r .row2 .ensures)
+    let s = f .before .before .before .before .before .before in
+    S.row-served (s .args .h) (tables (s .args .members .now) (s .args .places .now) (s .args .notices .now)) (f .before .if1 .left) (f .find .ensures)
+    (omega (arith, s .pre .0 .count, r .before .if3 .left)) (r .row2 .ensures) (c .serves-row .ensures)
 
 pub service-ok-spec : {M : Type 1} → statement M
-service-ok-spec = tie.close (tie.spec returns row-requires returns-2 find-requires returns-3 row-requires-2 returns-4)
+service-ok-spec =
+    tie.close (tie.spec returns row-requires returns-2 find-requires returns-3 row-requires-2 serves-row-requires returns-4)

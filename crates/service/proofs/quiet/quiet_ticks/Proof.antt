@@ -17,7 +17,7 @@ returns c =
     none-without-link (view (a .h) (tables (a .members .now) (a .places .now) (a .notices .now))) (s .pre .0) (a .left) (search needs)
 
 quiet-for-requires : tie.Need-quiet-for-requires
-quiet-for-requires c κs = search needs
+quiet-for-requires c κs = let s = c .before .before .before .before .before in (s .pre .1, s .pre .2, members-long (s .args .members .now) (s .pre .3))
 
 sub-least : tie.Need-sub-least
 sub-least c =

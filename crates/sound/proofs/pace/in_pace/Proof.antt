@@ -8,25 +8,11 @@ wide-requires c κs = search needs
 earliest-behind-requires : tie.Need-earliest-behind-requires
 earliest-behind-requires c κs = search needs
 
-wide-requires-2 : tie.Need-wide-requires-2
-wide-requires-2 c κs = search needs
-
-latest-of-requires : tie.Need-latest-of-requires
-latest-of-requires c κs = search needs
-
-greatest-requires : tie.Need-greatest-requires
-greatest-requires c κs = search needs
+last-tick-requires : tie.Need-last-tick-requires
+last-tick-requires c κs = c .before .before .pre
 
 returns : tie.Need-returns
-returns c = rw (c .before .before .before .earliest-behind .ensures, c .greatest .ensures, c .before .latest-of .ensures, c .before .before .wide2 .ensures, c .before .before .before .before .wide .ensures)
+returns c = rw (c .before .earliest-behind .ensures, c .last-tick .ensures, c .before .before .wide .ensures)
 
 pub in-pace-spec : {M : Type 1} → statement M
-in-pace-spec =
-    tie.close
-    (tie.spec
-    wide-requires
-    earliest-behind-requires
-    wide-requires-2
-    latest-of-requires
-    greatest-requires
-    returns)
+in-pace-spec = tie.close (tie.spec wide-requires earliest-behind-requires last-tick-requires returns)

@@ -11,10 +11,10 @@ use Rattle.sound.proofs.pace.left_in_time.Statement.{statement}
 use Rattle.sound.proofs.pace.left_in_time.Tie as tie
 
 abbrev Inv-loop : tie.InvT-loop
-Inv-loop m clock k₀ k = (k ≤ m .known) × (in-time (connection-of m) clock (drop k (past-of m)) ≡ in-time (connection-of m) clock (past-of m))
+Inv-loop m last k₀ k = (k ≤ m .known) × (in-time (connection-of m) last (drop k (past-of m)) ≡ in-time (connection-of m) last (past-of m))
 
 abbrev μ-loop : tie.MeasureT-loop
-μ-loop m clock k₀ k = m .known - k
+μ-loop m last k₀ k = m .known - k
 
 loop-holds : tie.Need-loop-holds Inv-loop μ-loop
 loop-holds c = (search needs, refl)
@@ -35,13 +35,13 @@ returns : tie.Need-returns Inv-loop μ-loop
 returns c =
     let s = c .before .before .before .before .before .before .before in
     let l = c .before .before .before .before .before .before .loop in
-    L.left-early (connection-of (s .args .m)) (s .args .clock) (past-of (s .args .m)) (l .k) (L.known-below (s .args .m) (s .pre .0) (l .k) (search needs) (search needs)) _ _ (c .before .before .wide .ensures ∙ c .before .before .before .tick-at .ensures) (c .before .earliest-behind .ensures) (c .if2 .taken) ∙ l .inv .1
+    L.left-early (connection-of (s .args .m)) (s .args .last) (past-of (s .args .m)) (l .k) (L.known-below (s .args .m) (s .pre .0) (l .k) (search needs) (search needs)) _ _ (c .before .before .wide .ensures ∙ c .before .before .before .tick-at .ensures) (c .before .earliest-behind .ensures) (c .if2 .taken) ∙ l .inv .1
 
 returns-2 : tie.Need-returns-2 Inv-loop μ-loop
 returns-2 c =
     let s = c .before .before .before .before .before .before .before .before in
     let l = c .before .before .before .before .before .before .before .loop in
-    L.left-late (connection-of (s .args .m)) (s .args .clock) (past-of (s .args .m)) (l .k) (L.known-below (s .args .m) (s .pre .0) (l .k) (search needs) (search needs)) _ _ (c .before .before .before .before .tick-at .ensures) (c .before .before .earliest-behind .ensures) (omega (arith, c .before .before .before .wide .ensures, c .before .if2 .left)) (c .if3 .taken) ∙ l .inv .1
+    L.left-late (connection-of (s .args .m)) (s .args .last) (past-of (s .args .m)) (l .k) (L.known-below (s .args .m) (s .pre .0) (l .k) (search needs) (search needs)) _ _ (c .before .before .before .wide .ensures ∙ c .before .before .before .before .tick-at .ensures) (c .before .before .earliest-behind .ensures) (c .before .if2 .left) (c .if3 .taken) ∙ l .inv .1
 
 add-k : tie.Need-add-k Inv-loop μ-loop
 add-k c = let s = c .before .before .before .before .before .before .before .before in omega (arith, W.formed-parts (s .args .m) (s .pre .0) .known-le)
@@ -53,13 +53,13 @@ loop-again : tie.Need-loop-again Inv-loop μ-loop
 loop-again c =
     let s = c .before .before .before .before .before .before .before .before in
     let l = c .before .before .before .before .before .before .before .loop in
-    (search needs, L.left-next (connection-of (s .args .m)) (s .args .clock) (past-of (s .args .m)) (l .k) (L.known-below (s .args .m) (s .pre .0) (l .k) (search needs) (search needs)) _ _ (c .before .before .before .before .tick-at .ensures) (c .before .before .earliest-behind .ensures) (omega (arith, c .before .before .before .wide .ensures, c .before .if2 .left)) (c .if3 .left) ∙ l .inv .1)
+    (search needs, L.left-next (connection-of (s .args .m)) (s .args .last) (past-of (s .args .m)) (l .k) (L.known-below (s .args .m) (s .pre .0) (l .k) (search needs) (search needs)) _ _ (c .before .before .before .wide .ensures ∙ c .before .before .before .before .tick-at .ensures) (c .before .before .earliest-behind .ensures) (c .before .if2 .left) (c .if3 .left) ∙ l .inv .1)
 
 returns-3 : tie.Need-returns-3 Inv-loop μ-loop
 returns-3 c =
     let s = c .before .before .before in
     let l = c .before .before .loop in
-    L.left-end (connection-of (s .args .m)) (s .args .clock) (past-of (s .args .m)) (l .k) (L.known-end (s .args .m) (l .k) (search needs)) ∙ l .inv .1
+    L.left-end (connection-of (s .args .m)) (s .args .last) (past-of (s .args .m)) (l .k) (L.known-end (s .args .m) (l .k) (search needs)) ∙ l .inv .1
 
 pub left-in-time-spec : {M : Type 1} → statement M
 left-in-time-spec =

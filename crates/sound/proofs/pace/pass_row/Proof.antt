@@ -1,3 +1,5 @@
+use Rattle.sound.proofs.PaceLaws as L
+use Rattle.connections.specs.Members.{connections-in}
 use Rattle.connections.proofs.WrittenLaws as W
 use Rattle.connections.proofs.RegulatorLaws as G
 use native.Mathlib.Omega.{arith}
@@ -15,7 +17,7 @@ member-at-requires : tie.Need-member-at-requires
 member-at-requires c κs = let s = c .before .before .before in omega (arith, W.rows-length (s .args .table .now) (s .pre .0), s .pre .1)
 
 in-pace-requires : tie.Need-in-pace-requires
-in-pace-requires c κs = let s = c .before .before .before .before in let m = G.member-facts (s .args .h .link) (s .args .table .now) (s .args .p .connection) _ (s .pre .0) (s .pre .1) (s .pre .2) (c .member-at .ensures) in (m .few, m .regular)
+in-pace-requires c κs = let s = c .before .before .before .before in let m = G.member-facts (s .args .h .link) (s .args .table .now) (s .args .p .connection) _ (s .pre .0) (s .pre .1) (s .pre .2) (c .member-at .ensures) in (m .few, m .regular, L.reserves (s .args .h .link) (connections-in (s .args .table .now)) (s .pre .2) (s .args .p .connection) _ (m .figures))
 
 same-length : tie.Need-same-length
 same-length c = search needs

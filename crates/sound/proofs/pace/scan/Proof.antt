@@ -17,7 +17,7 @@ use Rattle.sound.proofs.pace.scan.Statement.{statement}
 use Rattle.sound.proofs.pace.scan.Tie as tie
 
 abbrev Inv-loop : tie.InvT-loop
-Inv-loop h table₀ places held i₀ table i = (i ≤ held) × Remembers table₀ table (past-with table₀ (take i (rows places))) × (paced (connections-in table₀) (h .clock) (past-in table₀) (take i (rows places)) (drop i (rows places)) ≡ paced (connections-in table₀) (h .clock) (past-in table₀) [] (rows places)) × (length table ≡ length table₀)
+Inv-loop h table₀ places held i₀ table i = (i ≤ held) × Remembers table₀ table (past-with table₀ (take i (rows places))) × (paced (h .link) (connections-in table₀) (h .clock) (past-in table₀) (take i (rows places)) (drop i (rows places)) ≡ paced (h .link) (connections-in table₀) (h .clock) (past-in table₀) [] (rows places)) × (length table ≡ length table₀)
 
 abbrev μ-loop : tie.MeasureT-loop
 μ-loop h table₀ places held i₀ table i = held - i
@@ -44,7 +44,7 @@ returns c =
     let a = s .args in
     let l = c .before .before .before .before .before .before .before .loop in
     let p = c .before .before .before .before .row in
-    (L.pass-stops (a .table .now) (a .places .now) (a .h .clock) (l .i) (omega arith) (l .table) (l .inv .1) _ (p .ensures) (L.named-row (a .table .now) (a .places .now) (s .pre .2) (l .i) (omega arith) _ (p .ensures)) _ (c .before .before .before .pass-row .ensures .0) (not-true _ (c .if1 .taken)) ∙ l .inv .2, λ e. never e)
+    (L.pass-stops (a .h .link) (a .table .now) (a .places .now) (a .h .clock) (l .i) (omega arith) (l .table) (l .inv .1) _ (p .ensures) (L.named-row (a .table .now) (a .places .now) (s .pre .2) (l .i) (omega arith) _ (p .ensures)) _ (c .before .before .before .pass-row .ensures .0) (not-true _ (c .if1 .taken)) ∙ l .inv .2, λ e. never e)
 
 add-i : tie.Need-add-i Inv-loop μ-loop
 add-i c = search needs
@@ -62,8 +62,8 @@ loop-again c =
     let named = L.named-row (a .table .now) (a .places .now) (s .pre .2) (l .i) (omega arith) _ (p .ensures) in
     let passed : r .result ≡ true = not-false _ (c .if1 .left) in (
       search needs,
-      L.pass-next (a .table .now) (a .places .now) (a .h .clock) (l .i) (omega arith) (l .table) _ (l .inv .1) _ (p .ensures) named (r .ensures .1 passed),
-      L.pass-goes (a .table .now) (a .places .now) (a .h .clock) (l .i) (omega arith) (l .table) (l .inv .1) _ (p .ensures) named _ (r .ensures .0) passed ∙ l .inv .2,
+      L.pass-next (a .h .link) (a .table .now) (a .places .now) (a .h .clock) (l .i) (omega arith) (l .table) _ (l .inv .1) _ (p .ensures) named (r .ensures .1 passed),
+      L.pass-goes (a .h .link) (a .table .now) (a .places .now) (a .h .clock) (l .i) (omega arith) (l .table) (l .inv .1) _ (p .ensures) named _ (r .ensures .0) passed ∙ l .inv .2,
       search needs,
     )
 
@@ -76,7 +76,7 @@ returns-2 c =
     let a = s .args in
     let l = c .before .loop in
     let e : l .i ≡ length (rows (a .places .now)) = omega arith in
-    (L.pass-end (a .table .now) (a .places .now) (a .h .clock) (l .i) e ∙ l .inv .2, λ _. L.remembers-all (a .table .now) (l .table) (a .places .now) (l .i) e (l .inv .1))
+    (L.pass-end (a .h .link) (a .table .now) (a .places .now) (a .h .clock) (l .i) e ∙ l .inv .2, λ _. L.remembers-all (a .table .now) (l .table) (a .places .now) (l .i) e (l .inv .1))
 
 pub scan-spec : {M : Type 1} → statement M
 scan-spec =

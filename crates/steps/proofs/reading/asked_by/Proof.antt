@@ -8,41 +8,44 @@ enum-known-what c = search needs
 enum-known-what-2 : tie.Need-enum-known-what-2
 enum-known-what-2 c = search needs
 
-connection-named-requires : tie.Need-connection-named-requires
-connection-named-requires c κs = search needs
-
 enum-known-what-3 : tie.Need-enum-known-what-3
 enum-known-what-3 c = search needs
 
-stamped-named-requires : tie.Need-stamped-named-requires
-stamped-named-requires c κs = search needs
+connection-named-requires : tie.Need-connection-named-requires
+connection-named-requires c κs = search needs
 
 enum-known-what-4 : tie.Need-enum-known-what-4
 enum-known-what-4 c = search needs
 
-cast-t36 : tie.Need-cast-t36
-cast-t36 c = search needs
+stamped-named-requires : tie.Need-stamped-named-requires
+stamped-named-requires c κs = search needs
 
 enum-known-what-5 : tie.Need-enum-known-what-5
 enum-known-what-5 c = search needs
 
-plain-offer-requires : tie.Need-plain-offer-requires
-plain-offer-requires c κs = search needs
+cast-t48 : tie.Need-cast-t48
+cast-t48 c = search needs
 
 enum-known-what-6 : tie.Need-enum-known-what-6
 enum-known-what-6 c = search needs
 
-stamped-offer-requires : tie.Need-stamped-offer-requires
-stamped-offer-requires c κs = search needs
+plain-offer-requires : tie.Need-plain-offer-requires
+plain-offer-requires c κs = search needs
 
 enum-known-what-7 : tie.Need-enum-known-what-7
 enum-known-what-7 c = search needs
 
-cast-t39 : tie.Need-cast-t39
-cast-t39 c = search needs
+stamped-offer-requires : tie.Need-stamped-offer-requires
+stamped-offer-requires c κs = search needs
 
 enum-known-what-8 : tie.Need-enum-known-what-8
 enum-known-what-8 c = search needs
+
+cast-t51 : tie.Need-cast-t51
+cast-t51 c = search needs
+
+enum-known-what-9 : tie.Need-enum-known-what-9
+enum-known-what-9 c = search needs
 
 enum-told : tie.Need-enum-told
 enum-told c = search needs
@@ -51,28 +54,31 @@ returns : tie.Need-returns
 returns c = rw (c .before .what .given .1)
 
 returns-2 : tie.Need-returns-2
-returns-2 c = rw (c .before .before .what2 .given .1, c .connection-named .ensures)
+returns-2 c = rw (c .before .what2 .given .1)
 
 returns-3 : tie.Need-returns-3
-returns-3 c = rw (c .before .before .what3 .given .1, c .stamped-named .ensures)
+returns-3 c = rw (c .before .before .what3 .given .1, c .connection-named .ensures)
 
 returns-4 : tie.Need-returns-4
-returns-4 c = rw (c .before .what4 .given .1)
+returns-4 c = rw (c .before .before .what4 .given .1, c .stamped-named .ensures)
 
 returns-5 : tie.Need-returns-5
-returns-5 c = rw (c .before .before .what5 .given .1, c .plain-offer .ensures)
+returns-5 c = rw (c .before .what5 .given .1)
 
 returns-6 : tie.Need-returns-6
-returns-6 c = rw (c .before .before .what6 .given .1, c .stamped-offer .ensures)
+returns-6 c = rw (c .before .before .what6 .given .1, c .plain-offer .ensures)
 
 returns-7 : tie.Need-returns-7
-returns-7 c = rw (c .before .what7 .given .1)
+returns-7 c = rw (c .before .before .what7 .given .1, c .stamped-offer .ensures)
 
 returns-8 : tie.Need-returns-8
 returns-8 c = rw (c .before .what8 .given .1)
 
 returns-9 : tie.Need-returns-9
-returns-9 c = search needs
+returns-9 c = rw (c .before .what9 .given .1)
+
+returns-10 : tie.Need-returns-10
+returns-10 c = search needs
 
 pub asked-by-spec : {M : Type 1} → statement M
 asked-by-spec =
@@ -80,18 +86,19 @@ asked-by-spec =
     (tie.spec
     enum-known-what
     enum-known-what-2
-    connection-named-requires
     enum-known-what-3
-    stamped-named-requires
+    connection-named-requires
     enum-known-what-4
-    cast-t36
+    stamped-named-requires
     enum-known-what-5
-    plain-offer-requires
+    cast-t48
     enum-known-what-6
-    stamped-offer-requires
+    plain-offer-requires
     enum-known-what-7
-    cast-t39
+    stamped-offer-requires
     enum-known-what-8
+    cast-t51
+    enum-known-what-9
     enum-told
     returns
     returns-2
@@ -101,4 +108,5 @@ asked-by-spec =
     returns-6
     returns-7
     returns-8
-    returns-9)
+    returns-9
+    returns-10)

@@ -47,7 +47,7 @@ put-departure-requires : tie.Need-put-departure-requires
 put-departure-requires c κs = search needs
 
 sub-rest : tie.Need-sub-rest
-sub-rest c = search needs
+sub-rest c = search (needs, c .before .before .before .before .before .before .before .before .before .before .before .before .before .before .before .before .before .before .before .before .before .pre .2)
 
 same-length-5 : tie.Need-same-length-5
 same-length-5 c = search needs
