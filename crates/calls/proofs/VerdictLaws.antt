@@ -22,6 +22,7 @@ use Rattle.rules.specs.Calls.{heard, too-far, no-link-set, no-such-connection, 
 use Rattle.rules.proofs.Tests.{passed, never, never-number, within-intro, within-true}
 use Rattle.rules.proofs.Sums.{cond-is, split}
 use Rattle.rules.proofs.Standing.{owned-level, level-free, stands-is, stands-owned, stands-below, free-is}
+use Rattle.rules.proofs.LevelTest.{holds-test}
 use Rattle.rules.proofs.Verdicts.{heard-parts}
 use Rattle.rules.proofs.Bounds.{distances-fit-32}
 use Rattle.rules.proofs.Results.{level-test-tells}
@@ -249,6 +250,10 @@ module _ (h : Hub) (t : Tables) (ok : sound-hub h t ≡ true) (x : Connection) (
     -- the sums can be made
     pub admit-within : Within (h .link) (connections-in (t .members))
     admit-within = figures-in-limits h t ok link-is-set
+
+    -- the connections that stand pass the level test
+    pub admit-passes : passes (h .link) (connections-in (t .members)) ≡ true
+    admit-passes = holds-test (h .link) (connections-in (t .members)) (is-sound h t ok .with-one link-is-set .orderly .tested)
 
     pub admit-figures : (1 ≤ x .level) × (1 ≤ x .gap) × (x .size ≤ max-largest) × (x .allowance + bound (h .link) (x .level) < beyond-32-bits)
     admit-figures =

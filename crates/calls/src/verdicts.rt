@@ -158,7 +158,7 @@ pub(crate) fn admit_verdict(
             short: connections::no_short(),
         };
     }
-    let short = connections::level_test(l, members, n, x);
+    let short = connections::newcomer_test(l, members, n, x);
     if short.level != 0 {
         return Ruling {
             verdict: 8,

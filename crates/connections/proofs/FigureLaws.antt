@@ -15,11 +15,12 @@ use Rattle.rules.specs.declared.Connection.{Connection}
 use Rattle.rules.specs.Words.{within, sum}
 use Rattle.rules.specs.Limits.{max-levels, max-largest, max-silence, max-bound, max-gap, max-burst, max-allowance, beyond-32-bits}
 use Rattle.rules.specs.Model.{nth, no-connection}
-use Rattle.rules.specs.Admission.{rising, link-within, burst, average-within, kind-within, figures-within, free-number, joining, bound, rounded-up, average-count, count, reservation, reserved, cost, load, level-sum, short-from, level-test}
+use Rattle.rules.specs.Admission.{rising, link-within, burst, average-within, kind-within, figures-within, free-number, joining, bound, rounded-up, average-count, count, reservation, reserved, cost, load, level-sum, short-from, level-test, passes}
 use Rattle.rules.proofs.Tests.{never, and-true, or-cases, within-true}
-use Rattle.rules.proofs.Sums.{same, upto-yes, upto-no, upto-le, cond-is}
+use Rattle.rules.proofs.Sums.{split, same, upto-yes, upto-no, upto-le, cond-is}
 use Rattle.rules.proofs.Standing.{level-owned, level-free}
 use Rattle.rules.proofs.Figures.{few-at-once, reservation-is, sum-is}
+use Rattle.rules.proofs.LevelTest.{test-holds}
 use Rattle.rules.proofs.Count.{rounded-up-le, count-plain, count-average, count-none}
 use Rattle.connections.specs.Within.{Within, Sums-with, bound-in, share-of, most-share}
 use Rattle.connections.proofs.OwnerLaws.{sum-joining}
@@ -256,6 +257,20 @@ module _ (l : Link) (cs : List Connection) where
     pub test-end : l .levels < m → record { level = 0; units = 0 } ≡ short-from l cs m (l .levels + 1 - m)
     test-end h = let e : l .levels + 1 - m ≡ 0 = omega arith in ap (short-from l cs m) (sym e)
 
+  -- sums from level m on that are not
+  tests-next : (m k : ℕ) → ((j : ℕ) → m ≤ j → j < m + k → j ≤ l .levels → level-sum l cs j ≤ bound l j)
+      → short-from l cs (m + k) (l .levels + 1 - (m + k)) ≡ short-from l cs m (l .levels + 1 - m)
+  tests-next m zero h = let e : m + 0 ≡ m = omega arith in rw e
+  tests-next m (suc k) h =
+      let e : m + suc k ≡ m + k + 1 = omega arith in
+      rw e (⊎-elim within-levels above (split (m + k) (l .levels)) ∙ tests-next m k (λ j a b. h j a (omega arith)))
+    where
+      within-levels : m + k ≤ l .levels → short-from l cs (m + k + 1) (l .levels + 1 - (m + k + 1)) ≡ short-from l cs (m + k) (l .levels + 1 - (m + k))
+      within-levels a = test-next (m + k) a _ _ refl refl (h (m + k) (omega arith) (omega arith) a)
+
+      above : l .levels < m + k → short-from l cs (m + k + 1) (l .levels + 1 - (m + k + 1)) ≡ short-from l cs (m + k) (l .levels + 1 - (m + k))
+      above a = sym (test-end (m + k + 1) (omega arith)) ∙ test-end (m + k) a
+
 -- it hangs on the sums alone
 module _ (l : Link) (cs ds : List Connection) (e : (m : ℕ) → m ≤ l .levels → level-sum l cs m ≡ level-sum l ds m) where
   short-same : (m k : ℕ) → m + k ≤ l .levels + 1 → short-from l cs m k ≡ short-from l ds m k
@@ -272,6 +287,15 @@ module _ (l : Link) (cs ds : List Connection) (e : (m : ℕ) → m ≤ l .levels
 pub sum-with : (l : Link) (cs js : List Connection) (x : Connection) → Sums-with l cs x js → (m s : ℕ) → m ≤ l .levels
     → s ≡ load l cs m (bound l m) + share-of l m (bound l m) x + cost l (l .largest) → s ≡ level-sum l js m
 sum-with l cs js x S m s h e = e ∙ sym (S m h)
+
+-- levels below its own, whose sums it leaves as they are, pass with it where they pass without it
+pub test-low : (l : Link) (cs js : List Connection) (x : Connection) → passes l cs ≡ true → 1 ≤ x .level → Sums-with l cs x js → short-from l js (x .level) (l .levels + 1 - x .level) ≡ level-test l js
+test-low l cs js x p o S =
+    let e : 1 + (x .level - 1) ≡ x .level = omega arith in
+    subst (λ (k : ℕ). short-from l js k (l .levels + 1 - k) ≡ short-from l js 1 (l .levels + 1 - 1)) e (tests-next l js 1 (x .level - 1) low) ∙ test-start l js
+  where
+    low : (j : ℕ) → 1 ≤ j → j < 1 + (x .level - 1) → j ≤ l .levels → level-sum l js j ≤ bound l j
+    low j a b h = omega (arith, S j h, sum-is l cs j, share-none l j (bound l j) x (omega arith), test-holds l cs p j a h)
 
 -- a level above all others adds to no sum
 pub sums-above : (l : Link) (cs : List Connection) (x : Connection) → l .levels < x .level → Sums-with l cs x cs

@@ -34,13 +34,13 @@ bound-in ds (suc m) = getD ds m 0
 abbrev pub share-at : Link → Connection → ℕ → ℕ
 share-at l x k = share-of l (suc k) (bound l (suc k)) x
 
--- .. sums to which the shares of a connection were added
-abbrev pub Added : Link → Connection → List ℕ → List ℕ → Type 0
-Added l x before after = (k : ℕ) → k < l .levels → (getD after k 0 ≡ getD before k 0 + share-at l x k) × (share-at l x k ≤ most-share)
+-- .. sums to which from place `low` on the shares of a connection were added
+abbrev pub Added : Link → ℕ → Connection → List ℕ → List ℕ → Type 0
+Added l low x before after = (k : ℕ) → low ≤ k → k < l .levels → (getD after k 0 ≡ getD before k 0 + share-at l x k) × (share-at l x k ≤ most-share)
 
 -- .. and those over all connections
-abbrev pub Loads : Link → List Connection → List ℕ → Type 0
-Loads l cs sums = (k : ℕ) → k < l .levels → (getD sums k 0 ≡ load l cs (suc k) (bound l (suc k))) × (getD sums k 0 ≤ max-connections * most-share)
+abbrev pub Loads : Link → ℕ → List Connection → List ℕ → Type 0
+Loads l low cs sums = (k : ℕ) → low ≤ k → k < l .levels → (getD sums k 0 ≡ load l cs (suc k) (bound l (suc k))) × (getD sums k 0 ≤ max-connections * most-share)
 
 -- the sums of the connections js are those of cs with the share of a newcomer x
 abbrev pub Sums-with : Link → List Connection → Connection → List Connection → Type 0

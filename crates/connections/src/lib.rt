@@ -13,7 +13,7 @@ ghost use lib.Seq.{sets};
 ghost use Rattle.rules.specs.declared.Connection.{Connection as Figures};
 ghost use Rattle.rules.specs.Limits.{max-levels, max-largest, max-silence, max-bound, max-connections, beyond-32-bits};
 ghost use Rattle.rules.specs.Model.{no-short, nth, no-past, no-connection};
-ghost use Rattle.rules.specs.Admission.{link-within, bound, burst, rounded-up, average-count, count, reservation, reserved, cost, level-test, owned, free-number, joining};
+ghost use Rattle.rules.specs.Admission.{link-within, bound, burst, rounded-up, average-count, count, reservation, reserved, cost, short-from, level-test, passes, owned, free-number, joining};
 ghost use Rattle.rules.specs.Service.{remember};
 ghost use Rattle.limits.specs.Zeros.{zeros};
 ghost use Rattle.tables.specs.Table.{row-in};
@@ -385,33 +385,43 @@ pub fn connection_at(members: &[u32], i: usize) -> Connection
     figures_at(members, i)
 }
 
-// To the sum of each level from its own on the share of a connection; a free number, which has no gap, adds nothing.
-fn add_shares(l: Link, bounds: &[u32], x: Connection, sums: &mut [u64])
+// The larger of two places.
+fn larger(i: usize, k: usize) -> usize
+    ensures { λ r. ⌜ r ≡ max i k ⌝ }
+{
+    if i < k {
+        return k;
+    }
+    i
+}
+
+// To the sum of each level from place `low` and from its own level on the share of a connection; a free number, which has no gap, adds nothing.
+fn add_shares(l: Link, bounds: &[u32], x: Connection, low: usize, sums: &mut [u64])
     requires { ⌜ (x .level ≡ 0 → x ≡ no-connection) × ((x .level ≡ 0 → ⊥) → 1 ≤ x .gap) × (x .size ≤ max-largest) × (link-within l ≡ true) × (now bounds ≡ l .bounds) × (length (now bounds) ≡ max-levels) ⌝ }
-    requires { ⌜ (length (now sums) ≡ max-levels) × ((k : ℕ) → k < l .levels → getD (now sums) k 0 ≤ max-connections * most-share) ⌝ }
-    ensures { λ r. ⌜ Added l x (now (sums .entry)) (now (sums .exit)) ⌝ }
+    requires { ⌜ (length (now sums) ≡ max-levels) × ((k : ℕ) → low ≤ k → k < l .levels → getD (now sums) k 0 ≤ max-connections * most-share) ⌝ }
+    ensures { λ r. ⌜ Added l low x (now (sums .entry)) (now (sums .exit)) ⌝ }
 {
     if x.gap == 0 {
         return;
     }
     let cost = cost_of(x.size, l.silence);
     let levels = l.levels as usize;
-    let mut k = (x.level - 1) as usize;
+    let mut k = larger(low, (x.level - 1) as usize);
     while k < levels {
         sums[k] = sums[k] + count_in(x, bounds[k]) * cost;
         k += 1;
     }
 }
 
-// To the sum of each level, none so far, the shares of the connections, which have owners up to row n at most.
-fn add_all(l: Link, bounds: &[u32], members: &[u32], n: usize, sums: &mut [u64])
+// To the sum of each level from place `low` on, none so far, the shares of the connections, which have owners up to row n at most.
+fn add_all(l: Link, bounds: &[u32], members: &[u32], n: usize, low: usize, sums: &mut [u64])
     requires { ⌜ (length (now members) ≡ members-length) × (used-by (connections-in (now members)) ≤ n) × (n ≤ max-connections) × Within l (connections-in (now members)) × (now bounds ≡ l .bounds) × (length (now bounds) ≡ max-levels) × (now sums ≡ replicate max-levels 0) ⌝ }
-    ensures { λ r. ⌜ Loads l (connections-in (now (members .entry))) (now (sums .exit)) ⌝ }
+    ensures { λ r. ⌜ Loads l low (connections-in (now (members .entry))) (now (sums .exit)) ⌝ }
 {
     let mut c: usize = 0;
     while c < n {
         let x = connection_at(members, c);
-        add_shares(l, bounds, x, sums);
+        add_shares(l, bounds, x, low, sums);
         c += 1;
     }
 }
@@ -433,15 +443,16 @@ pub fn no_short() -> Short
     Short { level: 0, units: 0 }
 }
 
-// The level test over the connections, which have owners up to row n at most, and a newcomer: that of any connections whose sums are these.
-pub fn level_test(l: Link, members: &[u32], n: usize, x: Connection) -> Short
-    requires { ⌜ (length (now members) ≡ members-length) × (used-by (connections-in (now members)) ≤ n) × (n ≤ max-connections) × (1 ≤ x .level) × (1 ≤ x .gap) × (x .size ≤ max-largest) × Within l (connections-in (now members)) ⌝ }
-    ensures { λ r. ⌜ ((js : List Figures) → Sums-with l (connections-in (now (members .entry))) x js → r ≡ level-test l js) ⌝ }
+// The level test from level `low` on, over the connections, which have owners up to row n at most, and a newcomer.
+fn test_from(l: Link, members: &[u32], n: usize, x: Connection, low: u32) -> Short
+    requires { ⌜ (length (now members) ≡ members-length) × (used-by (connections-in (now members)) ≤ n) × (n ≤ max-connections) × (1 ≤ x .level) × (1 ≤ x .gap) × (x .size ≤ max-largest) × Within l (connections-in (now members)) × (1 ≤ low) ⌝ }
+    ensures { λ r. ⌜ ((js : List Figures) → Sums-with l (connections-in (now (members .entry))) x js → r ≡ short-from l js low (l .levels + 1 - low)) ⌝ }
 {
+    let place = (low - 1) as usize;
     let bounds = l.bounds;
     let mut sums = [0u64; MAX_LEVELS as usize];
-    add_all(l, &bounds, members, n, &mut sums);
-    let mut m: u32 = 1;
+    add_all(l, &bounds, members, n, place, &mut sums);
+    let mut m = low;
     while m <= l.levels {
         let d = bound_of(l, m);
         let sum = sum_at(l, &sums, x, m);
@@ -454,6 +465,22 @@ pub fn level_test(l: Link, members: &[u32], n: usize, x: Connection) -> Short
         m += 1;
     }
     Short { level: 0, units: 0 }
+}
+
+// The level test over the connections, which have owners up to row n at most, and a newcomer: that of any connections whose sums are these.
+pub fn level_test(l: Link, members: &[u32], n: usize, x: Connection) -> Short
+    requires { ⌜ (length (now members) ≡ members-length) × (used-by (connections-in (now members)) ≤ n) × (n ≤ max-connections) × (1 ≤ x .level) × (1 ≤ x .gap) × (x .size ≤ max-largest) × Within l (connections-in (now members)) ⌝ }
+    ensures { λ r. ⌜ ((js : List Figures) → Sums-with l (connections-in (now (members .entry))) x js → r ≡ level-test l js) ⌝ }
+{
+    test_from(l, members, n, x, 1)
+}
+
+// The same, where the connections pass the test without the newcomer: it adds nothing to the sums of the levels below its own, so that these are not made.
+pub fn newcomer_test(l: Link, members: &[u32], n: usize, x: Connection) -> Short
+    requires { ⌜ (length (now members) ≡ members-length) × (used-by (connections-in (now members)) ≤ n) × (n ≤ max-connections) × (1 ≤ x .level) × (1 ≤ x .gap) × (x .size ≤ max-largest) × Within l (connections-in (now members)) × (passes l (connections-in (now members)) ≡ true) ⌝ }
+    ensures { λ r. ⌜ ((js : List Figures) → Sums-with l (connections-in (now (members .entry))) x js → r ≡ level-test l js) ⌝ }
+{
+    test_from(l, members, n, x, x.level)
 }
 
 // The level test over the connections, which have owners up to row n at most. Nobody new is counted: a connection of a level above all others adds to no sum.

@@ -1,8 +1,8 @@
 -- The choice made in one pass upward is the choice of the rules.
-use Prim.Native.Nat.{ℕ, suc, _≤_, _<_, _+_}
+use Prim.Native.Nat.{ℕ, zero, suc, _≤_, _<_, _+_, _-_}
 use native.Mathlib.Omega.{arith}
 use native.Mathlib.Numerals.{add-one}
-use mathlib.Core.Path.{_≡_, refl, sym, ap, _∙_}
+use mathlib.Core.Path.{_≡_, refl, sym, ap, _∙_, subst}
 use mathlib.Core.Bool.{Bool, true, false, cond}
 use mathlib.Core.List.{List, _∷_}
 use mathlib.Core.Option.{Option, none, some}
@@ -16,7 +16,7 @@ use Rattle.rules.proofs.Tests.{and-true, and-cases, or-cases, or-false, not-tru
 use Rattle.tables.specs.Places.{rows, row-at, no-packet}
 use Rattle.tables.proofs.PlacesLaws.{rows-from}
 use Rattle.service.specs.declared.Best.{Best}
-use Rattle.service.specs.Candidates.{option, best-of, candidate, ahead}
+use Rattle.service.specs.Candidates.{option, best-of, candidate, ahead, Not-eligible}
 
 -- what was given is read back
 pub option-back : (o : Option Packet) → option (best-of o) ≡ o
@@ -105,6 +105,24 @@ module _ (level : ℕ → ℕ) where
               ∙ ap (ahead level (option b)) (sym (choice-cons p rest) ∙ ap (λ (q : Packet). choice level clock (q ∷ rest)) e ∙ ap (choice level clock) (sym (rows-from t i l)))
               ∙ w .1),
         )
+
+    -- a row that is not eligible changes no choice, and neither do rows of which none is
+    passed-row : (t : List ℕ) (i : ℕ) → i < length (rows t) → clock < row-at t i .eligibility → choice level clock (drop i (rows t)) ≡ choice level clock (drop (suc i) (rows t))
+    passed-row t i l h =
+        ap (choice level clock) (rows-from t i l)
+        ∙ choice-cons (row-at t i) (drop (suc i) (rows t))
+        ∙ rw (lt-leb (row-at t i .eligibility) clock h)
+
+    passed-rows : (t : List ℕ) (i k : ℕ) → i + k ≤ length (rows t) → Not-eligible t clock i (i + k) → choice level clock (drop i (rows t)) ≡ choice level clock (drop (i + k) (rows t))
+    passed-rows t i zero l h = let e : i + 0 ≡ i = omega arith in rw e
+    passed-rows t i (suc k) l h =
+        let e : i + suc k ≡ suc (i + k) = omega arith in
+        rw e (passed-rows t i k (omega arith) (λ j a b. h j a (omega arith)) ∙ passed-row t (i + k) (omega arith) (h (i + k) (omega arith) (omega arith)))
+
+    pub pass : (t : List ℕ) (i r : ℕ) (b : Best) → i ≤ r → r ≤ length (rows t) → Not-eligible t clock i r → Walked t i b → Walked t r b
+    pass t i r b a l h w =
+        let e : i + (r - i) ≡ r = omega arith in
+        (w .0, ap (ahead level (option b)) (sym (subst (λ (j : ℕ). choice level clock (drop i (rows t)) ≡ choice level clock (drop j (rows t))) e (passed-rows t i (r - i) (omega arith) (λ j u v. h j u (omega arith))))) ∙ w .1)
 
     -- no row is left
     pub walked : (t : List ℕ) (i : ℕ) (b : Best) → i ≡ length (rows t) → Walked t i b → b ≡ best-of (choice level clock (rows t))

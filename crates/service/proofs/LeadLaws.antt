@@ -2,16 +2,18 @@
 use Prim.Native.Nat.{ℕ, _+_, _*_, _≤_, _<_}
 use native.Mathlib.Omega.{arith}
 use mathlib.Core.Path.{_≡_, refl, sym, ap, subst}
-use mathlib.Core.Bool.{true, false, cond}
+use mathlib.Core.Bool.{Bool, true, false, cond}
 use mathlib.Core.List.{List}
 use mathlib.Core.Option.{none, some}
-use lib.ListN.{length}
+use lib.Dec.{ltb}
+use lib.ListN.{length, getD}
+use borrow.Author.Tests.{ltb-true, ltb-false}
 use Rattle.rules.specs.declared.Packet.{Packet}
 use Rattle.rules.proofs.Tests.{never}
 use Rattle.tables.specs.Places.{row-at}
 use Rattle.service.specs.declared.Best.{Best}
 use Rattle.service.specs.declared.Lead.{Lead}
-use Rattle.service.specs.Candidates.{option, best-of, candidate, ahead, level-in, named, Leads, Leads-with}
+use Rattle.service.specs.Candidates.{option, best-of, candidate, ahead, level-in, named, Leads, Leads-with, Not-eligible}
 use Rattle.service.proofs.ChoiceLaws as L
 
 module _ (t : List ℕ) (l : Lead) where
@@ -70,3 +72,35 @@ module _ (cs t : List ℕ) (clock : ℕ) (l : Lead) (i : ℕ) (W : Leads cs t l)
 
       pub earlier-comes : l .level ≡ y → p .eligibility < l .eligibility → Leads-with cs t clock l i it
       earlier-comes u v = comes (L.earlier-comes (level-in cs) clock p best h refl (W .level f) ey u (omega (arith, W .eligibility f)))
+
+-- ---- rows that are passed over
+
+module _ (t : List ℕ) (clock i : ℕ) where
+  pub none-passed : Not-eligible t clock i i
+  none-passed = λ j a b. absurd (omega arith)
+
+  -- one more row, whose eligibility is number k of the table
+  one-more : (j r k : ℕ) → r ≡ j + 1 → k ≡ 5 * j + 4 → Not-eligible t clock i j → clock < getD t k 0 → Not-eligible t clock i r
+  one-more j r k e f h l = λ m a b. go m a b (ltb m j) refl
+    where
+      go : (m : ℕ) → i ≤ m → m < r → (u : Bool) → ltb m j ≡ u → clock < row-at t m .eligibility
+      go m a b true d = h m a (ltb-true m j d)
+      go m a b false d =
+          let v : m ≡ j = omega (arith, ltb-false m j d) in
+          let w : 5 * m + 4 ≡ k = omega arith in
+          rw w l
+
+  module _ (j : ℕ) (h : Not-eligible t clock i j) (a : clock < getD t (5 * j + 4) 0) where
+    pub one-passed : Not-eligible t clock i (j + 1)
+    one-passed = one-more j (j + 1) (5 * j + 4) refl refl h a
+
+    module _ (b : clock < getD t (5 * j + 9) 0) where
+      pub two-passed : Not-eligible t clock i (j + 2)
+      two-passed = one-more (j + 1) (j + 2) (5 * j + 9) (omega arith) (omega arith) one-passed b
+
+      module _ (d : clock < getD t (5 * j + 14) 0) where
+        pub three-passed : Not-eligible t clock i (j + 3)
+        three-passed = one-more (j + 2) (j + 3) (5 * j + 14) (omega arith) (omega arith) two-passed d
+
+        pub four-passed : clock < getD t (5 * j + 19) 0 → Not-eligible t clock i (j + 4)
+        four-passed e = one-more (j + 3) (j + 4) (5 * j + 19) (omega arith) (omega arith) three-passed e

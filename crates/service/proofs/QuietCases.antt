@@ -19,10 +19,10 @@ use Rattle.rules.specs.SoundTest.{sound}
 use Rattle.rules.proofs.Tests.{never}
 use Rattle.rules.proofs.SoundExact.{exact}
 use Rattle.connections.specs.Members.{first-closed}
-use Rattle.tables.specs.Places.{rows}
+use Rattle.tables.specs.Places.{rows, row-at}
 use Rattle.tables.proofs.PlacesLaws.{rows-stop, rows-more, rows-from}
 use Rattle.state.specs.Told.{is-some}
-use Rattle.service.specs.Quiet.{first-eligible, first-starts, quiet-for, charged-for, quiet-ticks}
+use Rattle.service.specs.Quiet.{first-eligible, least-of-four, Waits, first-starts, quiet-for, charged-for, quiet-ticks}
 use Rattle.service.proofs.QuietLaws.{Quiets, quiets}
 
 -- ---- the first eligibility, row by row
@@ -31,32 +31,65 @@ pub first-eligible-le : (ps : List Packet) → first-eligible ps ≤ clock-end
 first-eligible-le [] = omega arith
 first-eligible-le (p ∷ ps) = omega (arith, first-eligible-le ps)
 
--- `first` of the rows before row i, and those from there on
-abbrev pub Seen : List ℕ → ℕ → ℕ → Type 0
-Seen t first i = min first (first-eligible (drop i (rows t))) ≡ first-eligible (rows t)
+-- four eligibilities, as the code reads them
+pub least-read : (t : List ℕ) (i : ℕ) {a b r : ℕ} → a ≡ min (getD t (5 * i + 4) 0) (getD t (5 * i + 9) 0) → b ≡ min (getD t (5 * i + 14) 0) (getD t (5 * i + 19) 0) → r ≡ min a b → r ≡ least-of-four t i
+least-read t i e f g =
+    let x : 5 * (i + 1) + 4 ≡ 5 * i + 9 = omega arith in
+    let y : 5 * (i + 2) + 4 ≡ 5 * i + 14 = omega arith in
+    let z : 5 * (i + 3) + 4 ≡ 5 * i + 19 = omega arith in
+    rw (g, e, f, x, y, z)
+
+least-of-three : (a b c : ℕ) → min (min a b) c ≡ min a (min b c)
+least-of-three a b c = omega arith
+
+least-of-five : (a b c d r : ℕ) → min a (min b (min c (min d r))) ≡ min (min (min a b) (min c d)) r
+least-of-five a b c d r = sym (least-of-three (min a b) (min c d) r ∙ least-of-three a b (min (min c d) r) ∙ ap (λ (k : ℕ). min a (min b k)) (least-of-three c d r))
 
 module _ (t : List ℕ) where
-  pub seen-none : Seen t clock-end 0
-  seen-none = omega (arith, first-eligible-le (rows t))
+  next-row : (i j : ℕ) → i < length (rows t) → j ≡ i + 1 → first-eligible (drop i (rows t)) ≡ min (row-at t i .eligibility) (first-eligible (drop j (rows t)))
+  next-row i j h e = let k : j ≡ suc i = omega arith in rw k (ap first-eligible (rows-from t i h))
 
-  -- at the end
-  pub seen-all : (first i : ℕ) → first ≤ clock-end → i ≡ length (rows t) → Seen t first i → first ≡ first-eligible (rows t)
-  seen-all first i l e s =
-      let k : first-eligible (drop i (rows t)) ≡ clock-end = rw e (ap first-eligible (drop-length (rows t))) in
-      omega arith
+  abbrev e : ℕ → ℕ
+  e j = row-at t j .eligibility
 
-  module _ (i : ℕ) (h : i < length (rows t)) where
-    next-row : first-eligible (drop i (rows t)) ≡ min (getD t (5 * i + 4) 0) (first-eligible (drop (suc i) (rows t)))
-    next-row = ap first-eligible (rows-from t i h)
+  -- .. and the next four
+  next-four : (i : ℕ) → i + 4 ≤ length (rows t) → first-eligible (drop i (rows t)) ≡ min (least-of-four t i) (first-eligible (drop (i + 4) (rows t)))
+  next-four i h =
+      next-row i (i + 1) (omega arith) refl
+      ∙ ap (min (e i)) (next-row (i + 1) (i + 2) (omega arith) (omega arith))
+      ∙ ap (λ (k : ℕ). min (e i) (min (e (i + 1)) k)) (next-row (i + 2) (i + 3) (omega arith) (omega arith))
+      ∙ ap (λ (k : ℕ). min (e i) (min (e (i + 1)) (min (e (i + 2)) k))) (next-row (i + 3) (i + 4) (omega arith) (omega arith))
+      ∙ least-of-five (e i) (e (i + 1)) (e (i + 2)) (e (i + 3)) (first-eligible (drop (i + 4) (rows t)))
 
-    pub seen-more : (first : ℕ) → Seen t first i → Seen t (min first (getD t (5 * i + 4) 0)) (i + 1)
-    seen-more first s =
-        let e : i + 1 ≡ suc i = omega arith in
-        rw e (omega (arith, next-row))
+  module _ (clock : ℕ) where
+    pub waits-none : Waits t clock clock-end 0
+    waits-none = omega (arith, first-eligible-le (rows t))
 
-    -- a row that is eligible: nothing to wait for
-    pub seen-now : (first clock : ℕ) → Seen t first i → getD t (5 * i + 4) 0 ≤ clock → 0 ≡ first-eligible (rows t) - clock
-    seen-now first clock s l = omega (arith, next-row)
+    -- rows are taken in of which x is the least eligibility
+    taken-in : (i j first x : ℕ) → first-eligible (drop i (rows t)) ≡ min x (first-eligible (drop j (rows t))) → Waits t clock first i → Waits t clock (min first x) j
+    taken-in i j first x e w = ap (λ (k : ℕ). k - clock) (least-of-three first x (first-eligible (drop j (rows t))) ∙ ap (min first) (sym e)) ∙ w
+
+    pub waits-more : (i first : ℕ) → i < length (rows t) → Waits t clock first i → Waits t clock (min first (row-at t i .eligibility)) (i + 1)
+    waits-more i first h = taken-in i (i + 1) first (row-at t i .eligibility) (next-row i (i + 1) h refl)
+
+    pub waits-four : (i first : ℕ) → i + 4 ≤ length (rows t) → Waits t clock first i → Waits t clock (min first (least-of-four t i)) (i + 4)
+    waits-four i first h = taken-in i (i + 4) first (least-of-four t i) (next-four i h)
+
+    -- four rows from row 4 * j on, where the code has their least as x and the new one as y
+    pub waits-fours : (j first : ℕ) {x y : ℕ} → y ≡ min first x → x ≡ least-of-four t (4 * j) → 4 * (j + 1) ≤ length (rows t) → Waits t clock first (4 * j) → Waits t clock y (4 * (j + 1))
+    waits-fours j first e f h w =
+        let k : 4 * (j + 1) ≡ 4 * j + 4 = omega arith in
+        rw (e, f, k) (waits-four (4 * j) first (omega arith) w)
+
+    -- a row that is eligible: nothing to wait for, whatever stands in the rows behind it
+    pub waits-now : (first i k : ℕ) → first ≤ clock → Waits t clock first i → Waits t clock first k
+    waits-now first i k l w = omega arith
+
+    -- at the end
+    pub waits-all : (first i : ℕ) → first ≤ clock-end → i ≡ length (rows t) → Waits t clock first i → first - clock ≡ first-eligible (rows t) - clock
+    waits-all first i l e w =
+        let k : first-eligible (drop i (rows t)) ≡ clock-end = rw e (ap first-eligible (drop-length (rows t))) in
+        omega arith
 
 -- ---- the first row by itself
 

@@ -1,5 +1,5 @@
 -- The choice as one pass upward: the best packet so far, and the next one of the rows; and who may send early. Document 01, "One tick", step 1; document 02, R-11.
-use Prim.Native.Nat.{ℕ, _+_, _*_, _≤_}
+use Prim.Native.Nat.{ℕ, _+_, _*_, _≤_, _<_}
 use mathlib.Core.Path.{_≡_}
 use mathlib.Core.Bool.{Bool, true, cond}
 use mathlib.Core.List.{List}
@@ -57,3 +57,7 @@ pub record Leads (cs t : List ℕ) (l : Lead) : Type 0 where
 -- what is named once row i, which was offered later, is taken in
 abbrev pub Leads-with : List ℕ → List ℕ → ℕ → Lead → ℕ → Lead → Type 0
 Leads-with cs t clock l i r = (named t r ≡ best-of (ahead (level-in cs) (option (named t l)) (candidate clock (row-at t i)))) × Leads cs t r
+
+-- of the rows from row i on, those before row r are not eligible
+abbrev pub Not-eligible : List ℕ → ℕ → ℕ → ℕ → Type 0
+Not-eligible t clock i r = (j : ℕ) → i ≤ j → j < r → clock < row-at t j .eligibility

@@ -1,10 +1,12 @@
 -- QUIET TICKS: those in which nothing starts, nothing departs and no charge ends, so that many can be passed over at once. Document 01, "One tick"; document 02,
 -- R-1, R-4, R-8 and R-11.
 use Prim.Native.Nat.{ℕ, zero, suc, _+_, _-_, min}
+use mathlib.Core.Path.{_≡_}
 use mathlib.Core.Bool.{Bool, false, not, cond, _&&_}
 use mathlib.Core.List.{List, [], _∷_}
 use mathlib.Core.Option.{Option, none, some}
 use lib.Dec.{eqb, leb}
+use lib.ListN.{drop}
 use Rattle.rules.specs.declared.Packet.{Packet}
 use Rattle.rules.specs.declared.Notice.{Notice}
 use Rattle.rules.specs.Limits.{clock-end}
@@ -12,6 +14,7 @@ use Rattle.rules.specs.Model.{State, with-clock, with-line}
 use Rattle.rules.specs.Admission.{largest-bound}
 use Rattle.rules.specs.Service.{stand-by}
 use Rattle.rules.specs.SoundTest.{sound}
+use Rattle.tables.specs.Places.{rows, row-at}
 use Rattle.connections.specs.Members.{first-closed}
 
 -- the state k ticks on, where nothing starts and nothing departs in them: what is in service, if anything is, has k units fewer to go, and a silence k ticks
@@ -22,6 +25,14 @@ passed s k = with-line (with-clock s (s .clock + k)) (s .serving) (s .to-go - k)
 abbrev pub first-eligible : List Packet → ℕ
 first-eligible [] = clock-end
 first-eligible (p ∷ ps) = min (p .eligibility) (first-eligible ps)
+
+-- the least eligibility of four rows from row i on
+abbrev pub least-of-four : List ℕ → ℕ → ℕ
+least-of-four t i = min (min (row-at t i .eligibility) (row-at t (i + 1) .eligibility)) (min (row-at t (i + 2) .eligibility) (row-at t (i + 3) .eligibility))
+
+-- with `first` for the rows before row i, the wait is that of all rows
+abbrev pub Waits : List ℕ → ℕ → ℕ → ℕ → Type 0
+Waits t clock first i = min first (first-eligible (drop i (rows t))) - clock ≡ first-eligible (rows t) - clock
 
 -- the first of some packets is eligible
 abbrev pub first-starts : List Packet → ℕ → Bool

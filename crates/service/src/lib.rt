@@ -12,7 +12,7 @@ ghost use Rattle.rules.specs.Service.{choice, first-early, started, after-unit,
 ghost use lib.ListN.{length};
 ghost use Rattle.tables.specs.Places.{rows, written-places, places-length};
 ghost use Rattle.connections.specs.Members.{members-length};
-ghost use Rattle.service.specs.Candidates.{best-of, level-in, early-in, Leads, Leads-with};
+ghost use Rattle.service.specs.Candidates.{best-of, level-in, early-in, Leads, Leads-with, Not-eligible};
 ghost use Rattle.state.specs.View.{Tables, tables, before, view, hub-of};
 ghost use Rattle.service.specs.Gives.{passed-on, Gives};
 ghost use Rattle.service.specs.Ready.{In-place, Ready};
@@ -69,6 +69,31 @@ fn lead_with(members: &[u32], places: &[u32], lead: Lead, i: usize, clock: u32) 
     next
 }
 
+// The next of n rows, from row i on, that is to be looked at: those from i to there are not eligible. Four rows a turn; the last three at most are left.
+fn passed_over(places: &[u32], n: usize, i: usize, clock: u32) -> usize
+    requires { ⌜ (i ≤ n) × (5 * n ≤ length (now places)) ⌝ }
+    ensures { λ r. ⌜ (i ≤ r) × (r ≤ n) × Not-eligible (now (places .entry)) clock i r ⌝ }
+{
+    let mut j = i;
+    while j + 4 <= n {
+        let at = PACKET_WIDTH * j;
+        if places[at + 4] <= clock {
+            return j;
+        }
+        if places[at + 9] <= clock {
+            return j + 1;
+        }
+        if places[at + 14] <= clock {
+            return j + 2;
+        }
+        if places[at + 19] <= clock {
+            return j + 3;
+        }
+        j += 4;
+    }
+    j
+}
+
 // The packet that the line takes next, if one is eligible. One pass upward over the held rows.
 pub fn choose(members: &[u32], places: &[u32], clock: u32) -> Best
     requires { ⌜ (now places ≡ written-places (rows (now places))) × (length (now places) ≡ places-length) × (length (now members) ≡ members-length) ⌝ }
@@ -81,10 +106,10 @@ pub fn choose(members: &[u32], places: &[u32], clock: u32) -> Best
         level: 0,
         eligibility: 0,
     };
-    let mut i: usize = 0;
+    let mut i = passed_over(places, n, 0, clock);
     while i < n {
         lead = lead_with(members, places, lead, i, clock);
-        i += 1;
+        i = passed_over(places, n, i + 1, clock);
     }
     if !lead.found {
         return Best {

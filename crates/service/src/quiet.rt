@@ -1,7 +1,7 @@
 // Quiet ticks, in which no charge ends either: how many of those asked for can be passed over at once, and the hub after them.
 ghost use mathlib.Core.Path.{_≡_};
 ghost use mathlib.Core.Bool.{true};
-ghost use Prim.Native.Nat.{_+_, _-_, _≤_, min};
+ghost use Prim.Native.Nat.{_+_, _*_, _-_, _≤_, min};
 ghost use lib.ListN.{length};
 ghost use Rattle.rules.specs.Limits.{clock-end};
 ghost use Rattle.rules.specs.Admission.{bound};
@@ -12,7 +12,7 @@ ghost use Rattle.tables.specs.Notices.{notices-in};
 ghost use Rattle.connections.specs.Members.{members-length, first-in, members-formed};
 ghost use Rattle.state.specs.View.{Tables, given, before, view, hub-of};
 ghost use Rattle.service.specs.Candidates.{early-in};
-ghost use Rattle.service.specs.Quiet.{passed, first-eligible, first-starts, quiet-for, charged-for, quiet-ticks};
+ghost use Rattle.service.specs.Quiet.{passed, first-eligible, least-of-four, Waits, first-starts, quiet-for, charged-for, quiet-ticks};
 use super::stand_by;
 use super::without;
 use limits::CLOCK_END;
@@ -29,21 +29,46 @@ fn least(a: u32, b: u32) -> u32
     b
 }
 
-// How long no packet becomes eligible: up to the clock's end, and not at all where one is.
+// The least eligibility of four rows from row i on.
+fn least_of_four(places: &[u32], i: usize) -> u32
+    requires { ⌜ 5 * i + 20 ≤ length (now places) ⌝ }
+    ensures { λ r. ⌜ r ≡ least-of-four (now (places .entry)) i ⌝ }
+{
+    let at = PACKET_WIDTH * i;
+    let a = least(places[at + 4], places[at + 9]);
+    let b = least(places[at + 14], places[at + 19]);
+    least(a, b)
+}
+
+// The least eligibility of the first 4 * q rows, or the clock's end where that is less; one that is not later than the clock where a row is eligible.
+fn first_of_fours(places: &[u32], q: usize, clock: u32) -> u32
+    requires { ⌜ 4 * q ≤ length (rows (now places)) ⌝ }
+    ensures { λ r. ⌜ (r ≤ clock-end) × Waits (now (places .entry)) clock r (4 * q) ⌝ }
+{
+    let mut first = CLOCK_END;
+    let mut j: usize = 0;
+    while j < q {
+        first = least(first, least_of_four(places, 4 * j));
+        // it starts at once: no look at the rows behind it
+        if first <= clock {
+            return first;
+        }
+        j += 1;
+    }
+    first
+}
+
+// How long no packet becomes eligible: up to the clock's end, and not at all where one is. Four rows a turn, then the last three at most one by one.
 fn wait(places: &[u32], clock: u32) -> u32
     requires { ⌜ (now places ≡ written-places (rows (now places))) × (length (now places) ≡ places-length) ⌝ }
     ensures { λ r. ⌜ r ≡ first-eligible (rows (now (places .entry))) - clock ⌝ }
 {
     let n = tables::count(places);
-    let mut first = CLOCK_END;
-    let mut i: usize = 0;
+    let q = n / 4;
+    let mut first = first_of_fours(places, q, clock);
+    let mut i = 4 * q;
     while i < n {
-        let e = places[PACKET_WIDTH * i + 4];
-        // it starts at once: no look at the rows behind it
-        if e <= clock {
-            return 0;
-        }
-        first = least(first, e);
+        first = least(first, places[PACKET_WIDTH * i + 4]);
         i += 1;
     }
     without(first, clock)

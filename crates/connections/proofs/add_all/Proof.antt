@@ -12,16 +12,16 @@ use Rattle.connections.proofs.add_all.Statement.{statement}
 use Rattle.connections.proofs.add_all.Tie as tie
 
 abbrev Inv-loop : tie.InvT-loop
-Inv-loop l bounds members n sums₀ j₀ sums j = (j ≤ n) × (length sums ≡ max-levels) × S.Added-first l (connections-in members) j sums
+Inv-loop l bounds members n low sums₀ j₀ sums j = (j ≤ n) × (length sums ≡ max-levels) × S.Added-first l low (connections-in members) j sums
 
 abbrev μ-loop : tie.MeasureT-loop
-μ-loop l bounds members n sums₀ j₀ sums j = n - j
+μ-loop l bounds members n low sums₀ j₀ sums j = n - j
 
 loop-holds : tie.Need-loop-holds Inv-loop μ-loop
 loop-holds c =
     let s = c .before .before .before in
     let a = s .args in
-    (search needs, S.zeros-length max-levels (a .sums .now) (s .pre .6), S.first-start (a .l) (connections-in (a .members .now)) max-levels (a .sums .now) (s .pre .6))
+    (search needs, S.zeros-length max-levels (a .sums .now) (s .pre .6), S.first-start (a .l) (a .low) (connections-in (a .members .now)) max-levels (a .sums .now) (s .pre .6))
 
 connection-at-requires : tie.Need-connection-at-requires Inv-loop μ-loop
 connection-at-requires c κs = search needs
@@ -32,7 +32,7 @@ add-shares-requires c κs =
     let a = s .args in
     let loop = c .before .before .before .loop in
     let k = L.entry-limits (a .l) (connections-in (a .members .now)) (s .pre .3) (loop .c) (c .before .connection-at .result) (c .before .connection-at .ensures) in
-    ((k .free-blank, k .owner-gap, k .size-most, s .pre .3 .link-in, s .pre .4, s .pre .5), (loop .inv .1, λ k h. omega (arith, loop .inv .2 .sum-le k h)))
+    ((k .free-blank, k .owner-gap, k .size-most, s .pre .3 .link-in, s .pre .4, s .pre .5), (loop .inv .1, λ k a h. omega (arith, loop .inv .2 .sum-le k a h)))
 
 add-c : tie.Need-add-c Inv-loop μ-loop
 add-c c = search needs
@@ -46,8 +46,8 @@ loop-again c =
     let a = s .args in
     let loop = c .before .before .before .before .before .before .loop in (
       omega arith,
-      c .before .before .add-shares .kept .1 .1 .1 .0 ∙ loop .inv .1,
-      S.first-next (a .l) (connections-in (a .members .now)) (loop .c) (c .before .before .before .before .connection-at .result) _ _ (loop .inv .2) (c .before .before .before .before .connection-at .ensures) (c .before .before .add-shares .ensures),
+      c .before .before .add-shares .kept .1 .1 .1 .1 .0 ∙ loop .inv .1,
+      S.first-next (a .l) (a .low) (connections-in (a .members .now)) (loop .c) (c .before .before .before .before .connection-at .result) _ _ (loop .inv .2) (c .before .before .before .before .connection-at .ensures) (c .before .before .add-shares .ensures),
     )
 
 same-length : tie.Need-same-length Inv-loop μ-loop
@@ -59,7 +59,7 @@ returns : tie.Need-returns Inv-loop μ-loop
 returns c =
     let s = c .before .before .before .before .before in
     let a = s .args in
-    S.first-all (a .l) (connections-in (a .members .now)) (s .pre .3) (c .before .loop .c) _ (c .before .loop .inv .2) (omega (arith, s .pre .1)) (omega (arith, M.connections-length (a .members .now))) (omega arith)
+    S.first-all (a .l) (a .low) (connections-in (a .members .now)) (s .pre .3) (c .before .loop .c) _ (c .before .loop .inv .2) (omega (arith, s .pre .1)) (omega (arith, M.connections-length (a .members .now))) (omega arith)
 
 pub add-all-spec : {M : Type 1} → statement M
 add-all-spec =

@@ -22,21 +22,21 @@ returns c =
     let t = tables (z .args .members .now) (z .args .places .now) (z .args .notices .now) in
     W.admit-early (z .args .h) t (z .pre .0) (z .args .x) (z .args .c) (z .pre .2) _ _ (c .before .before .admit-refusal .ensures) (c .before .if1 .taken) (c .no-short .ensures)
 
-level-test-requires : tie.Need-level-test-requires
-level-test-requires c κs =
+newcomer-test-requires : tie.Need-newcomer-test-requires
+newcomer-test-requires c κs =
     let z = c .before .before .before .before .before .before in
     let t = tables (z .args .members .now) (z .args .places .now) (z .args .notices .now) in
     let none = W.zero-then _ _ (c .before .admit-refusal .ensures) (omega (arith, c .if1 .left)) in
     let f = S.shapes t (S.formed-tables (z .args .h) t (z .pre .0)) .members-shape in
     let g = W.admit-figures (z .args .h) t (z .pre .0) (z .args .x) (z .args .c) (z .pre .2) none in
-    (S.members-size (z .args .h) t (z .pre .0), omega (arith, z .pre .1, used-is (z .args .members .now) f), omega (arith, z .pre .1, used-is (z .args .members .now) f, used-le (connections-in (z .args .members .now)), connections-length (z .args .members .now)), g .0, g .1, g .2, W.admit-within (z .args .h) t (z .pre .0) (z .args .x) (z .args .c) (z .pre .2) none)
+    (S.members-size (z .args .h) t (z .pre .0), omega (arith, z .pre .1, used-is (z .args .members .now) f), omega (arith, z .pre .1, used-is (z .args .members .now) f, used-le (connections-in (z .args .members .now)), connections-length (z .args .members .now)), g .0, g .1, g .2, W.admit-within (z .args .h) t (z .pre .0) (z .args .x) (z .args .c) (z .pre .2) none, W.admit-passes (z .args .h) t (z .pre .0) (z .args .x) (z .args .c) (z .pre .2) none)
 
 returns-2 : tie.Need-returns-2
 returns-2 c =
     let z = c .before .before .before .before .before .before .before .before .before in
     let t = tables (z .args .members .now) (z .args .places .now) (z .args .notices .now) in
     let none = W.zero-then _ _ (c .before .before .before .before .admit-refusal .ensures) (omega (arith, c .before .before .before .if1 .left)) in
-    let r = c .before .before .level-test in
+    let r = c .before .before .newcomer-test in
     W.admit-short (z .args .h) t (z .pre .0) (z .args .x) (z .args .c) (z .pre .2) none (r .result) (r .ensures _ (W.admit-sums (z .args .h) t (z .pre .0) (z .args .x) (z .args .c) (z .pre .2) none)) (c .if2 .taken)
 
 reserved-by-requires : tie.Need-reserved-by-requires
@@ -66,8 +66,8 @@ returns-3 c =
     let z = c .before .before .before .before .before .before .before .before .before .before .before .before in
     let t = tables (z .args .members .now) (z .args .places .now) (z .args .notices .now) in
     let none = W.zero-then _ _ (c .before .before .before .before .before .before .before .admit-refusal .ensures) (omega (arith, c .before .before .before .before .before .before .if1 .left)) in
-    let r = c .before .before .before .before .before .level-test in
+    let r = c .before .before .before .before .before .newcomer-test in
     W.admit-room (z .args .h) t (z .pre .0) (z .args .x) (z .args .c) (z .pre .2) none (r .result) (r .ensures _ (W.admit-sums (z .args .h) t (z .pre .0) (z .args .x) (z .args .c) (z .pre .2) none)) _ _ (omega (arith, c .before .before .before .if2 .left)) (W.admit-reserved (z .args .h) t (z .pre .0) (z .args .x) (z .args .c) (z .pre .2) none _ _ (c .before .before .reserved-by .ensures .0) (c .before .reserve .ensures .0)) (c .first-of .ensures)
 
 pub admit-verdict-spec : {M : Type 1} → statement M
-admit-verdict-spec = tie.close (tie.spec admit-refusal-requires no-short-requires returns level-test-requires returns-2 reserved-by-requires reserve-requires add-all first-of-requires returns-3)
+admit-verdict-spec = tie.close (tie.spec admit-refusal-requires no-short-requires returns newcomer-test-requires returns-2 reserved-by-requires reserve-requires add-all first-of-requires returns-3)
