@@ -60,7 +60,7 @@ pub fn admit(h: Hub, members: &mut [u32], places: &[u32], notices: &[u32], x: Co
     calls::admit_tested(h, members, places, notices, x)
 }
 
-// Offer a packet of a connection regulated by its gap: its eligibility, or 0. Verdicts 0, 1, 2, 10 to 13.
+// Offer a packet of a connection regulated by its gap: its eligibility, or 0. Verdicts 0, 1, 2, 10 to 13, 18.
 pub fn offer(
     h: Hub,
     members: &mut [u32],
