@@ -5,7 +5,7 @@ import os
 import subprocess
 from itertools import count
 
-from records import LINKS, TRACE, admit, admit_stamped, close, layout, link, notice, offer, offer_stamped, ticks
+from records import PER_LEVEL, TRACE, admit, admit_stamped, close, layout, link, notice, offer, offer_stamped, ticks
 from struct import calcsize
 
 LIMIT = 16_777_216
@@ -18,7 +18,7 @@ def cut(trace, size):
     at = 0
     while at < len(trace):
         mark = trace[at:at + 2]
-        then = at + LENGTHS[mark] + (2 * trace[at + 2] if mark in LINKS else 0)
+        then = at + LENGTHS[mark] + 2 * len(PER_LEVEL.get(mark, ())) * trace[at + 2]
         if then > size:
             break
         at = then
@@ -115,6 +115,14 @@ def refused(size):
     return rounds(start, admit(8, 411, 2), size)
 
 
+def windows(size):
+    """A link with windows: 49 connections on seven levels and 150 on the eighth, of which document 01's test would let in 75. In each round one more is let in, just at the limit of the first β of the eighth level, and closed again; another one is refused at the second."""
+    bounds = [332 + 10 * level for level in range(8)]
+    urgent, last = (admit(1 + one % 7, 4_000, 2) for one in range(49)), (admit(8, 380 + one % 20, 2) for one in range(150))
+    start = link(2, 0, bounds, 0, [1_140] * 8) + b"".join((*urgent, *last))
+    return rounds(start, admit(8, 4_000, 2) + close(199) + admit(8, 1, 2, 8_000, 500), size)
+
+
 def notices(size):
     """Notices alone, of which some wait; each leaves by itself."""
     return rounds(link(4, 0, [10]) + notice(2, 7) * 8, notice(2, 7) + ticks(2), size)
@@ -147,6 +155,7 @@ TRACES = {
     "stamps of a second hub": stamps,
     "stand-by": stand_by,
     "refused by the level test": refused,
+    "admissions with windows": windows,
     "notices": notices,
     "silence": silence,
     "long TK": long,

@@ -18,8 +18,9 @@ MOST_REMEMBERED = 16
 NOTICE = 254
 # the calls, by their numbers
 CALLS = ("fresh_hub", "link", "admit", "offer", "notice", "close", "tick", "offer_stamped")
-MOST_ASKED = 12
-LINK = ("levels", "largest", "silence", "early", *(f"bound {level}" for level in range(MOST_LEVELS)))
+LINK = ("levels", "largest", "silence", "early", *(f"{what} {level}" for what in ("bound", "window") for level in range(MOST_LEVELS)))
+# a link has the most numbers that are asked for
+MOST_ASKED = len(LINK)
 HUB = LINK + ("clock", "serving", "units", "silent")
 LENT = ("connections lent", "places lent", "notices lent")
 PACKET = ("connection", "length", "tag", "arrival", "eligibility")

@@ -2,10 +2,11 @@
 
 import struct
 
-# Of each mark its name in print and the fields behind it, each with its width in bytes. An `LK` and an `LE` have a bound for each level besides.
+# Of each mark its name in print and the fields behind it, each with its width in bytes. A link has numbers for each level besides (PER_LEVEL).
 TRACE = {
     b"LK": ("link", [("levels", 1), ("largest", 2), ("silence", 1)]),
     b"LE": ("link with setting", [("levels", 1), ("largest", 2), ("silence", 1), ("setting", 1)]),
+    b"LW": ("link with windows", [("levels", 1), ("largest", 2), ("silence", 1), ("setting", 1)]),
     b"CN": ("admit", [("level", 1), ("gap", 2), ("size", 2), ("window", 2), ("average", 2)]),
     b"CS": ("admit by stamps", [("level", 1), ("gap", 2), ("size", 2), ("allowance", 2)]),
     b"CL": ("close", [("connection", 1)]),
@@ -24,7 +25,8 @@ ANSWERS = {
     b"TA": ("ticked", [("verdict", 1), ("done", 2)]),
     b"ER": ("malformed", [("verdict", 1), ("offset", 4)]),
 }
-LINKS = (b"LK", b"LE")
+# Of each link's mark what it has for each level, two bytes each: first all bounds, then all windows.
+PER_LEVEL = {b"LK": ("bound",), b"LE": ("bound",), b"LW": ("bound", "window")}
 MOST_LEVELS = 8
 CODES = {1: "B", 2: "H", 4: "I"}
 
@@ -42,12 +44,12 @@ def fields_at(data, at, kinds):
     """The name and the fields of the record at a place; no name where the mark is none of these kinds', or a link has no such number of levels."""
     mark = data[at:at + 2]
     name, fields = kinds.get(mark, (None, []))
-    if mark not in LINKS or name is None or at + 2 >= len(data):
+    if mark not in PER_LEVEL or name is None or at + 2 >= len(data):
         return name, fields
     levels = data[at + 2]
     if not 1 <= levels <= MOST_LEVELS:
         return None, []
-    return name, fields + [(f"bound {level}", 2) for level in range(1, levels + 1)]
+    return name, fields + [(f"{what} {level}", 2) for what in PER_LEVEL[mark] for level in range(1, levels + 1)]
 
 
 def records(data, kinds):
@@ -69,10 +71,15 @@ def written(mark, *numbers):
     return mark + struct.pack(layout(fields), *numbers)
 
 
-def link(largest, silence, bounds, setting=None):
-    """A link; an `LE` where it has a setting, 1: its stand-by queue is on, 0: off."""
-    head = written(b"LK", len(bounds), largest, silence) if setting is None else written(b"LE", len(bounds), largest, silence, setting)
-    return head + b"".join(struct.pack("<H", bound) for bound in bounds)
+def link(largest, silence, bounds, setting=None, windows=None):
+    """A link; an `LE` where it has a setting, 1: its stand-by queue is on, 0: off; an `LW` where it has windows besides, as many as bounds."""
+    if windows is not None:
+        head = written(b"LW", len(bounds), largest, silence, setting or 0)
+    elif setting is not None:
+        head = written(b"LE", len(bounds), largest, silence, setting)
+    else:
+        head = written(b"LK", len(bounds), largest, silence)
+    return head + b"".join(struct.pack("<H", number) for number in (*bounds, *(windows or ())))
 
 
 def admit(level, gap, size, window=0, average=0):

@@ -5,7 +5,7 @@ eligibility as its stamp, on a connection by stamps with the same gap and size, 
 them the second hub has lines of its own that flood it, notices, closes, and calls that are refused. Of what it answers as much is promised as `fault` holds it to. Its trace and
 answers can be followed by a third hub.
 
-A second hub may have its stand-by queue on (R-11). What may go early at a hub is not promised anything behind it, and is carried on only where that is asked for; then nothing is held to `fault`.
+A second hub has windows (R-12) where that is asked for, and it may have its stand-by queue on (R-11). What may go early at a hub is not promised anything behind it, and is carried on only where that is asked for; then nothing is held to `fault`.
 """
 
 import random
@@ -16,6 +16,7 @@ from records import ANSWERS, TRACE, admit, admit_stamped, close, link, notice, o
 NOTICE = 254
 MOST_UNITS = 2_048
 HIGHEST_BOUND = 32_768
+LONGEST_WINDOW = 32_768
 MOST_CARRIED = 400  # packets of a line that are carried on
 MOST_LINES = 30  # lines of a hub that are carried on
 
@@ -61,8 +62,9 @@ def lines_of(trace, answers):
             continue
         if mark == b"LK":
             bounds = numbers[3:]
-        elif mark == b"LE":
-            bounds, stand_by = numbers[4:], numbers[3] == 1
+        elif mark in (b"LE", b"LW"):
+            # the windows of an LW stand behind the bounds
+            bounds, stand_by = numbers[4:4 + numbers[0]], numbers[3] == 1
         elif mark in (b"CN", b"CS"):
             level, gap, size = numbers[:3]
             owners[answer[1]] = Line(bounds[level - 1], gap, size, stand_by and mark == b"CN")
@@ -92,8 +94,8 @@ def room_for(lines, largest, silence):
 class Second:
     """A hub behind another: its trace, and what is promised of it."""
 
-    def __init__(self, lines, numbers):
-        self.numbers = numbers
+    def __init__(self, lines, numbers, windowed):
+        self.numbers, self.windowed = numbers, windowed
         sent = [line for line in lines if line.left]
         numbers.shuffle(sent)
         self.lines = sent[:MOST_LINES]
@@ -101,6 +103,7 @@ class Second:
         self.lost = numbers.choice((0, 0, 0.1, 0.5))
         self.silence = numbers.choice((0, 0, 1, numbers.randint(1, 8)))
         self.setting = numbers.choice((None, 0, 1, 1))
+        self.windows = None
         self.records = []
         self.carried = []
         self.own = []
@@ -116,8 +119,20 @@ class Second:
         bound, self.lines = room
         more = [numbers.randint(0, 20 + bound // 2) for _ in range(numbers.randint(0, 3))]
         self.bounds = sorted({min(HIGHEST_BOUND, bound + some) for some in (numbers.randint(0, 9), *more)})
+        if self.windowed:
+            self.windows = self.some_windows()
         self.records.append(self.link_again())
         return True
+
+    def some_windows(self):
+        """At the bounds, little longer, some times as long, falling, of any length, or the longest."""
+        numbers, last = self.numbers, self.bounds[-1]
+        style, times = numbers.randrange(6), numbers.randint(1, 4)
+        made = []
+        for place, bound in enumerate(self.bounds):
+            window = (bound, bound + numbers.randint(0, 40), bound * times, last * times // (1 + place), numbers.randint(bound, LONGEST_WINDOW), LONGEST_WINDOW)[style]
+            made.append(max(bound, min(LONGEST_WINDOW, window)))
+        return made
 
     def admissions(self):
         """Those of the lines, each at any level, then those of its own."""
@@ -175,7 +190,7 @@ class Second:
         return offer(own, numbers.randint(1, self.largest), numbers.getrandbits(32))
 
     def link_again(self):
-        return link(self.largest, self.silence, self.bounds, self.setting)
+        return link(self.largest, self.silence, self.bounds, self.setting, self.windows)
 
     def carry(self, accepted):
         """The whole trace, up to the moment by which all has left."""
@@ -208,11 +223,11 @@ class Second:
         return None
 
 
-def behind(trace, answers, seed, run, early=False):
+def behind(trace, answers, seed, run, early=False, windowed=False):
     """A hub behind the one with this trace and these answers, and its trace; nothing if no line can be carried on. `run` gives its answers to an admission.
-    Lines whose packets may go early are carried on where `early` says so."""
+    Lines whose packets may go early are carried on where `early` says so; the hub has windows where `windowed` says so."""
     lines = [line for line in lines_of(trace, answers) if early or not line.early]
-    second = Second(lines, random.Random(seed))
+    second = Second(lines, random.Random(seed), windowed)
     if not second.link():
         return None
     accepted = second.accepted(run(second.admissions()))

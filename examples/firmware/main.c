@@ -1,15 +1,19 @@
 /* How firmware asks the hub's questions: the admissions P1 to P7 and the offers of P8 and P10 of document 01, "Table of proved examples"; P1 to P3
-   once more on a line that needs a tick of silence after each packet (document 02, R-4); a camera that sends in bursts (R-6); and P4 beside a
-   connection that is closed (R-8). */
+   once more on a line that needs a tick of silence after each packet (document 02, R-4); a camera that sends in bursts (R-6); P4 beside a
+   connection that is closed (R-8); and pumps on a line without a window and with one (R-12). */
 #include <inttypes.h>
 #include <stdio.h>
 
 #include "mtredovim.h"
 
 /* Link A: two levels, S 4, no silence, bounds 10 and 20. The same with a silence of 1. */
-enum { LINK = 10 };
-static const uint8_t link_a[LINK] = {0x4C, 0x4B, 2, 4, 0, 0, 10, 0, 20, 0};
-static const uint8_t silent_a[LINK] = {0x4C, 0x4B, 2, 4, 0, 1, 10, 0, 20, 0};
+static const uint8_t link_a[] = {0x4C, 0x4B, 2, 4, 0, 0, 10, 0, 20, 0};
+static const uint8_t silent_a[] = {0x4C, 0x4B, 2, 4, 0, 1, 10, 0, 20, 0};
+
+/* One level, S 1, no silence, bound 4. The same with a window of 5 and of 3: an `LW`, which has a setting before its bounds. */
+static const uint8_t short_line[] = {0x4C, 0x4B, 1, 1, 0, 0, 4, 0};
+static const uint8_t window_5[] = {0x4C, 0x57, 1, 1, 0, 0, 0, 4, 0, 5, 0};
+static const uint8_t window_3[] = {0x4C, 0x57, 1, 1, 0, 0, 0, 4, 0, 3, 0};
 
 /* Rows of level, gap, size, window and average gap. */
 enum { ROW = 9 };
@@ -58,17 +62,32 @@ static const uint8_t freed[] = {
     1, 9,  0, 2, 0, 0, 0, 0, 0,
 };
 
+/* Pumps of gaps 3, 5, 5 and 9, size 1. */
+static const uint8_t pumps[] = {
+    1, 3, 0, 1, 0, 0, 0, 0, 0,
+    1, 5, 0, 1, 0, 0, 0, 0, 0,
+    1, 5, 0, 1, 0, 0, 0, 0, 0,
+    1, 9, 0, 1, 0, 0, 0, 0, 0,
+};
+
+/* The length of an `LK` or an `LW`, by its number of levels. */
+static size_t link_length(const uint8_t *lk)
+{
+    return lk[1] == 0x4B ? 6 + 2 * (size_t)lk[2] : 7 + 4 * (size_t)lk[2];
+}
+
 /* Would the last of these rows be let in beside the others? */
 static void may_join(const char *name, const uint8_t *lk, const uint8_t *rows, size_t count)
 {
-    unsigned answer = mtredovim_short_level(lk, LINK, rows, ROW * count);
+    size_t length = link_length(lk);
+    unsigned answer = mtredovim_short_level(lk, length, rows, ROW * count);
 
     if (answer == 0)
         printf("%s: every level holds\n", name);
     else if (answer == 255)
         printf("%s: not well asked\n", name);
     else
-        printf("%s: level %u is short by %" PRIu64 "\n", name, answer, mtredovim_short_units(lk, LINK, rows, ROW * count));
+        printf("%s: level %u is short by %" PRIu64 "\n", name, answer, mtredovim_short_units(lk, length, rows, ROW * count));
 }
 
 /* When would a packet that is offered now be eligible? */
@@ -109,5 +128,9 @@ int main(void)
     when_averaged("its fourth packet at 5", 4, 2, 0, 24, 5);
     may_join("P4, while P1 is closed and still charged", link_a, instead, 3);
     may_join("P4, once P1 is freed", link_a, freed, 2);
+    may_join("the third pump", short_line, pumps, 3);
+    may_join("the third pump, with a window of 5", window_5, pumps, 3);
+    may_join("the fourth pump, with a window of 5", window_5, pumps, 4);
+    may_join("the third pump, with a window of 3", window_3, pumps, 3);
     return 0;
 }

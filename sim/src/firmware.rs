@@ -1,7 +1,7 @@
 //! The questions of the firmware (section "Two questions from C firmware"; units by R-2,
-//! the silence in `LK` by R-4, averages in the rows by R-6, 200 rows by R-7).
+//! the silence in `LK` by R-4, averages in the rows by R-6, 200 rows by R-7, `LW` by R-12).
 
-use crate::level_test::{lowest_shortage, sums};
+use crate::level_test::shortage_of;
 use crate::link::{Connection, Link, MOST_CONNECTIONS};
 use crate::owners;
 use crate::record::{whole_figures, Record};
@@ -22,7 +22,7 @@ pub fn next_eligibility(flag: u32, last: u32, gap: u32, now: u32) -> u64 {
 pub fn level_answer(link_bytes: &[u8], rows: &[u8]) -> u8 {
     match well_asked(link_bytes, rows) {
         Some((link, connections)) => {
-            lowest_shortage(&link, &sums(&link, &connections)).map_or(0, |short| short.level)
+            shortage_of(&link, &connections).map_or(0, |short| short.level)
         }
         None => NOT_TO_BE_ASKED,
     }
@@ -31,7 +31,7 @@ pub fn level_answer(link_bytes: &[u8], rows: &[u8]) -> u8 {
 /// The units that the level of question (b) is over; 0 where it answers 0 or 255.
 pub fn units_answer(link_bytes: &[u8], rows: &[u8]) -> u64 {
     well_asked(link_bytes, rows)
-        .and_then(|(link, connections)| lowest_shortage(&link, &sums(&link, &connections)))
+        .and_then(|(link, connections)| shortage_of(&link, &connections))
         .map_or(0, |short| short.units)
 }
 
@@ -41,19 +41,13 @@ fn well_asked(link_bytes: &[u8], rows: &[u8]) -> Option<(Link, Vec<Connection>)>
     Some((link, connections))
 }
 
-/// One whole `LK` record, not a byte more, within the link limits.
+/// One whole `LK` or `LW` record, not a byte more, within the link limits; an `LE` is none of them.
 fn whole_link(bytes: &[u8]) -> Option<Link> {
     match Record::read(bytes)? {
-        (
-            Record::Link {
-                levels,
-                largest,
-                silence,
-                setting: None,
-                bounds,
-            },
-            length,
-        ) if length == bytes.len() => Link::new(levels, largest, silence, bounds),
+        (Record::Link(figures), length) if length == bytes.len() => {
+            let is_asked = figures.setting.is_some() == figures.windows.is_some();
+            figures.link().filter(|_| is_asked)
+        }
         _ => None,
     }
 }

@@ -1,7 +1,7 @@
 //! The state of the hub and its calls: link, admit, offer, offer of a notice, close, tick.
 
 use crate::departure::{Departure, Tick};
-use crate::level_test::{loads, lowest_shortage, with};
+use crate::level_test::{loads, shortage_with, with};
 use crate::link::{Connection, Figures, Link, MOST_RESERVED};
 use crate::notices::{Notice, Notices};
 use crate::owners::Owners;
@@ -148,7 +148,8 @@ impl Hub {
         let newcomer = Connection::new(link, figures)?;
         let number = self.owners.lowest_free().ok_or(Refusal::NoNumberFree)?;
         let loads = loads(link, &newcomer);
-        if let Some(shortage) = lowest_shortage(link, &with(self.owners.sums(), &loads)) {
+        let sums = with(self.owners.sums(), &loads);
+        if let Some(shortage) = shortage_with(link, &sums, self.owners.counted(), &newcomer) {
             return Err(Refusal::LevelTest(shortage));
         }
         let reservation = newcomer.reservation(link);
@@ -232,10 +233,10 @@ impl Hub {
         Ok(arrival)
     }
 
-    /// Closes a connection: verdicts 2, 10, 16 in that order. It stays charged until the
-    /// largest bound has passed since its last eligibility; if it never sent that is over now.
+    /// Closes a connection: verdicts 2, 10, 16 in that order. It stays charged until the link's
+    /// time for it has passed since its last eligibility; if it never sent that is over now.
     pub fn close(&mut self, connection: u8) -> Result<(), Refusal> {
-        let bound = Tick::from(self.link()?.largest_bound());
+        let time = Tick::from(self.link()?.charge_time());
         let owner = self
             .owners
             .standing_at(connection)
@@ -244,7 +245,7 @@ impl Hub {
             return Err(Refusal::PacketsHeld);
         }
         let last = owner.recent.back(1);
-        let charge_end = last.map_or(self.clock, |last| last + bound);
+        let charge_end = last.map_or(self.clock, |last| last + time);
         self.owners.close(connection, charge_end);
         self.owners.free_ended(self.clock);
         Ok(())

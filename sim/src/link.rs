@@ -1,6 +1,6 @@
 //! Link and connection with their limits (section "Link, connections, places"; the silence by
 //! R-4, averages by R-6, how many connections and places by R-7, allowances by R-9, the stand-by queue
-//! by R-11).
+//! by R-11, windows by R-12).
 
 use crate::verdict::Refusal;
 
@@ -8,6 +8,10 @@ pub const MOST_LEVELS: usize = 8;
 pub const MOST_UNITS: u16 = 2_048;
 pub const MOST_SILENCE: u8 = 64;
 pub const HIGHEST_BOUND: u16 = 32_768;
+pub const LONGEST_WINDOW: u16 = 32_768;
+
+/// The windows of a link that has none.
+pub const NO_WINDOWS: [u16; MOST_LEVELS] = [0; MOST_LEVELS];
 
 /// The settings of the stand-by queue.
 pub const OFF: u8 = 0;
@@ -22,14 +26,18 @@ pub const MOST_RESERVED: u64 = 2_048;
 pub const MOST_PER_WINDOW: u16 = 16;
 
 /// A link within its limits: n levels, the largest packet S, the silence after each packet, whether
-/// its stand-by queue is on, a delay bound per level.
+/// its stand-by queue is on, a delay bound per level, and whether it has windows. `spans` are these
+/// or, where it has none, the bounds; a closed connection is charged for `charge_time`.
 #[derive(Clone, Copy, Debug, PartialEq, Eq)]
 pub struct Link {
     levels: u8,
     largest: u16,
     silence: u8,
     stands_by: bool,
+    has_windows: bool,
     bounds: [u16; MOST_LEVELS],
+    spans: [u16; MOST_LEVELS],
+    charge_time: u32,
 }
 
 impl Link {
@@ -38,8 +46,8 @@ impl Link {
         Link::set_to(OFF, levels, largest, silence, bounds)
     }
 
-    /// The link with its stand-by queue as the setting says: off or on, another one breaks a
-    /// limit.
+    /// The link without windows, its stand-by queue as the setting says: off or on, another one
+    /// breaks a limit.
     pub fn set_to(
         setting: u8,
         levels: u8,
@@ -62,13 +70,62 @@ impl Link {
             largest,
             silence,
             stands_by: setting == ON,
+            has_windows: false,
             bounds,
+            spans: bounds,
+            charge_time: u32::from(last),
+        })
+    }
+
+    /// The same link with these windows, or nothing if one of their limits is broken. All 0 are
+    /// none. Else each level has one, from its bound up to the longest, and past n they are 0.
+    pub fn with_windows(self, windows: [u16; MOST_LEVELS]) -> Option<Link> {
+        if windows == NO_WINDOWS {
+            return Some(self);
+        }
+        let (used, unused) = windows.split_at(usize::from(self.levels));
+        let mut pairs = used.iter().zip(self.bounds());
+        let within = pairs.all(|(window, bound)| (*bound..=LONGEST_WINDOW).contains(window))
+            && unused.iter().all(|&window| window == 0);
+        let longest = used.iter().max()?;
+        within.then_some(Link {
+            has_windows: true,
+            spans: windows,
+            charge_time: u32::from(self.largest_bound()) + u32::from(*longest),
+            ..self
         })
     }
 
     /// Whether it is within its limits, as one that was made is.
     pub fn is_within(&self) -> bool {
-        Link::new(self.levels, self.largest, self.silence, self.bounds).is_some()
+        let made = Link::new(self.levels, self.largest, self.silence, self.bounds);
+        let made = match self.has_windows {
+            true => made.and_then(|link| link.with_windows(self.spans)),
+            false => made,
+        };
+        made.map_or(false, |link| {
+            link.has_windows == self.has_windows
+                && link.spans == self.spans
+                && link.charge_time == self.charge_time
+        })
+    }
+
+    /// Whether it has windows, so that the finer test is made.
+    pub fn has_windows(&self) -> bool {
+        self.has_windows
+    }
+
+    /// w of one level; on a link without windows d. 0 for a level that the link does not have.
+    pub fn span(&self, level: u8) -> u16 {
+        let row = usize::from(level).wrapping_sub(1);
+        let spans = &self.spans[..usize::from(self.levels)];
+        spans.get(row).copied().unwrap_or(0)
+    }
+
+    /// How long behind its last eligibility a closed connection is charged: for the largest bound,
+    /// with windows for the longest of these besides.
+    pub fn charge_time(&self) -> u32 {
+        self.charge_time
     }
 
     /// Whether packets of connections by their gap stand by.
@@ -110,6 +167,34 @@ impl Link {
     pub fn bound(&self, level: u8) -> u16 {
         let row = usize::from(level).wrapping_sub(1);
         self.bounds().get(row).copied().unwrap_or(0)
+    }
+}
+
+/// The figures of a link as they are handed in: bounds and windows past n are 0. A link without a setting is
+/// off, one without windows has none.
+#[derive(Clone, Copy, Debug, PartialEq, Eq)]
+pub struct LinkFigures {
+    pub levels: u8,
+    pub largest: u16,
+    pub silence: u8,
+    pub setting: Option<u8>,
+    pub bounds: [u16; MOST_LEVELS],
+    pub windows: Option<[u16; MOST_LEVELS]>,
+}
+
+impl LinkFigures {
+    /// The link, or nothing if a limit is broken.
+    pub fn link(&self) -> Option<Link> {
+        let setting = self.setting.unwrap_or(OFF);
+        let windows = self.windows.unwrap_or(NO_WINDOWS);
+        Link::set_to(
+            setting,
+            self.levels,
+            self.largest,
+            self.silence,
+            self.bounds,
+        )?
+        .with_windows(windows)
     }
 }
 

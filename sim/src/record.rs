@@ -1,29 +1,25 @@
 //! Trace and answer records (section "Trace and answer records"; `NQ` and `NA` by R-1,
 //! level and units in `CA` by R-2, the silence in `LK` by R-4, window and average gap in `CN` by
-//! R-6, `CL` and `CD` by R-8, `CS` and `PS` by R-9, `LE` by R-11).
+//! R-6, `CL` and `CD` by R-8, `CS` and `PS` by R-9, `LE` by R-11, `LW`
+//! by R-12).
 
 use crate::departure::{Departure, Tick};
-use crate::link::{Figures, MOST_LEVELS};
+use crate::link::{Figures, LinkFigures, MOST_LEVELS, OFF};
 use crate::verdict::{Refusal, Shortage};
 
-/// The longest trace record: an `LE` with 8 bounds.
-pub const LONGEST_RECORD: usize = 7 + 2 * MOST_LEVELS;
+/// The longest trace record: an `LW` with 8 bounds and 8 windows.
+pub const LONGEST_RECORD: usize = 7 + 4 * MOST_LEVELS;
 
 /// The connection number that a refused admission gives.
 pub const NO_CONNECTION: u8 = 255;
 
-/// A trace record. Bounds past n are 0. A link with a setting stands in an `LE`, one without in an `LK`
-/// figures with an allowance stand in a `CS`, others in a `CN`; a packet with a stamp in a `PS`,
-/// one without in a `PK`.
-#[derive(Clone, Copy, Debug, PartialEq, Eq)]
+/// A trace record. A link with windows stands in an `LW`, one with a setting alone in an `LE`,
+/// one without in an `LK`; with windows it has a setting too. Its figures are kept apart, so that other
+/// records are short. Figures with an allowance stand in a `CS`, others in a `CN`; a packet with a stamp in a
+/// `PS`, one without in a `PK`.
+#[derive(Clone, Debug, PartialEq, Eq)]
 pub enum Record {
-    Link {
-        levels: u8,
-        largest: u16,
-        silence: u8,
-        setting: Option<u8>,
-        bounds: [u16; MOST_LEVELS],
-    },
+    Link(Box<LinkFigures>),
     Connection(Figures),
     Close {
         connection: u8,
@@ -65,8 +61,9 @@ impl Record {
     fn read_whole(bytes: &[u8; LONGEST_RECORD]) -> Option<(Record, usize)> {
         let mut fields = Fields { bytes, taken: 0 };
         let record = match &fields.take::<2>()? {
-            b"LK" => read_link(&mut fields, false)?,
-            b"LE" => read_link(&mut fields, true)?,
+            b"LK" => Record::Link(read_link(&mut fields, false, false)?),
+            b"LE" => Record::Link(read_link(&mut fields, true, false)?),
+            b"LW" => Record::Link(read_link(&mut fields, true, true)?),
             b"CN" => Record::Connection(read_figures(&mut fields)?),
             b"CS" => Record::Connection(read_stamped(&mut fields)?),
             b"CL" => Record::Close {
@@ -99,13 +96,7 @@ impl Record {
     /// Writes the record behind what is there already.
     pub fn append_to(&self, out: &mut Vec<u8>) {
         match *self {
-            Record::Link {
-                levels,
-                largest,
-                silence,
-                setting,
-                bounds,
-            } => append_link(out, (levels, largest, silence), setting, &bounds),
+            Record::Link(ref figures) => append_link(out, figures),
             Record::Connection(figures) => append_connection(out, &figures),
             Record::Close { connection } => out.extend_from_slice(&[b'C', b'L', connection]),
             Record::Packet {
@@ -127,20 +118,29 @@ impl Record {
     }
 }
 
-/// Levels, S and silence, the setting if there is one, then the bounds that are used.
-fn append_link(
-    out: &mut Vec<u8>,
-    (levels, largest, silence): (u8, u16, u8),
-    setting: Option<u8>,
-    bounds: &[u16; MOST_LEVELS],
-) {
-    out.extend_from_slice(setting.map_or(b"LK", |_| b"LE"));
-    out.push(levels);
-    out.extend_from_slice(&largest.to_le_bytes());
-    out.push(silence);
+/// Levels, S and silence, and the setting if there is one; with windows there always is. Then the bounds
+/// and the windows that are used.
+fn append_link(out: &mut Vec<u8>, figures: &LinkFigures) {
+    let (mark, setting) = match (figures.windows, figures.setting) {
+        (Some(_), setting) => (b"LW", Some(setting.unwrap_or(OFF))),
+        (None, Some(setting)) => (b"LE", Some(setting)),
+        (None, None) => (b"LK", None),
+    };
+    out.extend_from_slice(mark);
+    out.push(figures.levels);
+    out.extend_from_slice(&figures.largest.to_le_bytes());
+    out.push(figures.silence);
     out.extend(setting);
-    for bound in bounds.iter().take(usize::from(levels)) {
-        out.extend_from_slice(&bound.to_le_bytes());
+    append_used(out, figures.levels, &figures.bounds);
+    if let Some(windows) = &figures.windows {
+        append_used(out, figures.levels, windows);
+    }
+}
+
+/// The numbers of the levels that a link has.
+fn append_used(out: &mut Vec<u8>, levels: u8, numbers: &[u16; MOST_LEVELS]) {
+    for number in numbers.iter().take(usize::from(levels)) {
+        out.extend_from_slice(&number.to_le_bytes());
     }
 }
 
@@ -195,9 +195,13 @@ fn read_stamped(fields: &mut Fields) -> Option<Figures> {
     Some(plain.by_stamps(fields.two()?))
 }
 
-/// An `LK` or an `LE`, which has a setting, with n outside 1 to 8 is malformed, with any silence and
-/// any setting it is not; bounds past n are read as 0.
-fn read_link(fields: &mut Fields, has_setting: bool) -> Option<Record> {
+/// An `LK`, an `LE`, which has a setting, or an `LW`, which has windows besides, with n outside 1 to 8 is
+/// malformed, with any silence, setting and windows it is not; bounds and windows past n are read as 0.
+fn read_link(
+    fields: &mut Fields,
+    has_setting: bool,
+    has_windows: bool,
+) -> Option<Box<LinkFigures>> {
     let levels = fields.one()?;
     if !(1..=MOST_LEVELS).contains(&usize::from(levels)) {
         return None;
@@ -208,17 +212,28 @@ fn read_link(fields: &mut Fields, has_setting: bool) -> Option<Record> {
         true => Some(fields.one()?),
         false => None,
     };
-    let mut bounds = [0; MOST_LEVELS];
-    for bound in bounds.iter_mut().take(usize::from(levels)) {
-        *bound = fields.two()?;
-    }
-    Some(Record::Link {
+    let bounds = read_used(fields, levels)?;
+    let windows = match has_windows {
+        true => Some(read_used(fields, levels)?),
+        false => None,
+    };
+    Some(Box::new(LinkFigures {
         levels,
         largest,
         silence,
         setting,
         bounds,
-    })
+        windows,
+    }))
+}
+
+/// A number for each level that a link has, 0 for others.
+fn read_used(fields: &mut Fields, levels: u8) -> Option<[u16; MOST_LEVELS]> {
+    let mut numbers = [0; MOST_LEVELS];
+    for number in numbers.iter_mut().take(usize::from(levels)) {
+        *number = fields.two()?;
+    }
+    Some(numbers)
 }
 
 /// Fewer bytes than the longest record has, and zeros behind them.

@@ -4,7 +4,7 @@ use std::io::{self, Read, Write};
 
 use crate::departure::Tick;
 use crate::hub::Hub;
-use crate::link::{Figures, Link, OFF};
+use crate::link::{Figures, Link};
 use crate::record::{Answer, Record, LONGEST_RECORD, NO_CONNECTION};
 use crate::verdict::{number_of, Refusal, DONE};
 
@@ -60,17 +60,7 @@ impl Job {
         hand_over: &mut impl FnMut(Answer) -> Result<(), E>,
     ) -> Result<(), E> {
         match record {
-            Record::Link {
-                levels,
-                largest,
-                silence,
-                setting,
-                bounds,
-            } => {
-                let setting = setting.unwrap_or(OFF);
-                let link = Link::set_to(setting, levels, largest, silence, bounds);
-                hand_over(self.set_link(link))
-            }
+            Record::Link(figures) => hand_over(self.set_link(figures.link())),
             Record::Connection(figures) => hand_over(self.admit(figures)),
             Record::Close { connection } => hand_over(self.close(connection)),
             Record::Packet {

@@ -1,5 +1,5 @@
 //! The test of the state (section "A sound state"; docs/RULES-AFTER-BASE.md: notices by R-1, the
-//! silence by R-4, averages by R-6, closes by R-8, stamps by R-9, packets that stand by by R-11). What is
+//! silence by R-4, averages by R-6, closes by R-8, stamps by R-9, packets that stand by by R-11, windows by R-12). What is
 //! kept beside the state's own numbers, so that no call counts anew, is tested with them.
 
 use std::collections::VecDeque;
@@ -47,7 +47,7 @@ impl Hub {
         self.owners.all().all(&mut is_sound)
             && held == self.queues.count()
             && self.owners.are_summed_up()
-            && lowest_shortage(link, self.owners.sums()).is_none()
+            && lowest_shortage(link, self.owners.sums(), self.owners.counted()).is_none()
             && self.owners.reserved() <= MOST_RESERVED
     }
 
@@ -68,8 +68,8 @@ impl Hub {
 
     /// A closed connection has sent and holds nothing, and its charge is not over.
     fn charge_is_sound(&self, link: &Link, owner: &Owner, held: usize) -> bool {
-        let bound = Tick::from(link.largest_bound());
-        let over = owner.recent.back(1).map(|last| last + bound);
+        let time = Tick::from(link.charge_time());
+        let over = owner.recent.back(1).map(|last| last + time);
         owner.charge_end().map_or(true, |charge_end| {
             held == 0 && Some(charge_end) == over && self.clock < charge_end
         })
@@ -359,6 +359,47 @@ mod tests {
         }
         hub.offer_with(2, 2, 7, Some(12)).expect("accepted");
         hub
+    }
+
+    /// One level of bound 10 and S 2, window 12: lines of gaps 100, 6 and 6, which only the finer test lets in
+    /// at that bound; the first has sent at 0, and it is 3 now.
+    fn with_windows() -> Hub {
+        let mut hub = Hub::new();
+        hub.set_link(window_of(10, 12)).expect("a link");
+        for gap in [100, 6, 6] {
+            hub.admit(Figures::plain(1, gap, 2)).expect("admitted");
+        }
+        hub.offer(0, 2, 7).expect("accepted");
+        for _ in 0..3 {
+            hub.tick().expect("a tick");
+        }
+        hub
+    }
+
+    fn window_of(bound: u16, window: u16) -> Option<Link> {
+        let link = Link::new(1, 2, 0, [bound, 0, 0, 0, 0, 0, 0, 0])?;
+        link.with_windows([window, 0, 0, 0, 0, 0, 0, 0])
+    }
+
+    #[test]
+    fn what_is_broken_with_windows_is_not_sound() {
+        let breaks: [fn(&mut Hub); 6] = [
+            // Without windows, and with longer ones, other sums.
+            |hub| hub.link = window_of(10, 0),
+            |hub| hub.link = window_of(10, 13),
+            // The same sums and places; 8 of 7 at the first moment.
+            |hub| hub.link = window_of(7, 12),
+            // Charged for d alone, for w alone, a tick too long.
+            |hub| hub.owners.close(0, 10),
+            |hub| hub.owners.close(0, 12),
+            |hub| hub.owners.close(0, 23),
+        ];
+        break_all(with_windows, &breaks);
+        let mut hub = with_windows();
+        hub.owners.close(0, 22);
+        assert!(hub.is_sound());
+        hub.link = window_of(8, 12);
+        assert!(!hub.is_sound(), "the charge is 20 then");
     }
 
     /// A row that stands by, offered now.

@@ -5,7 +5,6 @@ mod told;
 
 use sim::hub::CLOCK_END;
 use sim::kinds::{Kind, KINDS};
-use sim::level_test::{lowest_shortage, sums};
 use sim::link::{Connection, Figures, Link, MOST_RESERVED};
 use sim::record::{Answer, Record};
 use told::{records, Line, Told};
@@ -79,25 +78,25 @@ impl Foreseen {
 
     /// The verdict of an admission on a link that is set, from the figures of all owners.
     fn admission(&mut self, link: &Link, figures: Figures) -> u8 {
-        let newcomer = match Connection::new(link, figures) {
-            Ok(newcomer) => newcomer,
-            Err(refusal) => return refusal.number(),
-        };
+        if let Err(refusal) = Connection::new(link, figures) {
+            return refusal.number();
+        }
         let any_charged = self.told.owners().any(|(_, line)| line.closed);
         if self.told.lowest_free().is_none() {
             self.met.all_owned += usize::from(any_charged);
             return 7;
         }
-        let passes = |all: &[Connection]| lowest_shortage(link, &sums(link, all)).is_none();
-        let fits = |all: &[Connection]| {
-            all.iter().map(|one| one.reservation(link)).sum::<u64>() <= MOST_RESERVED
+        let terms = self.told.terms.expect("a link");
+        let passes = |all: &[Figures]| terms.short(all).is_none();
+        let reserved = |one: &Figures| {
+            let accepted = Connection::new(link, *one).expect("within its limits");
+            accepted.reservation(link)
         };
+        let fits = |all: &[Figures]| all.iter().map(reserved).sum::<u64>() <= MOST_RESERVED;
         let with = |kept: fn(&Line) -> bool| {
             let owners = self.told.owners().filter(|(_, line)| kept(line));
-            let mut all: Vec<Connection> = owners
-                .map(|(_, line)| Connection::new(link, line.figures).expect("it was accepted"))
-                .collect();
-            all.push(newcomer);
+            let mut all: Vec<Figures> = owners.map(|(_, line)| line.figures).collect();
+            all.push(figures);
             all
         };
         let (all, standing) = (with(|_| true), with(|line| !line.closed));
@@ -113,7 +112,7 @@ impl Foreseen {
     }
 
     fn close(&mut self, number: u8) {
-        let (clock, bound) = (self.told.clock(), self.told.largest_bound());
+        let (clock, time) = (self.told.clock(), self.told.charge_time());
         let held = self.told.standing(number).map_or(0, Line::held);
         assert_eq!(held, self.told.job.hub().held_by(number));
         let expected = match self.told.standing(number) {
@@ -122,7 +121,7 @@ impl Foreseen {
             Some(_) if held > 0 => 16,
             Some(line) => {
                 let sent = !line.eligibilities.is_empty();
-                let over = line.charge_is_over(clock, bound);
+                let over = line.charge_is_over(clock, time);
                 self.met.never_sent += usize::from(!sent);
                 self.met.time_reached += usize::from(sent && over);
                 self.met.charged += usize::from(!over);
@@ -179,10 +178,10 @@ impl Foreseen {
     }
 
     fn tick(&mut self, record: Record) {
-        let bound = self.told.largest_bound();
+        let time = self.told.charge_time();
         let charged = self.told.owners().filter(|(_, line)| line.closed);
         let ends: Vec<u64> = charged
-            .filter_map(|(_, line)| Some(line.eligibilities.last()? + bound))
+            .filter_map(|(_, line)| Some(line.eligibilities.last()? + time))
             .collect();
         self.told.carry_out(record);
         let clock = self.told.clock();
@@ -195,13 +194,13 @@ impl Foreseen {
     }
 
     fn hold_against_the_hub(&mut self) {
-        let (hub, bound) = (self.told.job.hub(), self.told.largest_bound());
+        let (hub, time) = (self.told.job.hub(), self.told.charge_time());
         let standing: Vec<u8> = hub.standing().map(|(number, _)| number).collect();
         let charged: Vec<(u8, u64)> = hub.charged().collect();
         let (mut stand, mut are_charged) = (Vec::new(), Vec::new());
         for (number, line) in self.told.owners() {
             match line.eligibilities.last() {
-                Some(last) if line.closed => are_charged.push((number, last + bound)),
+                Some(last) if line.closed => are_charged.push((number, last + time)),
                 _ => stand.push(number),
             }
         }
@@ -229,7 +228,7 @@ fn met_by(name: &str, seeds: u64) -> Met {
 }
 
 /// Kinds with closes that are not about them.
-const WITH_CLOSES: [&str; 11] = [
+const WITH_CLOSES: [&str; 21] = [
     "stampsmall",
     "stampreopened",
     "stampdamage",
@@ -241,6 +240,16 @@ const WITH_CLOSES: [&str; 11] = [
     "earlydamage",
     "badearly",
     "earlyend",
+    "windowstamps",
+    "windowearly",
+    "windowbounds",
+    "windowzeros",
+    "windowedges",
+    "windowsmall",
+    "windowcharges",
+    "windowdamage",
+    "badwindow",
+    "windowend",
 ];
 
 #[test]

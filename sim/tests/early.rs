@@ -6,8 +6,8 @@
 use sim::departure::Departure;
 use sim::firmware::{level_answer, NOT_TO_BE_ASKED};
 use sim::hub::{Hub, CLOCK_END};
-use sim::link::{Figures, Link, OFF, ON};
-use sim::record::{Record, LONGEST_RECORD};
+use sim::link::{Figures, Link, LinkFigures, OFF, ON};
+use sim::record::Record;
 use sim::replay::{answers, Pace};
 use sim::verdict::Refusal;
 
@@ -195,14 +195,14 @@ fn a_flood_does_not_run_away() {
 
 #[test]
 fn bytes() {
-    assert_eq!(LONGEST_RECORD, 23);
-    let link = Record::Link {
+    let link = Record::Link(Box::new(LinkFigures {
         levels: 2,
         largest: 4,
         silence: 3,
         setting: Some(1),
         bounds: [10, 20, 0, 0, 0, 0, 0, 0],
-    };
+        windows: None,
+    }));
     let mut trace = Vec::new();
     link.append_to(&mut trace);
     let written = b"LE\x02\x04\x00\x03\x01\x0A\x00\x14\x00";

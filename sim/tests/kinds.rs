@@ -41,6 +41,8 @@ fn both_paces_agree() {
         "stampend",
         "earlylimit",
         "earlyend",
+        "windowlimit",
+        "windowend",
     ];
     for kind in KINDS.iter().filter(|kind| !slow.contains(&kind.name)) {
         for seed in 0..SEEDS {
@@ -233,6 +235,8 @@ fn damage_is_noticed() {
     assert!(total("badstamp").verdict(14) > SEEDS / 2);
     assert!(total("earlydamage").verdict(14) > SEEDS / 2);
     assert!(total("badearly").verdict(14) > SEEDS / 2);
+    assert!(total("windowdamage").verdict(14) > SEEDS / 2);
+    assert!(total("badwindow").verdict(14) > SEEDS / 2);
 }
 
 #[test]
@@ -263,4 +267,33 @@ fn packets_stand_by_and_are_refused() {
     }
     let end = total("earlyend");
     assert!(end.verdict(13) > 50 && end.verdict(18) > 50);
+}
+
+#[test]
+fn windows_are_met() {
+    let all = [
+        "windows",
+        "windownotices",
+        "windowaverages",
+        "windowcloses",
+        "windowstamps",
+        "windowearly",
+        "windowbounds",
+        "windowzeros",
+        "windowflood",
+        "windowedges",
+        "windowsmall",
+        "windowcharges",
+        "windowlinks",
+    ];
+    for name in all {
+        assert!(total(name).departures > 200, "{name}");
+        assert!(total(name).verdict(8) > 20, "{name}");
+    }
+    let links = total("windowlinks");
+    for verdict in [2, 3, 4] {
+        assert!(links.verdict(verdict) > 10, "verdict {verdict}");
+    }
+    assert!(total("windowedges").verdict(8) > 200);
+    assert!(total("windowend").verdict(13) > 50);
 }

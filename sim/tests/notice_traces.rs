@@ -68,7 +68,7 @@ struct Told {
 
 impl Told {
     /// Accepted only with room, refused by 15 only without, departing in the order accepted.
-    fn follow(&mut self, record: Record, answer: Answer) {
+    fn follow(&mut self, record: &Record, answer: Answer) {
         match (record, answer) {
             (
                 Record::Notice { tag, .. },
@@ -79,7 +79,7 @@ impl Told {
             ) => match verdict {
                 0 => {
                     assert!(self.waiting.len() < MOST_NOTICES);
-                    self.waiting.push_back((tag, eligibility));
+                    self.waiting.push_back((*tag, eligibility));
                 }
                 15 => assert_eq!(self.waiting.len(), MOST_NOTICES),
                 _ => assert_eq!(eligibility, 0),
@@ -104,8 +104,8 @@ fn accepted_is_departed_followed_by_waiting() {
                 (Job::new(Pace::Passing), Told::default(), &trace[..]);
             while let Some((record, length)) = Record::read(rest) {
                 rest = &rest[length..];
-                let result: Result<(), ()> = job.carry_out(record, &mut |answer| {
-                    told.follow(record, answer);
+                let result: Result<(), ()> = job.carry_out(record.clone(), &mut |answer| {
+                    told.follow(&record, answer);
                     Ok(())
                 });
                 assert_eq!(result, Ok(()));

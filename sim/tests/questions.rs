@@ -7,6 +7,11 @@ fn lines(text: &str) -> impl Iterator<Item = Vec<&str>> {
     data.map(|line| line.split_whitespace().collect())
 }
 
+/// An `LW`.
+fn with_windows(link: &str) -> bool {
+    link.starts_with("4C57")
+}
+
 fn number(text: &str) -> u64 {
     text.parse().expect("a number")
 }
@@ -41,7 +46,7 @@ fn next_eligibilities() {
 
 #[test]
 fn level_answers() {
-    let mut count = 0;
+    let (mut count, mut windows) = (0, 0);
     for line in lines(include_str!("c_level.txt")) {
         let given = match line[..] {
             [link, rows, _] => level_answer(&bytes(link), &bytes(rows)),
@@ -51,13 +56,15 @@ fn level_answers() {
         let units = units_answer(&bytes(line[0]), &bytes(line[1]));
         assert_eq!(units > 0, (1..=8).contains(&given), "{line:?}");
         count += 1;
+        windows += u32::from(with_windows(line[0]));
     }
     assert!(count > 500, "only {count} lines");
+    assert!(windows > 60, "only {windows} lines with windows");
 }
 
 #[test]
 fn units_answers() {
-    let mut count = 0;
+    let (mut count, mut windows) = (0, 0);
     for line in lines(include_str!("c_units.txt")) {
         let given = match line[..] {
             [link, rows, _] => units_answer(&bytes(link), &bytes(rows)),
@@ -65,8 +72,10 @@ fn units_answers() {
         };
         assert_eq!(given, number(line[2]), "{line:?}");
         count += 1;
+        windows += u32::from(with_windows(line[0]));
     }
     assert!(count > 30, "only {count} lines");
+    assert!(windows > 60, "only {windows} lines with windows");
 }
 
 #[test]

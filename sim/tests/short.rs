@@ -10,7 +10,7 @@ use sim::link::{Figures, Link};
 use sim::record::{Answer, Record};
 use sim::replay::{answers, Pace};
 use sim::verdict::{Refusal, Shortage};
-use told::{records, Told};
+use told::{records, Terms, Told};
 
 const LINK_A: &[u8] = b"LK\x02\x04\x00\x00\x0A\x00\x14\x00";
 
@@ -174,6 +174,7 @@ fn the_most_units_that_an_admission_can_be_over() {
 /// itself the last, and its answer.
 struct Met {
     link: Link,
+    terms: Terms,
     counted: Vec<Figures>,
     verdict: u8,
     short: Option<Shortage>,
@@ -190,14 +191,15 @@ fn admissions(trace: &[u8]) -> Vec<Met> {
                 continue;
             }
         };
-        let mut counted: Vec<Figures> = told.owners().map(|(_, line)| line.figures).collect();
+        let mut counted = told.counted();
         counted.push(figures);
         let answer = told.carry_out(record);
-        if let (Answer::Connection { verdict, short, .. }, Ok(link)) =
-            (answer, told.job.hub().link())
+        if let (Answer::Connection { verdict, short, .. }, Ok(link), Some(terms)) =
+            (answer, told.job.hub().link(), told.terms)
         {
             all.push(Met {
                 link: *link,
+                terms,
                 counted,
                 verdict,
                 short,
@@ -207,38 +209,10 @@ fn admissions(trace: &[u8]) -> Vec<Met> {
     all
 }
 
-/// How many packets a connection gets through before a tick, if it sends from 0 on whenever its gap
-/// and its average allow it: packet by packet.
-fn sent_before(end: u64, figures: &Figures) -> i64 {
-    let (gap, window) = (u64::from(figures.gap), u64::from(figures.window));
-    let mut sent: Vec<u64> = Vec::new();
-    loop {
-        let mut next = sent.last().map_or(0, |last| last + gap);
-        if window > 0 {
-            let nth = usize::from(figures.window / figures.average) - 1;
-            next = next.max(sent.iter().rev().nth(nth).map_or(0, |one| one + window));
-        }
-        if next >= end {
-            return sent.len() as i64;
-        }
-        sent.push(next);
-    }
-}
-
-/// Level and units counted here once more, by whole packets from the rule's words.
+/// Level and units counted once more, packet by packet from the rule's words.
 fn counted(met: &Met) -> (u8, u64) {
-    for (index, &bound) in met.link.bounds().iter().enumerate() {
-        let level = index as u8 + 1;
-        let silence = i64::from(met.link.silence());
-        let mut room = i64::from(bound) - i64::from(met.link.largest()) - silence;
-        for one in met.counted.iter().filter(|one| one.level <= level) {
-            room -= sent_before(u64::from(bound), one) * (i64::from(one.size) + silence);
-        }
-        if room < 0 {
-            return (level, room.unsigned_abs());
-        }
-    }
-    (0, 0)
+    let short = met.terms.short(&met.counted);
+    short.map_or((0, 0), |(level, _, units)| (level, units))
 }
 
 #[test]

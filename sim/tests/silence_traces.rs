@@ -62,7 +62,7 @@ fn told(trace: &[u8]) -> (Told, Job) {
     while let Some((record, length)) = Record::read(rest) {
         rest = &rest[length..];
         let mut last = None;
-        let result: Result<(), ()> = job.carry_out(record, &mut |answer| {
+        let result: Result<(), ()> = job.carry_out(record.clone(), &mut |answer| {
             if let Answer::Departed(departure) = answer {
                 told.departed.push(departure);
             }

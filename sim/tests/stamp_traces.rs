@@ -283,7 +283,7 @@ fn met_by(name: &str, seeds: u64) -> Met {
 }
 
 /// Kinds with stamps that are not about them.
-const WITH_STAMPS: [&str; 7] = [
+const WITH_STAMPS: [&str; 17] = [
     "earlyoff",
     "earlyflood",
     "earlydistance",
@@ -291,6 +291,16 @@ const WITH_STAMPS: [&str; 7] = [
     "earlydamage",
     "badearly",
     "earlyend",
+    "windowearly",
+    "windowbounds",
+    "windowzeros",
+    "windowflood",
+    "windowedges",
+    "windowsmall",
+    "windowlinks",
+    "windowdamage",
+    "badwindow",
+    "windowend",
 ];
 
 #[test]

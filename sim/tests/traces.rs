@@ -322,7 +322,7 @@ fn check_words(trace: &[u8], kind: &str, seed: u64) -> (usize, usize) {
     while let Some((record, length)) = Record::read(rest) {
         rest = &rest[length..];
         let mut last_answer = None;
-        let result: Result<(), ()> = job.carry_out(record, &mut |answer| {
+        let result: Result<(), ()> = job.carry_out(record.clone(), &mut |answer| {
             last_answer = Some(answer);
             Ok(())
         });

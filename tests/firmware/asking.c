@@ -83,6 +83,28 @@ uint64_t ask_next(uint32_t flag, uint32_t last, uint32_t gap, uint32_t now)
     return given;
 }
 
+/* How the answer for a link with windows came about. */
+static void count_windows(const struct expected *answer)
+{
+    if (!answer->windows)
+        return;
+    if (answer->level == 0) {
+        tally.hold++;
+        tally.more += !answer->bounds_hold;
+        return;
+    }
+    tally.less += answer->bounds_hold;
+    if (answer->by_window) {
+        tally.by_window[answer->level]++;
+        return;
+    }
+    (answer->beta == 0 ? tally.at_first : tally.later)[answer->level]++;
+    if (answer->beta < BETAS)
+        tally.betas[answer->beta]++;
+    if (answer->beta > tally.longest_beta)
+        tally.longest_beta = answer->beta;
+}
+
 struct shortage ask_short(const uint8_t *lk, size_t lk_len, const uint8_t *rows, size_t rows_len)
 {
     uint8_t *lk_lent = lent(lk_span, lk, lk_len);
@@ -91,17 +113,15 @@ struct shortage ask_short(const uint8_t *lk, size_t lk_len, const uint8_t *rows,
         mtredovim_short_level(lk_lent, lk_len, rows_lent, rows_len),
         mtredovim_short_units(lk_lent, lk_len, rows_lent, rows_len),
     };
-    struct shortage expected = {
-        reference_level(lk, lk_len, rows, rows_len),
-        reference_units(lk, lk_len, rows, rows_len),
-    };
+    struct expected expected = reference_short(lk, lk_len, rows, rows_len);
 
     at_the_end = !at_the_end;
     tally.asked += 2;
     tally.levels[given.level]++;
+    count_windows(&expected);
     if (given.level != expected.level || given.units != expected.units) {
         differs("level or units");
-        show("LK", lk, lk_len);
+        show("link", lk, lk_len);
         show("rows", rows, rows_len);
         printf("  %d by %" PRIu64 ", expected %d by %" PRIu64 "\n", given.level, given.units, expected.level, expected.units);
     }

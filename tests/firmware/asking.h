@@ -5,10 +5,21 @@
 #include <stddef.h>
 #include <stdint.h>
 
+enum { BETAS = 16 };
+
 struct tally {
     unsigned long asked;
     unsigned long differing;
     unsigned long levels[256]; /* how often each answer to the level question was given */
+    /* of links with windows, by the reference: no level fails; each level within its window, at beta 0, at a later one */
+    unsigned long hold;
+    unsigned long by_window[9];
+    unsigned long at_first[9];
+    unsigned long later[9];
+    unsigned long betas[BETAS]; /* how often a level failed at each of the first beta */
+    unsigned long longest_beta;
+    unsigned long more; /* .. no level fails, where document 01's test would refuse */
+    unsigned long less; /* .. a level fails, where it would not */
 };
 
 /* The answers to a level question: the level, and the units by which it is over. */

@@ -1,4 +1,5 @@
-/* Every limit at its last good and first bad value, every length, every mark, rows in every order, sums about their bounds, about 2^32 and 2^33. */
+/* Every limit at its last good and first bad value, every length, every mark, rows in every order, sums about their bounds, about 2^32 and 2^33. Of
+   windows: windows.c. */
 #include <stdbool.h>
 #include <string.h>
 
@@ -336,7 +337,8 @@ static void every_order(struct question *q, unsigned from, unsigned count, struc
 
 static void orders(void)
 {
-    struct question q;
+    static const unsigned windows[] = {24, 40, 56, 72}, longer[] = {24, 40, 336, 340}, two[] = {24, 60};
+    struct question q, with;
 
     /* 12 of 16 at level 1, 24 of 32 at level 2, 51 of 48 at level 3; level 4 fails too */
     plain_link(&q, 4);
@@ -347,12 +349,31 @@ static void orders(void)
     put_row(&q, 4, 3, 3);
     put_row(&q, 3, 48, 1);
     every_order(&q, 0, 6, (struct shortage){3, 3});
+    /* 18 within 24 at level 1, 34 within 40 at level 2, 60 within 56 at level 3 */
+    with = q;
+    put_windows(&with, 0, windows);
+    every_order(&with, 0, 6, (struct shortage){3, 4});
+    /* 319 within 336 at level 3, 669 within 340 at level 4 */
+    with = q;
+    put_windows(&with, 0, longer);
+    every_order(&with, 0, 6, (struct shortage){4, 329});
     /* 20 of 16 at level 1 */
     put_row(&q, 1, 4, 2);
     every_order(&q, 0, 7, (struct shortage){1, 4});
     /* a level too many in one of them */
     q.rows[ROW] = 5;
     every_order(&q, 0, 7, (struct shortage){REFUSED, 0});
+    /* 32 of 32 at level 2; with windows 32 of 32 at beta 0, and 37 of 33 at beta 1, where both of level 1 send once more */
+    plain_link(&q, 2);
+    put_row(&q, 1, 16, 4);
+    put_row(&q, 1, 4, 1);
+    put_row(&q, 2, MOST_GAP, 4);
+    put_row(&q, 2, MOST_GAP, 3);
+    put_row(&q, 2, 100, 4);
+    put_row(&q, 2, MOST_GAP, 1);
+    every_order(&q, 0, 6, (struct shortage){0, 0});
+    put_windows(&q, 0, two);
+    every_order(&q, 0, 6, (struct shortage){2, 4});
 }
 
 void boundary_questions(void)

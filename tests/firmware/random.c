@@ -1,8 +1,14 @@
 /* Random questions from a fixed seed: mostly well asked, with sums about their bounds; some damaged. */
+#include <stdbool.h>
+
 #include "questions.h"
 
-/* Each answer to the level question must be met this often, or the questions are too much alike. */
-enum { AT_LEAST = 1000, REFUSED = 255 };
+/* Each answer to the level question must be met this often, or the questions are too much alike; with windows each level by each kind of condition, and
+   each of the first beta. */
+enum { AT_LEAST = 1000, EACH_WAY = 100, REFUSED = 255 };
+
+/* So many links with windows to a thousand questions, and newcomers to each; one in so many has long windows. */
+enum { LINKS = 25, NEWCOMERS = 16, ONE_LONG = 500, LONGEST_WINDOW = 32768 };
 
 static uint64_t state = 20240601;
 
@@ -135,15 +141,101 @@ static void random_level(void)
     ask(&q);
 }
 
+/* A window at the bound, a little longer, or up to four times as long; where long ones are asked for, any. */
+static unsigned random_window(unsigned bound, bool any)
+{
+    if (any)
+        return between(bound, LONGEST_WINDOW);
+    switch (between(0, 3)) {
+    case 0:
+        return bound;
+    case 1:
+        return bound + between(1, 8);
+    default:
+        return between(bound, 4 * bound);
+    }
+}
+
+/* Short bounds, as the reference looks at every beta; the longest window of the link is given back. */
+static unsigned random_window_link(struct question *q, unsigned n, bool any)
+{
+    unsigned bounds[MOST_LEVELS], windows[MOST_LEVELS], longest = 0;
+    unsigned largest = between(1, any ? 200 : 12);
+    unsigned silence = between(0, 2) == 0 ? between(1, 3) : 0;
+    unsigned below = largest + silence;
+    bool at_bounds = between(0, 9) == 0;
+
+    for (unsigned m = 0; m < n; m++) {
+        bounds[m] = below + between(0, any ? 400 : 12);
+        below = bounds[m] + 1;
+        windows[m] = at_bounds ? bounds[m] : random_window(bounds[m], any);
+        longest = windows[m] > longest ? windows[m] : longest;
+    }
+    put_link(q, n, largest, silence, bounds);
+    put_windows(q, between(0, 1), windows);
+    return longest;
+}
+
+/* A newcomer, whose gap is often about a bound or a window of its link; one in three sends in bursts. */
+static void random_newcomer(struct question *q, unsigned n, unsigned longest)
+{
+    unsigned largest = q->lk[3] + 256u * q->lk[4];
+    unsigned level = between(1, n);
+    unsigned size = between(1, between(0, 1) == 0 ? largest : (largest + 3) / 4);
+    unsigned gap = between(1, 2 * (between(0, 1) == 0 ? longest : longest / 4 + 1));
+
+    if (between(0, 2) != 0) {
+        put_row(q, level, gap, size);
+        return;
+    }
+    unsigned packets = between(1, 16), average = gap < 65535 / packets ? gap : 65535 / packets;
+    put_average_row(q, level, between(1, average < 4 ? average : average / 4), size, packets * average, average);
+}
+
+/* A link with windows is filled as that of a hub is: newcomer by newcomer, and one that is let in stays. So most sets are nearly full, and fail by
+   little. In the end one is damaged. */
+static void random_filling(bool any)
+{
+    struct question q;
+    unsigned n = between(1, MOST_LEVELS);
+    unsigned longest = random_window_link(&q, n, any);
+
+    for (unsigned i = 0; i < NEWCOMERS; i++) {
+        size_t before = q.rows_len;
+
+        random_newcomer(&q, n, longest);
+        if (ask(&q).level != 0)
+            q.rows_len = before;
+    }
+    damage(&q);
+    ask(&q);
+}
+
+/* Whether links with windows were asked about in every way. */
+static void check_windows(void)
+{
+    for (unsigned level = 1; level <= MOST_LEVELS; level++)
+        if (tally.by_window[level] < EACH_WAY || tally.at_first[level] < EACH_WAY || tally.later[level] < EACH_WAY)
+            differs("a level hardly ever fails in one of the three ways");
+    for (unsigned beta = 0; beta < BETAS; beta++)
+        if (tally.betas[beta] < EACH_WAY)
+            differs("a level hardly ever fails at one of the first beta");
+    if (tally.hold < AT_LEAST || tally.more < AT_LEAST || tally.less < AT_LEAST)
+        differs("windows hardly ever let in, or let more in, or less, than bounds");
+}
+
 void random_questions(unsigned long count)
 {
     for (unsigned long i = 0; i < count; i++) {
         random_next();
         random_level();
     }
+    for (unsigned long i = 0; i < count / 1000 * LINKS; i++)
+        random_filling(i % ONE_LONG == 0);
     for (unsigned level = 0; level <= MOST_LEVELS; level++)
         if (tally.levels[level] < AT_LEAST)
             differs("an answer is hardly ever met");
     if (tally.levels[REFUSED] < AT_LEAST)
         differs("255 is hardly ever met");
+    check_windows();
 }

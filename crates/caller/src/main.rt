@@ -77,13 +77,15 @@ fn open(
     notices: &Notices,
     urgent: Connection,
 ) -> Hub {
-    // packets of up to 4 units, a tick of silence after each, none before it is eligible; bound 10 for level 1, which is the most urgent, 40 for level 2, and 0 past the levels
+    // packets of up to 4 units, a tick of silence after each, none before it is eligible; bound 10 for level 1, which is the most urgent, 40 for level 2, and 0 past the levels;
+    // no windows: document 01's level test
     let line = Link {
         levels: 2,
         largest: 4,
         silence: 1,
         early: 0,
         bounds: [10, 40, 0, 0, 0, 0, 0, 0],
+        windows: [0, 0, 0, 0, 0, 0, 0, 0],
     };
     // two packets in each 20 ticks, which may follow each other after 2
     let camera = Connection {

@@ -16,7 +16,7 @@ use Rattle.rules.specs.declared.Short.{Short}
 use Rattle.rules.specs.Words.{All}
 use Rattle.rules.specs.Limits.{max-connections, clock-end, beyond-32-bits, notice-number}
 use Rattle.rules.specs.Model.{Past, State, Call, link, admit, offer, notice, close, tick, no-short, no-connection, no-past, past, figures, closed-at, notice-packet}
-use Rattle.rules.specs.Admission.{owned, free-number, joining, largest-bound}
+use Rattle.rules.specs.Admission.{owned, free-number, joining, charge-time}
 use Rattle.rules.specs.Service.{eligibility-by, untimely-by, remember, of, ticked, charge-over, expired, swept-connections, swept-pasts, swept-marks}
 use Rattle.rules.specs.SoundState.{Free-number}
 use Rattle.rules.specs.Calls.{verdict, refused-number, refused-short, eligibility-now, placed, marked}
@@ -24,14 +24,14 @@ use Rattle.rules.proofs.Rows.{map-append}
 use Rattle.rules.proofs.Lists.{list-eq}
 use Rattle.rules.proofs.Sums.{split, same}
 use Rattle.rules.proofs.Tests.{never}
-use Rattle.rules.proofs.Figures.{link-facts, connection-facts, cost-pos}
+use Rattle.rules.proofs.Figures.{link-facts, connection-facts, window-charged, charge-le, cost-pos}
 use Rattle.rules.proofs.Standing.{level-free, stands-open, stands-below, free-is, charged-unexpired, unexpired-charged, expired-same, swept-length, swept-pasts-length, swept-marks-length, kept-figures, kept-past, kept-closed, freed-figures, freed-past, freed-closed, connections-stay, pasts-stay, marks-stay}
 use Rattle.rules.proofs.Closing.{expired-yes}
 use Rattle.rules.proofs.Line.{tick-leaves}
 use Rattle.rules.proofs.Bounds.{rows-fit-places, eligibilities-fit-32, charges-fit-32}
 use Rattle.rules.proofs.Stamps.{in-time-of}
 use Rattle.rules.proofs.SoundKept.{done-sound}
-use Rattle.rules.proofs.Verdicts.{admit-done, Offer-done, offer-done, notice-done, Close-done, close-done}
+use Rattle.rules.proofs.Verdicts.{tick-done, admit-done, Offer-done, offer-done, notice-done, Close-done, close-done}
 use Rattle.tables.specs.Places.{places-length, rows, written-places, table-of, no-packet}
 use Rattle.tables.specs.Notices.{notices-length, notice-of, notices-in}
 use Rattle.tables.proofs.NoticeLaws.{notice-rows}
@@ -41,10 +41,11 @@ use Rattle.connections.specs.Closing.{Closed-in-order, Swept}
 use Rattle.connections.proofs.MemberLaws.{connections-length, pasts-length, closed-length}
 use Rattle.connections.proofs.WrittenLaws.{members-rows, used-is, first-is}
 use Rattle.connections.proofs.OwnerLaws.{first-same}
+use Rattle.connections.proofs.SweepLaws.{swept-as-is}
 use Rattle.connections.proofs.RegulatorLaws.{Member-facts, member-facts}
 use Rattle.state.specs.declared.Hub.{Hub}
 use Rattle.state.specs.declared.Told.{Told}
-use Rattle.state.specs.View.{Tables, tables, view, written, sound-hub}
+use Rattle.state.specs.View.{Tables, tables, view, sound-hub}
 use Rattle.state.specs.Told.{refusal}
 use Rattle.state.specs.Does.{Does}
 use Rattle.state.proofs.SoundLaws as S
@@ -80,8 +81,14 @@ module _ (h : Hub) (t : Tables) (ok : sound-hub h t ≡ true) where
 
   -- what is closed has an owner that has sent
   module _ (n : h .link .levels ≡ 0 → ⊥) where
-    some-bound : 1 ≤ largest-bound (h .link)
-    some-bound = let f = link-facts (h .link) (S.linked h t ok n .link-in) in omega (arith, f .largest-le (h .link .levels) (f .some-level) (omega arith), cost-pos (h .link) (h .link .largest) (f .some-largest))
+    some-time : 1 ≤ charge-time (h .link)
+    some-time =
+        let f = link-facts (h .link) (S.linked h t ok n .link-in) in
+        let m : h .link .levels ≤ h .link .levels = omega arith in
+        omega (arith, f .largest-le _ (f .some-level) m, f .window-in _ (f .some-level) m .0, window-charged (h .link) f _ (f .some-level) m, cost-pos (h .link) (h .link .largest) (f .some-largest))
+
+    pub time-fits : charge-time (h .link) < beyond-32-bits
+    time-fits = omega (arith, charge-le (h .link) (S.linked h t ok n .link-in))
 
     closed-below : (c : ℕ) → closed-at (view h t) c ≡ true → c < max-connections
     closed-below c e =
@@ -90,16 +97,16 @@ module _ (h : Hub) (t : Tables) (ok : sound-hub h t ≡ true) where
     sent : (c : ℕ) → closed-at (view h t) c ≡ true → 1 ≤ length (past (view h t) c)
     sent c e = go (past (view h t) c) (unexpired-charged (view h t) c (S.charged h t ok n c (closed-below c e)) e)
       where
-        go : (q : Past) → charge-over (largest-bound (h .link)) (h .clock) q ≡ false → 1 ≤ length q
+        go : (q : Past) → charge-over (charge-time (h .link)) (h .clock) q ≡ false → 1 ≤ length q
         go [] x = never (sym x)
         go (a ∷ q) x = omega arith
 
     pub last-fits : (c : ℕ) → last-of (past (view h t) c) + 1 < beyond-32-bits
     last-fits c = go (past (view h t) c) (charges-fit-32 (view h t) (is-sound h t ok) c)
       where
-        go : (q : Past) → All (λ e. e + largest-bound (h .link) < beyond-32-bits) q → last-of q + 1 < beyond-32-bits
+        go : (q : Past) → All (λ e. e + charge-time (h .link) < beyond-32-bits) q → last-of q + 1 < beyond-32-bits
         go [] x = omega arith
-        go (a ∷ q) x = omega (arith, x .0, some-bound)
+        go (a ∷ q) x = omega (arith, x .0, some-time)
 
     pub closed-order : Closed-in-order (t .members)
     closed-order = record { closed-owned = has-owner; closed-sent = sent; closed-fits = λ c e. last-fits c }
@@ -112,7 +119,7 @@ module _ (h : Hub) (t : Tables) (ok : sound-hub h t ≡ true) where
             go false o = never (sym (S.linked h t ok n .free-blank c (closed-below c e) o .not-closed) ∙ e)
 
   pub tick-acts : (r : Told) (m p n : List ℕ) (b : ℕ) → verdict tick (view h t) ≡ 0 → Gives (ticked (view h t)) r p n
-      → b ≡ largest-bound (h .link) → Swept (t .members) b (r .hub .clock) m → Does tick h t r (tables m p n)
+      → b ≡ charge-time (h .link) → Swept (t .members) b (r .hub .clock) m → Does tick h t r (tables m p n)
   tick-acts r m p n b e g f w =
       let l = tick-leaves (view h t) in
       let k = w (ticked (view h t) .next)
@@ -120,10 +127,16 @@ module _ (h : Hub) (t : Tables) (ok : sound-hub h t ≡ true) where
         connections-are = l .connections;
         pasts-are = l .pasts;
         marks-are = l .closed;
-        bound-is = ap largest-bound (l .link) ∙ sym f;
+        time-is = ap charge-time (l .link) ∙ sym f;
         clock-is = sym (ap (λ (d : Told). d .hub .clock) (g .0));
       }) in
       acts tick h t ok r (tables m p n) e (g .0) (λ i. tables (k i) (g .1 i) (g .2 i))
+
+  -- nobody is closed, so that nobody is freed
+  pub tick-frees-nobody : (r : Told) (p n : List ℕ) → verdict tick (view h t) ≡ 0 → Gives (ticked (view h t)) r p n → first-in (t .members) ≡ 0 → Does tick h t r (tables (t .members) p n)
+  tick-frees-nobody r p n e g z =
+      tick-acts r (t .members) p n (charge-time (h .link)) e g refl
+      (swept-as-is (t .members) (shapes t (formed-tables h t ok) .members-shape) (charge-time (h .link)) (r .hub .clock) (closed-order (tick-done (view h t) e .set)) (λ l. absurd (omega arith)))
 
 -- ---- an admission
 
@@ -282,8 +295,17 @@ module _ (h : Hub) (t : Tables) (ok : sound-hub h t ≡ true) (c : ℕ) (good : 
   long : length (r .closed) ≡ max-connections
   long = length-set (s .closed) c true ∙ closed-length (t .members)
 
+  pub close-time : charge-time (h .link) < beyond-32-bits
+  close-time = time-fits h t ok (closing .set)
+
+  -- whether its charge is over, by the row read
+  pub close-over : (m : Member) (time : ℕ) (b : Bool) → m ≡ member-in (t .members) c → time ≡ charge-time (h .link) → b ≡ charge-over time (h .clock) (past-of m)
+      → charge-over (charge-time (h .link)) (h .clock) (past s c) ≡ b
+  close-over m time b e f g =
+      ap (charge-over (charge-time (h .link)) (h .clock)) (sym (close-reads m e .past)) ∙ ap (λ (k : ℕ). charge-over k (h .clock) (past-of m)) (sym f) ∙ sym g
+
   -- its charge is not over: it is charged
-  pub close-charges : (d : Told) (m : List ℕ) → charge-over (largest-bound (h .link)) (h .clock) (past s c) ≡ false → d ≡ refusal h 0 0
+  pub close-charges : (d : Told) (m : List ℕ) → charge-over (charge-time (h .link)) (h .clock) (past s c) ≡ false → d ≡ refusal h 0 0
       → m ≡ written-members (connections-in (t .members)) (pasts-in (t .members)) (set (closed-in (t .members)) c true)
       → Does (close c) h t d (tables m (t .places) (t .notices))
   close-charges d m e f g =
@@ -297,7 +319,7 @@ module _ (h : Hub) (t : Tables) (ok : sound-hub h t ≡ true) (c : ℕ) (good : 
       none i l = ⊎-elim (λ q. subst (λ (j : ℕ). expired r j ≡ false) (sym q) (charged-unexpired r c e)) (others-stay i l) (same i c)
 
   -- its charge is over: it is freed
-  pub close-frees : (d : Told) (m : List ℕ) → charge-over (largest-bound (h .link)) (h .clock) (past s c) ≡ true → d ≡ refusal h 0 0
+  pub close-frees : (d : Told) (m : List ℕ) → charge-over (charge-time (h .link)) (h .clock) (past s c) ≡ true → d ≡ refusal h 0 0
       → m ≡ written-members (set (connections-in (t .members)) c no-connection) (set (pasts-in (t .members)) c no-past) (closed-in (t .members))
       → Does (close c) h t d (tables m (t .places) (t .notices))
   close-frees d m e f g =

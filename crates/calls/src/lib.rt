@@ -37,9 +37,13 @@ fn run_on(h: Hub, members: &mut [u32], places: &mut [u32], notices: &mut [u32]) 
     ensures { λ r. ⌜ Does tick h (before members places notices) r (after members places notices) ⌝ }
 {
     let told = service::run_tick(h, members, places, notices);
-    let bound = connections::bound_of(h.link, h.link.levels);
+    // nobody is closed: the time of a charge is not asked for
+    if connections::closing::first_charge(members) == 0 {
+        return told;
+    }
+    let time = connections::closing::charge_time(h.link);
     let clock = told.hub.clock;
-    connections::closing::sweep(members, bound, clock);
+    connections::closing::sweep(members, time, clock);
     told
 }
 
@@ -178,8 +182,7 @@ fn close_now(h: Hub, members: &mut [u32], places: &[u32], notices: &[u32], c: u3
 {
     let k = c as usize;
     let m = connections::member_at(members, k);
-    let largest = connections::bound_of(h.link, h.link.levels);
-    if connections::closing::charge_over(m, largest, h.clock) {
+    if connections::closing::charge_over(m, connections::closing::charge_time(h.link), h.clock) {
         connections::closing::free_member(members, k);
         return say(h, 0, 0);
     }

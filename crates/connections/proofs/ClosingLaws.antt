@@ -30,10 +30,10 @@ use Rattle.connections.proofs.WrittenLaws.{Formed, formed-parts, member
 -- ---- a charge
 
 -- of one that has sent it hangs on the newest eligibility
-pub charge-by-first : (bound clock n : ℕ) (l : List ℕ) → (n ≡ 0 → ⊥) → 0 < length l → charge-over bound clock (take n l) ≡ leb (getD l 0 0 + bound) clock
-charge-by-first bound clock zero l n h = absurd (n refl)
-charge-by-first bound clock (suc k) [] n h = absurd (omega arith)
-charge-by-first bound clock (suc k) (e ∷ l) n h = refl
+pub charge-by-first : (time clock n : ℕ) (l : List ℕ) → (n ≡ 0 → ⊥) → 0 < length l → charge-over time clock (take n l) ≡ leb (getD l 0 0 + time) clock
+charge-by-first time clock zero l n h = absurd (n refl)
+charge-by-first time clock (suc k) [] n h = absurd (omega arith)
+charge-by-first time clock (suc k) (e ∷ l) n h = refl
 
 -- the newest eligibility of a row is the first number of its ticks, also where none is remembered
 last-first : (m : Member) → Formed m → getD (m .ticks) 0 0 ≡ last-of (past-of m)

@@ -1,6 +1,6 @@
 -- Laws that the figures of connections give the code: bounds by level, counts, shares and sums.
 use mathlib.Core.Path.{_≡_, refl, sym, ap, _∙_, subst}
-use mathlib.Core.Bool.{true, _&&_, _||_}
+use mathlib.Core.Bool.{true, false, cond, _&&_, _||_}
 use mathlib.Core.List.{List, [], _∷_}
 use mathlib.Core.Logic.{⊎-elim}
 use Prim.Native.Nat.{ℕ, zero, suc, _+_, _*_, _-_, _/_, _%_, _≤_, _<_, min}
@@ -8,21 +8,21 @@ use native.Mathlib.Nat.{le-div-iff-mul-le, div-lt-iff-lt-mul, div-add-mod', mod-
 use native.Mathlib.Omega.{arith}
 use native.Mathlib.Numerals.{add-one}
 use lib.Dec.{leb, eqb}
-use borrow.Author.Tests.{leb-true, le-leb, lt-leb, eqb-true}
+use borrow.Author.Tests.{leb-true, le-leb, lt-leb, eqb-true, eq-eqb, ne-eqb}
 use lib.ListN.{length, getD, List·getD-eq-default}
 use Rattle.rules.specs.declared.Link.{Link}
 use Rattle.rules.specs.declared.Connection.{Connection}
 use Rattle.rules.specs.Words.{within, sum}
 use Rattle.rules.specs.Limits.{max-levels, max-largest, max-silence, max-bound, max-gap, max-burst, max-allowance, beyond-32-bits}
 use Rattle.rules.specs.Model.{nth, no-connection}
-use Rattle.rules.specs.Admission.{rising, link-within, burst, average-within, kind-within, figures-within, free-number, joining, bound, rounded-up, average-count, count, reservation, reserved, cost, load, level-sum, short-from, level-test, passes}
+use Rattle.rules.specs.Admission.{rising, windowed, windows-within, link-within, burst, average-within, kind-within, figures-within, free-number, joining, bound, rounded-up, average-count, count, reservation, reserved, cost, load, span, conditions, level-sum, excess-from, excess, short-from, level-test, passes}
 use Rattle.rules.proofs.Tests.{never, and-true, or-cases, within-true}
 use Rattle.rules.proofs.Sums.{split, same, upto-yes, upto-no, upto-le, cond-is}
 use Rattle.rules.proofs.Standing.{level-owned, level-free}
-use Rattle.rules.proofs.Figures.{few-at-once, reservation-is, sum-is}
-use Rattle.rules.proofs.LevelTest.{test-holds}
+use Rattle.rules.proofs.Figures.{few-at-once, reservation-is, sum-is, window-none, conditions-none}
+use Rattle.rules.proofs.LevelTest.{test-holds, holds-excess}
 use Rattle.rules.proofs.Count.{rounded-up-le, count-plain, count-average, count-none}
-use Rattle.connections.specs.Within.{Within, Sums-with, bound-in, share-of, most-share}
+use Rattle.connections.specs.Within.{Within, Sums-with, bound-in, share-of, share-in, most-share}
 use Rattle.connections.proofs.OwnerLaws.{sum-joining}
 
 -- ---- bounds
@@ -62,7 +62,8 @@ pub link-limits : (l : Link) → link-within l ≡ true → Link-limits l
 unfolding link-within
 link-limits l e =
     let first = cost l (l .largest) in
-    let rest = leb (l .early) 1 && rising first (l .levels) (l .bounds) in
+    let rises = rising first (l .levels) (l .bounds) in
+    let rest = leb (l .early) 1 && (rises && windows-within l) in
     let a = and-true (within 1 max-levels (l .levels)) (within 1 max-largest (l .largest) && (leb (l .silence) max-silence && rest)) e in
     let b = and-true (within 1 max-largest (l .largest)) (leb (l .silence) max-silence && rest) (a .1) in
     let k = and-true (leb (l .silence) max-silence) rest (b .1) in
@@ -70,7 +71,7 @@ link-limits l e =
       levels-le = within-true 1 max-levels (l .levels) (a .0) .1;
       largest-le = within-true 1 max-largest (l .largest) (b .0) .1;
       silence-le = leb-true (l .silence) max-silence (k .0);
-      bounds-le = below (and-true (leb (l .early) 1) (rising first (l .levels) (l .bounds)) (k .1) .1);
+      bounds-le = below (and-true rises (windows-within l) (and-true (leb (l .early) 1) (rises && windows-within l) (k .1) .1) .0);
     }
   where
     below : rising (cost l (l .largest)) (l .levels) (l .bounds) ≡ true → (m : ℕ) → bound l m ≤ max-bound
@@ -232,33 +233,28 @@ module _ (l : Link) (cs : List Connection) where
     rest : m ≤ l .levels → l .levels + 1 - m ≡ suc (l .levels - m)
     rest h = omega arith
 
-    -- a sum above its bound
-    pub test-short : m ≤ l .levels → (s d : ℕ) → s ≡ level-sum l cs m → d ≡ bound l m → d < s
-        → record { level = m; units = s - d } ≡ short-from l cs m (l .levels + 1 - m)
-    test-short h s d e f lt =
+    -- a level with an excess
+    pub test-over : m ≤ l .levels → (u : ℕ) → u ≡ excess l cs m → (u ≡ 0 → ⊥) → record { level = m; units = u } ≡ short-from l cs m (l .levels + 1 - m)
+    test-over h u e n =
         sym
         (ap (short-from l cs m) (rest h)
-        ∙ cond-is (short-from l cs (suc m) (l .levels - m)) (record { level = m; units = level-sum l cs m - bound l m }) (lt-leb (level-sum l cs m) (bound l m) (omega arith))
-        ∙ ap (λ (u : ℕ). record { level = m; units = u }) (sym (over e f)))
-      where
-        over : s ≡ level-sum l cs m → d ≡ bound l m → s - d ≡ level-sum l cs m - bound l m
-        over e f = rw (e, f)
+        ∙ cond-is (short-from l cs (suc m) (l .levels - m)) (record { level = m; units = excess l cs m }) (ne-eqb (excess l cs m) 0 (λ z. n (e ∙ z)))
+        ∙ ap (λ (k : ℕ). record { level = m; units = k }) (sym e))
 
-    -- a sum that is not
-    pub test-next : m ≤ l .levels → (s d : ℕ) → s ≡ level-sum l cs m → d ≡ bound l m → s ≤ d
-        → short-from l cs (m + 1) (l .levels + 1 - (m + 1)) ≡ short-from l cs m (l .levels + 1 - m)
-    test-next h s d e f le =
+    -- one without
+    pub test-pass : m ≤ l .levels → excess l cs m ≡ 0 → short-from l cs (m + 1) (l .levels + 1 - (m + 1)) ≡ short-from l cs m (l .levels + 1 - m)
+    test-pass h e =
         let k : l .levels + 1 - (m + 1) ≡ l .levels - m = omega arith in
         rw (k, add-one m)
         (sym
         (ap (short-from l cs m) (rest h)
-        ∙ cond-is (short-from l cs (suc m) (l .levels - m)) (record { level = m; units = level-sum l cs m - bound l m }) (le-leb (level-sum l cs m) (bound l m) (omega arith))))
+        ∙ cond-is (short-from l cs (suc m) (l .levels - m)) (record { level = m; units = excess l cs m }) (eq-eqb (excess l cs m) 0 e)))
 
     pub test-end : l .levels < m → record { level = 0; units = 0 } ≡ short-from l cs m (l .levels + 1 - m)
     test-end h = let e : l .levels + 1 - m ≡ 0 = omega arith in ap (short-from l cs m) (sym e)
 
-  -- sums from level m on that are not
-  tests-next : (m k : ℕ) → ((j : ℕ) → m ≤ j → j < m + k → j ≤ l .levels → level-sum l cs j ≤ bound l j)
+  -- levels from m on without an excess
+  tests-next : (m k : ℕ) → ((j : ℕ) → m ≤ j → j < m + k → j ≤ l .levels → excess l cs j ≡ 0)
       → short-from l cs (m + k) (l .levels + 1 - (m + k)) ≡ short-from l cs m (l .levels + 1 - m)
   tests-next m zero h = let e : m + 0 ≡ m = omega arith in rw e
   tests-next m (suc k) h =
@@ -266,27 +262,58 @@ module _ (l : Link) (cs : List Connection) where
       rw e (⊎-elim within-levels above (split (m + k) (l .levels)) ∙ tests-next m k (λ j a b. h j a (omega arith)))
     where
       within-levels : m + k ≤ l .levels → short-from l cs (m + k + 1) (l .levels + 1 - (m + k + 1)) ≡ short-from l cs (m + k) (l .levels + 1 - (m + k))
-      within-levels a = test-next (m + k) a _ _ refl refl (h (m + k) (omega arith) (omega arith) a)
+      within-levels a = test-pass (m + k) a (h (m + k) (omega arith) (omega arith) a)
 
       above : l .levels < m + k → short-from l cs (m + k + 1) (l .levels + 1 - (m + k + 1)) ≡ short-from l cs (m + k) (l .levels + 1 - (m + k))
       above a = sym (test-end (m + k + 1) (omega arith)) ∙ test-end (m + k) a
 
 -- it hangs on the sums alone
-module _ (l : Link) (cs ds : List Connection) (e : (m : ℕ) → m ≤ l .levels → level-sum l cs m ≡ level-sum l ds m) where
+module _ (l : Link) (cs ds : List Connection) (e : (m i : ℕ) → m ≤ l .levels → level-sum l cs m i ≡ level-sum l ds m i) where
+  excess-same : (m i n : ℕ) → m ≤ l .levels → excess-from l cs m i n ≡ excess-from l ds m i n
+  excess-same m i zero h = refl
+  excess-same m i (suc n) h = rw (e m i h, excess-same m (suc i) n h)
+
+  over-same : (m : ℕ) → m ≤ l .levels → excess l cs m ≡ excess l ds m
+  unfolding excess
+  over-same m h = excess-same m 0 (conditions l m) h
+
   short-same : (m k : ℕ) → m + k ≤ l .levels + 1 → short-from l cs m k ≡ short-from l ds m k
   short-same m zero h = refl
-  short-same m (suc k) h = rw (e m (omega arith), short-same (suc m) k (omega arith))
+  short-same m (suc k) h = rw (over-same m (omega arith), short-same (suc m) k (omega arith))
 
   pub test-same : level-test l cs ≡ level-test l ds
   unfolding level-test
   test-same = short-same 1 (l .levels) (omega arith)
 
--- ---- a newcomer
+-- ---- without windows: one condition a level, within the bound
 
--- the sum of level m with it, for any connections whose sums these are
-pub sum-with : (l : Link) (cs js : List Connection) (x : Connection) → Sums-with l cs x js → (m s : ℕ) → m ≤ l .levels
-    → s ≡ load l cs m (bound l m) + share-of l m (bound l m) x + cost l (l .largest) → s ≡ level-sum l js m
-sum-with l cs js x S m s h e = e ∙ sym (S m h)
+module _ (l : Link) (none : windowed l ≡ false) where
+  module _ (cs : List Connection) (m : ℕ) where
+    excess-by-bound : excess l cs m ≡ cond (leb (level-sum l cs m 0) (bound l m)) 0 (level-sum l cs m 0 - bound l m)
+    unfolding excess
+    excess-by-bound =
+        ap (excess-from l cs m 0) (conditions-none l none m)
+        ∙ ap (λ (n : ℕ). cond (leb (level-sum l cs m 0) n) 0 (level-sum l cs m 0 - n)) (window-none l none m)
+
+    module _ (h : m ≤ l .levels) (s d : ℕ) (e : s ≡ level-sum l cs m 0) (f : d ≡ bound l m) where
+      by-bound : excess l cs m ≡ cond (leb s d) 0 (s - d)
+      by-bound = rw (e, f) excess-by-bound
+
+      -- a sum above its bound
+      pub test-short : d < s → record { level = m; units = s - d } ≡ short-from l cs m (l .levels + 1 - m)
+      test-short lt = test-over l cs m h (s - d) (sym (by-bound ∙ cond-is 0 (s - d) (lt-leb s d lt))) (λ z. omega arith)
+
+      -- a sum that is not
+      pub test-next : s ≤ d → short-from l cs (m + 1) (l .levels + 1 - (m + 1)) ≡ short-from l cs m (l .levels + 1 - m)
+      test-next le = test-pass l cs m h (by-bound ∙ cond-is 0 (s - d) (le-leb s d le))
+
+  -- the sum of level m with a newcomer, for any connections whose sums these are
+  pub sum-with : (cs js : List Connection) (x : Connection) → Sums-with l cs x js → (m s : ℕ) → m ≤ l .levels
+      → s ≡ load l cs m (bound l m) + share-of l m (bound l m) x + cost l (l .largest) → s ≡ level-sum l js m 0
+  sum-with cs js x S m s h e =
+      e ∙ ap (λ (d : ℕ). load l cs m d + share-of l m d x + cost l (l .largest)) (sym (window-none l none m)) ∙ sym (S m 0 h)
+
+-- ---- a newcomer
 
 -- levels below its own, whose sums it leaves as they are, pass with it where they pass without it
 pub test-low : (l : Link) (cs js : List Connection) (x : Connection) → passes l cs ≡ true → 1 ≤ x .level → Sums-with l cs x js → short-from l js (x .level) (l .levels + 1 - x .level) ≡ level-test l js
@@ -294,17 +321,17 @@ test-low l cs js x p o S =
     let e : 1 + (x .level - 1) ≡ x .level = omega arith in
     subst (λ (k : ℕ). short-from l js k (l .levels + 1 - k) ≡ short-from l js 1 (l .levels + 1 - 1)) e (tests-next l js 1 (x .level - 1) low) ∙ test-start l js
   where
-    low : (j : ℕ) → 1 ≤ j → j < 1 + (x .level - 1) → j ≤ l .levels → level-sum l js j ≤ bound l j
-    low j a b h = omega (arith, S j h, sum-is l cs j, share-none l j (bound l j) x (omega arith), test-holds l cs p j a h)
+    low : (j : ℕ) → 1 ≤ j → j < 1 + (x .level - 1) → j ≤ l .levels → excess l js j ≡ 0
+    low j a b h = holds-excess l js j (λ i k. omega (arith, S j i h, sum-is l cs j i, share-none l j (span l j i (x .level)) x (omega arith), test-holds l cs p j a h i k))
 
 -- a level above all others adds to no sum
 pub sums-above : (l : Link) (cs : List Connection) (x : Connection) → l .levels < x .level → Sums-with l cs x cs
-sums-above l cs x above m h = omega (arith, sum-is l cs m, share-none l m (bound l m) x (omega arith))
+sums-above l cs x above m i h = omega (arith, sum-is l cs m i, share-none l m (span l m i (x .level)) x (omega arith))
 
 -- at the lowest free number, of which nothing is left, it adds its own share and its own reservation
 module _ (l : Link) (cs : List Connection) (x : Connection) (room : free-number cs < length cs) (blank : nth cs (free-number cs) ≡ no-connection) where
   pub sums-joining : Sums-with l cs x (joining cs x)
-  sums-joining m h = sum-is l (joining cs x) m ∙ ap (λ (k : ℕ). k + cost l (l .largest)) (sum-joining cs (share-of l m (bound l m)) (share-free l m (bound l m)) x room blank)
+  sums-joining m i h = sum-is l (joining cs x) m i ∙ ap (λ (k : ℕ). k + cost l (l .largest)) (sum-joining cs (share-in l m i) (share-free l m (span l m i 0)) x room blank)
 
   pub reserved-joining : reserved l (joining cs x) ≡ reserved l cs + reservation l x
   reserved-joining = sum-joining cs (reservation l) (reservation-free l) x room blank

@@ -2,6 +2,7 @@ pub mod MemberLaws
 pub mod OwnerLaws
 pub mod FigureLaws
 pub mod SumLaws
+pub mod WindowLaws
 pub mod WrittenLaws
 pub mod RegulatorLaws
 pub mod ClosingLaws

@@ -6,17 +6,17 @@ use mathlib.Core.List.{List}
 use lib.ListN.{length, getD}
 use Rattle.rules.specs.Limits.{beyond-32-bits}
 use Rattle.rules.specs.Model.{State, no-past}
-use Rattle.rules.specs.Admission.{owned, largest-bound}
+use Rattle.rules.specs.Admission.{owned, charge-time}
 use Rattle.rules.specs.Service.{charge-over, swept-connections, swept-pasts, swept-marks}
 use Rattle.connections.specs.declared.Member.{Member}
 use Rattle.connections.specs.Members.{no-member, past-of, closed-of, connections-in, pasts-in, closed-in, last-of, written-members}
 
 -- a row is closed and its charge is over; freed, nothing is left of it
 abbrev pub ended : ℕ → ℕ → Member → Bool
-ended bound clock m = closed-of m && charge-over bound clock (past-of m)
+ended time clock m = closed-of m && charge-over time clock (past-of m)
 
 abbrev pub freed : ℕ → ℕ → Member → Member
-freed bound clock m = cond (ended bound clock m) no-member m
+freed time clock m = cond (ended time clock m) no-member m
 
 -- what is closed has an owner that has sent, and its last eligibility leaves room for one more
 pub record Closed-in-order (t : List ℕ) : Type 0 where
@@ -24,14 +24,14 @@ pub record Closed-in-order (t : List ℕ) : Type 0 where
   pub closed-sent : (c : ℕ) → getD (closed-in t) c false ≡ true → 1 ≤ length (getD (pasts-in t) c no-past)
   pub closed-fits : (c : ℕ) → getD (closed-in t) c false ≡ true → last-of (getD (pasts-in t) c no-past) + 1 < beyond-32-bits
 
--- a state of the rules whose connections are those of the table, with this largest bound and clock
-pub record Stands-for (t : List ℕ) (bound clock : ℕ) (s : State) : Type 0 where
+-- a state of the rules whose connections are those of the table, with this time of a charge and this clock
+pub record Stands-for (t : List ℕ) (time clock : ℕ) (s : State) : Type 0 where
   pub connections-are : s .connections ≡ connections-in t
   pub pasts-are : s .pasts ≡ pasts-in t
   pub marks-are : s .closed ≡ closed-in t
-  pub bound-is : largest-bound (s .link) ≡ bound
+  pub time-is : charge-time (s .link) ≡ time
   pub clock-is : s .clock ≡ clock
 
 -- every number whose charge is over is freed
 abbrev pub Swept : List ℕ → ℕ → ℕ → List ℕ → Type 0
-Swept t bound clock after = (s : State) → Stands-for t bound clock s → after ≡ written-members (swept-connections s) (swept-pasts s) (swept-marks s)
+Swept t time clock after = (s : State) → Stands-for t time clock s → after ≡ written-members (swept-connections s) (swept-pasts s) (swept-marks s)

@@ -7,31 +7,48 @@ ghost use lib.Dec.{eqb};
 ghost use lib.ListN.{length, getD, set};
 ghost use Rattle.rules.specs.Limits.{max-connections, beyond-32-bits};
 ghost use Rattle.rules.specs.Model.{no-connection, no-past};
+ghost use Rattle.rules.specs.Admission.{charge-time};
 ghost use Rattle.rules.specs.Service.{charge-over};
 ghost use Rattle.connections.specs.Members.{members-length, no-member, members-in, past-of, connections-in, pasts-in, closed-in, earlier, last-of, used-by, used-in, first-closed, first-in, written-rows, written-members, member-formed, rows-formed, members-formed};
 ghost use Rattle.connections.specs.Closing.{freed, Closed-in-order, Swept};
 use super::MARK;
 use super::Member;
+use super::bound_of;
 use super::member_at;
 use super::no_figures;
 use super::number;
 use super::put_member;
 use super::used;
 use super::wide;
+use super::windows;
 use limits::MAX_REMEMBERED;
 use limits::MEMBER_HEAD;
 use limits::MEMBER_ROWS;
 use limits::MEMBER_WIDTH;
+use rules::Link;
 
-// The charge of a connection is over: it never sent, or the clock has reached its last eligibility plus the largest bound.
-pub fn charge_over(m: Member, bound: u32, clock: u32) -> bool
+// How long a closed connection is charged past its last eligibility: the largest bound, and on a link with windows the largest window besides.
+pub fn charge_time(l: Link) -> u32
+    requires { ⌜ charge-time l < beyond-32-bits ⌝ }
+    ensures { λ r. ⌜ r ≡ charge-time l ⌝ }
+{
+    let d = bound_of(l, l.levels);
+    if !windows::has_windows(l) {
+        return d;
+    }
+    let own = l.windows;
+    d + windows::largest_of(&own)
+}
+
+// The charge of a connection is over: it never sent, or the clock has reached its last eligibility plus the time of a charge.
+pub fn charge_over(m: Member, time: u32, clock: u32) -> bool
     requires { ⌜ member-formed m ≡ true ⌝ }
-    ensures { λ r. ⌜ r ≡ charge-over bound clock (past-of m) ⌝ }
+    ensures { λ r. ⌜ r ≡ charge-over time clock (past-of m) ⌝ }
 {
     if m.known == 0 {
         return true;
     }
-    wide(m.ticks[0]) + wide(bound) <= wide(clock)
+    wide(m.ticks[0]) + wide(time) <= wide(clock)
 }
 
 // ---- the numbers behind the rows
@@ -140,26 +157,26 @@ pub fn free_member(members: &mut [u32], c: usize)
 // ---- a tick
 
 // Row i is freed where it is closed and its charge is over.
-fn clear_ended(members: &mut [u32], i: usize, bound: u32, clock: u32)
+fn clear_ended(members: &mut [u32], i: usize, time: u32, clock: u32)
     requires { ⌜ (rows-formed (now members) ≡ true) × (i < max-connections) ⌝ }
-    ensures { λ r. ⌜ now (members .exit) ≡ written-rows (set (members-in (now (members .entry))) i (freed bound clock (getD (members-in (now (members .entry))) i no-member))) (used-in (now (members .entry))) (first-in (now (members .entry))) ⌝ }
+    ensures { λ r. ⌜ now (members .exit) ≡ written-rows (set (members-in (now (members .entry))) i (freed time clock (getD (members-in (now (members .entry))) i no-member))) (used-in (now (members .entry))) (first-in (now (members .entry))) ⌝ }
 {
     if number(members, i, MARK) == 0 {
         return;
     }
-    if charge_over(member_at(members, i), bound, clock) {
+    if charge_over(member_at(members, i), time, clock) {
         put_member(members, i, no_member());
     }
 }
 
 // Each of the first n rows; no row behind them is closed.
-fn clear_each(members: &mut [u32], n: usize, bound: u32, clock: u32)
+fn clear_each(members: &mut [u32], n: usize, time: u32, clock: u32)
     requires { ⌜ (rows-formed (now members) ≡ true) × Closed-in-order (now members) × (used-by (connections-in (now members)) ≤ n) × (n ≤ max-connections) ⌝ }
-    ensures { λ r. ⌜ now (members .exit) ≡ written-rows (map (freed bound clock) (members-in (now (members .entry)))) (used-in (now (members .entry))) (first-in (now (members .entry))) ⌝ }
+    ensures { λ r. ⌜ now (members .exit) ≡ written-rows (map (freed time clock) (members-in (now (members .entry)))) (used-in (now (members .entry))) (first-in (now (members .entry))) ⌝ }
 {
     let mut i: usize = 0;
     while i < n {
-        clear_ended(members, i, bound, clock);
+        clear_ended(members, i, time, clock);
         i += 1;
     }
 }
@@ -176,26 +193,26 @@ fn sum_up(members: &mut [u32], n: usize)
 }
 
 // Every number whose charge is over is freed.
-fn free_ended(members: &mut [u32], bound: u32, clock: u32)
+fn free_ended(members: &mut [u32], time: u32, clock: u32)
     requires { ⌜ (members-formed (now members) ≡ true) × Closed-in-order (now members) ⌝ }
-    ensures { λ r. ⌜ Swept (now (members .entry)) bound clock (now (members .exit)) ⌝ }
+    ensures { λ r. ⌜ Swept (now (members .entry)) time clock (now (members .exit)) ⌝ }
 {
     let n = used(members);
-    clear_each(members, n, bound, clock);
+    clear_each(members, n, time, clock);
     sum_up(members, n);
 }
 
 // The same; where nobody's charge is over no row is looked at.
-pub fn sweep(members: &mut [u32], bound: u32, clock: u32)
+pub fn sweep(members: &mut [u32], time: u32, clock: u32)
     requires { ⌜ (members-formed (now members) ≡ true) × Closed-in-order (now members) ⌝ }
-    ensures { λ r. ⌜ Swept (now (members .entry)) bound clock (now (members .exit)) ⌝ }
+    ensures { λ r. ⌜ Swept (now (members .entry)) time clock (now (members .exit)) ⌝ }
 {
     let first = first_charge(members);
     if first == 0 {
         return;
     }
-    if wide(clock) + 1 < wide(first) + wide(bound) {
+    if wide(clock) + 1 < wide(first) + wide(time) {
         return;
     }
-    free_ended(members, bound, clock);
+    free_ended(members, time, clock);
 }

@@ -3,6 +3,7 @@ pub mod closing; // closing.rt: connections that are closed, and numbers that ar
 pub mod regulator; // regulator.rt: the next eligibility of a connection, and what it remembers
 pub mod stand_by; // stand_by.rt: packets that may go before they are eligible, and how far past the clock that may lie
 pub mod stamps; // stamps.rt: offers that bring a stamp, and connections that want one
+mod windows; // windows.rt: the level test of a link with windows
 
 ghost use mathlib.Core.Path.{_≡_};
 ghost use mathlib.Core.Bool.{true, false, not, _&&_};
@@ -13,7 +14,7 @@ ghost use lib.Seq.{sets};
 ghost use Rattle.rules.specs.declared.Connection.{Connection as Figures};
 ghost use Rattle.rules.specs.Limits.{max-levels, max-largest, max-silence, max-bound, max-connections, beyond-32-bits};
 ghost use Rattle.rules.specs.Model.{no-short, nth, no-past, no-connection};
-ghost use Rattle.rules.specs.Admission.{link-within, bound, burst, rounded-up, average-count, count, reservation, reserved, cost, short-from, level-test, passes, owned, free-number, joining};
+ghost use Rattle.rules.specs.Admission.{link-within, windowed, bound, burst, rounded-up, average-count, count, reservation, reserved, cost, short-from, level-test, passes, owned, free-number, joining};
 ghost use Rattle.rules.specs.Service.{remember};
 ghost use Rattle.limits.specs.Zeros.{zeros};
 ghost use Rattle.tables.specs.Table.{row-in};
@@ -259,7 +260,7 @@ pub(crate) fn wide(x: u32) -> u64
 }
 
 // Of a link's bounds that of a level; 0 where there is none.
-fn bound_in(bounds: &[u32], level: u32) -> u32
+pub(crate) fn bound_in(bounds: &[u32], level: u32) -> u32
     requires { ⌜ length (now bounds) ≡ max-levels ⌝ }
     ensures { λ r. ⌜ r ≡ bound-in (now (bounds .entry)) level ⌝ }
 {
@@ -356,17 +357,17 @@ pub fn reserve(l: Link, x: Connection) -> u64
 }
 
 // What a packet costs the line, in ticks: a tick for each unit, and then the silence.
-fn cost_of(len: u32, silence: u32) -> u64
+pub(crate) fn cost_of(len: u32, silence: u32) -> u64
     requires { ⌜ (len ≤ max-largest) × (silence ≤ max-silence) ⌝ }
     ensures { λ r. ⌜ (r ≡ len + silence) × (r ≤ max-largest + max-silence) ⌝ }
 {
     wide(len) + wide(silence)
 }
 
-// What a connection adds to the sum of level m with bound d; a free number nothing.
-fn share(l: Link, x: Connection, m: u32, d: u32) -> u64
-    requires { ⌜ (x .level ≡ 0 → x ≡ no-connection) × ((x .level ≡ 0 → ⊥) → 1 ≤ x .gap) × (d ≤ max-bound) × (x .size ≤ max-largest) × (l .silence ≤ max-silence) ⌝ }
-    ensures { λ r. ⌜ (r ≡ share-of l m d x) × (r ≤ most-share) ⌝ }
+// What a connection adds to a sum of level m, counted within w; a free number nothing.
+pub(crate) fn share(l: Link, x: Connection, m: u32, w: u32) -> u64
+    requires { ⌜ (x .level ≡ 0 → x ≡ no-connection) × ((x .level ≡ 0 → ⊥) → 1 ≤ x .gap) × (w ≤ max-bound) × (x .size ≤ max-largest) × (l .silence ≤ max-silence) ⌝ }
+    ensures { λ r. ⌜ (r ≡ share-of l m w x) × (r ≤ most-share) ⌝ }
 {
     if x.level == 0 {
         return 0;
@@ -374,7 +375,7 @@ fn share(l: Link, x: Connection, m: u32, d: u32) -> u64
     if m < x.level {
         return 0;
     }
-    count_in(x, d) * cost_of(x.size, l.silence)
+    count_in(x, w) * cost_of(x.size, l.silence)
 }
 
 // The connection in row i.
@@ -443,9 +444,9 @@ pub fn no_short() -> Short
     Short { level: 0, units: 0 }
 }
 
-// The level test from level `low` on, over the connections, which have owners up to row n at most, and a newcomer.
-fn test_from(l: Link, members: &[u32], n: usize, x: Connection, low: u32) -> Short
-    requires { ⌜ (length (now members) ≡ members-length) × (used-by (connections-in (now members)) ≤ n) × (n ≤ max-connections) × (1 ≤ x .level) × (1 ≤ x .gap) × (x .size ≤ max-largest) × Within l (connections-in (now members)) × (1 ≤ low) ⌝ }
+// The level test from level `low` on, over the connections, which have owners up to row n at most, and a newcomer, on a link without windows.
+fn bounds_from(l: Link, members: &[u32], n: usize, x: Connection, low: u32) -> Short
+    requires { ⌜ (length (now members) ≡ members-length) × (used-by (connections-in (now members)) ≤ n) × (n ≤ max-connections) × (1 ≤ x .level) × (1 ≤ x .gap) × (x .size ≤ max-largest) × Within l (connections-in (now members)) × (windowed l ≡ false) × (1 ≤ low) ⌝ }
     ensures { λ r. ⌜ ((js : List Figures) → Sums-with l (connections-in (now (members .entry))) x js → r ≡ short-from l js low (l .levels + 1 - low)) ⌝ }
 {
     let place = (low - 1) as usize;
@@ -465,6 +466,17 @@ fn test_from(l: Link, members: &[u32], n: usize, x: Connection, low: u32) -> Sho
         m += 1;
     }
     Short { level: 0, units: 0 }
+}
+
+// The level test from level `low` on, with windows or without.
+fn test_from(l: Link, members: &[u32], n: usize, x: Connection, low: u32) -> Short
+    requires { ⌜ (length (now members) ≡ members-length) × (used-by (connections-in (now members)) ≤ n) × (n ≤ max-connections) × (1 ≤ x .level) × (1 ≤ x .gap) × (x .size ≤ max-largest) × Within l (connections-in (now members)) × (1 ≤ low) ⌝ }
+    ensures { λ r. ⌜ ((js : List Figures) → Sums-with l (connections-in (now (members .entry))) x js → r ≡ short-from l js low (l .levels + 1 - low)) ⌝ }
+{
+    if windows::has_windows(l) {
+        return windows::finer_from(l, members, n, x, low);
+    }
+    bounds_from(l, members, n, x, low)
 }
 
 // The level test over the connections, which have owners up to row n at most, and a newcomer: that of any connections whose sums are these.

@@ -8,7 +8,7 @@ use lib.ListN.{length, take, drop, set, getD, replicate, length-append}
 use lib.Seq.{take-suc-set, length-take-le}
 use borrow.Author.Tests.{lt-ltb, le-ltb}
 use Rattle.fields.specs.Numbers.{little, put-fields, sum}
-use Rattle.fields.proofs.NumberLaws.{length-put}
+use Rattle.fields.proofs.NumberLaws.{length-put, sum-both}
 use Rattle.fields.specs.Kinds.{Kind, bytes}
 use Rattle.fields.specs.Drafts.{longest, held, Holds, Adds, Adds-all}
 use Rattle.fields.specs.Formats.{fitting, over}
@@ -71,6 +71,26 @@ before {d} {e} {r} {w} {v} {ws} {xs} f g =
     record {
       bytes = g .bytes ∙ ap (λ l. l ++ put-fields ws xs) (f .bytes) ∙ append-assoc (held d) (little w v) (put-fields ws xs);
       count = omega (arith, f .count, g .count);
+    }
+
+put-both : (ws xs vs ys : List ℕ) → length xs ≡ length ws → put-fields (ws ++ vs) (xs ++ ys) ≡ put-fields ws xs ++ put-fields vs ys
+unfolding put-fields
+put-both [] [] vs ys e = refl
+put-both [] (x ∷ xs) vs ys e = absurd (omega arith)
+put-both (w ∷ ws) [] vs ys e = absurd (omega arith)
+put-both (w ∷ ws) (x ∷ xs) vs ys e =
+    ap (λ l. little w x ++ l) (put-both ws xs vs ys (omega arith)) ∙ sym (append-assoc (little w x) (put-fields ws xs) (put-fields vs ys))
+
+-- Some numbers before others.
+pub behind : {d e r : Draft} {ws vs xs ys : List ℕ} → length xs ≡ length ws → Adds-all d e ws xs → Adds-all e r vs ys → Adds-all d r (ws ++ vs) (xs ++ ys)
+behind {d} {e} {r} {ws} {vs} {xs} {ys} n f g =
+    record {
+      bytes =
+          g .bytes
+          ∙ ap (λ l. l ++ put-fields vs ys) (f .bytes)
+          ∙ append-assoc (held d) (put-fields ws xs) (put-fields vs ys)
+          ∙ ap (λ l. held d ++ l) (sym (put-both ws xs vs ys n));
+      count = omega (arith, f .count, g .count, sum-both ws vs);
     }
 
 pub drafted : {d r : Draft} {R : Type 0} (k : Kind R) (xs : List ℕ) → Holds d (k .mark) → Adds-all d r (k .widths (getD xs 0 0)) xs

@@ -1,7 +1,7 @@
 -- Laws of a choice, and of numbers in bytes: specs/Numbers.
 use mathlib.Core.Path.{_≡_, refl, ap, _∙_}
 use mathlib.Core.Bool.{Bool, true, false, cond}
-use mathlib.Core.List.{List, [], _∷_}
+use mathlib.Core.List.{List, [], _∷_, _++_}
 use Prim.Native.Nat.{ℕ, zero, suc, _+_, _*_, _/_, _<_, _≤_}
 use native.Mathlib.Omega.{arith}
 use lib.ListN.{length, getD, replicate, length-replicate, length-append, drop, List·getD-eq-default}
@@ -39,6 +39,19 @@ pair-within (suc n) (suc k) bs at h =
 pub pair-past : (n k : ℕ) (bs : List ℕ) (at : ℕ) → n ≤ k → getD (get-fields (replicate n 2) bs at) k 0 ≡ 0
 pair-past n k bs at h =
     List·getD-eq-default (get-fields (replicate n 2) bs at) 0 (simp (length-get, length-replicate) h)
+
+-- Numbers behind others are read where those end.
+pub get-both : (ws vs bs : List ℕ) (at : ℕ) → get-fields (ws ++ vs) bs at ≡ get-fields ws bs at ++ get-fields vs bs (at + sum ws)
+unfolding get-fields sum
+get-both [] vs bs at = let e : at + 0 ≡ at = omega arith in rw e
+get-both (w ∷ ws) vs bs at =
+    let e : at + w + sum ws ≡ at + (w + sum ws) = omega arith in
+    ap (λ l. number w bs at ∷ l) (get-both ws vs bs (at + w) ∙ ap (λ i. get-fields ws bs (at + w) ++ get-fields vs bs i) e)
+
+pub sum-both : (ws vs : List ℕ) → sum (ws ++ vs) ≡ sum ws + sum vs
+unfolding sum
+sum-both [] vs = omega arith
+sum-both (w ∷ ws) vs = omega (arith, sum-both ws vs)
 
 pub sum-pairs : (n : ℕ) → sum (replicate n 2) ≡ 2 * n
 unfolding sum

@@ -8,7 +8,7 @@ use Rattle.fields.specs.declared.Draft.{Draft}
 
 -- The bytes of the longest record of any format.
 abbrev pub longest : ℕ
-longest = 23
+longest = 39
 
 -- The bytes put together so far.
 abbrev pub held : Draft → List ℕ

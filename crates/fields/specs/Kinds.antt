@@ -1,13 +1,13 @@
--- Document 01, "Trace and answer records": what a kind of records is. The ten kinds of its table, and the seven
--- of document 02, R-1, R-8, R-9 and R-11, stand in the crates `traces` and `answers`. R is the type of the records.
+-- Document 01, "Trace and answer records": what a kind of records is. The ten kinds of its table, and the eight
+-- of document 02, R-1, R-8, R-9, R-11 and R-12, stand in the crates `traces` and `answers`. R is the type of the records.
 use mathlib.Core.Bool.{Bool, true}
 use mathlib.Core.List.{List, _++_}
 use Prim.Native.Nat.{ℕ, _+_}
 use lib.ListN.{getD}
 use Rattle.fields.specs.Numbers.{put-fields, sum}
 
--- A kind: its mark; which byte may stand behind the mark; the widths of its fields, which of `LK` and `LE` depend on that byte, their n; and the record that
--- its numbers make: x 0, x 1 and so on, 0 past the last.
+-- A kind: its mark; which byte may stand behind the mark; the widths of its fields, which of `LK`, `LE` and `LW` depend on that byte, their n; and the record
+-- that its numbers make: x 0, x 1 and so on, 0 past the last.
 pub record Kind (R : Type 0) : Type 0 where
   pub mark : List ℕ
   pub allows : ℕ → Bool
@@ -18,7 +18,7 @@ pub record Kind (R : Type 0) : Type 0 where
 abbrev pub plain : {R : Type 0} → List ℕ → List ℕ → ((ℕ → ℕ) → R) → Kind R
 plain mark widths make = record { mark = mark; allows = λ b. true; widths = λ b. widths; make = make }
 
--- "Each record starts with a two-byte mark; numbers after it ..": the bytes of a record of kind k with the numbers xs, the first of which is n in `LK` and `LE`.
+-- "Each record starts with a two-byte mark; numbers after it ..": the bytes of a record of kind k with the numbers xs, the first of which is n in `LK`, `LE` and `LW`.
 unfoldable pub bytes : {R : Type 0} → Kind R → List ℕ → List ℕ
 bytes k xs = k .mark ++ put-fields (k .widths (getD xs 0 0)) xs
 

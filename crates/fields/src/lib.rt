@@ -4,13 +4,13 @@ pub mod read; // read.rt: the marks and the numbers of a record, read from bytes
 
 ghost use mathlib.Core.Path.{_≡_};
 ghost use mathlib.Core.List.{_∷_, []};
-ghost use Prim.Native.Nat.{_+_, _<_, _≤_};
+ghost use Prim.Native.Nat.{_+_, _*_, _<_, _≤_};
 ghost use lib.ListN.{length, getD, take, replicate};
 ghost use Rattle.fields.specs.Formats.{fitting, over};
 ghost use Rattle.fields.specs.Drafts.{longest, held, Holds, Adds, Adds-all};
 
-// The bytes of the longest record of any format, an `LE` of eight levels.
-pub const LONGEST: usize = 23;
+// The bytes of the longest record of any format, an `LW` of eight levels.
+pub const LONGEST: usize = 39;
 
 // The first `len` of `bytes`.
 pub struct Draft {
@@ -72,7 +72,7 @@ impl Draft {
 
     // The first n of eight numbers, in two bytes each.
     pub fn pairs(self, n: usize, numbers: [u16; 8]) -> Draft
-        requires { ⌜ (n ≤ 8) × (self .len ≤ 7) ⌝ }
+        requires { ⌜ (n ≤ 8) × (self .len + 2 * n ≤ longest) ⌝ }
         ensures { λ r. ⌜ Adds-all self r (replicate n 2) (take n numbers) ⌝ }
     {
         let mut draft = self;

@@ -17,7 +17,7 @@ pub fn one(s: &[u8], at: usize) -> u8
 
 // The number in two bytes, the low one first.
 pub fn two(s: &[u8], at: usize) -> u16
-    requires { ⌜ at < 64 ⌝ }
+    requires { ⌜ at < 1024 ⌝ }
     ensures { λ r. ⌜ r ≡ number 2 (now (s .entry)) at ⌝ }
 {
     let low = one(s, at) as u16;

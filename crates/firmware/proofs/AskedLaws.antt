@@ -2,17 +2,16 @@
 use Prim.Native.Nat.{ℕ, zero, suc, _+_, _*_, _≤_, _<_}
 use native.Mathlib.Omega.{arith}
 use mathlib.Core.Path.{_≡_, refl, sym, ap, _∙_}
-use mathlib.Core.Bool.{Bool, true, false, cond, _&&_}
+use mathlib.Core.Bool.{Bool, true, false, _&&_}
 use mathlib.Core.Logic.{_⊎_, inl, inr, ⊎-elim}
 use mathlib.Core.List.{List, [], _∷_, _++_}
-use mathlib.Core.Option.{Option, none, some}
-use lib.Dec.{eqb, leb, ltb}
-use lib.ListN.{length, getD, take, drop, replicate, length-append, List·getD-append}
+use lib.Dec.{eqb, leb}
+use lib.ListN.{length, drop, length-append, List·getD-append}
 use lib.Seq.{getD-append-seam}
 use borrow.Author.Tests.{leb-true, le-leb, lt-leb, eq-eqb, ne-eqb}
 use Rattle.rules.specs.declared.Link.{Link}
 use Rattle.rules.specs.declared.Connection.{Connection}
-use Rattle.rules.specs.Words.{every, All}
+use Rattle.rules.specs.Words.{every}
 use Rattle.rules.specs.Limits.{max-levels, max-connections}
 use Rattle.rules.specs.declared.Short.{Short}
 use Rattle.rules.specs.Model.{no-link, no-connection, nth}
@@ -20,28 +19,23 @@ use Rattle.rules.specs.Admission.{link-within, level-within, figures-within, le
 use Rattle.rules.specs.SoundTest.{connection-sound}
 use Rattle.rules.specs.Service.{next-eligibility}
 use Rattle.rules.proofs.Sums.{same, cond-is}
-use Rattle.rules.proofs.Tests.{never, and-true, every-true}
+use Rattle.rules.proofs.Tests.{and-true, every-true}
 use Rattle.rules.proofs.Figures.{connection-facts}
 use Rattle.rules.proofs.LevelTest.{names-lowest}
 use Rattle.fields.specs.Numbers.{number, get-fields}
-use Rattle.fields.specs.Kinds.{Kind, size}
-use Rattle.fields.specs.Formats.{starts, whole, read-kind, read-kinds}
-use Rattle.fields.proofs.NumberLaws.{cond-by}
 use Rattle.fields.proofs.FieldLaws.{fields-on}
-use Rattle.fields.proofs.FormatLaws.{made-of}
 use types.Run.{OneOf, miss}
 use denote.Enum.Declared.{tagOf}
 use Rattle.traces.proofs.Record.{the-type}
 use Rattle.traces.specs.declared.Record.{Record}
-use Rattle.traces.specs.declared.Record.the-variants.{Link as LinkRecord, LinkStandBy, Admit, AdmitStamped, Close, Offer, OfferStamped, Notice, Ticks, Malformed}
+use Rattle.traces.specs.declared.Record.the-variants.{Link as LinkRecord, LinkStandBy, LinkWindows, Admit, AdmitStamped, Close, Offer, OfferStamped, Notice, Ticks, Malformed}
 use Rattle.traces.specs.declared.Found.{Found}
-use Rattle.traces.specs.Kinds.{LK, LE, CN, CS, CL, PK, PS, NQ, TK}
-use Rattle.traces.specs.Trace.{found, read-trace}
-use Rattle.named.specs.Named.{link-named, connection-named}
+use Rattle.traces.specs.Trace.{read-trace}
+use Rattle.named.specs.Named.{connection-named}
 use Rattle.connections.specs.Within.{gap-only, last-only}
 use Rattle.connections.proofs.FigureLaws.{link-limits}
 use Rattle.limits.proofs.ChainLaws.{fails, goes-on}
-use Rattle.firmware.specs.Questions.{next-asked, link-asked, row-bytes, rows-asked, row-asked, first-rows, all-rows}
+use Rattle.firmware.specs.Questions.{next-asked, link-of, link-asked, row-bytes, rows-asked, row-asked, first-rows, all-rows}
 use Rattle.firmware.specs.Questions.{testable, well-asked, short-asked}
 
 -- ---- (a)
@@ -52,40 +46,14 @@ next-is flag last gap now = refl
 
 -- ---- the link
 
--- the bounds, 0 past the last
-eight-of : (l : List ℕ)
-    → take max-levels (l ++ replicate max-levels 0)
-    ≡ getD l 0 0 ∷ getD l 1 0 ∷ getD l 2 0 ∷ getD l 3 0 ∷ getD l 4 0 ∷ getD l 5 0 ∷ getD l 6 0 ∷ getD l 7 0 ∷ []
-eight-of [] = refl
-eight-of (a ∷ []) = refl
-eight-of (a ∷ b ∷ []) = refl
-eight-of (a ∷ b ∷ c ∷ []) = refl
-eight-of (a ∷ b ∷ c ∷ d ∷ []) = refl
-eight-of (a ∷ b ∷ c ∷ d ∷ e ∷ []) = refl
-eight-of (a ∷ b ∷ c ∷ d ∷ e ∷ f ∷ []) = refl
-eight-of (a ∷ b ∷ c ∷ d ∷ e ∷ f ∷ g ∷ []) = refl
-eight-of (a ∷ b ∷ c ∷ d ∷ e ∷ f ∷ g ∷ h ∷ l) = refl
+-- a record of another kind names none, as the code tells it apart: by the number of its variant
+abbrev others : List ℕ
+others = 1 ∷ 3 ∷ 4 ∷ 5 ∷ 6 ∷ 7 ∷ 8 ∷ 9 ∷ 10 ∷ []
 
--- the link that a record names; none where it is of another kind
-abbrev pub linked-by : Record → Option Link
-linked-by (LinkRecord n s silence d1 d2 d3 d4 d5 d6 d7 d8) = some (link-named (n ∷ s ∷ silence ∷ d1 ∷ d2 ∷ d3 ∷ d4 ∷ d5 ∷ d6 ∷ d7 ∷ d8 ∷ []))
-linked-by (LinkStandBy n s silence early d1 d2 d3 d4 d5 d6 d7 d8) = none
-linked-by (Admit level gap size window average) = none
-linked-by (AdmitStamped level gap size allowance) = none
-linked-by (Close c) = none
-linked-by (Offer c len tag) = none
-linked-by (OfferStamped c len tag stamp) = none
-linked-by (Notice len tag) = none
-linked-by (Ticks n) = none
-linked-by Malformed = none
-
-made-link : (n s silence : ℕ) (ds : List ℕ) → linked-by (made-of LK (n ∷ s ∷ silence ∷ ds)) ≡ some (link-named (n ∷ s ∷ silence ∷ ds))
-made-link n s silence ds = rw (eight-of ds)
-
--- a record of no other kind names one, as the code tells it apart: by the number of its variant
-pub of-no-link : (r : Record) → OneOf (1 ∷ 2 ∷ 3 ∷ 4 ∷ 5 ∷ 6 ∷ 7 ∷ 8 ∷ 9 ∷ []) (tagOf the-type r) → linked-by r ≡ none
-of-no-link (LinkRecord n s silence d1 d2 d3 d4 d5 d6 d7 d8) h = absurd (miss (1 ∷ 2 ∷ 3 ∷ 4 ∷ 5 ∷ 6 ∷ 7 ∷ 8 ∷ 9 ∷ []) 0 tt h)
+pub of-no-link : (r : Record) → OneOf others (tagOf the-type r) → no-link ≡ link-of r
+of-no-link (LinkRecord n s silence d1 d2 d3 d4 d5 d6 d7 d8) h = absurd (miss others 0 tt h)
 of-no-link (LinkStandBy n s silence early d1 d2 d3 d4 d5 d6 d7 d8) h = refl
+of-no-link (LinkWindows n s silence early d1 d2 d3 d4 d5 d6 d7 d8 w1 w2 w3 w4 w5 w6 w7 w8) h = absurd (miss others 2 tt h)
 of-no-link (Admit level gap size window average) h = refl
 of-no-link (AdmitStamped level gap size allowance) h = refl
 of-no-link (Close c) h = refl
@@ -95,72 +63,17 @@ of-no-link (Notice len tag) h = refl
 of-no-link (Ticks n) h = refl
 of-no-link Malformed h = refl
 
-kind-none : (k : Kind Record) → ((x : ℕ → ℕ) → linked-by (k .make x) ≡ none) → (bs : List ℕ) → linked-by (found (read-kind k (getD bs 2 0) bs) .what) ≡ none
-unfolding read-kind whole
-kind-none k other bs =
-    let P : Option (Record × ℕ) → Type 0 = λ o. linked-by (found o .what) ≡ none in
-    cond-by P (k .allows (getD bs 2 0)) _ none (λ _. cond-by P (ltb (length bs) (size k (getD bs 2 0))) none _ (λ _. refl) (λ _. other _)) (λ _. refl)
+module _ (lk : List ℕ) (f : Found) (e : f ≡ read-trace lk) where
+  taken-is : read-trace lk .taken ≡ f .taken
+  taken-is = ap (λ (g : Found). g .taken) (sym e)
 
-kinds-none : (ks : List (Kind Record)) → All (λ (k : Kind Record). (x : ℕ → ℕ) → linked-by (k .make x) ≡ none) ks
-    → (bs : List ℕ) → linked-by (found (read-kinds ks bs) .what) ≡ none
-unfolding read-kinds
-kinds-none [] a bs = refl
-kinds-none (k ∷ ks) a bs =
-    cond-by (λ (o : Option (Record × ℕ)). linked-by (found o .what) ≡ none) (starts (k .mark) bs) _ _ (λ _. kind-none k (a .0) bs) (λ _. kinds-none ks (a .1) bs)
+  pub not-whole : (f .taken ≡ length lk → ⊥) → no-link ≡ link-asked lk
+  unfolding link-asked
+  not-whole n = rw (taken-is, ne-eqb (f .taken) (length lk) n) refl
 
--- the link that is named, or none
-abbrev pub or-none : Option Link → Link
-or-none none = no-link
-or-none (some l) = l
-
-some-byte : (bs : List ℕ) → starts (LK .mark) bs ≡ true → 0 ≡ length bs → ⊥
-unfolding starts
-some-byte [] e z = never e
-some-byte (x ∷ bs) e z = omega arith
-
-module _ (lk : List ℕ) where
-  abbrev numbers : List ℕ
-  numbers = get-fields (LK .widths (getD lk 2 0)) lk 2
-
-  -- of bytes that start with the mark of `LK`
-  kind-link : starts (LK .mark) lk ≡ true → found (read-kind LK (getD lk 2 0) lk) .taken ≡ length lk
-      → or-none (linked-by (found (read-kind LK (getD lk 2 0) lk) .what)) ≡ link-named numbers
-  unfolding read-kind whole get-fields
-  kind-link e =
-      let P : Option (Record × ℕ) → Type 0 = λ o. found o .taken ≡ length lk → or-none (linked-by (found o .what)) ≡ link-named numbers in
-      cond-by P (LK .allows (getD lk 2 0)) _ none
-      (λ _. cond-by P (ltb (length lk) (size LK (getD lk 2 0))) none _ (λ _ z. absurd (some-byte lk e z)) (λ _ _. ap or-none (made-link (number 1 lk 2) (number 2 lk 3) (number 1 lk 5) (get-fields (replicate (getD lk 2 0) 2) lk 6))))
-      (λ _ z. absurd (some-byte lk e z))
-
-  -- .. and of any bytes
-  link-by-mark : (b : Bool) → starts (LK .mark) lk ≡ b → read-trace lk .taken ≡ length lk
-      → or-none (linked-by (read-trace lk .what)) ≡ cond b (link-named numbers) no-link
-  unfolding read-kinds
-  link-by-mark true e = rw e (kind-link e)
-  link-by-mark false e = rw e (λ t. ap or-none (kinds-none (LE ∷ CN ∷ CS ∷ CL ∷ PK ∷ PS ∷ NQ ∷ TK ∷ []) (λ x. refl, (λ x. refl, (λ x. refl, (λ x. refl, (λ x. refl, (λ x. refl, (λ x. refl, (λ x. refl, tt)))))))) lk))
-
-  module _ (f : Found) (e : f ≡ read-trace lk) where
-    taken-is : read-trace lk .taken ≡ f .taken
-    taken-is = ap (λ (g : Found). g .taken) (sym e)
-
-    pub not-whole : (f .taken ≡ length lk → ⊥) → no-link ≡ link-asked lk
-    unfolding link-asked
-    not-whole n = rw (taken-is, ne-eqb (f .taken) (length lk) n) (go (starts (LK .mark) lk))
-      where
-        go : (b : Bool) → no-link ≡ cond (b && false) (link-named numbers) no-link
-        go true = refl
-        go false = refl
-
-    pub link-is : f .taken ≡ length lk → or-none (linked-by (f .what)) ≡ link-asked lk
-    unfolding link-asked
-    link-is t =
-        ap (λ (g : Found). or-none (linked-by (g .what))) e
-        ∙ link-by-mark (starts (LK .mark) lk) refl (taken-is ∙ t)
-        ∙ rw (taken-is, eq-eqb (f .taken) (length lk) t) (go (starts (LK .mark) lk))
-      where
-        go : (b : Bool) → cond b (link-named numbers) no-link ≡ cond (b && true) (link-named numbers) no-link
-        go true = refl
-        go false = refl
+  pub link-is : f .taken ≡ length lk → link-of (f .what) ≡ link-asked lk
+  unfolding link-asked
+  link-is t = rw (taken-is, eq-eqb (f .taken) (length lk) t) (ap (λ (g : Found). link-of (g .what)) e)
 
 -- ---- the rows
 

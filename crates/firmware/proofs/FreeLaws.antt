@@ -11,13 +11,13 @@ use Rattle.rules.specs.declared.Link.{Link}
 use Rattle.rules.specs.declared.Connection.{Connection}
 use Rattle.rules.specs.Words.{All, sum}
 use Rattle.rules.specs.Model.{no-connection, nth}
-use Rattle.rules.specs.Admission.{bound, cost, level-sum, level-test, free-number, joining}
+use Rattle.rules.specs.Admission.{cost, span, level-sum, level-test, free-number, joining}
 use Rattle.rules.proofs.Lists.{total, total-snoc, all-at}
 use Rattle.rules.proofs.Sums.{cond-is}
 use Rattle.rules.proofs.Figures.{sum-is}
 use Rattle.rules.proofs.Standing.{free-is}
 use Rattle.connections.specs.Members.{up-to, used-by}
-use Rattle.connections.specs.Within.{share-of}
+use Rattle.connections.specs.Within.{share-in}
 use Rattle.connections.proofs.FigureLaws.{share-free, test-same, sums-joining}
 use Rattle.firmware.specs.Promises.{owners}
 
@@ -61,30 +61,27 @@ module _ (f : Connection → ℕ) where
 -- ---- the level test
 
 module _ (l : Link) where
-  abbrev share : ℕ → Connection → ℕ
-  share m = share-of l m (bound l m)
-
-  sum-over : (cs : List Connection) (m : ℕ) → level-sum l cs m ≡ total (share m) cs + cost l (l .largest)
-  sum-over cs m = sum-is l cs m ∙ ap (λ (k : ℕ). k + cost l (l .largest)) (sum-total (share m) cs)
+  sum-over : (cs : List Connection) (m i : ℕ) → level-sum l cs m i ≡ total (share-in l m i) cs + cost l (l .largest)
+  sum-over cs m i = sum-is l cs m i ∙ ap (λ (k : ℕ). k + cost l (l .largest)) (sum-total (share-in l m i) cs)
 
   pub test-padded : (xs : List Connection) (k : ℕ) → level-test l (padded xs k) ≡ level-test l xs
   test-padded xs k =
       test-same l (padded xs k) xs
-      (λ m h. omega (arith, sum-over (padded xs k) m, sum-over xs m, total-padded (share m) (share-free l m (bound l m)) xs k))
+      (λ m i h. omega (arith, sum-over (padded xs k) m i, sum-over xs m i, total-padded (share-in l m i) (share-free l m (span l m i 0)) xs k))
 
   -- owners and a newcomer, in the place of all numbers with the newcomer at the lowest free one
   pub test-owners : (cs : List Connection) (x : Connection) → All Blank cs → free-number cs < length cs → level-test l (owners cs ++ x ∷ []) ≡ level-test l (joining cs x)
   test-owners cs x b room =
       let blank : nth cs (free-number cs) ≡ no-connection = all-at Blank cs (free-number cs) no-connection room b (free-is cs room) in
       test-same l (owners cs ++ x ∷ []) (joining cs x)
-      (λ m h.
+      (λ m i h.
       omega (
         arith,
-        sum-over (owners cs ++ x ∷ []) m,
-        total-snoc (share m) (owners cs) x,
-        total-owners (share m) (share-free l m (bound l m)) cs b,
-        sum-total (share m) cs,
-        sums-joining l cs x room blank m h,
+        sum-over (owners cs ++ x ∷ []) m i,
+        total-snoc (share-in l m i) (owners cs) x,
+        total-owners (share-in l m i) (share-free l m (span l m i 0)) cs b,
+        sum-total (share-in l m i) cs,
+        sums-joining l cs x room blank m i h,
       ))
 
 -- ---- the lowest free number

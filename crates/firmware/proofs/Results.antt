@@ -16,7 +16,7 @@ use Rattle.rules.specs.Words.{All}
 use Rattle.rules.specs.Limits.{max-connections, max-allowance}
 use Rattle.rules.specs.declared.Short.{Short}
 use Rattle.rules.specs.Model.{Past, State, admit, offer, no-short, Answer, no-connection, nth, past, figures}
-use Rattle.rules.specs.Admission.{bound, load, short-from, link-within, level-within, figures-within, free-number, joining, burst, cost, level-sum, level-test, passes}
+use Rattle.rules.specs.Admission.{cost, windowed, link-within, level-within, burst, figures-within, free-number, joining, window, conditions, limit-at, level-sum, excess-from, excess, short-from, level-test, passes}
 use Rattle.rules.specs.Service.{nth-before, ticks-after, next-eligibility}
 use Rattle.rules.specs.SoundState.{Orderly, Sound}
 use Rattle.rules.specs.SoundTest.{sound}
@@ -105,10 +105,11 @@ no-units-exactly lk rows = (λ u e. tells lk rows e .1 .0 u, go (well-asked lk r
 pub names-the-lowest : Names-the-lowest
 names-the-lowest lk rows e n = tells lk rows e .2 n
 
--- without rows a sum is what S costs the line, and no bound is below that
+-- without rows a sum is what S costs the line, and no bound is below that, nor a window
 none-short : (l : Link) → link-within l ≡ true → No-level-fails l []
-unfolding level-sum cost
-none-short l e m p q = omega (arith, link-facts l e .largest-le m p q)
+unfolding level-sum
+none-short l e m p q zero h = omega (arith, link-facts l e .largest-le m p q, link-facts l e .window-in m p q .0)
+none-short l e m p q (suc β) h = omega (arith, link-facts l e .largest-le m p q)
 
 bare : (l : Link) → link-within l ≡ true → testable l [] ≡ true
 unfolding testable
@@ -152,23 +153,42 @@ figures-by-row l x (inr (two, a)) e =
     second-kind x two .0 l ∙ rw (b, le-leb (x .allowance) max-allowance a) refl
 
 -- the level test does not look at the setting
-bound-off : (l : Link) (m : ℕ) → bound (with-queue-off l) m ≡ bound l m
-bound-off l zero = refl
-bound-off l (suc m) = refl
+conditions-off : (l : Link) (m : ℕ) → conditions (with-queue-off l) m ≡ conditions l m
+unfolding conditions window windowed
+conditions-off l zero = refl
+conditions-off l (suc m) = refl
 
-sum-off : (l : Link) (cs : List Connection) (m : ℕ) → level-sum (with-queue-off l) cs m ≡ level-sum l cs m
-unfolding level-sum cost
-sum-off l cs m = ap (λ (d : ℕ). load l cs m d + cost l (l .largest)) (bound-off l m)
+limit-off : (l : Link) (m i : ℕ) → limit-at (with-queue-off l) m i ≡ limit-at l m i
+unfolding window windowed
+limit-off l zero zero = refl
+limit-off l zero (suc β) = refl
+limit-off l (suc m) zero = refl
+limit-off l (suc m) (suc β) = refl
+
+sum-off : (l : Link) (cs : List Connection) (m i : ℕ) → level-sum (with-queue-off l) cs m i ≡ level-sum l cs m i
+unfolding level-sum cost window windowed
+sum-off l cs zero zero = refl
+sum-off l cs zero (suc β) = refl
+sum-off l cs (suc m) zero = refl
+sum-off l cs (suc m) (suc β) = refl
+
+excess-from-off : (l : Link) (cs : List Connection) (m i n : ℕ) → excess-from (with-queue-off l) cs m i n ≡ excess-from l cs m i n
+excess-from-off l cs m i zero = refl
+excess-from-off l cs m i (suc n) = rw (sum-off l cs m i, limit-off l m i, excess-from-off l cs m (suc i) n)
+
+excess-off : (l : Link) (cs : List Connection) (m : ℕ) → excess (with-queue-off l) cs m ≡ excess l cs m
+unfolding excess
+excess-off l cs m = rw (conditions-off l m) (excess-from-off l cs m 0 (conditions l m))
 
 short-off : (l : Link) (cs : List Connection) (m n : ℕ) → short-from (with-queue-off l) cs m n ≡ short-from l cs m n
 short-off l cs m zero = refl
-short-off l cs m (suc n) = rw (sum-off l cs m, bound-off l m, short-off l cs (suc m) n)
+short-off l cs m (suc n) = rw (excess-off l cs m, short-off l cs (suc m) n)
 
 test-off : (l : Link) (cs : List Connection) → level-test (with-queue-off l) cs ≡ level-test l cs
 unfolding level-test
 test-off l cs = short-off l cs 1 (l .levels)
 
-module _ (lk rows : List ℕ) (s : State) (x : Connection) (S : Sound s) (K : Of-a-kind x) (same-link : link-asked lk ≡ with-queue-off (s .link))
+module _ (lk rows : List ℕ) (s : State) (x : Connection) (S : Sound s) (K : Of-a-kind x) (same-link : with-queue-off (link-asked lk) ≡ with-queue-off (s .link))
     (same-rows : all-rows rows ≡ map by-its-gap (owners (s .connections) ++ x ∷ [])) (e : well-asked lk rows ≡ true) where
   question : Asked (link-asked lk) rows
   question = asked (link-asked lk) rows e
@@ -200,7 +220,7 @@ module _ (lk rows : List ℕ) (s : State) (x : Connection) (S : Sound s) (K : Of
 
   -- there is a link, and fewer owners than numbers
   linked : s .link .levels ≡ 0 → ⊥
-  linked z = omega (arith, z, link-facts (with-queue-off (s .link)) (subst (λ (l : Link). link-within l ≡ true) same-link (question .link-in)) .some-level)
+  linked z = omega (arith, z, ap (λ (l : Link). l .levels) same-link, link-facts (link-asked lk) (question .link-in) .some-level)
 
   rules-kept : Orderly s
   rules-kept = S .with-one linked .orderly
@@ -216,8 +236,13 @@ module _ (lk rows : List ℕ) (s : State) (x : Connection) (S : Sound s) (K : Of
   -- the two tests are one
   same-test : short-asked lk rows ≡ level-test (s .link) (joining (s .connections) x)
   same-test =
+      let cs = map by-its-gap (owners (s .connections) ++ x ∷ []) in
       answers lk rows e
-      ∙ rw (same-link, same-rows) (test-off (s .link) (map by-its-gap (owners (s .connections) ++ x ∷ [])) ∙ sym (level-test-counts-alike (s .link) (owners (s .connections) ++ x ∷ [])))
+      ∙ ap (λ (ys : List Connection). level-test (link-asked lk) ys) same-rows
+      ∙ sym (test-off (link-asked lk) cs)
+      ∙ ap (λ (l : Link). level-test l cs) same-link
+      ∙ test-off (s .link) cs
+      ∙ sym (level-test-counts-alike (s .link) (owners (s .connections) ++ x ∷ []))
       ∙ test-owners (s .link) (s .connections) x blanks room
 
   passed : short-asked lk rows .level ≡ 0 → passes (s .link) (joining (s .connections) x) ≡ true

@@ -47,7 +47,7 @@ Greater-with-an-average =
 abbrev pub Refused-exactly : Type 0
 Refused-exactly = (lk rows : List ℕ) → short-asked lk rows .level ≡ 255 ↔ (well-asked lk rows ≡ true → ⊥)
 
--- 0 exactly where every level's sum is at most its bound
+-- 0 exactly where every condition of every level holds: without windows its sum is at most its bound, with them as R-12 has it
 abbrev pub Holds-exactly : Type 0
 Holds-exactly = (lk rows : List ℕ) → well-asked lk rows ≡ true → short-asked lk rows .level ≡ 0 ↔ No-level-fails (link-asked lk) (all-rows rows)
 
@@ -55,14 +55,14 @@ Holds-exactly = (lk rows : List ℕ) → well-asked lk rows ≡ true → short-a
 abbrev pub No-units-exactly : Type 0
 No-units-exactly = (lk rows : List ℕ) → short-asked lk rows .units ≡ 0 ↔ (well-asked lk rows ≡ true → No-level-fails (link-asked lk) (all-rows rows))
 
--- else the level is the lowest whose sum is above its bound, and the units are that level's sum less its bound
+-- else the level is the lowest that fails, and the units are those by which the first of its conditions that fails is over
 abbrev pub Names-the-lowest : Type 0
 Names-the-lowest =
     (lk rows : List ℕ) → well-asked lk rows ≡ true
     → (short-asked lk rows .level ≡ 0 → ⊥)
     → R.Names-the-lowest (link-asked lk) (all-rows rows) (short-asked lk rows)
 
--- a good `LK` and no rows: nothing is short
+-- a good `LK` or `LW` and no rows: nothing is short
 abbrev pub No-rows-hold : Type 0
 No-rows-hold = (lk : List ℕ) → link-within (link-asked lk) ≡ true → (short-asked lk [] .level ≡ 0) × (short-asked lk [] .units ≡ 0)
 
@@ -76,18 +76,18 @@ owners cs = filter (λ x. not (eqb (x .level) 0)) cs
 abbrev pub Of-a-kind : Connection → Type 0
 Of-a-kind x = ((x .kind ≡ 0) × (x .allowance ≡ 0)) ⊎ (Second x × (x .allowance ≤ max-allowance))
 
--- a link as its `LK` names it: with the stand-by queue off, whatever its setting (document 02, R-11)
+-- a link with the stand-by queue off, whatever its setting (document 02, R-11)
 abbrev pub with-queue-off : Link → Link
-with-queue-off l = record { levels = l .levels; largest = l .largest; silence = l .silence; early = 0; bounds = l .bounds }
+with-queue-off l = record { levels = l .levels; largest = l .largest; silence = l .silence; early = 0; bounds = l .bounds; windows = l .windows }
 
--- asked with the hub's link as its `LK`, and its owners and a newcomer as rows, each as regulated by its gap, whatever its kind: a level is named exactly where the newcomer's
--- admission gets 8, and level and units are those of its answer
+-- asked with the hub's link, without windows as its `LK`, with windows as an `LW` with any setting (document 02, R-12), and its owners and a newcomer as rows, each as
+-- regulated by its gap, whatever its kind: a level is named exactly where the newcomer's admission gets 8, and level and units are those of its answer
 abbrev pub Same-test-as-an-admission : Type 0
 Same-test-as-an-admission =
     (lk rows : List ℕ) (s : State) (x : Connection)
     → Sound s
     → Of-a-kind x
-    → link-asked lk ≡ with-queue-off (s .link)
+    → with-queue-off (link-asked lk) ≡ with-queue-off (s .link)
     → all-rows rows ≡ map by-its-gap (owners (s .connections) ++ x ∷ [])
     → well-asked lk rows ≡ true
     → (answer (admit x) s .verdict ≡ 8 ↔ (short-asked lk rows .level ≡ 0 → ⊥))

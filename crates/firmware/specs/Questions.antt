@@ -1,9 +1,9 @@
--- THE QUESTIONS, answered by the rules' own definitions. Document 01, "Two questions from C firmware"; document 02, R-2, R-6 and R-9.
+-- THE QUESTIONS, answered by the rules' own definitions. Document 01, "Two questions from C firmware"; document 02, R-2, R-6, R-9 and R-12.
 use Prim.Native.Nat.{ℕ, zero, suc, _*_, _/_}
 use mathlib.Core.Bool.{Bool, cond, _&&_}
 use mathlib.Core.List.{List, [], _∷_, _++_}
 use lib.Dec.{eqb, leb}
-use lib.ListN.{length, getD}
+use lib.ListN.{length}
 use Rattle.rules.specs.declared.Link.{Link}
 use Rattle.rules.specs.declared.Connection.{Connection}
 use Rattle.rules.specs.Words.{every}
@@ -14,10 +14,11 @@ use Rattle.rules.specs.Admission.{link-within, level-test}
 use Rattle.rules.specs.SoundTest.{connection-sound}
 use Rattle.rules.specs.Service.{next-eligibility}
 use Rattle.fields.specs.Numbers.{get-fields}
-use Rattle.fields.specs.Formats.{starts}
-use Rattle.traces.specs.Kinds.{LK, CN}
+use Rattle.traces.specs.declared.Record.{Record}
+use Rattle.traces.specs.declared.Record.the-variants.{Link as LinkRecord, LinkStandBy, LinkWindows, Admit, AdmitStamped, Close, Offer, OfferStamped, Notice, Ticks, Malformed}
+use Rattle.traces.specs.Kinds.{CN}
 use Rattle.traces.specs.Trace.{read-trace}
-use Rattle.named.specs.Named.{link-named, connection-named}
+use Rattle.named.specs.Named.{link-named, windows-named, connection-named}
 
 -- ---- (a)
 
@@ -31,10 +32,24 @@ next-asked flag last gap now = next-eligibility (record { level = 0; gap = gap; 
 
 -- ---- (b)
 
--- "one whole `LK` record": the link that it names. No link, which is within no limits, where the bytes are malformed, of another kind, or more
--- than the record
+-- the link that an `LK` names, or an `LW` (R-12), with its setting and its windows. No link, which is within no limits, where a record is of another kind or malformed
+abbrev pub link-of : Record → Link
+link-of (LinkRecord n s silence d1 d2 d3 d4 d5 d6 d7 d8) = link-named (n ∷ s ∷ silence ∷ d1 ∷ d2 ∷ d3 ∷ d4 ∷ d5 ∷ d6 ∷ d7 ∷ d8 ∷ [])
+link-of (LinkStandBy n s silence early d1 d2 d3 d4 d5 d6 d7 d8) = no-link
+link-of (LinkWindows n s silence early d1 d2 d3 d4 d5 d6 d7 d8 w1 w2 w3 w4 w5 w6 w7 w8) =
+    windows-named (n ∷ s ∷ silence ∷ early ∷ d1 ∷ d2 ∷ d3 ∷ d4 ∷ d5 ∷ d6 ∷ d7 ∷ d8 ∷ w1 ∷ w2 ∷ w3 ∷ w4 ∷ w5 ∷ w6 ∷ w7 ∷ w8 ∷ [])
+link-of (Admit level gap size window average) = no-link
+link-of (AdmitStamped level gap size allowance) = no-link
+link-of (Close c) = no-link
+link-of (Offer c len tag) = no-link
+link-of (OfferStamped c len tag stamp) = no-link
+link-of (Notice len tag) = no-link
+link-of (Ticks n) = no-link
+link-of Malformed = no-link
+
+-- "one whole `LK` record", or `LW`: the link that it names; none where the bytes are more than the record
 unfoldable pub link-asked : List ℕ → Link
-link-asked lk = cond (starts (LK .mark) lk && eqb (read-trace lk .taken) (length lk)) (link-named (get-fields (LK .widths (getD lk 2 0)) lk 2)) no-link
+link-asked lk = cond (eqb (read-trace lk .taken) (length lk)) (link-of (read-trace lk .what)) no-link
 
 -- a table of "rows laid out as in `CN` after its mark", which are of 9 bytes since R-6: how many, row i, and the connections of the first n. They are of the first kind
 abbrev pub row-bytes : ℕ

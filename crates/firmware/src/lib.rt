@@ -1,4 +1,4 @@
-// The questions that the hub's firmware asks across the C boundary. Document 01, "Two questions from C firmware", and document 02, R-2, R-6 and R-9; for C:
+// The questions that the hub's firmware asks across the C boundary. Document 01, "Two questions from C firmware", and document 02, R-2, R-6, R-9 and R-12; for C:
 // include/mtredovim.h.
 ghost use mathlib.Core.Path.{_≡_};
 ghost use mathlib.Core.Bool.{true};
@@ -8,7 +8,7 @@ ghost use Rattle.rules.specs.Words.{every};
 ghost use Rattle.rules.specs.Limits.{max-connections};
 ghost use Rattle.rules.specs.Admission.{link-within, level-test};
 ghost use Rattle.rules.specs.SoundTest.{connection-sound};
-ghost use Rattle.firmware.specs.Questions.{next-asked, link-asked, row-bytes, row-asked, first-rows, testable, short-asked};
+ghost use Rattle.firmware.specs.Questions.{next-asked, link-of, link-asked, row-bytes, row-asked, first-rows, testable, short-asked};
 ghost use Rattle.firmware.specs.Laid.{laid-out};
 use fields::read::one;
 use fields::read::two;
@@ -34,7 +34,72 @@ pub extern "C" fn mtredovim_next_eligibility(flag: u32, last: u32, gap: u32, now
     connections::regulator::gap_eligibility(flag, last, gap, now)
 }
 
-// The link that the bytes of one whole `LK` name.
+// The link that an `LK` names, or an `LW`; no link where the record is of another kind.
+fn link_of(what: Record) -> Link
+    ensures { λ r. ⌜ r ≡ link-of what ⌝ }
+{
+    match what {
+        Record::Link {
+            levels,
+            largest,
+            silence,
+            d1,
+            d2,
+            d3,
+            d4,
+            d5,
+            d6,
+            d7,
+            d8,
+        } => named::link_named(levels, largest, silence, d1, d2, d3, d4, d5, d6, d7, d8),
+        Record::LinkWindows {
+            levels,
+            largest,
+            silence,
+            early,
+            d1,
+            d2,
+            d3,
+            d4,
+            d5,
+            d6,
+            d7,
+            d8,
+            w1,
+            w2,
+            w3,
+            w4,
+            w5,
+            w6,
+            w7,
+            w8,
+        } => named::windows_named(
+            levels,
+            largest,
+            silence,
+            early,
+            d1,
+            d2,
+            d3,
+            d4,
+            d5,
+            d6,
+            d7,
+            d8,
+            w1,
+            w2,
+            w3,
+            w4,
+            w5,
+            w6,
+            w7,
+            w8,
+        ),
+        _ => named::no_link(),
+    }
+}
+
+// The link that the bytes of one whole `LK` or `LW` name.
 fn link_asked(lk: &[u8]) -> Link
     ensures { λ r. ⌜ r ≡ link-asked (now (lk .entry)) ⌝ }
 {
@@ -43,23 +108,7 @@ fn link_asked(lk: &[u8]) -> Link
         return named::no_link();
     }
     let what = found.what;
-    let Record::Link {
-        levels,
-        largest,
-        silence,
-        d1,
-        d2,
-        d3,
-        d4,
-        d5,
-        d6,
-        d7,
-        d8,
-    } = what
-    else {
-        return named::no_link();
-    };
-    named::link_named(levels, largest, silence, d1, d2, d3, d4, d5, d6, d7, d8)
+    link_of(what)
 }
 
 // The connection of row i: its bytes lie as those of a `CN` behind its mark.
@@ -134,7 +183,7 @@ fn testable(l: Link, rows: &[u8]) -> bool
     rows_ok(l, rows, n)
 }
 
-// The level test, from one whole `LK` and a table of rows.
+// The level test, from one whole `LK` or `LW` and a table of rows.
 fn short_asked(lk: &[u8], rows: &[u8]) -> Short
     ensures { λ r. ⌜ r ≡ short-asked (now (lk .entry)) (now (rows .entry)) ⌝ }
 {

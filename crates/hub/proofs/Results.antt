@@ -2,7 +2,7 @@
 use Prim.Native.Nat.{ℕ, zero, suc, _+_, _≤_, _<_}
 use native.Mathlib.Omega.{arith}
 use mathlib.Core.Path.{_≡_, refl, sym, ap, _∙_, subst, transport}
-use mathlib.Core.Bool.{Bool, true, false, cond, _&&_}
+use mathlib.Core.Bool.{Bool, true, false, cond, _&&_, true≢false}
 use mathlib.Core.Logic.{_↔_, _⊎_}
 use mathlib.Core.List.{List, [], _∷_, _++_, map}
 use mathlib.Core.Option.{Option, none, some}
@@ -14,7 +14,7 @@ use Rattle.rules.specs.Words.{All, push}
 use Rattle.rules.specs.Limits.{clock-end, notice-number}
 use Rattle.rules.specs.declared.Notice.{Notice}
 use Rattle.rules.specs.Model.{State, Call, link, admit, offer, notice, close, tick, Answer, no-past, past, figures}
-use Rattle.rules.specs.Admission.{owned, stands, stamped, reservation, largest-bound, stand-by-on, distance}
+use Rattle.rules.specs.Admission.{owned, stands, stamped, joining, reservation, charge-time, stand-by-on, distance}
 use Rattle.rules.specs.Service.{suits, untimely-by, Spaced, of, eligibilities, first, notice-departs, packet-departs, after-unit, started, charge-over}
 use Rattle.rules.specs.SoundState.{Sound}
 use Rattle.rules.specs.SoundTest.{sound}
@@ -22,11 +22,12 @@ use Rattle.rules.specs.Calls.{heard, verdict, done, refused-number, settle, ans
 use Rattle.rules.specs.Runs.{Departure, History, while-owned, taken, leaving, after, run-from, nothing-yet, run, departures, in-hub, bound-of, allowed, offer-tick, offer-ticks-from, offer-ticks, Keeps-its-word, Exchange, exchange, exchanges-from, exchanges, own-answer, own-stamp-answers}
 use Rattle.rules.specs.Promises.{Conserved-since, Left-by, Kept-promise, Still-charged, Lowest-free, stamp-plus, No-cause, Stamp-promise}
 use Rattle.rules.proofs.Sums.{cond-is}
-use Rattle.rules.proofs.Verdicts.{settled}
+use Rattle.rules.proofs.Verdicts.{settled, admit-done, short-refused}
+use Rattle.rules.proofs.LevelTest.{test-holds, holds-test}
 use Rattle.rules.proofs.SoundKept.{kept}
 use Rattle.rules.proofs.Every.{fresh-invariant}
 use Rattle.rules.proofs.Alone.{asks}
-use Rattle.rules.proofs.Results.{answer-verdict, demand-1-refusals, verdict-1-exactly, runs-are-sound, conservation, conservation-by-owner, demand-3-first, demand-3-second, told-by-its-own, bed-nine-and-bed-ten, counted, close-is-refused, closed-gets-10, closed-or-freed, freed-by-the-tick, charge-lasts, lowest-number-is-given, ten-exactly, seventeen-exactly, no-finish-before, eighteen-exactly, stamps-never-18, never-far-ahead, demand-3-for-stamps, stamps-told-by-their-own, bed-nine-and-bed-ten-with-stamps}
+use Rattle.rules.proofs.Results.{answer-verdict, finer-test-says, windows-at-the-bounds, demand-1-refusals, verdict-1-exactly, runs-are-sound, conservation, conservation-by-owner, demand-3-first, demand-3-second, told-by-its-own, bed-nine-and-bed-ten, counted, close-is-refused, closed-gets-10, closed-or-freed, freed-by-the-tick, charge-lasts, lowest-number-is-given, ten-exactly, seventeen-exactly, no-finish-before, eighteen-exactly, stamps-never-18, never-far-ahead, demand-3-for-stamps, stamps-told-by-their-own, bed-nine-and-bed-ten-with-stamps}
 use Rattle.tables.specs.Places.{written-places, table-of}
 use Rattle.connections.specs.Members.{written-rows}
 use Rattle.state.specs.declared.Hub.{Hub}
@@ -38,7 +39,7 @@ use Rattle.state.proofs.WrittenLaws.{writable, read-written, written-sound}
 use Rattle.state.proofs.SoundLaws.{is-sound, tables-kept}
 use Rattle.state.proofs.DoesLaws.{told-as, left-as}
 use Rattle.hub.specs.Sequence.{Notes, brought, went, call, calls-from, blank, calls, state-of, notes-of, seen-ticks-from, seen-ticks, Seen-to-keep-its-word, noted, noted-from, all-noted}
-use Rattle.hub.specs.Promises.{One-outcome, Written-reads-back, Sound-is-written, Demand-1-of-the-code, Verdict-1-of-the-code, Sound-is-kept-by-the-code, Answers-as-the-rules, Close-is-refused-of-the-code, Closed-gets-10-of-the-code, Closed-or-freed-of-the-code, Freed-by-the-tick-of-the-code, Charge-lasts-of-the-code, Lowest-number-is-given-of-the-code, Follows-the-rules, Conservation-of-the-code, Noted-since, Conservation-by-owner-of-the-code, Noted-by, Demand-3-first-of-the-code, Kept-by-the-code, Demand-3-second-of-the-code, Told-by-its-own-of-the-code, Bed-nine-and-bed-ten-of-the-code, Counted-of-the-code, Ten-exactly-of-the-code, Seventeen-exactly-of-the-code, No-finish-before-of-the-code, Eighteen-exactly-of-the-code, Stamps-never-18-of-the-code, Never-far-ahead-of-the-code, Stamp-kept-by-the-code, Demand-3-for-stamps-of-the-code, Stamps-told-by-their-own-of-the-code, Bed-nine-and-bed-ten-with-stamps-of-the-code}
+use Rattle.hub.specs.Promises.{One-outcome, Written-reads-back, Sound-is-written, Demand-1-of-the-code, Verdict-1-of-the-code, Sound-is-kept-by-the-code, Answers-as-the-rules, Close-is-refused-of-the-code, Closed-gets-10-of-the-code, Closed-or-freed-of-the-code, Freed-by-the-tick-of-the-code, Charge-lasts-of-the-code, Lowest-number-is-given-of-the-code, Finer-test-of-the-code, Windows-at-the-bounds-of-the-code, Follows-the-rules, Conservation-of-the-code, Noted-since, Conservation-by-owner-of-the-code, Noted-by, Demand-3-first-of-the-code, Kept-by-the-code, Demand-3-second-of-the-code, Told-by-its-own-of-the-code, Bed-nine-and-bed-ten-of-the-code, Counted-of-the-code, Ten-exactly-of-the-code, Seventeen-exactly-of-the-code, No-finish-before-of-the-code, Eighteen-exactly-of-the-code, Stamps-never-18-of-the-code, Never-far-ahead-of-the-code, Stamp-kept-by-the-code, Demand-3-for-stamps-of-the-code, Stamps-told-by-their-own-of-the-code, Bed-nine-and-bed-ten-with-stamps-of-the-code}
 
 -- ---- one outcome
 
@@ -117,7 +118,7 @@ closed-gets-10-of-the-code c len tag st h t e is-closed =
 
 pub closed-or-freed-of-the-code : Closed-or-freed-of-the-code
 closed-or-freed-of-the-code c h t r u D z =
-    let over = charge-over (largest-bound (h .link)) (h .clock) (past (view h t) c) in
+    let over = charge-over (charge-time (h .link)) (h .clock) (past (view h t) c) in
     let same = answers-as-the-rules (close c) h t r u D (done-sound (close c) h t r u D z) in
     subst (λ (n : State). (over ≡ true → owned (n .connections) c ≡ false) × (over ≡ false → Still-charged (view h t) c n))
     (sym (same .0))
@@ -125,7 +126,7 @@ closed-or-freed-of-the-code c h t r u D z =
 
 pub freed-by-the-tick-of-the-code : Freed-by-the-tick-of-the-code
 freed-by-the-tick-of-the-code c h t r u D z is-closed =
-    let over = charge-over (largest-bound (h .link)) (h .clock + 1) (past (view h t) c) in
+    let over = charge-over (charge-time (h .link)) (h .clock + 1) (past (view h t) c) in
     let same = answers-as-the-rules tick h t r u D (done-sound tick h t r u D z) in
     subst (λ (n : State). (over ≡ true → owned (n .connections) c ≡ false) × (over ≡ false → Still-charged (view h t) c n))
     (sym (same .0))
@@ -133,8 +134,8 @@ freed-by-the-tick-of-the-code c h t r u D z is-closed =
 
 pub charge-lasts-of-the-code : Charge-lasts-of-the-code
 charge-lasts-of-the-code k c h t r u D e is-closed =
-    subst (λ (n : State). (charge-over (largest-bound (h .link)) (n .clock) (past (view h t) c) ≡ false → Still-charged (view h t) c n)
-    × (charge-over (largest-bound (h .link)) (n .clock) (past (view h t) c) ≡ true → owned (n .connections) c ≡ false))
+    subst (λ (n : State). (charge-over (charge-time (h .link)) (n .clock) (past (view h t) c) ≡ false → Still-charged (view h t) c n)
+    × (charge-over (charge-time (h .link)) (n .clock) (past (view h t) c) ≡ true → owned (n .connections) c ≡ false))
     (sym (answers-as-the-rules k h t r u D e .0))
     (charge-lasts k (view h t) c (is-sound h t e) is-closed)
 
@@ -143,6 +144,38 @@ lowest-number-is-given-of-the-code x h t r u D z =
     let same = answers-as-the-rules (admit x) h t r u D (done-sound (admit x) h t r u D z) in
     subst (Lowest-free (view h t) x (r .number)) (sym (same .0))
     (subst (λ (n : ℕ). Lowest-free (view h t) x n (answer (admit x) (view h t) .next)) (sym (same .2)) (lowest-number-is-given x (view h t) (sym (same .1) ∙ z)))
+
+-- ---- the finer test
+
+pub finer-test-of-the-code : Finer-test-of-the-code
+finer-test-of-the-code x h t r u D own = (
+  λ z m low high.
+      let done = admit-done (view h t) x (as-ruled z (done-sound (admit x) h t r u D z)) in
+      finer-test-says (h .link) cs m own .0 (test-holds (h .link) cs (done .tests-hold) m low high),
+  λ z f.
+      let short = short-refused (view h t) x (as-ruled z (eight-sound z)) in
+      true≢false (sym (holds-test (h .link) cs (λ m low high. finer-test-says (h .link) cs m own .1 (f m low high))) ∙ short .fails),
+)
+  where
+    cs : List Connection
+    cs = joining (view h t .connections) x
+
+    as-ruled : {n : ℕ} → r .verdict ≡ n → sound-hub h t ≡ true → verdict (admit x) (view h t) ≡ n
+    as-ruled z e = sym (answer-verdict (admit x) (view h t)) ∙ sym (answers-as-the-rules (admit x) h t r u D e .1) ∙ z
+
+    -- 8 is given on a sound hub only
+    eight-sound : r .verdict ≡ 8 → sound-hub h t ≡ true
+    eight-sound z = go (sound-hub h t) refl
+      where
+        go : (b : Bool) → sound-hub h t ≡ b → sound-hub h t ≡ true
+        go true e = e
+        go false e = absurd (omega (arith, z, verdict-1-of-the-code (admit x) h t r u D .0 e))
+
+pub windows-at-the-bounds-of-the-code : Windows-at-the-bounds-of-the-code
+windows-at-the-bounds-of-the-code x h t r u D e at =
+    let same = answers-as-the-rules (admit x) h t r u D e in
+    let rule = windows-at-the-bounds .1 (view h t) x at in
+    (same .1 ∙ rule .0, λ z. ap (λ (a : Told). a .short) (told-as (admit x) h t e r u D) ∙ rule .1 (sym (same .1) ∙ z))
 
 -- ---- any calls follow the rules
 

@@ -9,14 +9,15 @@ use lib.ListN.{length, getElem?, drop}
 use Rattle.rules.specs.declared.Packet.{Packet}
 use Rattle.rules.specs.declared.Connection.{Connection}
 use Rattle.rules.specs.Limits.{clock-end}
-use Rattle.rules.specs.Words.{All}
+use Rattle.rules.specs.Words.{first-number, All}
 use Rattle.rules.specs.Model.{State, Call, admit, offer, close, tick, no-past, past, figures, closed-at}
-use Rattle.rules.specs.Admission.{owned, stands, stamped, reservation, largest-bound, stand-by-on, distance}
+use Rattle.rules.specs.Admission.{owned, stands, stamped, joining, windowed, reservation, charge-time, stand-by-on, distance}
 use Rattle.rules.specs.Service.{suits, untimely-by, of, eligibilities, charge-over}
 use Rattle.rules.specs.SoundState.{Sound}
 use Rattle.rules.specs.Calls.{refused-number, answer, eligibility-now}
 use Rattle.rules.specs.Runs.{Departure, run, departures, in-hub, bound-of, allowed, Exchange, own-answer, own-stamp-answers}
-use Rattle.rules.specs.Promises.{Still-charged, Lowest-free, stamp-plus, No-cause}
+use Rattle.rules.specs.WithoutWindows.{bounds-test, bounds-verdicts}
+use Rattle.rules.specs.Promises.{Still-charged, Lowest-free, Accepts-at, At-the-bounds, stamp-plus, No-cause}
 use Rattle.state.specs.declared.Hub.{Hub}
 use Rattle.state.specs.declared.Told.{Told}
 use Rattle.state.specs.View.{Tables, view, hub-of, written, sound-hub}
@@ -93,14 +94,14 @@ Closed-gets-10-of-the-code =
     → ((told : Told) (after : Tables) → Does (offer c len tag st) h before told after → told .verdict ≡ 10)
     × ((told : Told) (after : Tables) → Does (close c) h before told after → told .verdict ≡ 10)
 
--- a connection that is closed is freed at once where it never sent or the clock has reached its last eligibility plus the largest bound; else it is charged
+-- a connection that is closed is freed at once where it never sent or the clock has reached its last eligibility plus the time of a charge; else it is charged
 abbrev pub Closed-or-freed-of-the-code : Type 0
 Closed-or-freed-of-the-code =
     (c : ℕ) (h : Hub) (before : Tables) (told : Told) (after : Tables)
     → Does (close c) h before told after
     → told .verdict ≡ 0
-    → (charge-over (largest-bound (h .link)) (h .clock) (past (view h before) c) ≡ true → owned (view (told .hub) after .connections) c ≡ false)
-    × (charge-over (largest-bound (h .link)) (h .clock) (past (view h before) c) ≡ false → Still-charged (view h before) c (view (told .hub) after))
+    → (charge-over (charge-time (h .link)) (h .clock) (past (view h before) c) ≡ true → owned (view (told .hub) after .connections) c ≡ false)
+    × (charge-over (charge-time (h .link)) (h .clock) (past (view h before) c) ≡ false → Still-charged (view h before) c (view (told .hub) after))
 
 -- a charged connection is freed by the tick that reaches its time, and by no other
 abbrev pub Freed-by-the-tick-of-the-code : Type 0
@@ -109,8 +110,8 @@ Freed-by-the-tick-of-the-code =
     → Does tick h before told after
     → told .verdict ≡ 0
     → closed-at (view h before) c ≡ true
-    → (charge-over (largest-bound (h .link)) (h .clock + 1) (past (view h before) c) ≡ true → owned (view (told .hub) after .connections) c ≡ false)
-    × (charge-over (largest-bound (h .link)) (h .clock + 1) (past (view h before) c) ≡ false → Still-charged (view h before) c (view (told .hub) after))
+    → (charge-over (charge-time (h .link)) (h .clock + 1) (past (view h before) c) ≡ true → owned (view (told .hub) after .connections) c ≡ false)
+    × (charge-over (charge-time (h .link)) (h .clock + 1) (past (view h before) c) ≡ false → Still-charged (view h before) c (view (told .hub) after))
 
 -- whatever the call, a closed number is charged as long as the clock has not reached its time, and free once it has
 abbrev pub Charge-lasts-of-the-code : Type 0
@@ -119,8 +120,8 @@ Charge-lasts-of-the-code =
     → Does k h before told after
     → sound-hub h before ≡ true
     → closed-at (view h before) c ≡ true
-    → (charge-over (largest-bound (h .link)) (told .hub .clock) (past (view h before) c) ≡ false → Still-charged (view h before) c (view (told .hub) after))
-    × (charge-over (largest-bound (h .link)) (told .hub .clock) (past (view h before) c) ≡ true → owned (view (told .hub) after .connections) c ≡ false)
+    → (charge-over (charge-time (h .link)) (told .hub .clock) (past (view h before) c) ≡ false → Still-charged (view h before) c (view (told .hub) after))
+    × (charge-over (charge-time (h .link)) (told .hub .clock) (past (view h before) c) ≡ true → owned (view (told .hub) after .connections) c ≡ false)
 
 -- an admission gives the lowest number that has no owner, and its new owner starts fresh
 abbrev pub Lowest-number-is-given-of-the-code : Type 0
@@ -129,6 +130,27 @@ Lowest-number-is-given-of-the-code =
     → Does (admit x) h before told after
     → told .verdict ≡ 0
     → Lowest-free (view h before) x (told .number) (view (told .hub) after)
+
+-- ---- the finer test, of the code (document 02, R-12)
+
+-- on a hub whose link has windows a connection is accepted only if the finer test holds at every level with it counted, and refused with 8 only if at some level it does not
+abbrev pub Finer-test-of-the-code : Type 0
+Finer-test-of-the-code =
+    (x : Connection) (h : Hub) (before : Tables) (told : Told) (after : Tables)
+    → Does (admit x) h before told after
+    → windowed (h .link) ≡ true
+    → (told .verdict ≡ 0 → (m : ℕ) → 1 ≤ m → m ≤ h .link .levels → Accepts-at (h .link) (joining (view h before .connections) x) m)
+    × (told .verdict ≡ 8 → ((m : ℕ) → 1 ≤ m → m ≤ h .link .levels → Accepts-at (h .link) (joining (view h before .connections) x) m) → ⊥)
+
+-- with every w equal to its d an admission gets the verdict that document 01's test gives it, and with 8 the level and the units that this test names
+abbrev pub Windows-at-the-bounds-of-the-code : Type 0
+Windows-at-the-bounds-of-the-code =
+    (x : Connection) (h : Hub) (before : Tables) (told : Told) (after : Tables)
+    → Does (admit x) h before told after
+    → sound-hub h before ≡ true
+    → At-the-bounds (h .link)
+    → (told .verdict ≡ first-number (bounds-verdicts x (view h before)))
+    × (told .verdict ≡ 8 → told .short ≡ bounds-test (h .link) (joining (view h before .connections) x))
 
 -- ---- any calls
 

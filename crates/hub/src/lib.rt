@@ -32,6 +32,7 @@ pub fn fresh_hub() -> Hub
             silence: 0,
             early: 0,
             bounds: [0; MAX_LEVELS as usize],
+            windows: [0; MAX_LEVELS as usize],
         },
         clock: 0,
         serving: 0,
@@ -40,7 +41,7 @@ pub fn fresh_hub() -> Hub
     }
 }
 
-// Set the link: levels, the largest packet, the silence after each packet, whether packets may go early (0 or 1), a delay bound for each level. Verdicts 0, 1, 3, 4.
+// Set the link: levels, the largest packet, the silence after each packet, whether packets may go early (0 or 1), a delay bound for each level, and for the finer test a window for each level or none (all 0). Verdicts 0, 1, 3, 4.
 pub fn link(h: Hub, members: &[u32], places: &[u32], notices: &[u32], l: Link) -> Told
     ensures { λ r. ⌜ Does (link l) h (before members places notices) r (after members places notices) ⌝ }
 {

@@ -19,19 +19,22 @@ use state::Told;
 // Each table has room for 16 rows more than its length: it is lent too long as well.
 const MORE: usize = 16;
 
+// How many numbers a link has: levels, largest packet, silence, setting of the stand-by queue, eight bounds, eight windows.
+const LINK: usize = 20;
+
 // Where the numbers of a block stand, in the order in which they follow each other. First which call: 1 link, 2 admit, 3 offer, 4 notice, 5 close, 6 tick,
 // 7 offer with a stamp, any other number fresh_hub.
 const CALL: usize = 0;
 
-// What is asked: a link's numbers as below; level, gap, size, window, average gap, kind, allowance; connection, length, tag, and with a stamp the stamp; length, tag;
+// What is asked: a link's numbers; level, gap, size, window, average gap, kind, allowance; connection, length, tag, and with a stamp the stamp; length, tag;
 // connection.
 const ASKED: usize = CALL + 1;
 
-// The hub. Its link: levels, largest packet, silence, setting of the stand-by queue, eight bounds; then clock, serving, units to go, silence to run.
-const HUB: usize = ASKED + 12;
+// The hub: its link; then clock, serving, units to go, silence to run.
+const HUB: usize = ASKED + LINK;
 
 // How many numbers are lent as connections, as places, and as notices.
-const LENT: usize = HUB + 16;
+const LENT: usize = HUB + LINK + 4;
 
 // The answer: verdict, number, the level that is short and its units, low half first, 1 if a packet has gone, the packet.
 const TOLD: usize = LENT + 3;
@@ -57,22 +60,25 @@ fn link_at(b: &Block, at: usize) -> Link
 {
     let mut bounds = [0u32; 8];
     take(b, at + 4, &mut bounds);
+    let mut windows = [0u32; 8];
+    take(b, at + 12, &mut windows);
     Link {
         levels: get(b, at),
         largest: get(b, at + 1),
         silence: get(b, at + 2),
         early: get(b, at + 3),
         bounds: bounds,
+        windows: windows,
     }
 }
 
 fn hub_of(b: &Block) -> Hub {
     Hub {
         link: link_at(b, HUB),
-        clock: get(b, HUB + 12),
-        serving: get(b, HUB + 13),
-        to_go: get(b, HUB + 14),
-        silent: get(b, HUB + 15),
+        clock: get(b, HUB + LINK),
+        serving: get(b, HUB + LINK + 1),
+        to_go: get(b, HUB + LINK + 2),
+        silent: get(b, HUB + LINK + 3),
     }
 }
 
@@ -89,9 +95,10 @@ fn connection_of(b: &Block) -> Connection {
 }
 
 // The numbers of a hub.
-fn numbers_of(h: Hub) -> [u32; 16] {
+fn numbers_of(h: Hub) -> [u32; LINK + 4] {
     let l = h.link;
     let b = l.bounds;
+    let w = l.windows;
     [
         l.levels,
         l.largest,
@@ -105,6 +112,14 @@ fn numbers_of(h: Hub) -> [u32; 16] {
         b[5],
         b[6],
         b[7],
+        w[0],
+        w[1],
+        w[2],
+        w[3],
+        w[4],
+        w[5],
+        w[6],
+        w[7],
         h.clock,
         h.serving,
         h.to_go,

@@ -4,17 +4,17 @@ use native.Mathlib.Omega.{arith}
 use native.Mathlib.Numerals.{add-one}
 use mathlib.Core.Path.{_≡_, refl, sym, ap, _∙_}
 use native.Mathlib.Nat.{zero-div}
-use mathlib.Core.Bool.{Bool, true, false, _&&_, _||_}
+use mathlib.Core.Bool.{Bool, true, false, cond, _&&_, _||_}
 use mathlib.Core.List.{List, [], _∷_}
-use lib.Dec.{leb, eqb}
+use lib.Dec.{leb, ltb, eqb}
 use lib.ListN.{length, getD, drop}
 use lib.Seq.{drop-cons}
-use borrow.Author.Tests.{le-leb, lt-leb, eq-eqb, ne-eqb}
+use borrow.Author.Tests.{le-leb, lt-leb, eq-eqb, ne-eqb, le-ltb, lt-ltb}
 use Rattle.rules.specs.declared.Link.{Link}
 use Rattle.rules.specs.declared.Connection.{Connection}
 use Rattle.rules.specs.Words.{within}
-use Rattle.rules.specs.Limits.{max-levels, max-largest, max-silence, max-bound, max-gap, max-window, max-burst, max-allowance}
-use Rattle.rules.specs.Admission.{rising, cost, link-within, level-within, burst, average-within, kind-within, figures-within}
+use Rattle.rules.specs.Limits.{max-levels, max-largest, max-silence, max-bound, max-level-window, max-gap, max-window, max-burst, max-allowance}
+use Rattle.rules.specs.Admission.{rising, windowed, windows-from, windows-within, cost, link-within, level-within, burst, average-within, kind-within, figures-within}
 use Rattle.rules.proofs.Tests.{within-intro}
 use Rattle.limits.specs.Zeros.{zeros}
 use Rattle.limits.proofs.ChainLaws.{fails, goes-on, and-false, too-low, too-high}
@@ -142,7 +142,7 @@ module _ (l : Link) where
     largest-out e = goes-on (within 1 max-levels (l .levels)) _ false n (fails (within 1 max-largest (l .largest)) _ e)
 
     module _ (e : within 1 max-largest (l .largest) ≡ true) where
-      behind : (r : Bool) → r ≡ (leb (l .silence) max-silence && (leb (l .early) 1 && rising (cost l (l .largest)) (l .levels) (l .bounds))) → r ≡ link-within l
+      behind : (r : Bool) → r ≡ (leb (l .silence) max-silence && (leb (l .early) 1 && (rising (cost l (l .largest)) (l .levels) (l .bounds) && windows-within l))) → r ≡ link-within l
       unfolding link-within
       behind r h = goes-on (within 1 max-levels (l .levels)) _ r n (goes-on (within 1 max-largest (l .largest)) _ r e h)
 
@@ -150,15 +150,22 @@ module _ (l : Link) where
       silence-out h = behind false (fails (leb (l .silence) max-silence) _ (lt-leb (l .silence) max-silence h))
 
       module _ (k : l .silence ≤ max-silence) where
-        behind-silence : (r : Bool) → r ≡ (leb (l .early) 1 && rising (l .largest + l .silence) (l .levels) (l .bounds)) → r ≡ link-within l
+        behind-silence : (r : Bool) → r ≡ (leb (l .early) 1 && (rising (l .largest + l .silence) (l .levels) (l .bounds) && windows-within l)) → r ≡ link-within l
         unfolding cost
         behind-silence r h = behind r (goes-on (leb (l .silence) max-silence) _ r (le-leb (l .silence) max-silence k) h)
 
         pub early-out : 1 < l .early → false ≡ link-within l
         early-out h = behind-silence false (fails (leb (l .early) 1) _ (lt-leb (l .early) 1 h))
 
-        pub bounds-rest : l .early ≤ 1 → (r : Bool) → r ≡ rising (l .largest + l .silence) (l .levels) (l .bounds) → r ≡ link-within l
-        bounds-rest j r h = behind-silence r (goes-on (leb (l .early) 1) _ r (le-leb (l .early) 1 j) h)
+        module _ (j : l .early ≤ 1) where
+          behind-early : (r : Bool) → r ≡ (rising (l .largest + l .silence) (l .levels) (l .bounds) && windows-within l) → r ≡ link-within l
+          behind-early r h = behind-silence r (goes-on (leb (l .early) 1) _ r (le-leb (l .early) 1 j) h)
+
+          pub bounds-out : rising (l .largest + l .silence) (l .levels) (l .bounds) ≡ false → false ≡ link-within l
+          bounds-out h = behind-early false (fails (rising (l .largest + l .silence) (l .levels) (l .bounds)) _ h)
+
+          pub windows-rest : rising (l .largest + l .silence) (l .levels) (l .bounds) ≡ true → (r : Bool) → r ≡ windows-within l → r ≡ link-within l
+          windows-rest e r h = behind-early r (goes-on (rising (l .largest + l .silence) (l .levels) (l .bounds)) _ r e h)
 
 -- past the n-th bound: zeros, whatever came before
 rising-zeros : (low : ℕ) (ds : List ℕ) → rising low 0 ds ≡ zeros ds
@@ -189,3 +196,46 @@ pub bounds-end : (low n i : ℕ) (ds : List ℕ) → i ≡ n → zeros (drop n d
 bounds-end low n i ds e =
     let z : n - i ≡ 0 = omega arith in
     rw (z, e) (sym (rising-zeros low (drop n ds)))
+
+-- ---- windows
+
+windows-zeros : (ds ws : List ℕ) → windows-from 0 ds ws ≡ zeros ws
+windows-zeros ds [] = refl
+windows-zeros ds (w ∷ ws) = ap (λ (b : Bool). eqb w 0 && b) (windows-zeros ds ws)
+
+module _ (n i : ℕ) (ds ws : List ℕ) (h : i < n) (k : i < length ds) (m : i < length ws) where
+  window-here : windows-from (n - i) (drop i ds) (drop i ws) ≡ (leb (getD ds i 0) (getD ws i 0) && (leb (getD ws i 0) max-level-window && windows-from (n - (i + 1)) (drop (i + 1) ds) (drop (i + 1) ws)))
+  window-here =
+      let e : n - i ≡ suc (n - (i + 1)) = omega arith in
+      rw (e, drop-cons ds i 0 k, drop-cons ws i 0 m) (rw (add-one i))
+
+  pub window-low : getD ws i 0 < getD ds i 0 → false ≡ windows-from (n - i) (drop i ds) (drop i ws)
+  window-low l = fails (leb (getD ds i 0) (getD ws i 0)) _ (lt-leb (getD ds i 0) (getD ws i 0) l) ∙ sym window-here
+
+  pub window-above : getD ds i 0 ≤ getD ws i 0 → max-level-window < getD ws i 0 → false ≡ windows-from (n - i) (drop i ds) (drop i ws)
+  window-above l g =
+      goes-on (leb (getD ds i 0) (getD ws i 0)) _ false (le-leb (getD ds i 0) (getD ws i 0) l) (fails (leb (getD ws i 0) max-level-window) _ (lt-leb (getD ws i 0) max-level-window g))
+      ∙ sym window-here
+
+  pub window-next : getD ds i 0 ≤ getD ws i 0 → getD ws i 0 ≤ max-level-window → windows-from (n - (i + 1)) (drop (i + 1) ds) (drop (i + 1) ws) ≡ windows-from (n - i) (drop i ds) (drop i ws)
+  window-next l g =
+      goes-on (leb (getD ds i 0) (getD ws i 0)) _ _ (le-leb (getD ds i 0) (getD ws i 0) l) (goes-on (leb (getD ws i 0) max-level-window) _ _ (le-leb (getD ws i 0) max-level-window g) refl)
+      ∙ sym window-here
+
+pub windows-start : (n : ℕ) (ds ws : List ℕ) → windows-from (n - 0) (drop 0 ds) (drop 0 ws) ≡ windows-from n ds ws
+windows-start n ds ws = let e : n - 0 ≡ n = omega arith in rw e
+
+pub windows-end : (n i : ℕ) (ds ws : List ℕ) → i ≡ n → zeros (drop n ws) ≡ windows-from (n - i) (drop i ds) (drop i ws)
+windows-end n i ds ws e =
+    let z : n - i ≡ 0 = omega arith in
+    rw (z, e) (sym (windows-zeros (drop n ds) (drop n ws)))
+
+module _ (l : Link) where
+  -- the first window tells whether there are any
+  pub with-none : getD (l .windows) 0 0 ≡ 0 → windows-from 0 (l .bounds) (l .windows) ≡ windows-within l
+  unfolding windowed windows-within
+  with-none e = rw (le-ltb 0 (getD (l .windows) 0 0) (omega arith))
+
+  pub with-own : (getD (l .windows) 0 0 ≡ 0 → ⊥) → windows-from (l .levels) (l .bounds) (l .windows) ≡ windows-within l
+  unfolding windowed windows-within
+  with-own n = rw (lt-ltb 0 (getD (l .windows) 0 0) (omega (arith, n)))

@@ -4,13 +4,13 @@ ghost use mathlib.Core.Path.{_≡_};
 ghost use Prim.Native.Nat.{_+_, _≤_};
 ghost use lib.ListN.{length, take, drop};
 ghost use Rattle.rules.specs.Limits.{max-levels};
-ghost use Rattle.rules.specs.Admission.{rising, link-within, level-within, average-within, kind-within, figures-within};
+ghost use Rattle.rules.specs.Admission.{rising, windows-from, windows-within, link-within, level-within, average-within, kind-within, figures-within};
 ghost use Rattle.rules.specs.SoundTest.{connection-sound};
 ghost use Rattle.limits.specs.Zeros.{zeros};
 use rules::Connection;
 use rules::Link;
 
-// ---- the limits of document 01, "Link, connections, places", and of document 02, R-1, R-4, R-6 to R-9 and R-11
+// ---- the limits of document 01, "Link, connections, places", and of document 02, R-1, R-4, R-6 to R-9, R-11 and R-12
 
 // Levels of a link.
 pub const MAX_LEVELS: u32 = 8;
@@ -26,6 +26,9 @@ pub const STAND_BY_ON: u32 = 1;
 
 // Ticks of a delay bound.
 const MAX_BOUND: u32 = 32768;
+
+// Ticks of a level's window.
+const MAX_LEVEL_WINDOW: u32 = 32768;
 
 // Ticks of a gap.
 const MAX_GAP: u32 = 65535;
@@ -146,6 +149,42 @@ fn bounds_ok(lowest: u32, n: usize, bounds: [u32; MAX_LEVELS as usize]) -> bool
     zero_from(&bounds, n)
 }
 
+// Windows, n of them, none below its bound, none above its limit, and zeros behind.
+fn windows_ok(
+    n: usize,
+    bounds: [u32; MAX_LEVELS as usize],
+    windows: [u32; MAX_LEVELS as usize],
+) -> bool
+    requires { ⌜ n ≤ max-levels ⌝ }
+    ensures { λ r. ⌜ r ≡ windows-from n bounds windows ⌝ }
+{
+    let mut i: usize = 0;
+    while i < n {
+        let w = windows[i];
+        if w < bounds[i] {
+            return false;
+        }
+        if MAX_LEVEL_WINDOW < w {
+            return false;
+        }
+        i += 1;
+    }
+    zero_from(&windows, n)
+}
+
+// A window for each level, or none: the first tells.
+fn own_or_none(l: Link) -> bool
+    requires { ⌜ l .levels ≤ max-levels ⌝ }
+    ensures { λ r. ⌜ r ≡ windows-within l ⌝ }
+{
+    let bounds = l.bounds;
+    let windows = l.windows;
+    if windows[0] == 0 {
+        return windows_ok(0, bounds, windows);
+    }
+    windows_ok(l.levels as usize, bounds, windows)
+}
+
 // The limits of a link.
 pub fn link_ok(l: Link) -> bool
     ensures { λ r. ⌜ r ≡ link-within l ⌝ }
@@ -169,7 +208,10 @@ pub fn link_ok(l: Link) -> bool
         return false;
     }
     let bounds = l.bounds;
-    bounds_ok(l.largest + l.silence, l.levels as usize, bounds)
+    if !bounds_ok(l.largest + l.silence, l.levels as usize, bounds) {
+        return false;
+    }
+    own_or_none(l)
 }
 
 // Level 1 to n.

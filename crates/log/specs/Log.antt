@@ -1,5 +1,5 @@
 -- THE ANSWER LOG of a trace, from bytes to bytes, by the rules alone: no hub value, no table, no window. Document 01, "Trace and answer records" and
--- "One tick"; document 02, R-1, R-2, R-4, R-6, R-8, R-9 and R-11.
+-- "One tick"; document 02, R-1, R-2, R-4, R-6, R-8, R-9, R-11 and R-12.
 use Prim.Native.Nat.{ℕ, zero, suc, _+_, _-_}
 use mathlib.Core.Bool.{cond, not}
 use mathlib.Core.List.{List, [], _∷_, _++_}
@@ -12,12 +12,12 @@ use Rattle.rules.specs.Model.{State, Call, link, admit, offer, notice, close, t
 use Rattle.rules.specs.SoundTest.{sound}
 use Rattle.rules.specs.Calls.{answer}
 use Rattle.traces.specs.declared.Record.{Record}
-use Rattle.traces.specs.declared.Record.the-variants.{Link as LinkRecord, LinkStandBy, Admit, AdmitStamped, Close, Offer, OfferStamped, Notice, Ticks, Malformed}
+use Rattle.traces.specs.declared.Record.the-variants.{Link as LinkRecord, LinkStandBy, LinkWindows, Admit, AdmitStamped, Close, Offer, OfferStamped, Notice, Ticks, Malformed}
 use Rattle.traces.specs.declared.Found.{Found}
 use Rattle.traces.specs.Trace.{found, read-trace}
 use Rattle.answers.specs.declared.Reply.the-variants.{Linked, Admitted, Closed, Offered, Noticed, Departed, Ticked, Broken}
 use Rattle.answers.specs.Answers.{answer-bytes}
-use Rattle.named.specs.Named.{link-named, stand-by-named, connection-named, stamped-named}
+use Rattle.named.specs.Named.{link-named, stand-by-named, windows-named, connection-named, stamped-named}
 
 -- "A trace of up to 16,777,216 bytes"
 abbrev pub trace-limit : ℕ
@@ -67,6 +67,8 @@ abbrev pub asks : Record → Asked
 asks (LinkRecord n m silence d1 d2 d3 d4 d5 d6 d7 d8) = one-call (link (link-named (n ∷ m ∷ silence ∷ d1 ∷ d2 ∷ d3 ∷ d4 ∷ d5 ∷ d6 ∷ d7 ∷ d8 ∷ [])))
 asks (LinkStandBy n m silence early d1 d2 d3 d4 d5 d6 d7 d8) =
     one-call (link (stand-by-named (n ∷ m ∷ silence ∷ early ∷ d1 ∷ d2 ∷ d3 ∷ d4 ∷ d5 ∷ d6 ∷ d7 ∷ d8 ∷ [])))
+asks (LinkWindows n m silence early d1 d2 d3 d4 d5 d6 d7 d8 w1 w2 w3 w4 w5 w6 w7 w8) =
+    one-call (link (windows-named (n ∷ m ∷ silence ∷ early ∷ d1 ∷ d2 ∷ d3 ∷ d4 ∷ d5 ∷ d6 ∷ d7 ∷ d8 ∷ w1 ∷ w2 ∷ w3 ∷ w4 ∷ w5 ∷ w6 ∷ w7 ∷ w8 ∷ [])))
 asks (Admit level gap size window average) = one-call (admit (connection-named (level ∷ gap ∷ size ∷ window ∷ average ∷ [])))
 asks (AdmitStamped level gap size allowance) = one-call (admit (stamped-named (level ∷ gap ∷ size ∷ allowance ∷ [])))
 asks (Close c) = one-call (close c)

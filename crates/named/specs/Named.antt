@@ -1,22 +1,29 @@
--- What the numbers of a trace record name: the link of an `LK` and of an `LE`, the connection of a `CN` and of a `CS`. Document 01, "Trace and answer records".
+-- What the numbers of a trace record name: the link of an `LK`, of an `LE` and of an `LW`, the connection of a `CN` and of a `CS`. Document 01,
+-- "Trace and answer records".
 use Prim.Native.Nat.{ℕ}
 use mathlib.Core.List.{List, _++_}
 use lib.ListN.{getD, take, drop, replicate}
 use Rattle.rules.specs.declared.Link.{Link}
 use Rattle.rules.specs.declared.Connection.{Connection}
 use Rattle.rules.specs.Limits.{max-levels}
+use Rattle.rules.specs.Model.{no-windows}
 
--- all eight bounds, 0 past the last number
-abbrev all-bounds : List ℕ → List ℕ
-all-bounds ds = take max-levels (ds ++ replicate max-levels 0)
+-- the first eight numbers, 0 past the last one
+abbrev eight : List ℕ → List ℕ
+eight ds = take max-levels (ds ++ replicate max-levels 0)
 
--- n, S, the silence (document 02, R-4) and the bounds: the stand-by queue is off (R-11)
+-- n, S, the silence (document 02, R-4) and the bounds: the stand-by queue is off (R-11), and there are no windows (R-12)
 abbrev pub link-named : List ℕ → Link
-link-named xs = record { levels = getD xs 0 0; largest = getD xs 1 0; silence = getD xs 2 0; early = 0; bounds = all-bounds (drop 3 xs) }
+link-named xs = record { levels = getD xs 0 0; largest = getD xs 1 0; silence = getD xs 2 0; early = 0; bounds = eight (drop 3 xs); windows = no-windows }
 
 -- n, S, the silence, the setting (document 02, R-11) and the bounds
 abbrev pub stand-by-named : List ℕ → Link
-stand-by-named xs = record { levels = getD xs 0 0; largest = getD xs 1 0; silence = getD xs 2 0; early = getD xs 3 0; bounds = all-bounds (drop 4 xs) }
+stand-by-named xs = record { levels = getD xs 0 0; largest = getD xs 1 0; silence = getD xs 2 0; early = getD xs 3 0; bounds = eight (drop 4 xs); windows = no-windows }
+
+-- n, S, the silence, the setting, the eight bounds and the windows (document 02, R-12)
+abbrev pub windows-named : List ℕ → Link
+windows-named xs =
+    record { levels = getD xs 0 0; largest = getD xs 1 0; silence = getD xs 2 0; early = getD xs 3 0; bounds = eight (drop 4 xs); windows = eight (drop 12 xs) }
 
 -- level, gap, size, the window and the average gap (document 02, R-6): regulated by its gap, kind 0, with no allowance (R-9)
 abbrev pub connection-named : List ℕ → Connection

@@ -1,13 +1,13 @@
-// What the numbers of a trace record name: the link of an `LK` and of an `LE`, the connection of a `CN` and of a `CS`. The replay and the firmware get them through these.
+// What the numbers of a trace record name: the link of an `LK`, of an `LE` and of an `LW`, the connection of a `CN` and of a `CS`. The replay and the firmware get them through these.
 ghost use mathlib.Core.Path.{_≡_};
 ghost use mathlib.Core.List.{[], _∷_};
 ghost use Rattle.rules.specs.Model.{no-link};
-ghost use Rattle.named.specs.Named.{link-named, stand-by-named, connection-named, stamped-named};
+ghost use Rattle.named.specs.Named.{link-named, stand-by-named, windows-named, connection-named, stamped-named};
 use limits::MAX_LEVELS;
 use rules::Connection;
 use rules::Link;
 
-// The link of an `LK`: its stand-by queue is off.
+// The link of an `LK`: its stand-by queue is off, and it has no windows.
 pub fn link_named(
     levels: u8,
     largest: u16,
@@ -38,6 +38,7 @@ pub fn link_named(
             d7 as u32,
             d8 as u32,
         ],
+        windows: [0; MAX_LEVELS as usize],
     }
 }
 
@@ -60,6 +61,58 @@ pub fn stand_by_named(
 {
     let mut l = link_named(levels, largest, silence, d1, d2, d3, d4, d5, d6, d7, d8);
     l.early = early as u32;
+    l
+}
+
+// The link of an `LW`: the same with its windows.
+pub fn windows_named(
+    levels: u8,
+    largest: u16,
+    silence: u8,
+    early: u8,
+    d1: u16,
+    d2: u16,
+    d3: u16,
+    d4: u16,
+    d5: u16,
+    d6: u16,
+    d7: u16,
+    d8: u16,
+    w1: u16,
+    w2: u16,
+    w3: u16,
+    w4: u16,
+    w5: u16,
+    w6: u16,
+    w7: u16,
+    w8: u16,
+) -> Link
+    ensures { λ r. ⌜ r ≡ windows-named (levels ∷ largest ∷ silence ∷ early ∷ d1 ∷ d2 ∷ d3 ∷ d4 ∷ d5 ∷ d6 ∷ d7 ∷ d8 ∷ w1 ∷ w2 ∷ w3 ∷ w4 ∷ w5 ∷ w6 ∷ w7 ∷ w8 ∷ []) ⌝ }
+{
+    let mut l = stand_by_named(
+        levels,
+        largest,
+        silence,
+        early,
+        d1,
+        d2,
+        d3,
+        d4,
+        d5,
+        d6,
+        d7,
+        d8,
+    );
+    l.windows = [
+        w1 as u32,
+        w2 as u32,
+        w3 as u32,
+        w4 as u32,
+        w5 as u32,
+        w6 as u32,
+        w7 as u32,
+        w8 as u32,
+    ];
     l
 }
 
@@ -98,5 +151,6 @@ pub fn no_link() -> Link
         silence: 0,
         early: 0,
         bounds: [0; MAX_LEVELS as usize],
+        windows: [0; MAX_LEVELS as usize],
     }
 }

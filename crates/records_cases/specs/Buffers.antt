@@ -4,6 +4,6 @@ use mathlib.Core.List.{List}
 use Prim.Native.Nat.{ℕ, _≤_}
 use lib.ListN.{length}
 
--- A buffer whole, and an end in it of bytes that start at place 10.
+-- A buffer whole, and an end in it of bytes that start at place 12.
 abbrev pub Ends : List ℕ → ℕ → Type 0
-Ends buffer end = (length buffer ≡ 64) × (10 ≤ end) × (end ≤ 64)
+Ends buffer end = (length buffer ≡ 64) × (12 ≤ end) × (end ≤ 64)

@@ -20,9 +20,9 @@ pub fn fresh() -> [u8; 64] {
 }
 
 // What was read is what the line says, behind its place.
-fn same(a: [u64; 14], numbers: &[u64; 15]) -> bool {
+fn same(a: [u64; 22], numbers: &[u64; 23]) -> bool {
     let mut i: usize = 0;
-    while i < 14 {
+    while i < 22 {
         if a[i] != numbers[i + 1] {
             return false;
         }
@@ -32,7 +32,7 @@ fn same(a: [u64; 14], numbers: &[u64; 15]) -> bool {
 }
 
 // What the bytes up to an end are read as.
-fn read(traced: bool, buffer: &[u8], end: usize) -> [u64; 14]
+fn read(traced: bool, buffer: &[u8], end: usize) -> [u64; 22]
     requires { ⌜ Ends (now buffer) end ⌝ }
 {
     seen(traced, &buffer[START..end])
@@ -90,7 +90,7 @@ fn cut(traced: bool, buffer: &[u8], end: usize, t: u64) -> u64
 
 // A record: written to a larger room and to one just long enough; read alone, and with bytes behind it; cut short.
 // A trace record is also read at its place.
-pub fn vector(traced: bool, buffer: &[u8], end: usize, numbers: &[u64; 15], t: u64) -> u64
+pub fn vector(traced: bool, buffer: &[u8], end: usize, numbers: &[u64; 23], t: u64) -> u64
     requires { ⌜ Ends (now buffer) end ⌝ }
 {
     let t = case(t, written(traced, buffer, 64, end, buffer));
@@ -105,7 +105,7 @@ pub fn vector(traced: bool, buffer: &[u8], end: usize, numbers: &[u64; 15], t: u
 }
 
 // The trace record at the line's place.
-pub fn at(buffer: &[u8], end: usize, numbers: &[u64; 15], t: u64) -> u64
+pub fn at(buffer: &[u8], end: usize, numbers: &[u64; 23], t: u64) -> u64
     requires { ⌜ Ends (now buffer) end ⌝ }
 {
     let place = numbers[0] as usize;
@@ -113,7 +113,7 @@ pub fn at(buffer: &[u8], end: usize, numbers: &[u64; 15], t: u64) -> u64
 }
 
 // The answer that the bytes start with.
-pub fn reply(buffer: &[u8], end: usize, numbers: &[u64; 15], t: u64) -> u64
+pub fn reply(buffer: &[u8], end: usize, numbers: &[u64; 23], t: u64) -> u64
     requires { ⌜ Ends (now buffer) end ⌝ }
 {
     case(t, same(read(false, buffer, end), numbers))
@@ -122,35 +122,61 @@ pub fn reply(buffer: &[u8], end: usize, numbers: &[u64; 15], t: u64) -> u64
 // The link whose n and whose bounds 2, 7 and 8 are the bytes.
 pub fn link(buffer: &[u8]) -> Record {
     Record::Link {
-        levels: one(buffer, 10),
+        levels: one(buffer, START),
         largest: 4,
         silence: 0,
         d1: 10,
-        d2: two(buffer, 11),
+        d2: two(buffer, START + 1),
         d3: 0,
         d4: 0,
         d5: 0,
         d6: 0,
-        d7: two(buffer, 13),
-        d8: two(buffer, 15),
+        d7: two(buffer, START + 3),
+        d8: two(buffer, START + 5),
     }
 }
 
 // The same with a setting, 1.
 pub fn stand_by(buffer: &[u8]) -> Record {
     Record::LinkStandBy {
-        levels: one(buffer, 10),
+        levels: one(buffer, START),
         largest: 4,
         silence: 0,
         early: 1,
         d1: 10,
-        d2: two(buffer, 11),
+        d2: two(buffer, START + 1),
         d3: 0,
         d4: 0,
         d5: 0,
         d6: 0,
-        d7: two(buffer, 13),
-        d8: two(buffer, 15),
+        d7: two(buffer, START + 3),
+        d8: two(buffer, START + 5),
+    }
+}
+
+// The same with windows: their first is 10; bound 8 and windows 2 and 8 are the bytes.
+pub fn windows(buffer: &[u8]) -> Record {
+    Record::LinkWindows {
+        levels: one(buffer, START),
+        largest: 4,
+        silence: 0,
+        early: 1,
+        d1: 10,
+        d2: 0,
+        d3: 0,
+        d4: 0,
+        d5: 0,
+        d6: 0,
+        d7: 0,
+        d8: two(buffer, START + 1),
+        w1: 10,
+        w2: two(buffer, START + 3),
+        w3: 0,
+        w4: 0,
+        w5: 0,
+        w6: 0,
+        w7: 0,
+        w8: two(buffer, START + 5),
     }
 }
 

@@ -1,4 +1,4 @@
-// What is read, as the fourteen numbers that a line has behind its place: how many bytes it takes, its kind, its fields,
+// What is read, as the twenty-two numbers that a line has behind its place: how many bytes it takes, its kind, its fields,
 // and 0 for those that it does not have.
 use answers::Reply;
 use traces::Record;
@@ -7,6 +7,8 @@ use traces::Record;
 const LK: u64 = 230;
 
 const LE: u64 = 224;
+
+const LW: u64 = 242;
 
 const CN: u64 = 143;
 
@@ -40,7 +42,55 @@ const ER: u64 = 167;
 
 pub const NONE: u64 = 25644;
 
-fn trace_numbers(taken: u64, r: Record) -> [u64; 14] {
+// The numbers of a kind that has five fields at most.
+fn few(taken: u64, kind: u64, a: [u64; 5]) -> [u64; 22] {
+    padded([
+        taken,
+        kind,
+        a[0],
+        a[1],
+        a[2],
+        a[3],
+        a[4],
+        0,
+        0,
+        0,
+        0,
+        0,
+        0,
+        0,
+    ])
+}
+
+// .. of one that has twelve at most.
+fn padded(a: [u64; 14]) -> [u64; 22] {
+    [
+        a[0],
+        a[1],
+        a[2],
+        a[3],
+        a[4],
+        a[5],
+        a[6],
+        a[7],
+        a[8],
+        a[9],
+        a[10],
+        a[11],
+        a[12],
+        a[13],
+        0,
+        0,
+        0,
+        0,
+        0,
+        0,
+        0,
+        0,
+    ]
+}
+
+fn trace_numbers(taken: u64, r: Record) -> [u64; 22] {
     match r {
         Record::Link {
             levels,
@@ -54,7 +104,7 @@ fn trace_numbers(taken: u64, r: Record) -> [u64; 14] {
             d6,
             d7,
             d8,
-        } => [
+        } => padded([
             taken,
             LK,
             levels as u64,
@@ -69,7 +119,7 @@ fn trace_numbers(taken: u64, r: Record) -> [u64; 14] {
             d7 as u64,
             d8 as u64,
             0,
-        ],
+        ]),
         Record::LinkStandBy {
             levels,
             largest,
@@ -83,7 +133,7 @@ fn trace_numbers(taken: u64, r: Record) -> [u64; 14] {
             d6,
             d7,
             d8,
-        } => [
+        } => padded([
             taken,
             LE,
             levels as u64,
@@ -98,6 +148,51 @@ fn trace_numbers(taken: u64, r: Record) -> [u64; 14] {
             d6 as u64,
             d7 as u64,
             d8 as u64,
+        ]),
+        Record::LinkWindows {
+            levels,
+            largest,
+            silence,
+            early,
+            d1,
+            d2,
+            d3,
+            d4,
+            d5,
+            d6,
+            d7,
+            d8,
+            w1,
+            w2,
+            w3,
+            w4,
+            w5,
+            w6,
+            w7,
+            w8,
+        } => [
+            taken,
+            LW,
+            levels as u64,
+            largest as u64,
+            silence as u64,
+            early as u64,
+            d1 as u64,
+            d2 as u64,
+            d3 as u64,
+            d4 as u64,
+            d5 as u64,
+            d6 as u64,
+            d7 as u64,
+            d8 as u64,
+            w1 as u64,
+            w2 as u64,
+            w3 as u64,
+            w4 as u64,
+            w5 as u64,
+            w6 as u64,
+            w7 as u64,
+            w8 as u64,
         ],
         Record::Admit {
             level,
@@ -105,236 +200,109 @@ fn trace_numbers(taken: u64, r: Record) -> [u64; 14] {
             size,
             window,
             average,
-        } => [
+        } => few(
             taken,
             CN,
-            level as u64,
-            gap as u64,
-            size as u64,
-            window as u64,
-            average as u64,
-            0,
-            0,
-            0,
-            0,
-            0,
-            0,
-            0,
-        ],
+            [
+                level as u64,
+                gap as u64,
+                size as u64,
+                window as u64,
+                average as u64,
+            ],
+        ),
         Record::AdmitStamped {
             level,
             gap,
             size,
             allowance,
-        } => [
+        } => few(
             taken,
             CS,
-            level as u64,
-            gap as u64,
-            size as u64,
-            allowance as u64,
-            0,
-            0,
-            0,
-            0,
-            0,
-            0,
-            0,
-            0,
-        ],
-        Record::Close { connection } => [
-            taken,
-            CL,
-            connection as u64,
-            0,
-            0,
-            0,
-            0,
-            0,
-            0,
-            0,
-            0,
-            0,
-            0,
-            0,
-        ],
+            [level as u64, gap as u64, size as u64, allowance as u64, 0],
+        ),
+        Record::Close { connection } => few(taken, CL, [connection as u64, 0, 0, 0, 0]),
         Record::Offer {
             connection,
             len,
             tag,
-        } => [
-            taken,
-            PK,
-            connection as u64,
-            len as u64,
-            tag as u64,
-            0,
-            0,
-            0,
-            0,
-            0,
-            0,
-            0,
-            0,
-            0,
-        ],
+        } => few(taken, PK, [connection as u64, len as u64, tag as u64, 0, 0]),
         Record::OfferStamped {
             connection,
             len,
             tag,
             stamp,
-        } => [
+        } => few(
             taken,
             PS,
-            connection as u64,
-            len as u64,
-            tag as u64,
-            stamp as u64,
-            0,
-            0,
-            0,
-            0,
-            0,
-            0,
-            0,
-            0,
-        ],
-        Record::Notice { len, tag } => [
-            taken,
-            NQ,
-            len as u64,
-            tag as u64,
-            0,
-            0,
-            0,
-            0,
-            0,
-            0,
-            0,
-            0,
-            0,
-            0,
-        ],
-        Record::Ticks { ticks } => [taken, TK, ticks as u64, 0, 0, 0, 0, 0, 0, 0, 0, 0, 0, 0],
-        Record::Malformed => [taken, NONE, 0, 0, 0, 0, 0, 0, 0, 0, 0, 0, 0, 0],
+            [connection as u64, len as u64, tag as u64, stamp as u64, 0],
+        ),
+        Record::Notice { len, tag } => few(taken, NQ, [len as u64, tag as u64, 0, 0, 0]),
+        Record::Ticks { ticks } => few(taken, TK, [ticks as u64, 0, 0, 0, 0]),
+        Record::Malformed => few(taken, NONE, [0, 0, 0, 0, 0]),
     }
 }
 
-fn answer_numbers(taken: u64, r: Reply) -> [u64; 14] {
+fn answer_numbers(taken: u64, r: Reply) -> [u64; 22] {
     match r {
-        Reply::Linked { verdict } => [taken, LA, verdict as u64, 0, 0, 0, 0, 0, 0, 0, 0, 0, 0, 0],
+        Reply::Linked { verdict } => few(taken, LA, [verdict as u64, 0, 0, 0, 0]),
         Reply::Admitted {
             verdict,
             connection,
             level,
             units,
-        } => [
+        } => few(
             taken,
             CA,
-            verdict as u64,
-            connection as u64,
-            level as u64,
-            units as u64,
-            0,
-            0,
-            0,
-            0,
-            0,
-            0,
-            0,
-            0,
-        ],
-        Reply::Closed { verdict } => [taken, CD, verdict as u64, 0, 0, 0, 0, 0, 0, 0, 0, 0, 0, 0],
+            [
+                verdict as u64,
+                connection as u64,
+                level as u64,
+                units as u64,
+                0,
+            ],
+        ),
+        Reply::Closed { verdict } => few(taken, CD, [verdict as u64, 0, 0, 0, 0]),
         Reply::Offered {
             verdict,
             eligibility,
-        } => [
-            taken,
-            PA,
-            verdict as u64,
-            eligibility as u64,
-            0,
-            0,
-            0,
-            0,
-            0,
-            0,
-            0,
-            0,
-            0,
-            0,
-        ],
+        } => few(taken, PA, [verdict as u64, eligibility as u64, 0, 0, 0]),
         Reply::Noticed {
             verdict,
             eligibility,
-        } => [
-            taken,
-            NA,
-            verdict as u64,
-            eligibility as u64,
-            0,
-            0,
-            0,
-            0,
-            0,
-            0,
-            0,
-            0,
-            0,
-            0,
-        ],
+        } => few(taken, NA, [verdict as u64, eligibility as u64, 0, 0, 0]),
         Reply::Departed {
             connection,
             tag,
             arrival,
             eligibility,
             finish,
-        } => [
+        } => few(
             taken,
             DP,
-            connection as u64,
-            tag as u64,
-            arrival as u64,
-            eligibility as u64,
-            finish as u64,
-            0,
-            0,
-            0,
-            0,
-            0,
-            0,
-            0,
-        ],
-        Reply::Ticked { verdict, ticks } => [
-            taken,
-            TA,
-            verdict as u64,
-            ticks as u64,
-            0,
-            0,
-            0,
-            0,
-            0,
-            0,
-            0,
-            0,
-            0,
-            0,
-        ],
-        Reply::Broken { offset } => [taken, ER, offset as u64, 0, 0, 0, 0, 0, 0, 0, 0, 0, 0, 0],
-        Reply::Malformed => [taken, NONE, 0, 0, 0, 0, 0, 0, 0, 0, 0, 0, 0, 0],
+            [
+                connection as u64,
+                tag as u64,
+                arrival as u64,
+                eligibility as u64,
+                finish as u64,
+            ],
+        ),
+        Reply::Ticked { verdict, ticks } => few(taken, TA, [verdict as u64, ticks as u64, 0, 0, 0]),
+        Reply::Broken { offset } => few(taken, ER, [offset as u64, 0, 0, 0, 0]),
+        Reply::Malformed => few(taken, NONE, [0, 0, 0, 0, 0]),
     }
 }
 
 // The trace record at a place of the bytes.
-pub fn seen_at(s: &[u8], at: usize) -> [u64; 14] {
+pub fn seen_at(s: &[u8], at: usize) -> [u64; 22] {
     let found = traces::read_at(s, at);
     let what = found.what;
     trace_numbers(found.taken as u64, what)
 }
 
 // The trace record or the answer that the bytes start with.
-pub fn seen(traced: bool, s: &[u8]) -> [u64; 14] {
+pub fn seen(traced: bool, s: &[u8]) -> [u64; 22] {
     if traced {
         let found = traces::read(s);
         let what = found.what;

@@ -15,8 +15,8 @@ fn lost(line: &[u8], t: u64) -> u64 {
 }
 
 // Tries what a line says, by its first character.
-fn act(line: &[u8], numbers: &[u64; 15], buffer: &[u8], end: usize, t: u64) -> u64
-    requires { ⌜ (length (now buffer) ≡ 64) × (end ≤ 53) ⌝ }
+fn act(line: &[u8], numbers: &[u64; 23], buffer: &[u8], end: usize, t: u64) -> u64
+    requires { ⌜ (length (now buffer) ≡ 64) × (end ≤ 55) ⌝ }
 {
     if end < START {
         return lost(line, t);
@@ -29,6 +29,7 @@ fn act(line: &[u8], numbers: &[u64; 15], buffer: &[u8], end: usize, t: u64) -> u
         b'r' => case::reply(buffer, end, numbers, t),
         b'l' => tally::case(t, case::refused(case::link(buffer))),
         b'e' => tally::case(t, case::refused(case::stand_by(buffer))),
+        b'w' => tally::case(t, case::refused(case::windows(buffer))),
         b'n' => case::none(buffer, t),
         b'5' => case::five(buffer, end, t),
         _ => lost(line, t),
@@ -37,7 +38,7 @@ fn act(line: &[u8], numbers: &[u64; 15], buffer: &[u8], end: usize, t: u64) -> u
 
 // A line that is no comment and no end of a group.
 fn trial(line: &[u8], t: u64) -> u64 {
-    let mut numbers = [0u64; 15];
+    let mut numbers = [0u64; 23];
     let mut buffer = case::fresh();
     let end = words::parse(line, &mut numbers, &mut buffer);
     act(line, &numbers, &buffer, end, t)

@@ -2,13 +2,13 @@
 ghost use Prim.Native.Nat.{_≤_};
 
 // Where a line's bytes are put in their buffer, so that others stand before and behind them.
-pub const START: usize = 10;
+pub const START: usize = 12;
 
 // While a line is read: less than BYTES is the number of the word; up to MOST twice the place in the buffer, and 1 for the second digit;
 // LOST is neither.
-const BYTES: usize = 20;
+const BYTES: usize = 24;
 
-const MOST: usize = 106;
+const MOST: usize = 110;
 
 const LOST: usize = 999;
 
@@ -45,8 +45,8 @@ fn byte(buffer: &mut [u8], k: usize, c: u8) -> usize {
 }
 
 // A character of a line. A word is the number that its digits make: L is 21 and K is 20, so that LK is 230.
-fn character(numbers: &mut [u64; 15], buffer: &mut [u8], k: usize, c: u8) -> usize {
-    if 14 < k {
+fn character(numbers: &mut [u64; 23], buffer: &mut [u8], k: usize, c: u8) -> usize {
+    if 22 < k {
         return byte(buffer, k, c);
     }
     if c == b':' {
@@ -65,7 +65,7 @@ fn character(numbers: &mut [u64; 15], buffer: &mut [u8], k: usize, c: u8) -> usi
 
 // Where the bytes end in their buffer; 0 where the line is not understood.
 fn ending(k: usize) -> usize
-    ensures { λ r. ⌜ r ≤ 53 ⌝ }
+    ensures { λ r. ⌜ r ≤ 55 ⌝ }
 {
     if k < BYTES {
         return 0;
@@ -80,8 +80,8 @@ fn ending(k: usize) -> usize
 }
 
 // The words as numbers, and the bytes; where these end, or 0.
-pub fn parse(line: &[u8], numbers: &mut [u64; 15], buffer: &mut [u8]) -> usize
-    ensures { λ r. ⌜ r ≤ 53 ⌝ }
+pub fn parse(line: &[u8], numbers: &mut [u64; 23], buffer: &mut [u8]) -> usize
+    ensures { λ r. ⌜ r ≤ 55 ⌝ }
 {
     let mut k: usize = 0;
     let mut i: usize = 1;

@@ -1,7 +1,7 @@
 -- Of every sound state: the packets held are no more than the places, and every eligibility fits 32 bits.
 use Prim.Native.Nat.{ℕ, _+_, _*_, _≤_, _<_, max}
 use native.Mathlib.Omega.{arith}
-use native.Mathlib.Nat.{mul-le-mul-right, le-refl}
+use native.Mathlib.Nat.{mul-le-mul-right}
 use mathlib.Core.Path.{_≡_, refl, sym, ap, _∙_, subst}
 use mathlib.Core.Bool.{Bool, true, false, cond, true≢false}
 use mathlib.Core.Logic.{⊎-elim}
@@ -12,7 +12,7 @@ use lib.ListN.{length, List·getD-eq-default}
 use borrow.Author.Tests.{eqb-true, eqb-false}
 use Rattle.rules.specs.Limits.{max-connections, max-bound, max-gap, max-window, max-allowance, max-reserved, clock-end, beyond-32-bits, max-notices}
 use Rattle.rules.specs.Model.{Connection, Past, Packet, State, no-connection, no-past, fresh, past, figures}
-use Rattle.rules.specs.Admission.{owned, bound, largest-bound, reservation, distance, ahead}
+use Rattle.rules.specs.Admission.{owned, bound, charge-time, reservation, distance, ahead}
 use Rattle.rules.specs.Service.{of, eligibilities, early-at}
 use Rattle.rules.specs.SoundState.{margin, Orderly, Sound}
 use Rattle.rules.specs.Calls.{eligibility-now}
@@ -21,9 +21,8 @@ use Rattle.rules.proofs.Sums.{split, same, sum-le, only, only-at, only-
 use Rattle.rules.proofs.Rows.{all-by-connection, length-map}
 use Rattle.rules.proofs.Count.{count-gaps}
 use Rattle.rules.proofs.Standing.{owned-below}
-use Rattle.rules.proofs.Figures.{link-facts, reservation-is, ahead-on, ahead-off}
+use Rattle.rules.proofs.Figures.{link-facts, charge-le, reservation-is, ahead-on, ahead-off}
 use Rattle.rules.proofs.Notices.{of-none}
-use Rattle.rules.proofs.Figures.{link-facts}
 use Rattle.rules.proofs.SoundKept.{fresh-figures, fresh-past}
 use Rattle.rules.proofs.SoundTick.{facts, regulated}
 use Rattle.rules.proofs.Queue.{queue-chained, chained-far, next-near}
@@ -156,11 +155,10 @@ module _ (s : State) (S : Orderly s) where
     λ c. (all-map (λ e k. omega arith) (past s c) (past-far c), omega (arith, next-far c), λ stamp k. omega (arith, S .clock-le, figures-le-longest c .2)),
   )
 
-  linked-charges : (c : ℕ) → All (λ e. e + largest-bound (s .link) < beyond-32-bits) (past s c)
+  linked-charges : (c : ℕ) → All (λ e. e + charge-time (s .link) < beyond-32-bits) (past s c)
   unfolding far longest
   linked-charges c =
-      let F = link-facts (s .link) (S .link-in) in
-      all-map (λ e k. omega (arith, F .bound-le (s .link .levels) (F .some-level) (le-refl (s .link .levels)))) (past s c) (past-far c)
+      all-map (λ e k. omega (arith, charge-le (s .link) (S .link-in))) (past s c) (past-far c)
 
   linked-distances : (c : ℕ) → s .clock + distance (s .link) (figures s c) < beyond-32-bits
   linked-distances c = blank-or (λ x h. s .clock + distance (s .link) x < beyond-32-bits) (omega (arith, S .clock-le)) (λ c o. omega (arith, S .clock-le, distance-le c o)) c
@@ -196,12 +194,12 @@ eligibilities-fit-32 s S =
     fresh-fit : (c : ℕ) → figures fresh c ≡ no-connection → past fresh c ≡ no-past → All (λ e. e < beyond-32-bits) (past fresh c) × (eligibility-now fresh c none < beyond-32-bits) × ((stamp : ℕ) → stamp ≤ 0 → eligibility-now fresh c (some stamp) < beyond-32-bits)
     fresh-fit c i j = rw (i, j) (tt, omega (arith, next-near no-connection 0 0 (omega arith) (omega arith) 0 no-past (omega arith) tt), λ stamp k. omega arith)
 
-pub charges-fit-32 : (s : State) → Sound s → (c : ℕ) → All (λ e. e + largest-bound (s .link) < beyond-32-bits) (past s c)
+pub charges-fit-32 : (s : State) → Sound s → (c : ℕ) → All (λ e. e + charge-time (s .link) < beyond-32-bits) (past s c)
 charges-fit-32 s S c =
     ⊎-elim
     (λ z.
-    subst (λ (r : State). All (λ e. e + largest-bound (r .link) < beyond-32-bits) (past r c)) (sym (S .with-no-link z))
-    (subst (All (λ e. e + largest-bound (fresh .link) < beyond-32-bits)) (sym (fresh-past c)) tt))
+    subst (λ (r : State). All (λ e. e + charge-time (r .link) < beyond-32-bits) (past r c)) (sym (S .with-no-link z))
+    (subst (All (λ e. e + charge-time (fresh .link) < beyond-32-bits)) (sym (fresh-past c)) tt))
     (λ n. linked-charges s (S .with-one n .orderly) c)
     (same (s .link .levels) 0)
 

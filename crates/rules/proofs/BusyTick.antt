@@ -8,11 +8,12 @@ use mathlib.Core.Option.{Option, none, some}
 use Rattle.rules.specs.Words.{upto}
 use Rattle.rules.specs.Limits.{notice-number}
 use Rattle.rules.specs.Model.{Link, Connection, Packet, Notice, State, Answer, nth, with-line}
-use Rattle.rules.specs.Admission.{bound, cost}
+use Rattle.rules.specs.Admission.{window, cost}
 use Rattle.rules.specs.Service.{first, without, level-of, stand-by, takes, later, after-unit, line-left}
 use Rattle.rules.specs.SoundState.{Fits, Notice-fits, In-service}
 use Rattle.rules.proofs.Lists.{All, all-map, all-zip, all-sub, all-every, Sub, sub-refl, total-le, total-sub, total-add, total-zero, total-none}
-use Rattle.rules.proofs.Sums.{split, upto-yes, upto-no, upto-le, upto-mono, upto-add}
+use Rattle.rules.proofs.Sums.{split, upto-yes, upto-no, upto-le, upto-mono}
+use Rattle.rules.proofs.Keys.{Ahead, ahead-or-not, keyed-yes, keyed-no, keyed-mono, keyed-add, ahead-trans}
 use Rattle.rules.proofs.Rows.{first-all, total-without, sub-without}
 use Rattle.rules.proofs.Notices.{first-notice-is, first-none}
 use Rattle.rules.proofs.Line.{last-of-packet, last-of-notice, left-silent, left-some, left-taken, left-unit, left-last, left-in-silence}
@@ -37,23 +38,23 @@ module _ (s : State) (acc : List Packet) (R : Regular s acc) where
       inr (inr (record { in-service = notice-serves s n ns i f; short = f .0 .len-le; alone = first-none notice-number (s .held) a }))
 
   -- busy, with something on the line
-  abbrev Taken-busy : ℕ → ℕ → ℕ → Type 0
-  Taken-busy w u m = Busy (with-line s w u (s .silent)) acc m (s .clock) × (0 < line-left (with-line s w u (s .silent)))
+  abbrev Taken-busy : ℕ → ℕ → ℕ → ℕ → Type 0
+  Taken-busy w u m e = Busy (with-line s w u (s .silent)) acc m e (s .clock) × (0 < line-left (with-line s w u (s .silent)))
 
-  pub taken-busy : (m : ℕ) (o : Option Packet) (ns : List Notice) (b : Option Packet) → Chosen (level-of s) (s .clock) (s .held) o → s .to-go ≡ 0 → s .silent ≡ 0
-      → Busy s acc m (s .clock) → 0 < demand s m (s .clock)
-      → Taken-busy (takes o ns b .0) (takes o ns b .1) m
+  pub taken-busy : (m e : ℕ) (o : Option Packet) (ns : List Notice) (b : Option Packet) → Chosen (level-of s) (s .clock) (s .held) o → s .to-go ≡ 0 → s .silent ≡ 0
+      → Busy s acc m e (s .clock) → 0 < demand s m e (s .clock)
+      → Taken-busy (takes o ns b .0) (takes o ns b .1) m e
   unfolding taken-serves
-  taken-busy m none ns b k z y B h =
+  taken-busy m e none ns b k z y B h =
       absurd
-      (omega (arith, total-none (due (s .link) (s .connections) m (s .clock)) (s .held) (all-map (λ q lt. due-off (s .link) (s .connections) m (s .clock) q (λ le. absurd (omega arith))) (s .held) k)))
-  taken-busy m (some p) ns b k z y B h = go (split (level-of s (p .connection)) m)
+      (omega (arith, total-none (due (s .link) (s .connections) m e (s .clock)) (s .held) (all-map (λ q lt. due-off (s .link) (s .connections) m e (s .clock) q (λ le. absurd (omega arith))) (s .held) k)))
+  taken-busy m e (some p) ns b k z y B h = go (ahead-or-not m e (level-of s (p .connection)) (p .eligibility))
     where
       f : Fits (s .connections) p
       f = first-all (p .connection) (Fits (s .connections)) (s .held) p (k .2) (fit-held s acc R)
 
-      go : (level-of s (p .connection) ≤ m) ⊎ (m < level-of s (p .connection)) → Taken-busy (p .connection) (p .len) m
-      go (inl lv) = (
+      go : Ahead m e (level-of s (p .connection)) (p .eligibility) ⊎ (Ahead m e (level-of s (p .connection)) (p .eligibility) → ⊥) → Taken-busy (p .connection) (p .len) m e
+      go (inl a) = (
         record {
           from = B .from;
           started = B .started;
@@ -62,55 +63,58 @@ module _ (s : State) (acc : List Packet) (R : Regular s acc) where
               omega (
                 arith,
                 B .work,
-                served-idle s m (s .clock) z,
+                served-idle s m e (s .clock) z,
                 left-silent s z,
                 left-taken s (p .connection) (p .len) (s .silent) (f .some-len),
-                served-is (with-line s (p .connection) (p .len) (s .silent)) m (s .clock) (taken-serves s (fit-held s acc R) p k),
-                due-full (s .link) (s .connections) m (s .clock) p lv (k .0),
+                served-is (with-line s (p .connection) (p .len) (s .silent)) m e (s .clock) (taken-serves s (fit-held s acc R) p k),
+                due-full (s .link) (s .connections) m e (s .clock) p a (k .0),
               );
           in-time = B .in-time;
         },
         left-some (with-line s (p .connection) (p .len) (s .silent)) (f .some-len),
       )
-      -- the least urgent due packet has a level up to m, and the chosen one none above it
-      go (inr lv) =
+      -- some packet that is due is ahead of (m, e), and the chosen one goes before it
+      go (inr n) =
           absurd
           (omega (
             arith,
-            total-none (due (s .link) (s .connections) m (s .clock)) (s .held)
-                (all-map (λ q le. due-off (s .link) (s .connections) m (s .clock) q (λ e. omega (arith, le e .no-lower))) (s .held) (k .1)),
+            total-none (due (s .link) (s .connections) m e (s .clock)) (s .held)
+                (all-map
+                (λ q le. due-off (s .link) (s .connections) m e (s .clock) q (λ i a.
+                n (ahead-trans m e (level-of s (q .connection)) (q .eligibility) (level-of s (p .connection)) (p .eligibility) (le i .no-lower) (le i .no-earlier) a)))
+                (s .held) (k .1)),
           ))
 
 -- ---- steps 2 and 3: a unit goes, and the clock moves on; the horizon stays
 
-module _ (s : State) (acc : List Packet) (m : ℕ) where
+module _ (s : State) (acc : List Packet) (m e : ℕ) where
   going : ℕ
-  going = due-of (s .link) (s .connections) m (s .clock) (first (s .serving) (s .held))
+  going = due-of (s .link) (s .connections) m e (s .clock) (first (s .serving) (s .held))
 
   abbrev Left-busy : State → Type 0
-  Left-busy r = Busy r acc m (s .clock)
+  Left-busy r = Busy r acc m e (s .clock)
 
-  packet-leaves : s .to-go ≡ 1 → In-service s → (B : Busy s acc m (s .clock)) → s .clock + 2 ≤ B .from + bound (s .link) m
+  packet-leaves : s .to-go ≡ 1 → In-service s → (B : Busy s acc m e (s .clock)) → s .clock + 2 ≤ B .from + window (s .link) m
       → Left-busy (later s (without (s .serving) (s .held)) (s .notices) 0 0 (s .link .silence))
-  packet-leaves e r B h = record {
+  packet-leaves i r B h = record {
     from = B .from;
     started = omega (arith, B .started);
-    since = all-sub (λ p. level-of s (p .connection) ≤ m → p .eligibility ≤ s .clock → B .from ≤ p .eligibility) (sub-without (s .serving) (sub-refl (s .held))) (B .since);
+    since = all-sub (λ p. Ahead m e (level-of s (p .connection)) (p .eligibility) → p .eligibility ≤ s .clock → B .from ≤ p .eligibility) (sub-without (s .serving) (sub-refl (s .held))) (B .since);
     work =
         omega (
           arith,
           B .work,
-          served-is s m (s .clock) r,
+          served-is s m e (s .clock) r,
           left-last s (without (s .serving) (s .held)) (s .notices) (s .serving) (s .silent),
-          ap (λ (v : ℕ). line-left (with-line s (s .serving) v (s .silent))) e,
-          total-without (s .serving) (due (s .link) (s .connections) m (s .clock)) (s .held) (r .it) (r .is-first),
+          ap (λ (v : ℕ). line-left (with-line s (s .serving) v (s .silent))) i,
+          total-without (s .serving) (due (s .link) (s .connections) m e (s .clock)) (s .held) (r .it) (r .is-first),
         );
     in-time = omega arith;
   }
 
-  notice-leaves : (ns : List Notice) → s .to-go ≡ 1 → first (s .serving) (s .held) ≡ none → (B : Busy s acc m (s .clock)) → s .clock + 2 ≤ B .from + bound (s .link) m
+  notice-leaves : (ns : List Notice) → s .to-go ≡ 1 → first (s .serving) (s .held) ≡ none → (B : Busy s acc m e (s .clock)) → s .clock + 2 ≤ B .from + window (s .link) m
       → Left-busy (later s (s .held) ns 0 0 (s .link .silence))
-  notice-leaves ns e a B h = record {
+  notice-leaves ns i a B h = record {
     from = B .from;
     started = omega (arith, B .started);
     since = B .since;
@@ -118,31 +122,31 @@ module _ (s : State) (acc : List Packet) (m : ℕ) where
         omega (
           arith,
           B .work,
-          served-notice s m (s .clock) a,
+          served-notice s m e (s .clock) a,
           left-last s (s .held) ns (s .serving) (s .silent),
-          ap (λ (v : ℕ). line-left (with-line s (s .serving) v (s .silent))) e,
+          ap (λ (v : ℕ). line-left (with-line s (s .serving) v (s .silent))) i,
         );
     in-time = omega arith;
   }
 
   -- `away`: a packet in service bears no notice's number
   pub unit-busy : (u : ℕ) → s .to-go ≡ u → 0 < line-left s → Line s → (In-service s → s .serving ≡ notice-number → ⊥)
-      → (B : Busy s acc m (s .clock)) → s .clock + 2 ≤ B .from + bound (s .link) m
+      → (B : Busy s acc m e (s .clock)) → s .clock + 2 ≤ B .from + window (s .link) m
       → Left-busy (after-unit s u .next)
   unfolding going
-  unit-busy zero e pos l away B h = record {
+  unit-busy zero i pos l away B h = record {
     from = B .from;
     started = omega (arith, B .started);
     since = B .since;
-    work = omega (arith, B .work, left-in-silence s (s .held) (s .notices) e pos, served-idle s m (s .clock) e);
+    work = omega (arith, B .work, left-in-silence s (s .held) (s .notices) i pos, served-idle s m e (s .clock) i);
     in-time = omega arith;
   }
-  unit-busy (suc u) e pos (inl z) away B h = absurd (omega (arith, z .0))
-  unit-busy (suc zero) e pos (inr (inl r)) away B h = subst (λ (a : Answer). Left-busy (a .next)) (sym (last-of-packet s (away r))) (packet-leaves e r B h)
-  unit-busy (suc zero) e pos (inr (inr n)) away B h =
+  unit-busy (suc u) i pos (inl z) away B h = absurd (omega (arith, z .0))
+  unit-busy (suc zero) i pos (inr (inl r)) away B h = subst (λ (a : Answer). Left-busy (a .next)) (sym (last-of-packet s (away r))) (packet-leaves i r B h)
+  unit-busy (suc zero) i pos (inr (inr n)) away B h =
       let k = first-notice-is (s .notices) (n .in-service .it) (n .in-service .is-first) in
-      subst (λ (a : Answer). Left-busy (a .next)) (sym (last-of-notice s (n .in-service .it) (k .0) (n .in-service .is-notice) (k .1))) (notice-leaves (k .0) e (n .alone) B h)
-  unit-busy (suc (suc u)) e pos (inr r) away B h = record {
+      subst (λ (a : Answer). Left-busy (a .next)) (sym (last-of-notice s (n .in-service .it) (k .0) (n .in-service .is-notice) (k .1))) (notice-leaves (k .0) i (n .alone) B h)
+  unit-busy (suc (suc u)) i pos (inr r) away B h = record {
     from = B .from;
     started = omega (arith, B .started);
     since = B .since;
@@ -151,53 +155,54 @@ module _ (s : State) (acc : List Packet) (m : ℕ) where
           arith,
           B .work,
           left-unit s (s .held) (s .notices) (s .serving) u (s .silent),
-          ap (λ (v : ℕ). line-left (with-line s (s .serving) v (s .silent))) e,
+          ap (λ (v : ℕ). line-left (with-line s (s .serving) v (s .silent))) i,
           upto-yes 1 (suc u) going (omega arith),
           upto-yes 1 (s .to-go) going (omega arith),
         );
     in-time = omega arith;
   }
 
--- nothing of the levels up to m is due: level m is busy from now at the earliest
-pub restart : (s : State) (acc : List Packet) (m t : ℕ) → All (Fits (s .connections)) (s .held) → demand s m t ≡ 0
-    → line-left s < cost (s .link) (s .link .largest) → 0 < bound (s .link) m → Busy s acc m t
-restart s acc m t f z l d = record {
+-- nothing ahead of (m, e) is due: the line is busy with it from now at the earliest
+pub restart : (s : State) (acc : List Packet) (m e t : ℕ) → All (Fits (s .connections)) (s .held) → demand s m e t ≡ 0
+    → line-left s < cost (s .link) (s .link .largest) → 0 < window (s .link) m → Busy s acc m e t
+restart s acc m e t f z l d = record {
   from = s .clock;
   started = omega arith;
   since =
-      all-zip (λ p k y lv e. absurd (due-none (s .link) (s .connections) m t p k y lv e)) (s .held) f
-      (total-zero (due (s .link) (s .connections) m t) (s .held) z);
+      all-zip (λ p k y a i. absurd (due-none (s .link) (s .connections) m e t p k y a i)) (s .held) f
+      (total-zero (due (s .link) (s .connections) m e t) (s .held) z);
   work = omega arith;
   in-time = omega arith;
 }
 
 -- ---- the horizon moves up to the clock: what turns eligible came
 
-module _ (l : Link) (cs : List Connection) (m t : ℕ) where
-  due-next : (p : Packet) → due l cs m (t + 1) p ≤ due l cs m t p + weight l cs m (t + 1) (t + 1) p
-  due-next p = go (split (nth cs (p .connection) .level) m) (split (p .eligibility) t)
+module _ (l : Link) (cs : List Connection) (m e t : ℕ) where
+  due-next : (p : Packet) → due l cs m e (t + 1) p ≤ due l cs m e t p + weight l cs m e (t + 1) (t + 1) p
+  due-next p = go (ahead-or-not m e v (p .eligibility)) (split (p .eligibility) t)
     where
-      level : ℕ
-      level = nth cs (p .connection) .level
+      v : ℕ
+      v = nth cs (p .connection) .level
 
       x : ℕ
       x = cost l (p .len)
 
-      go : (level ≤ m) ⊎ (m < level) → (p .eligibility ≤ t) ⊎ (t < p .eligibility) → due l cs m (t + 1) p ≤ due l cs m t p + weight l cs m (t + 1) (t + 1) p
-      go (inr lv) e = omega (arith, upto-no level m (upto (p .eligibility) (t + 1) x) lv)
-      go (inl lv) (inl e) =
+      go : Ahead m e v (p .eligibility) ⊎ (Ahead m e v (p .eligibility) → ⊥) → (p .eligibility ≤ t) ⊎ (t < p .eligibility)
+          → due l cs m e (t + 1) p ≤ due l cs m e t p + weight l cs m e (t + 1) (t + 1) p
+      go (inr n) i = omega (arith, keyed-no m e v (p .eligibility) (upto (p .eligibility) (t + 1) x) n)
+      go (inl a) (inl i) =
           omega (
             arith,
-            upto-yes level m (upto (p .eligibility) (t + 1) x) lv,
+            keyed-yes m e v (p .eligibility) (upto (p .eligibility) (t + 1) x) a,
             upto-le (p .eligibility) (t + 1) x,
-            upto-yes level m (upto (p .eligibility) t x) lv,
-            upto-yes (p .eligibility) t x e,
+            keyed-yes m e v (p .eligibility) (upto (p .eligibility) t x) a,
+            upto-yes (p .eligibility) t x i,
           )
-      go (inl lv) (inr e) =
+      go (inl a) (inr i) =
           omega (
             arith,
-            upto-yes level m (upto (p .eligibility) (t + 1) x) lv,
-            upto-yes level m (between (t + 1) (t + 1) x p) lv,
+            keyed-yes m e v (p .eligibility) (upto (p .eligibility) (t + 1) x) a,
+            keyed-yes m e v (p .eligibility) (between (t + 1) (t + 1) x p) a,
             upto-yes (t + 1) (p .eligibility) (upto (p .eligibility) (t + 1) x) (omega arith),
           )
 
@@ -224,59 +229,56 @@ between-next b t x p h = go (split b (p .eligibility)) (split (p .eligibility) t
           upto-no (p .eligibility) t x e,
         )
 
-weight-next : (l : Link) (cs : List Connection) (m b t : ℕ) (p : Packet) → b ≤ t + 1 → weight l cs m b t p + weight l cs m (t + 1) (t + 1) p ≤ weight l cs m b (t + 1) p
-weight-next l cs m b t p h =
+weight-next : (l : Link) (cs : List Connection) (m e b t : ℕ) (p : Packet) → b ≤ t + 1 → weight l cs m e b t p + weight l cs m e (t + 1) (t + 1) p ≤ weight l cs m e b (t + 1) p
+weight-next l cs m e b t p h =
     omega (
       arith,
-      upto-add (nth cs (p .connection) .level) m (between b t (cost l (p .len)) p) (between (t + 1) (t + 1) (cost l (p .len)) p),
-      upto-mono (nth cs (p .connection) .level) m
-          {x = between b t (cost l (p .len)) p + between (t + 1) (t + 1) (cost l (p .len)) p}
-          {y = between b (t + 1) (cost l (p .len)) p}
-          (λ _. between-next b t (cost l (p .len)) p h),
+      keyed-add m e (nth cs (p .connection) .level) (p .eligibility) (between b t (cost l (p .len)) p) (between (t + 1) (t + 1) (cost l (p .len)) p),
+      keyed-mono m e (nth cs (p .connection) .level) (p .eligibility) (between-next b t (cost l (p .len)) p h),
     )
 
 -- what is served counts no less later
-due-mono : (l : Link) (cs : List Connection) (m t : ℕ) (o : Option Packet) → due-of l cs m t o ≤ due-of l cs m (t + 1) o
-due-mono l cs m t none = omega arith
-due-mono l cs m t (some p) =
-    upto-mono (nth cs (p .connection) .level) m {x = upto (p .eligibility) t (cost l (p .len))} {y = upto (p .eligibility) (t + 1) (cost l (p .len))}
-    (λ _. go (split (p .eligibility) t))
+due-mono : (l : Link) (cs : List Connection) (m e t : ℕ) (o : Option Packet) → due-of l cs m e t o ≤ due-of l cs m e (t + 1) o
+due-mono l cs m e t none = omega arith
+due-mono l cs m e t (some p) =
+    keyed-mono m e (nth cs (p .connection) .level) (p .eligibility) {a = upto (p .eligibility) t (cost l (p .len))} {b = upto (p .eligibility) (t + 1) (cost l (p .len))}
+    (go (split (p .eligibility) t))
   where
     go : (p .eligibility ≤ t) ⊎ (t < p .eligibility) → upto (p .eligibility) t (cost l (p .len)) ≤ upto (p .eligibility) (t + 1) (cost l (p .len))
     go (inl h) = omega (arith, upto-yes (p .eligibility) t (cost l (p .len)) h, upto-yes (p .eligibility) (t + 1) (cost l (p .len)) (omega arith))
     go (inr h) = omega (arith, upto-no (p .eligibility) t (cost l (p .len)) h)
 
-served-mono : (s : State) (m t : ℕ) → served s m t ≤ served s m (t + 1)
-served-mono s m t =
+served-mono : (s : State) (m e t : ℕ) → served s m e t ≤ served s m e (t + 1)
+served-mono s m e t =
     upto-mono 1 (s .to-go)
-    {x = due-of (s .link) (s .connections) m t (first (s .serving) (s .held))}
-    {y = due-of (s .link) (s .connections) m (t + 1) (first (s .serving) (s .held))}
-    (λ _. due-mono (s .link) (s .connections) m t (first (s .serving) (s .held)))
+    {x = due-of (s .link) (s .connections) m e t (first (s .serving) (s .held))}
+    {y = due-of (s .link) (s .connections) m e (t + 1) (first (s .serving) (s .held))}
+    (λ _. due-mono (s .link) (s .connections) m e t (first (s .serving) (s .held)))
 
-pub advance : (s : State) (acc : List Packet) (m t : ℕ) → s .clock ≡ t + 1 → Sub (s .held) acc → Busy s acc m t → Busy s acc m (t + 1)
-advance s acc m t c sub B = record {
+pub advance : (s : State) (acc : List Packet) (m e t : ℕ) → s .clock ≡ t + 1 → Sub (s .held) acc → Busy s acc m e t → Busy s acc m e (t + 1)
+advance s acc m e t c sub B = record {
   from = B .from;
   started = B .started;
-  since = all-map (λ p f lv e. ⊎-elim (λ i. f lv i) (λ i. omega (arith, B .started)) (split (p .eligibility) t)) (s .held) (B .since);
+  since = all-map (λ p f a k. ⊎-elim (λ i. f a i) (λ i. omega (arith, B .started)) (split (p .eligibility) t)) (s .held) (B .since);
   work =
       omega (
         arith,
         B .work,
-        total-le (owing (t + 1)) (λ p. owing t p + turning p) (s .held) (all-every (due-next (s .link) (s .connections) m t) (s .held)),
+        total-le (owing (t + 1)) (λ p. owing t p + turning p) (s .held) (all-every (due-next (s .link) (s .connections) m e t) (s .held)),
         total-add (owing t) turning (s .held),
         total-sub turning sub,
-        total-le (λ p. came t p + turning p) (came (t + 1)) acc (all-every (λ p. weight-next (s .link) (s .connections) m (B .from) t p (omega (arith, B .started))) acc),
+        total-le (λ p. came t p + turning p) (came (t + 1)) acc (all-every (λ p. weight-next (s .link) (s .connections) m e (B .from) t p (omega (arith, B .started))) acc),
         total-add (came t) turning acc,
-        served-mono s m t,
+        served-mono s m e t,
       );
   in-time = B .in-time;
 }
   where
     owing : ℕ → Packet → ℕ
-    owing u = due (s .link) (s .connections) m u
+    owing u = due (s .link) (s .connections) m e u
 
     came : ℕ → Packet → ℕ
-    came u = weight (s .link) (s .connections) m (B .from) u
+    came u = weight (s .link) (s .connections) m e (B .from) u
 
     turning : Packet → ℕ
-    turning = weight (s .link) (s .connections) m (t + 1) (t + 1)
+    turning = weight (s .link) (s .connections) m e (t + 1) (t + 1)

@@ -12,7 +12,7 @@ use lib.Seq.{getD-set-same, getD-set-other}
 use borrow.Author.Tests.{leb-true, le-leb, eqb-false, ne-eqb}
 use Rattle.rules.specs.Limits.{max-connections}
 use Rattle.rules.specs.Model.{Link, Connection, Past, State, Answer, Call, link, admit, offer, notice, close, tick, no-past, nth, past, figures, closed-at}
-use Rattle.rules.specs.Admission.{owned, stands, free-number, joining, largest-bound}
+use Rattle.rules.specs.Admission.{owned, stands, free-number, joining, charge-time}
 use Rattle.rules.specs.Service.{suits, remember, of, ticked, charge-over, expired, swept}
 use Rattle.rules.specs.SoundState.{Orderly, Sound}
 use Rattle.rules.specs.SoundTest.{sound}
@@ -60,11 +60,11 @@ refusals c s S linked = go (stands s c) refl (leb 1 (length (of c (s .held)))) r
 -- ---- what it does
 
 -- whether a number expires, by its mark and its charge
-pub expired-yes : (s : State) (c : ℕ) → closed-at s c ≡ true → charge-over (largest-bound (s .link)) (s .clock) (past s c) ≡ true → expired s c ≡ true
+pub expired-yes : (s : State) (c : ℕ) → closed-at s c ≡ true → charge-over (charge-time (s .link)) (s .clock) (past s c) ≡ true → expired s c ≡ true
 unfolding expired
 expired-yes s c k e = and-intro (closed-at s c) _ k e
 
-expired-no : (s : State) (c : ℕ) → charge-over (largest-bound (s .link)) (s .clock) (past s c) ≡ false → expired s c ≡ false
+expired-no : (s : State) (c : ℕ) → charge-over (charge-time (s .link)) (s .clock) (past s c) ≡ false → expired s c ≡ false
 unfolding expired
 expired-no s c e = go (closed-at s c) _ e
   where
@@ -108,7 +108,7 @@ closes c s v = (
     mark : closed-at (marked s c) c ≡ true
     mark = getD-set-same (s .closed) c true false (omega (arith, O .one-mark-each, below))
 
-    charged : charge-over (largest-bound (s .link)) (s .clock) (past s c) ≡ false → Still-charged s c (swept (marked s c))
+    charged : charge-over (charge-time (s .link)) (s .clock) (past s c) ≡ false → Still-charged s c (swept (marked s c))
     charged e =
         let n = expired-no (marked s c) c e in
         record { is-marked = kept-closed (marked s c) c below n ∙ mark; same-figures = kept-figures (marked s c) c below n; same-memory = kept-past (marked s c) c below n }
@@ -147,7 +147,7 @@ module _ (s : State) (S : Sound s) (c : ℕ) (e : closed-at s c ≡ true) where
   has-owner : owned (s .connections) c ≡ true
   has-owner = not-false-true (owned (s .connections) c) (λ o. true≢false (sym e ∙ O .free-blank c below o .not-closed))
 
-  not-yet : charge-over (largest-bound (s .link)) (s .clock) (past s c) ≡ false
+  not-yet : charge-over (charge-time (s .link)) (s .clock) (past s c) ≡ false
   not-yet = unexpired-charged s c (S .with-one set-link .charged c below) e
 
   -- it is not one that stands
@@ -156,12 +156,12 @@ module _ (s : State) (S : Sound s) (c : ℕ) (e : closed-at s c ≡ true) where
 
   abbrev Lasts : State → Type 0
   Lasts r =
-      (charge-over (largest-bound (s .link)) (r .clock) (past s c) ≡ false → Still-charged s c r)
-      × (charge-over (largest-bound (s .link)) (r .clock) (past s c) ≡ true → owned (r .connections) c ≡ false)
+      (charge-over (charge-time (s .link)) (r .clock) (past s c) ≡ false → Still-charged s c r)
+      × (charge-over (charge-time (s .link)) (r .clock) (past s c) ≡ true → owned (r .connections) c ≡ false)
 
   -- while the clock stands
   still : (r : State) → r .clock ≡ s .clock → Still-charged s c r → Lasts r
-  still r z k = (λ _. k, λ l. absurd (true≢false (sym l ∙ ap (λ (t : ℕ). charge-over (largest-bound (s .link)) t (past s c)) z ∙ not-yet)))
+  still r z k = (λ _. k, λ l. absurd (true≢false (sym l ∙ ap (λ (t : ℕ). charge-over (charge-time (s .link)) t (past s c)) z ∙ not-yet)))
 
   tick-lasts : Lasts (swept (ticked s .next))
   tick-lasts = (
@@ -178,11 +178,11 @@ module _ (s : State) (S : Sound s) (c : ℕ) (e : closed-at s c ≡ true) where
       mark : closed-at (ticked s .next) c ≡ true
       mark = ap (λ (ms : List Bool). getD ms c false) (tick-leaves s .closed) ∙ e
 
-      charge : {b : Bool} → charge-over (largest-bound (s .link)) (ticked s .next .clock) (past s c) ≡ b
-          → charge-over (largest-bound (ticked s .next .link)) (ticked s .next .clock) (past (ticked s .next) c) ≡ b
+      charge : {b : Bool} → charge-over (charge-time (s .link)) (ticked s .next .clock) (past s c) ≡ b
+          → charge-over (charge-time (ticked s .next .link)) (ticked s .next .clock) (past (ticked s .next) c) ≡ b
       charge l =
-          ap (λ (k : Link). charge-over (largest-bound k) (ticked s .next .clock) (past (ticked s .next) c)) (tick-leaves s .link)
-          ∙ ap (λ (hs : List Past). charge-over (largest-bound (s .link)) (ticked s .next .clock) (getD hs c no-past)) (tick-leaves s .pasts)
+          ap (λ (k : Link). charge-over (charge-time k) (ticked s .next .clock) (past (ticked s .next) c)) (tick-leaves s .link)
+          ∙ ap (λ (hs : List Past). charge-over (charge-time (s .link)) (ticked s .next .clock) (getD hs c no-past)) (tick-leaves s .pasts)
           ∙ l
 
   done-lasts : (k : Call) → verdict k s ≡ 0 → Lasts (done k s .next)
@@ -220,8 +220,8 @@ tick-frees c s v k = (λ l. L .1 (then l), λ l. L .0 (then l))
     L : Lasts s (exact s .0 (given-sound tick s yes)) c k (answer tick s .next)
     L = lasts s (exact s .0 (given-sound tick s yes)) c k tick
 
-    then : {b : Bool} → charge-over (largest-bound (s .link)) (s .clock + 1) (past s c) ≡ b → charge-over (largest-bound (s .link)) (answer tick s .next .clock) (past s c) ≡ b
-    then l = ap (λ (t : ℕ). charge-over (largest-bound (s .link)) t (past s c)) (ap (λ (w : ℕ). settle tick s w .next .clock) yes ∙ tick-leaves s .clock) ∙ l
+    then : {b : Bool} → charge-over (charge-time (s .link)) (s .clock + 1) (past s c) ≡ b → charge-over (charge-time (s .link)) (answer tick s .next .clock) (past s c) ≡ b
+    then l = ap (λ (t : ℕ). charge-over (charge-time (s .link)) t (past s c)) (ap (λ (w : ℕ). settle tick s w .next .clock) yes ∙ tick-leaves s .clock) ∙ l
 
 -- ---- the next admission
 

@@ -2,10 +2,10 @@
 -- `count`.
 use Prim.Native.Nat.{ℕ, zero, suc, _+_, _*_, _-_, _/_, _%_, _≤_, _<_, min}
 use native.Mathlib.Omega.{arith}
-use native.Mathlib.Nat.{le-div-iff-mul-le, mul-le-mul-right, div-lt-iff-lt-mul, div-mul-le-self, div-add-mod', mod-lt, pos-of-div-pos, mul-le-mul-left, div-zero}
+use native.Mathlib.Nat.{le-div-iff-mul-le, mul-le-mul-right, div-lt-iff-lt-mul, div-mul-le-self, div-add-mod', mod-lt, pos-of-div-pos, mul-le-mul-left, div-zero, eq-zero-or-pos}
 use mathlib.Core.Path.{_≡_, refl, ap, _∙_}
 use mathlib.Core.Bool.{Bool, true, false, cond}
-use mathlib.Core.Logic.{_⊎_, inl, inr}
+use mathlib.Core.Logic.{_⊎_, inl, inr, ⊎-elim}
 use mathlib.Core.List.{List, [], _∷_, _++_}
 use lib.Dec.{eqb}
 use lib.ListN.{length, take, drop, take-append-drop, length-take}
@@ -313,6 +313,21 @@ rounded-up-covers w g l = omega (arith, div-add-mod' (w + (g - 1)) g, mod-lt (w 
 
 pub count-covers : (x : Connection) (w : ℕ) → 1 ≤ x .gap → burst x ≡ 0 → w ≤ count x w * x .gap
 count-covers x w l e = omega (arith, ap (λ (n : ℕ). n * x .gap) (count-plain x w e), rounded-up-covers w (x .gap) l)
+
+-- the law for any gap at all: with none nothing is counted
+pub count-rises : (c : Connection) {a b : ℕ} → a ≤ b → count c a ≤ count c b
+unfolding count
+count-rises c {a} {b} h = ⊎-elim (λ z. none z) (λ g. count-mono c g a b h) (eq-zero-or-pos (c .gap))
+  where
+    nothing : c .gap ≡ 0 → rounded-up a (c .gap) ≡ 0
+    nothing z = ap (λ (g : ℕ). rounded-up a g) z ∙ div-zero (a + (0 - 1))
+
+    none : c .gap ≡ 0 → count c a ≤ count c b
+    none z = go (eqb (burst c) 0)
+      where
+        go : (t : Bool) → cond t (rounded-up a (c .gap)) (min (rounded-up a (c .gap)) (average-count c a)) ≤ cond t (rounded-up b (c .gap)) (min (rounded-up b (c .gap)) (average-count c b))
+        go true = omega (arith, nothing z)
+        go false = omega (arith, nothing z)
 
 -- a free number counts nothing
 pub count-none : (w : ℕ) → count no-connection w ≡ 0

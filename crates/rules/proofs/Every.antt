@@ -99,7 +99,8 @@ fresh-invariant = record {
   steady = record {
     regular = record { fit = tt; spaced = λ c o. never (sym (fresh-free c) ∙ o); remembered = λ c o. never (sym (fresh-free c) ∙ o); part = nil };
     line = inl (refl, omega arith);
-    busy = λ m low high. absurd (omega arith);
+    busy = λ m e low high. absurd (omega arith);
+    punctual = tt;
     conserved = λ c. refl;
   };
 }

@@ -14,7 +14,7 @@ use Rattle.rules.specs.Admission.{joining, level-test}
 use Rattle.rules.specs.Service.{untimely-by, first, started, tick-answer, packet-departs, notice-departs, after-unit, ticked}
 use Rattle.rules.specs.SoundState.{Fits, Dated, Notice-fits, Orderly, Sound}
 use Rattle.rules.specs.Calls.{causes, verdicts, verdict, eligibility-now, done, refused-number, refused-short, refused, settle, answer}
-use Rattle.rules.specs.Promises.{Names-the-lowest, own-term, Packet-fits, Answer-fits, number-limit}
+use Rattle.rules.specs.Promises.{First-excess, Names-the-lowest, own-term, Packet-fits, Answer-fits, number-limit}
 use Rattle.rules.proofs.Lists.{All, all-map, all-zip}
 use Rattle.rules.proofs.Rows.{none-some, some-inj, first-all}
 use Rattle.rules.proofs.Notices.{first-notice-is}
@@ -69,13 +69,15 @@ unit-short s u = unit-says s u .nothing-short
 
 -- the units of an admission that is refused with 8 are no more than the newcomer's term, since without it every level holds
 pub short-fits : (x : Connection) (s : State) → Short-refused s x → (t : Short) → Names-the-lowest (s .link) (joining (s .connections) x) t
-    → (t .units ≤ own-term (s .link) x (t .level)) × (t .units ≤ max-bound * (max-largest + max-silence))
+    → ((F : First-excess (s .link) (joining (s .connections) x) (t .level) (t .units)) → t .units ≤ own-term (s .link) x (t .level) (F .which))
+    × (t .units ≤ max-bound * (max-largest + max-silence))
 short-fits x s R t N =
     let S = exact s .0 (R .sound-state) .with-one (R .set) .orderly in
     let a = N .is-level in
-    let k = excess-le (s .link) (s .connections) x (omega (arith, S .numbers, R .free)) (t .level) (S .tested (t .level) (a .0) (a .1)) in
-    let b = term-le (s .link) x (t .level) (S .link-in) (R .figures-in) (a .0) (a .1) in
-    (omega (arith, N .units-are), omega (arith, N .units-are))
+    let own : (F : First-excess (s .link) (joining (s .connections) x) (t .level) (t .units)) → t .units ≤ own-term (s .link) x (t .level) (F .which)
+    = λ F. omega (arith, F .units-are, excess-le (s .link) (s .connections) x (omega (arith, S .numbers, R .free)) (t .level) (F .which) (S .tested (t .level) (a .0) (a .1) (F .which) (F .is-condition))) in
+    let b = term-le (s .link) x (t .level) (N .first-excess .which) (S .link-in) (R .figures-in) (a .0) (a .1) (N .first-excess .is-condition) in
+    (own, omega (arith, own (N .first-excess)))
 
 verdict-le : (k : Call) (s : State) → verdict k s ≤ 18
 unfolding verdicts

@@ -1,20 +1,21 @@
 -- What the limits of a link and of a connection say as plain facts; nothing else opens them, nor `burst` (but Count), `reservation`, `cost`, `level-sum`.
 use Prim.Native.Nat.{ℕ, zero, suc, _+_, _*_, _/_, _%_, _≤_, _<_}
 use native.Mathlib.Omega.{arith}
-use native.Mathlib.Nat.{zero-div, div-mul-le-self, mul-le-mul-left, mul-le-mul-right}
+use native.Mathlib.Nat.{le-refl, zero-div, div-mul-le-self, mul-le-mul-left, mul-le-mul-right}
 use mathlib.Core.Path.{_≡_, refl, sym, ap, _∙_}
-use mathlib.Core.Bool.{Bool, true, false, not, _&&_, _||_}
+use mathlib.Core.Bool.{Bool, true, false, cond, not, _&&_, _||_}
 use mathlib.Core.List.{List, [], _∷_}
 use mathlib.Core.Option.{Option, none, some}
 use lib.Dec.{leb, eqb}
 use lib.ListN.{getD}
 use borrow.Author.Tests.{leb-true, eqb-true, eq-eqb, ne-eqb, not-true}
 use Rattle.rules.specs.Words.{within}
-use Rattle.rules.specs.Limits.{max-levels, max-largest, max-silence, max-bound, max-gap, max-window, max-burst, max-allowance}
+use Rattle.rules.specs.Limits.{max-levels, max-largest, max-silence, max-bound, max-level-window, max-gap, max-window, max-burst, max-allowance}
 use Rattle.rules.specs.Model.{Link, Connection}
-use Rattle.rules.specs.Admission.{rising, link-within, level-within, burst, average-within, stamped, kind-within, figures-within, bound, largest-bound, count, reservation, cost, load, level-sum, stand-by-on, goes-early, distance, ahead}
+use Rattle.rules.specs.Admission.{rising, windowed, windows-from, windows-within, link-within, level-within, burst, average-within, stamped, kind-within, figures-within, bound, own-window, window, largest-of, largest-bound, charge-time, count, reservation, cost, load, load-by, conditions, span, limit-at, level-sum, stand-by-on, goes-early, distance, ahead}
+use Rattle.rules.specs.WithoutWindows.{bounds-sum}
 use Rattle.rules.specs.SoundState.{reach}
-use Rattle.rules.proofs.Sums.{cond-is}
+use Rattle.rules.proofs.Sums.{cond-is, cond-ind}
 use Rattle.rules.proofs.Tests.{never, and-true, or-cases, within-true}
 
 -- ---- the link
@@ -47,6 +48,81 @@ rising-le low (suc n) (d ∷ ds) e (suc k) zero h l = absurd (omega arith)
 rising-le low (suc n) (d ∷ ds) e (suc k) (suc j) h l =
     rising-le (suc d) n ds (and-true (leb d max-bound) (rising (suc d) n ds) (and-true (leb low d) (leb d max-bound && rising (suc d) n ds) e .1) .1) k j (omega arith) (omega arith)
 
+-- ---- the windows
+
+windows-low : (n : ℕ) (ds ws : List ℕ) → windows-from n ds ws ≡ true → (k : ℕ) → k < n → getD ds k 0 ≤ getD ws k 0
+windows-low zero ds ws e k l = absurd (omega arith)
+windows-low (suc n) ds [] e k l = never e
+windows-low (suc n) [] (w ∷ ws) e k l = never e
+windows-low (suc n) (d ∷ ds) (w ∷ ws) e zero l = leb-true d w (and-true (leb d w) (leb w max-level-window && windows-from n ds ws) e .0)
+windows-low (suc n) (d ∷ ds) (w ∷ ws) e (suc k) l =
+    windows-low n ds ws (and-true (leb w max-level-window) (windows-from n ds ws) (and-true (leb d w) (leb w max-level-window && windows-from n ds ws) e .1) .1) k (omega arith)
+
+windows-high : (n : ℕ) (ds ws : List ℕ) → windows-from n ds ws ≡ true → (k : ℕ) → k < n → getD ws k 0 ≤ max-level-window
+windows-high zero ds ws e k l = absurd (omega arith)
+windows-high (suc n) ds [] e k l = never e
+windows-high (suc n) [] (w ∷ ws) e k l = never e
+windows-high (suc n) (d ∷ ds) (w ∷ ws) e zero l =
+    leb-true w max-level-window (and-true (leb w max-level-window) (windows-from n ds ws) (and-true (leb d w) (leb w max-level-window && windows-from n ds ws) e .1) .0)
+windows-high (suc n) (d ∷ ds) (w ∷ ws) e (suc k) l =
+    windows-high n ds ws (and-true (leb w max-level-window) (windows-from n ds ws) (and-true (leb d w) (leb w max-level-window && windows-from n ds ws) e .1) .1) k (omega arith)
+
+-- the largest one
+largest-high : (n : ℕ) (ds ws : List ℕ) → windows-from n ds ws ≡ true → largest-of ws ≤ max-level-window
+largest-high zero ds [] e = omega arith
+largest-high zero ds (w ∷ ws) e =
+    let k = and-true (eqb w 0) (windows-from zero ds ws) e in
+    omega (arith, eqb-true w 0 (k .0), largest-high zero ds ws (k .1))
+largest-high (suc n) ds [] e = never e
+largest-high (suc n) [] (w ∷ ws) e = never e
+largest-high (suc n) (d ∷ ds) (w ∷ ws) e =
+    let k = and-true (leb w max-level-window) (windows-from n ds ws) (and-true (leb d w) (leb w max-level-window && windows-from n ds ws) e .1) in
+    omega (arith, leb-true w max-level-window (k .0), largest-high n ds ws (k .1))
+
+within-most : (l : Link) → windows-within l ≡ true → largest-of (l .windows) ≤ max-level-window
+unfolding windows-within
+within-most l e = largest-high (cond (windowed l) (l .levels) 0) (l .bounds) (l .windows) e
+
+module _ (l : Link) where
+  pub window-none : windowed l ≡ false → (m : ℕ) → window l m ≡ bound l m
+  unfolding window
+  window-none e m = cond-is (own-window l m) (bound l m) e
+
+  pub window-own : windowed l ≡ true → (m : ℕ) → window l m ≡ own-window l m
+  unfolding window
+  window-own e m = cond-is (own-window l m) (bound l m) e
+
+  -- a link without windows has one condition at each level, one with windows as many more as its window has ticks
+  pub conditions-none : windowed l ≡ false → (m : ℕ) → conditions l m ≡ 1
+  unfolding conditions
+  conditions-none e m = cond-is (suc (window l m)) 1 e
+
+  pub conditions-own : windowed l ≡ true → (m : ℕ) → conditions l m ≡ suc (window l m)
+  unfolding conditions
+  conditions-own e m = cond-is (suc (window l m)) 1 e
+
+  pub some-condition : (m : ℕ) → 0 < conditions l m
+  some-condition m = go (windowed l) refl
+    where
+      go : (b : Bool) → windowed l ≡ b → 0 < conditions l m
+      go true e = omega (arith, conditions-own e m)
+      go false e = omega (arith, conditions-none e m)
+
+-- a window is at least its bound and within its limit; without windows it is the bound
+window-facts : (l : Link) → windows-within l ≡ true → ((k : ℕ) → 1 ≤ k → k ≤ l .levels → bound l k ≤ max-bound)
+    → (m : ℕ) → 1 ≤ m → m ≤ l .levels → (bound l m ≤ window l m) × (window l m ≤ max-level-window)
+unfolding windows-within
+window-facts l e h m low high = go (windowed l) refl e m low high
+  where
+    go : (b : Bool) → windowed l ≡ b → windows-from (cond b (l .levels) 0) (l .bounds) (l .windows) ≡ true
+        → (m : ℕ) → 1 ≤ m → m ≤ l .levels → (bound l m ≤ window l m) × (window l m ≤ max-level-window)
+    go b i k zero p q = absurd (omega arith)
+    go true i k (suc m) p q = (
+      omega (arith, window-own l i (suc m), windows-low (l .levels) (l .bounds) (l .windows) k m q),
+      omega (arith, window-own l i (suc m), windows-high (l .levels) (l .bounds) (l .windows) k m q),
+    )
+    go false i k (suc m) p q = (omega (arith, window-none l i (suc m)), omega (arith, window-none l i (suc m), h (suc m) p q))
+
 pub record Link-facts (l : Link) : Type 0 where
   pub some-level : 1 ≤ l .levels
   pub few-levels : l .levels ≤ max-levels
@@ -56,24 +132,29 @@ pub record Link-facts (l : Link) : Type 0 where
   pub bound-le : (m : ℕ) → 1 ≤ m → m ≤ l .levels → bound l m ≤ max-bound
   pub bound-rises : (m : ℕ) → 1 ≤ m → m ≤ l .levels → bound l m ≤ largest-bound l
   pub largest-le : (m : ℕ) → 1 ≤ m → m ≤ l .levels → cost l (l .largest) ≤ bound l m
+  pub window-in : (m : ℕ) → 1 ≤ m → m ≤ l .levels → (bound l m ≤ window l m) × (window l m ≤ max-level-window)
+  pub largest-window : largest-of (l .windows) ≤ max-level-window
 
 pub link-facts : (l : Link) → link-within l ≡ true → Link-facts l
 unfolding link-within
 link-facts l e =
     let rises = rising (cost l (l .largest)) (l .levels) (l .bounds) in
-    let a = and-true (within 1 max-levels (l .levels)) (within 1 max-largest (l .largest) && (leb (l .silence) max-silence && (leb (l .early) 1 && rises))) e in
-    let b = and-true (within 1 max-largest (l .largest)) (leb (l .silence) max-silence && (leb (l .early) 1 && rises)) (a .1) in
-    let c = and-true (leb (l .silence) max-silence) (leb (l .early) 1 && rises) (b .1) in
-    let r = and-true (leb (l .early) 1) rises (c .1) in
+    let a = and-true (within 1 max-levels (l .levels)) (within 1 max-largest (l .largest) && (leb (l .silence) max-silence && (leb (l .early) 1 && (rises && windows-within l)))) e in
+    let b = and-true (within 1 max-largest (l .largest)) (leb (l .silence) max-silence && (leb (l .early) 1 && (rises && windows-within l))) (a .1) in
+    let c = and-true (leb (l .silence) max-silence) (leb (l .early) 1 && (rises && windows-within l)) (b .1) in
+    let y = and-true (leb (l .early) 1) (rises && windows-within l) (c .1) in
+    let r = and-true rises (windows-within l) (y .1) in
     record {
       some-level = within-true 1 max-levels (l .levels) (a .0) .0;
       few-levels = within-true 1 max-levels (l .levels) (a .0) .1;
       some-largest = within-true 1 max-largest (l .largest) (b .0) .0;
       largest-max = within-true 1 max-largest (l .largest) (b .0) .1;
       silence-max = leb-true (l .silence) max-silence (c .0);
-      bound-le = high (r .1);
-      bound-rises = rises-to (r .1);
-      largest-le = low (r .1);
+      bound-le = high (r .0);
+      bound-rises = rises-to (r .0);
+      largest-le = low (r .0);
+      window-in = window-facts l (r .1) (high (r .0));
+      largest-window = within-most l (r .1);
     }
   where
     rises-to : rising (cost l (l .largest)) (l .levels) (l .bounds) ≡ true → (m : ℕ) → 1 ≤ m → m ≤ l .levels → bound l m ≤ largest-bound l
@@ -283,6 +364,27 @@ module _ (l : Link) (c : Connection) where
       go true i = (i, ap value (sym e ∙ ahead-on i))
       go false i = let z : _≡_ {A = ℕ} 0 1 = cc (sym e ∙ ahead-off i) in absurd (omega arith)
 
+-- a closed connection is charged for no less than any window, and for no more than the two limits together
+largest-le-of : (ws : List ℕ) (k : ℕ) → getD ws k 0 ≤ largest-of ws
+largest-le-of [] k = omega arith
+largest-le-of (w ∷ ws) zero = omega arith
+largest-le-of (w ∷ ws) (suc k) = omega (arith, largest-le-of ws k)
+
+pub window-charged : (l : Link) → Link-facts l → (m : ℕ) → 1 ≤ m → m ≤ l .levels → window l m ≤ charge-time l
+unfolding charge-time
+window-charged l F zero low high = absurd (omega arith)
+window-charged l F (suc m) low high =
+    cond-ind (λ (n : ℕ). window l (suc m) ≤ n) (windowed l)
+    (λ e. omega (arith, window-own l e (suc m), largest-le-of (l .windows) m))
+    (λ e. omega (arith, window-none l e (suc m), F .bound-rises (suc m) low high))
+
+pub charge-le : (l : Link) → link-within l ≡ true → charge-time l ≤ max-bound + max-level-window
+unfolding charge-time
+charge-le l e =
+    let F = link-facts l e in
+    let d : largest-bound l ≤ max-bound = F .bound-le (l .levels) (F .some-level) (le-refl (l .levels)) in
+    cond-ind (λ (n : ℕ). n ≤ max-bound + max-level-window) (windowed l) (λ _. omega (arith, d, F .largest-window)) (λ _. omega (arith, d))
+
 -- what a packet takes of the line: something, more than the silence, and a longer one no less
 pub cost-pos : (l : Link) (len : ℕ) → 1 ≤ len → 1 ≤ cost l len
 unfolding cost
@@ -296,9 +398,18 @@ pub cost-mono : (l : Link) {a b : ℕ} → a ≤ b → cost l a ≤ cost l b
 unfolding cost
 cost-mono l h = omega arith
 
-pub sum-is : (l : Link) (cs : List Connection) (m : ℕ) → level-sum l cs m ≡ load l cs m (bound l m) + cost l (l .largest)
+pub sum-is : (l : Link) (cs : List Connection) (m i : ℕ) → level-sum l cs m i ≡ load-by l cs m (span l m i) + cost l (l .largest)
 unfolding level-sum
-sum-is l cs m = refl
+sum-is l cs m i = refl
+
+pub bounds-sum-is : (l : Link) (cs : List Connection) (m : ℕ) → bounds-sum l cs m ≡ load l cs m (bound l m) + cost l (l .largest)
+unfolding bounds-sum
+bounds-sum-is l cs m = refl
+
+-- no condition has a limit below the bound
+pub limit-some : (l : Link) → link-within l ≡ true → (m i : ℕ) → 1 ≤ m → m ≤ l .levels → bound l m ≤ limit-at l m i
+limit-some l e m zero p q = omega (arith, link-facts l e .window-in m p q .0)
+limit-some l e m (suc β) p q = omega arith
 
 -- the largest packet alone fits every bound
 pub cost-largest : (l : Link) → link-within l ≡ true → (m : ℕ) → 1 ≤ m → m ≤ l .levels → cost l (l .largest) ≤ bound l m

@@ -1,10 +1,9 @@
 -- Demand 3, first sentence: no packet is held when its time is over, so by conservation it has left.
 use Prim.Native.Nat.{ℕ, zero, suc, _+_, _≤_, _<_}
 use native.Mathlib.Omega.{arith}
-use native.Mathlib.Nat.{le-of-eq}
 use mathlib.Core.Path.{_≡_, refl, sym, ap, _∙_, subst}
 use mathlib.Core.Bool.{Bool, true, false, cond}
-use mathlib.Core.Logic.{_⊎_, ⊎-elim}
+use mathlib.Core.Logic.{_⊎_}
 use mathlib.Core.List.{List, [], _∷_, _++_, map, append-nil}
 use mathlib.Core.Option.{some}
 use lib.Dec.{eqb}
@@ -12,15 +11,13 @@ use lib.ListN.{length, getElem?}
 use Rattle.rules.specs.Limits.{notice-number}
 use Rattle.rules.specs.Model.{Packet, notice-packet}
 use Rattle.rules.specs.Admission.{owned}
-use Rattle.rules.specs.Service.{of, early-at, level-of}
+use Rattle.rules.specs.Service.{of, early-at}
 use Rattle.rules.specs.SoundState.{Fits, Orderly}
 use Rattle.rules.specs.Runs.{Departure, History, departures, in-hub, bound-of}
 use Rattle.rules.proofs.Lists.{All, all-map}
-use Rattle.rules.proofs.Sums.{split}
 use Rattle.rules.proofs.Rows.{none-some, some-inj, nil-of, of-append, to-of, length-map}
 use Rattle.rules.proofs.Notices.{of-notices}
-use Rattle.rules.proofs.Busy.{held-spare}
-use Rattle.rules.proofs.Invariant.{whats, Invariant, facts-of}
+use Rattle.rules.proofs.Invariant.{whats, Invariant}
 
 -- ---- finding in a list
 
@@ -55,18 +52,7 @@ held-waits h c n =
 
 -- no packet is held until its time is over
 pub held-in-time : (h : History) → Invariant h → (c : ℕ) → owned (h .now .connections) c ≡ true → All (λ q. q .connection ≡ c → h .now .clock < q .eligibility + bound-of (h .now) c) (h .now .held)
-held-in-time h I c below =
-    let F = facts-of (h .now) (I .sound) in
-    let low = F .each c below .low-level in
-    let high = F .each c below .high-level in
-    all-map one (h .now .held)
-    (held-spare (h .now) (h .present) (level-of (h .now) c) low high F (I .steady .regular) (I .steady .line) (I .steady .busy (level-of (h .now) c) low high))
-  where
-    one : (q : Packet)
-        → (level-of (h .now) (q .connection) ≤ level-of (h .now) c → q .eligibility ≤ h .now .clock → h .now .clock + 2 ≤ q .eligibility + bound-of (h .now) c)
-        → q .connection ≡ c
-        → h .now .clock < q .eligibility + bound-of (h .now) c
-    one q f e = ⊎-elim (λ l. omega (arith, f (le-of-eq (ap (level-of (h .now)) e)) l)) (λ l. omega arith) (split (q .eligibility) (h .now .clock))
+held-in-time h I c below = all-map (λ q k e. omega (arith, ap (bound-of (h .now)) e)) (h .now .held) (I .steady .punctual)
 
 -- ---- one packet of a connection, through any calls (document 02, R-8)
 

@@ -1,5 +1,5 @@
 -- An admission and a link keep the invariant: no packet moves, and old connections keep their figures.
-use Prim.Native.Nat.{ℕ, _≤_, _<_}
+use Prim.Native.Nat.{ℕ, _+_, _≤_, _<_}
 use native.Mathlib.Omega.{arith}
 use mathlib.Core.Path.{_≡_, refl, sym, ap, _∙_, subst}
 use mathlib.Core.Bool.{false, true≢false}
@@ -8,12 +8,13 @@ use mathlib.Core.List.{List, []}
 use lib.ListN.{length}
 use Rattle.rules.specs.Words.{upto}
 use Rattle.rules.specs.Model.{Link, Connection, no-past, Packet, State, fresh, past}
-use Rattle.rules.specs.Admission.{owned, free-number, joining, cost}
+use Rattle.rules.specs.Admission.{owned, free-number, joining, bound, cost}
 use Rattle.rules.specs.Service.{Spaced, of, eligibilities}
 use Rattle.rules.specs.SoundState.{Fits, Sound}
 use Rattle.rules.specs.Calls.{linked, joined, marked}
-use Rattle.rules.specs.Runs.{History}
-use Rattle.rules.proofs.Lists.{all-map, all-zip, total, total-eq}
+use Rattle.rules.specs.Runs.{History, bound-of}
+use Rattle.rules.proofs.Lists.{All, all-map, all-zip, total, total-eq}
+use Rattle.rules.proofs.Keys.{Ahead, keyed}
 use Rattle.rules.proofs.Rows.{first-all}
 use Rattle.rules.proofs.Memory.{memory}
 use Rattle.rules.proofs.Spacing.{spaced-nil}
@@ -25,19 +26,19 @@ use Rattle.rules.proofs.SoundTick.{served-on, serving-owned}
 use Rattle.rules.proofs.SoundKept.{early-joined}
 use Rattle.rules.proofs.Busy.{due, served, Free, Line, Regular, fit-held, Busy, served-idle, served-at, served-is, served-notice}
 use Rattle.rules.proofs.BusyTick.{restart}
-use Rattle.rules.proofs.Invariant.{Steady, Invariant, facts-of, some-bound, free-below-largest}
+use Rattle.rules.proofs.Invariant.{Steady, Invariant, facts-of, some-window, free-below-largest}
 
 -- ---- an admission
 
 module _ (s : State) (acc : List Packet) (x : Connection) (room : free-number (s .connections) < length (s .connections)) (new-past : past s (free-number (s .connections)) ≡ no-past) (R : Regular s acc) where
-  same-due : (m t : ℕ) (p : Packet) → Fits (s .connections) p → due (s .link) (joining (s .connections) x) m t p ≡ due (s .link) (s .connections) m t p
-  same-due m t p f =
-      ap (λ (c : Connection). upto (c .level) m (upto (p .eligibility) t (cost (s .link) (p .len))))
+  same-due : (m e t : ℕ) (p : Packet) → Fits (s .connections) p → due (s .link) (joining (s .connections) x) m e t p ≡ due (s .link) (s .connections) m e t p
+  same-due m e t p f =
+      ap (λ (c : Connection). keyed m e (c .level) (p .eligibility) (upto (p .eligibility) t (cost (s .link) (p .len))))
       (nth-old (s .connections) x room (p .connection) (f .owner))
 
-  same-weight : (m b t : ℕ) (p : Packet) → Fits (s .connections) p → weight (s .link) (joining (s .connections) x) m b t p ≡ weight (s .link) (s .connections) m b t p
-  same-weight m b t p f =
-      ap (λ (c : Connection). upto (c .level) m (between b t (cost (s .link) (p .len)) p))
+  same-weight : (m e b t : ℕ) (p : Packet) → Fits (s .connections) p → weight (s .link) (joining (s .connections) x) m e b t p ≡ weight (s .link) (s .connections) m e b t p
+  same-weight m e b t p f =
+      ap (λ (c : Connection). keyed m e (c .level) (p .eligibility) (between b t (cost (s .link) (p .len)) p))
       (nth-old (s .connections) x room (p .connection) (f .owner))
 
   was-free : owned (s .connections) (free-number (s .connections)) ≡ false
@@ -55,30 +56,30 @@ module _ (s : State) (acc : List Packet) (x : Connection) (room : free-number (s
     part = R .part;
   }
 
-  joined-served : (m : ℕ) → Line s → served (joined s x) m (s .clock) ≡ served s m (s .clock)
-  joined-served m (inl z) = served-idle (joined s x) m (s .clock) (z .0) ∙ sym (served-idle s m (s .clock) (z .0))
-  joined-served m (inr (inr n)) = served-notice (joined s x) m (s .clock) (n .alone) ∙ sym (served-notice s m (s .clock) (n .alone))
-  joined-served m (inr (inl r)) =
-      served-at (joined s x) m (s .clock) (r .it) (r .some-to-go) (r .is-first)
-      ∙ same-due m (s .clock) (r .it) (first-all (s .serving) (Fits (s .connections)) (s .held) (r .it) (r .is-first) (fit-held s acc R))
-      ∙ sym (served-is s m (s .clock) r)
+  joined-served : (m e : ℕ) → Line s → served (joined s x) m e (s .clock) ≡ served s m e (s .clock)
+  joined-served m e (inl z) = served-idle (joined s x) m e (s .clock) (z .0) ∙ sym (served-idle s m e (s .clock) (z .0))
+  joined-served m e (inr (inr n)) = served-notice (joined s x) m e (s .clock) (n .alone) ∙ sym (served-notice s m e (s .clock) (n .alone))
+  joined-served m e (inr (inl r)) =
+      served-at (joined s x) m e (s .clock) (r .it) (r .some-to-go) (r .is-first)
+      ∙ same-due m e (s .clock) (r .it) (first-all (s .serving) (Fits (s .connections)) (s .held) (r .it) (r .is-first) (fit-held s acc R))
+      ∙ sym (served-is s m e (s .clock) r)
 
-  joined-busy : (m : ℕ) → Line s → Busy s acc m (s .clock) → Busy (joined s x) acc m (s .clock)
-  joined-busy m l B = record {
+  joined-busy : (m e : ℕ) → Line s → Busy s acc m e (s .clock) → Busy (joined s x) acc m e (s .clock)
+  joined-busy m e l B = record {
     from = B .from;
     started = B .started;
     since =
         all-zip
-        (λ p f k lv e.
-        k (subst (λ (c : Connection). c .level ≤ m) (nth-old (s .connections) x room (p .connection) (f .owner)) lv) e)
+        (λ p f k a i.
+        k (subst (λ (c : Connection). Ahead m e (c .level) (p .eligibility)) (nth-old (s .connections) x room (p .connection) (f .owner)) a) i)
         (s .held) (fit-held s acc R) (B .since);
     work =
         omega (
           arith,
           B .work,
-          total-eq (due (s .link) (joining (s .connections) x) m (s .clock)) (due (s .link) (s .connections) m (s .clock)) (s .held) (all-map (same-due m (s .clock)) (s .held) (fit-held s acc R)),
-          total-eq (weight (s .link) (joining (s .connections) x) m (B .from) (s .clock)) (weight (s .link) (s .connections) m (B .from) (s .clock)) acc (all-map (same-weight m (B .from) (s .clock)) acc (R .fit)),
-          joined-served m l,
+          total-eq (due (s .link) (joining (s .connections) x) m e (s .clock)) (due (s .link) (s .connections) m e (s .clock)) (s .held) (all-map (same-due m e (s .clock)) (s .held) (fit-held s acc R)),
+          total-eq (weight (s .link) (joining (s .connections) x) m e (B .from) (s .clock)) (weight (s .link) (s .connections) m e (B .from) (s .clock)) acc (all-map (same-weight m e (B .from) (s .clock)) acc (R .fit)),
+          joined-served m e l,
           left-same s (joined s x) refl refl refl,
         );
     in-time = B .in-time;
@@ -91,7 +92,12 @@ module _ (h : History) (I : Invariant h) where
   joined-keeps x room e = record {
     regular = joined-regular s acc x room e (I .steady .regular);
     line = joined-line (I .steady .line);
-    busy = λ m low high. joined-busy s acc x room e (I .steady .regular) m (I .steady .line) (I .steady .busy m low high);
+    busy = λ m k low high. joined-busy s acc x room e (I .steady .regular) m k (I .steady .line) (I .steady .busy m k low high);
+    punctual =
+        all-zip
+        (λ p f k.
+        subst (λ (c : Connection). s .clock + 1 ≤ p .eligibility + bound (s .link) (c .level)) (sym (nth-old (s .connections) x room (p .connection) (f .owner))) k)
+        (s .held) (fit-held s acc (I .steady .regular)) (I .steady .punctual);
     conserved = I .steady .conserved;
   }
     where
@@ -106,11 +112,12 @@ module _ (h : History) (I : Invariant h) where
   linked-keeps l e T = record {
     regular = R;
     line = inl free;
-    busy = λ m low high.
-        restart new acc m (s .clock) (fit-held new acc R)
-        (ap (λ (ps : List Packet). total (due l (s .connections) m (s .clock)) ps) (ap (λ (r : State). r .held) e))
+    busy = λ m k low high.
+        restart new acc m k (s .clock) (fit-held new acc R)
+        (ap (λ (ps : List Packet). total (due l (s .connections) m k (s .clock)) ps) (ap (λ (r : State). r .held) e))
         (free-below-largest new (facts-of new T) free (omega arith))
-        (some-bound new T m low high);
+        (some-window new T m low high);
+    punctual = subst (All (λ p. s .clock + 1 ≤ p .eligibility + bound-of new (p .connection))) (sym (ap (λ (r : State). r .held) e)) tt;
     conserved = I .steady .conserved;
   }
     where
@@ -129,9 +136,10 @@ module _ (h : History) (I : Invariant h) where
   marked-keeps c = record {
     regular = record { fit = I .steady .regular .fit; spaced = I .steady .regular .spaced; remembered = I .steady .regular .remembered; part = I .steady .regular .part };
     line = marked-line (I .steady .line);
-    busy = λ m low high.
-        let B = I .steady .busy m low high in
+    busy = λ m k low high.
+        let B = I .steady .busy m k low high in
         record { from = B .from; started = B .started; since = B .since; work = omega (arith, B .work, left-same s (marked s c) refl refl refl); in-time = B .in-time };
+    punctual = I .steady .punctual;
     conserved = I .steady .conserved;
   }
     where

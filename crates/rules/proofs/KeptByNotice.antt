@@ -40,8 +40,8 @@ module _ (s : State) (len tag : ℕ) where
   noted-line (inr (inl r)) = inr (inl r)
   noted-line (inr (inr n)) = inr (inr (noted-notice n))
 
-  noted-busy : (acc : List Packet) (m : ℕ) → Busy s acc m (s .clock) → Busy (noted s len tag) acc m (s .clock)
-  noted-busy acc m B = record {
+  noted-busy : (acc : List Packet) (m x : ℕ) → Busy s acc m x (s .clock) → Busy (noted s len tag) acc m x (s .clock)
+  noted-busy acc m x B = record {
     from = B .from;
     started = B .started;
     since = B .since;
@@ -56,7 +56,8 @@ module _ (h : History) (I : Invariant h) where
   noted-keeps len tag = record {
     regular = record { fit = I .steady .regular .fit; spaced = I .steady .regular .spaced; remembered = I .steady .regular .remembered; part = I .steady .regular .part };
     line = noted-line s len tag (I .steady .line);
-    busy = λ m low high. noted-busy s len tag acc m (I .steady .busy m low high);
+    busy = λ m x low high. noted-busy s len tag acc m x (I .steady .busy m x low high);
+    punctual = I .steady .punctual;
     conserved = λ d.
         of-append d all (p ∷ [])
         ∙ ap (λ (l : List Packet). l ++ of d (p ∷ [])) (I .steady .conserved d)

@@ -1,5 +1,5 @@
 -- An accepted offer keeps the invariant: the new packet is spaced from its connection's earlier ones, and not eligible before now.
-use Prim.Native.Nat.{ℕ, _≤_, _<_}
+use Prim.Native.Nat.{ℕ, _+_, _≤_, _<_}
 use native.Mathlib.Omega.{arith}
 use mathlib.Core.Path.{_≡_, refl, sym, ap, _∙_, subst}
 use mathlib.Core.Bool.{true}
@@ -16,9 +16,10 @@ use Rattle.rules.specs.Admission.{owned, burst, cost, ahead}
 use Rattle.rules.specs.Service.{earliest, remember, Spaced, of, eligibilities, first, level-of}
 use Rattle.rules.specs.SoundState.{Fits, In-service}
 use Rattle.rules.specs.Calls.{eligibility-now, packet, placed}
-use Rattle.rules.specs.Runs.{History, in-hub}
+use Rattle.rules.specs.Runs.{History, in-hub, bound-of}
 use Rattle.rules.proofs.Lists.{all-snoc, sub-snoc, total-snoc}
 use Rattle.rules.proofs.Sums.{same, cond-is, upto-yes}
+use Rattle.rules.proofs.Keys.{Ahead, keyed}
 use Rattle.rules.proofs.Rows.{first-append, of-append, eligibilities-snoc-same, eligibilities-snoc-other}
 use Rattle.rules.proofs.Notices.{first-behind, either-order}
 use Rattle.rules.proofs.Memory.{memory, memory-snoc}
@@ -29,7 +30,7 @@ use Rattle.rules.proofs.Line.{left-same}
 use Rattle.rules.proofs.Verdicts.{near-by, Offer-done}
 use Rattle.rules.proofs.Window.{weight}
 use Rattle.rules.proofs.Busy.{due, served, Line, Regular, Busy, served-idle, served-is, served-notice}
-use Rattle.rules.proofs.Invariant.{whats, Steady, Invariant, facts-of, connections-few}
+use Rattle.rules.proofs.Invariant.{whats, Steady, Invariant, facts-of, some-bound, connections-few}
 
 -- ---- the line and the levels: a packet that is not eligible before now is added behind
 
@@ -57,28 +58,28 @@ module _ (s : State) (acc : List Packet) (p : Packet) (hs : List Past) (level : 
   behind-line (inr (inl r)) = inr (inl (behind-service r))
   behind-line (inr (inr n)) = inr (inr (record { in-service = n .in-service; short = n .short; alone = still-alone (n .in-service .is-notice) (n .alone) }))
 
-  behind-served : (m : ℕ) → Line s → served behind m (s .clock) ≡ served s m (s .clock)
+  behind-served : (m e : ℕ) → Line s → served behind m e (s .clock) ≡ served s m e (s .clock)
   unfolding behind-service
-  behind-served m (inl z) = served-idle behind m (s .clock) (z .0) ∙ sym (served-idle s m (s .clock) (z .0))
-  behind-served m (inr (inr n)) = served-notice behind m (s .clock) (still-alone (n .in-service .is-notice) (n .alone)) ∙ sym (served-notice s m (s .clock) (n .alone))
-  behind-served m (inr (inl r)) = served-is behind m (s .clock) (behind-service r) ∙ sym (served-is s m (s .clock) r)
+  behind-served m e (inl z) = served-idle behind m e (s .clock) (z .0) ∙ sym (served-idle s m e (s .clock) (z .0))
+  behind-served m e (inr (inr n)) = served-notice behind m e (s .clock) (still-alone (n .in-service .is-notice) (n .alone)) ∙ sym (served-notice s m e (s .clock) (n .alone))
+  behind-served m e (inr (inl r)) = served-is behind m e (s .clock) (behind-service r) ∙ sym (served-is s m e (s .clock) r)
 
-  behind-busy : (m : ℕ) → s .clock ≤ p .eligibility → Line s → Busy s acc m (s .clock) → Busy behind (acc ++ p ∷ []) m (s .clock)
-  behind-busy m late l B = record {
+  behind-busy : (m e : ℕ) → s .clock ≤ p .eligibility → Line s → Busy s acc m e (s .clock) → Busy behind (acc ++ p ∷ []) m e (s .clock)
+  behind-busy m e late l B = record {
     from = B .from;
     started = B .started;
     since =
-        all-snoc (λ q. level-of s (q .connection) ≤ m → q .eligibility ≤ s .clock → B .from ≤ q .eligibility) (s .held) p (B .since)
-        (λ lv e. omega (arith, B .started));
+        all-snoc (λ q. Ahead m e (level-of s (q .connection)) (q .eligibility) → q .eligibility ≤ s .clock → B .from ≤ q .eligibility) (s .held) p (B .since)
+        (λ a i. omega (arith, B .started));
     work =
         omega (
           arith,
           B .work,
-          total-snoc (due (s .link) (s .connections) m (s .clock)) (s .held) p,
-          total-snoc (weight (s .link) (s .connections) m (B .from) (s .clock)) acc p,
-          ap (λ (x : ℕ). upto (level-of s (p .connection)) m x)
+          total-snoc (due (s .link) (s .connections) m e (s .clock)) (s .held) p,
+          total-snoc (weight (s .link) (s .connections) m e (B .from) (s .clock)) acc p,
+          ap (λ (x : ℕ). keyed m e (level-of s (p .connection)) (p .eligibility) x)
               (upto-yes (B .from) (p .eligibility) (upto (p .eligibility) (s .clock) (cost (s .link) (p .len))) (omega (arith, B .started))),
-          behind-served m l,
+          behind-served m e l,
           left-same s behind refl refl refl,
         );
     in-time = B .in-time;
@@ -136,7 +137,11 @@ module _ (h : History) (I : Invariant h) where
   placed-keeps c len tag st e D = record {
     regular = placed-regular s acc c len tag st e (I .steady .regular) D few-burst in-step;
     line = behind-line s acc p hs level (I .steady .line);
-    busy = λ m low high. behind-busy s acc p hs level m (in-step .not-before) (I .steady .line) (I .steady .busy m low high);
+    busy = λ m x low high. behind-busy s acc p hs level m x (in-step .not-before) (I .steady .line) (I .steady .busy m x low high);
+    punctual =
+        let B = facts-of s (I .sound) .each c (stands-owned s c (D .standing)) in
+        all-snoc (λ q. s .clock + 1 ≤ q .eligibility + bound-of s (q .connection)) (s .held) (packet s c len tag st) (I .steady .punctual)
+        (omega (arith, in-step .not-before, some-bound s (I .sound) (level-of s c) (B .low-level) (B .high-level)));
     conserved = λ d.
         of-append d all (p ∷ [])
         ∙ ap (λ (l : List Packet). l ++ of d (p ∷ [])) (I .steady .conserved d)

@@ -9,25 +9,24 @@ use mathlib.Core.Option.{Option, none, some}
 use Rattle.rules.specs.Words.{push}
 use Rattle.rules.specs.Limits.{notice-number}
 use Rattle.rules.specs.Model.{Packet, Notice, State, Answer, notice-packet, with-line}
-use Rattle.rules.specs.Admission.{bound, cost}
-use Rattle.rules.specs.Service.{of, first, without, level-of, chosen, stand-by, later, line-after-start, packet-departs, after-unit, ticked, line-left}
-use Rattle.rules.specs.SoundState.{Fits, In-service, Orderly}
+use Rattle.rules.specs.Admission.{cost}
+use Rattle.rules.specs.Service.{of, first, without, chosen, stand-by, later, line-after-start, packet-departs, after-unit, ticked, line-left}
+use Rattle.rules.specs.SoundState.{In-service, Orderly}
 use Rattle.rules.specs.Runs.{Departure, History, leaving, in-hub, bound-of}
-use Rattle.rules.proofs.Lists.{All, all-map, Sub, sub-refl, total-sub, total-zero}
-use Rattle.rules.proofs.Sums.{split}
+use Rattle.rules.proofs.Lists.{All, all-map, all-sub, Sub, sub-refl, total-sub}
 use Rattle.rules.proofs.Rows.{first-all, first-append, sub-without, moved, map-append}
 use Rattle.rules.proofs.Notices.{first-notice-is, without-append, first-behind, without-behind}
 use Rattle.rules.proofs.Standing.{owned-below}
 use Rattle.rules.proofs.Line.{last-of-packet, last-of-notice, left-silent, left-some, left-unit}
 use Rattle.rules.proofs.SoundTick.{no-notice, choice-holds}
-use Rattle.rules.proofs.Busy.{due, demand, Notice-on-line, Line, Facts, Regular, fit-held, Busy, due-none, spare, held-spare}
+use Rattle.rules.proofs.Busy.{due, demand, Notice-on-line, Line, Facts, Regular, fit-held, Busy, spare, held-spare}
 use Rattle.rules.proofs.BusyTick.{taken-line, taken-busy, unit-busy, restart, advance}
-use Rattle.rules.proofs.Invariant.{whats, Steady, Invariant, facts-of, some-bound, free-below-largest, left-le-largest}
+use Rattle.rules.proofs.Invariant.{whats, Steady, Invariant, facts-of, some-window, free-below-largest, left-le-largest}
 
 -- after step 1: a level with something due is busy, and something is on the line
 record Midway (s : State) (acc : List Packet) : Type 0 where
   mid-line : Line s
-  mid-busy : (m : ℕ) → 1 ≤ m → m ≤ s .link .levels → (demand s m (s .clock) ≡ 0) ⊎ (Busy s acc m (s .clock) × (0 < line-left s) × (0 < demand s m (s .clock)))
+  mid-busy : (m e : ℕ) → 1 ≤ m → m ≤ s .link .levels → (demand s m e (s .clock) ≡ 0) ⊎ (Busy s acc m e (s .clock) × (0 < line-left s) × (0 < demand s m e (s .clock)))
 
 -- what departs, if anything does: a notice, or it is in time
 abbrev pub In-time : State → Option Packet → Type 0
@@ -44,30 +43,34 @@ module _ (h : History) (I : Invariant h) (S : Orderly (h .now)) where
   no-notices : All (λ p. p .connection ≡ notice-number → ⊥) (s .held)
   no-notices = all-map (λ p f e. omega (arith, S .numbers, owned-below (s .connections) (p .connection) (f .owner))) (s .held) (S .fit)
 
+  -- every held packet still has time in this tick
+  in-time-still : All (λ p. s .clock + 2 ≤ p .eligibility + bound-of s (p .connection)) (s .held)
+  in-time-still = held-spare s acc F (I .steady .regular) (I .steady .line) (I .steady .busy) (I .steady .punctual)
+
   -- ---- step 1
 
   -- where nothing starts the line is as it was
-  same-line : {u : ℕ} → s .to-go ≡ u → (m : ℕ) → Busy s acc m (s .clock) → Busy (with-line s (s .serving) u (s .silent)) acc m (s .clock)
-  same-line e m B = subst (λ (v : ℕ). Busy (with-line s (s .serving) v (s .silent)) acc m (s .clock)) e B
+  same-line : {u : ℕ} → s .to-go ≡ u → (m x : ℕ) → Busy s acc m x (s .clock) → Busy (with-line s (s .serving) u (s .silent)) acc m x (s .clock)
+  same-line e m x B = subst (λ (v : ℕ). Busy (with-line s (s .serving) v (s .silent)) acc m x (s .clock)) e B
 
   midway : (u q : ℕ) → s .to-go ≡ u → s .silent ≡ q → Midway (with-line s (line-after-start s u q .0) (line-after-start s u q .1) (s .silent)) acc
   midway zero zero e y =
       let k = choice-holds s S in
       record {
         mid-line = taken-line s acc (I .steady .regular) (chosen s) k (s .notices) refl (S .notices-fit) no-notices (S .silent-le) (stand-by s) refl;
-        mid-busy = λ m low high.
+        mid-busy = λ m x low high.
             ⊎-elim (λ z. inl z)
             (λ pos.
-            let b = taken-busy s acc (I .steady .regular) m (chosen s) (s .notices) (stand-by s) k e y (I .steady .busy m low high) pos in
+            let b = taken-busy s acc (I .steady .regular) m x (chosen s) (s .notices) (stand-by s) k e y (I .steady .busy m x low high) pos in
             inr (b .0, b .1, pos))
-            (eq-zero-or-pos (demand s m (s .clock)));
+            (eq-zero-or-pos (demand s m x (s .clock)));
       }
   midway zero (suc q) e y = record {
     mid-line = inl (refl, S .silent-le);
-    mid-busy = λ m low high.
+    mid-busy = λ m x low high.
         ⊎-elim (λ z. inl z)
-        (λ pos. inr (same-line e m (I .steady .busy m low high), omega (arith, left-silent (with-line s (s .serving) 0 (s .silent)) refl), pos))
-        (eq-zero-or-pos (demand s m (s .clock)));
+        (λ pos. inr (same-line e m x (I .steady .busy m x low high), omega (arith, left-silent (with-line s (s .serving) 0 (s .silent)) refl), pos))
+        (eq-zero-or-pos (demand s m x (s .clock)));
   }
   midway (suc u) q e y = record {
     mid-line =
@@ -86,10 +89,10 @@ module _ (h : History) (I : Invariant h) (S : Orderly (h .now)) where
         }))
         l))
         (I .steady .line);
-    mid-busy = λ m low high.
+    mid-busy = λ m x low high.
         ⊎-elim (λ z. inl z)
-        (λ pos. inr (same-line e m (I .steady .busy m low high), left-some (with-line s (s .serving) (suc u) (s .silent)) (omega arith), pos))
-        (eq-zero-or-pos (demand s m (s .clock)));
+        (λ pos. inr (same-line e m x (I .steady .busy m x low high), left-some (with-line s (s .serving) (suc u) (s .silent)) (omega arith), pos))
+        (eq-zero-or-pos (demand s m x (s .clock)));
   }
 
   -- ---- steps 2 and 3
@@ -100,7 +103,7 @@ module _ (h : History) (I : Invariant h) (S : Orderly (h .now)) where
       → Sub held acc
       → Line (later s held ns serving to-go silent)
       → (1 ≤ s .link .levels → line-left (later s held ns serving to-go silent) < cost (s .link) (s .link .largest))
-      → ((m : ℕ) → 1 ≤ m → m ≤ s .link .levels → (demand s m (s .clock) ≡ 0) ⊎ Busy (later s held ns serving to-go silent) acc m (s .clock))
+      → ((m x : ℕ) → 1 ≤ m → m ≤ s .link .levels → (demand s m x (s .clock) ≡ 0) ⊎ Busy (later s held ns serving to-go silent) acc m x (s .clock))
       → ((c : ℕ) → of c all ≡ of c (whats ds) ++ of c (held ++ map notice-packet ns))
       → Steady all ds acc (later s held ns serving to-go silent)
   next held ns serving to-go silent ds sub part line below busy cons =
@@ -109,16 +112,17 @@ module _ (h : History) (I : Invariant h) (S : Orderly (h .now)) where
       record {
         regular = R;
         line = line;
-        busy = λ m low high.
-            advance (later s held ns serving to-go silent) acc m (s .clock) refl part
+        busy = λ m x low high.
+            advance (later s held ns serving to-go silent) acc m x (s .clock) refl part
             (⊎-elim
             (λ z.
-            restart (later s held ns serving to-go silent) acc m (s .clock) (fit-held (later s held ns serving to-go silent) acc R)
-            (omega (arith, total-sub (due (s .link) (s .connections) m (s .clock)) sub))
+            restart (later s held ns serving to-go silent) acc m x (s .clock) (fit-held (later s held ns serving to-go silent) acc R)
+            (omega (arith, total-sub (due (s .link) (s .connections) m x (s .clock)) sub))
             (below (omega arith))
-            (some-bound s (I .sound) m low high))
+            (some-window s (I .sound) m low high))
             (λ B. B)
-            (busy m low high));
+            (busy m x low high));
+        punctual = all-map (λ p k. omega arith) held (all-sub (λ p. s .clock + 2 ≤ p .eligibility + bound-of s (p .connection)) sub in-time-still);
         conserved = cons;
       }
 
@@ -127,50 +131,20 @@ module _ (h : History) (I : Invariant h) (S : Orderly (h .now)) where
   below-free held ns q z = free-below-largest (later s held ns 0 0 q) F (refl, z)
 
   module _ (w u : ℕ) (M : Midway (with-line s w u (s .silent)) acc) where
-    unit-level : (m : ℕ) → 1 ≤ m → m ≤ s .link .levels
-        → (demand s m (s .clock) ≡ 0) ⊎ Busy (after-unit (with-line s w u (s .silent)) u .next) acc m (s .clock)
-    unit-level m low high =
+    unit-level : (m x : ℕ) → 1 ≤ m → m ≤ s .link .levels
+        → (demand s m x (s .clock) ≡ 0) ⊎ Busy (after-unit (with-line s w u (s .silent)) u .next) acc m x (s .clock)
+    unit-level m x low high =
         ⊎-elim
         (λ z. inl z)
         (λ B.
         inr
-        (unit-busy (with-line s w u (s .silent)) acc m u refl (B .1) (M .mid-line) (no-notice s S w u (s .silent)) (B .0)
-        (spare (with-line s w u (s .silent)) acc m low high F (I .steady .regular) (M .mid-line) (B .0) (B .2))))
-        (M .mid-busy m low high)
+        (unit-busy (with-line s w u (s .silent)) acc m x u refl (B .1) (M .mid-line) (no-notice s S w u (s .silent)) (B .0)
+        (spare (with-line s w u (s .silent)) acc m x low high F (I .steady .regular) (M .mid-line) (B .0) (B .2))))
+        (M .mid-busy m x low high)
 
-    -- the packet in service is in time if it leaves now, and early if it is not yet eligible
-    leaves : (r : In-service (with-line s w u (s .silent))) → s .clock + 1 ≤ r .it .eligibility + bound-of s (r .it .connection)
-    leaves r = ⊎-elim (λ e. after-eligibility e) (λ e. omega arith) (split (r .it .eligibility) (s .clock))
-      where
-        f : Fits (s .connections) (r .it)
-        f = first-all w (Fits (s .connections)) (s .held) (r .it) (r .is-first) (fit-held s acc (I .steady .regular))
-
-        m : ℕ
-        m = level-of s (r .it .connection)
-
-        low : 1 ≤ m
-        low = F .each (r .it .connection) (f .owner) .low-level
-
-        high : m ≤ s .link .levels
-        high = F .each (r .it .connection) (f .owner) .high-level
-
-        after-eligibility : r .it .eligibility ≤ s .clock → s .clock + 1 ≤ r .it .eligibility + bound-of s (r .it .connection)
-        after-eligibility e =
-            ⊎-elim
-            (λ z.
-            absurd
-            (due-none (s .link) (s .connections) m (s .clock) (r .it) f
-            (first-all w (λ p. due (s .link) (s .connections) m (s .clock) p ≡ 0) (s .held) (r .it) (r .is-first)
-            (total-zero (due (s .link) (s .connections) m (s .clock)) (s .held) z))
-            (le-refl m) e))
-            (λ B.
-            omega (
-              arith,
-              first-all w (λ p. level-of s (p .connection) ≤ m → p .eligibility ≤ s .clock → s .clock + 2 ≤ p .eligibility + bound (s .link) m) (s .held) (r .it) (r .is-first)
-                  (held-spare (with-line s w u (s .silent)) acc m low high F (I .steady .regular) (M .mid-line) (B .0))
-                  (le-refl m) e,
-            ))
-            (M .mid-busy m low high)
+  -- the packet in service is in time if it leaves now
+  leaves : (w u : ℕ) (r : In-service (with-line s w u (s .silent))) → s .clock + 1 ≤ r .it .eligibility + bound-of s (r .it .connection)
+  leaves w u r = omega (arith, first-all w (λ p. s .clock + 2 ≤ p .eligibility + bound-of s (p .connection)) (s .held) (r .it) (r .is-first) in-time-still)
 
   -- the history a tick later, by the answer to the tick
   abbrev Kept-with : Answer → Type 0
@@ -194,7 +168,7 @@ module _ (h : History) (I : Invariant h) (S : Orderly (h .now)) where
       (next (without w (s .held)) (s .notices) 0 0 (s .link .silence) (gone ++ left (r .it) ∷ [])
       (sub-without w (sub-refl (s .held))) (sub-without w (I .steady .regular .part)) (inl (refl, le-refl (s .link .silence)))
       (below-free (without w (s .held)) (s .notices) (s .link .silence) (le-refl (s .link .silence)))
-      (λ m low high. subst (λ (a : Answer). (demand s m (s .clock) ≡ 0) ⊎ Busy (a .next) acc m (s .clock)) is (unit-level w 1 M m low high))
+      (λ m x low high. subst (λ (a : Answer). (demand s m x (s .clock) ≡ 0) ⊎ Busy (a .next) acc m x (s .clock)) is (unit-level w 1 M m x low high))
       (λ c.
       goes c w (r .it) (first-append w (s .held) (map notice-packet (s .notices)) (r .it) (r .is-first))
       ∙ ap (λ (l : List Packet). of c (whats (gone ++ left (r .it) ∷ [])) ++ of c l) (without-append w (s .held) (map notice-packet (s .notices)) (r .it) (r .is-first))))
@@ -213,7 +187,7 @@ module _ (h : History) (I : Invariant h) (S : Orderly (h .now)) where
       (next (s .held) (k .0) 0 0 (s .link .silence) (gone ++ left (notice-packet (r .it)) ∷ [])
       (sub-refl (s .held)) (I .steady .regular .part) (inl (refl, le-refl (s .link .silence)))
       (below-free (s .held) (k .0) (s .link .silence) (le-refl (s .link .silence)))
-      (λ m low high. subst (λ (a : Answer). (demand s m (s .clock) ≡ 0) ⊎ Busy (a .next) acc m (s .clock)) is (unit-level w 1 M m low high))
+      (λ m x low high. subst (λ (a : Answer). (demand s m x (s .clock) ≡ 0) ⊎ Busy (a .next) acc m x (s .clock)) is (unit-level w 1 M m x low high))
       (λ c. first-goes c (r .it) (k .0) (k .1) (subst (λ (v : ℕ). first v (s .held) ≡ none) (r .is-notice) (n .alone))))
     where
       first-goes : (c : ℕ) (n : Notice) (ns : List Notice) → s .notices ≡ n ∷ ns → first notice-number (s .held) ≡ none
@@ -267,7 +241,7 @@ module _ (h : History) (I : Invariant h) (S : Orderly (h .now)) where
       ⊎-elim
       (λ r.
       subst (λ (a : Answer). In-time s (a .departed)) (sym (last-of-packet (with-line s w 1 (s .silent)) (no-notice s S w 1 (s .silent) r)))
-      (subst (In-time s) (sym (r .is-first)) (inr (leaves w 1 M r))))
+      (subst (In-time s) (sym (r .is-first)) (inr (leaves w 1 r))))
       (λ n.
       let k = first-notice-is (s .notices) (n .in-service .it) (n .in-service .is-first) in
       subst (λ (a : Answer). In-time s (a .departed)) (sym (last-of-notice (with-line s w 1 (s .silent)) (n .in-service .it) (k .0) (n .in-service .is-notice) (k .1))) (inl refl))

@@ -15,12 +15,14 @@ pub mod Choice
 pub mod Verdicts
 pub mod Figures
 pub mod Shortage
+pub mod Finer
 pub mod Line
 pub mod SoundTick
 pub mod SoundExact
 pub mod SoundOffer
 pub mod SoundSwept
 pub mod SoundKept
+pub mod Keys
 pub mod Window
 pub mod Busy
 pub mod BusyTick
@@ -56,3 +58,4 @@ pub mod TwoHubs
 pub mod Quick
 pub mod Examples
 pub mod WorkedLimits
+pub mod WorkedWindows

@@ -124,6 +124,11 @@ module _ {A : Type 0} where
   total-mul w k [] = omega arith
   total-mul w k (x ∷ xs) = omega (arith, total-mul w k xs)
 
+  -- what each x says of all elements it says of itself
+  pub all-self : (Q : A → A → Type 0) (xs : List A) → ((x : A) → All (Q x) xs) → All (λ x. Q x x) xs
+  all-self Q [] h = tt
+  all-self Q (x ∷ xs) h = (h x .0, all-self Q xs (λ y. h y .1))
+
   -- what holds of everything holds of each element
   pub all-every : {P : A → Type 0} → ((x : A) → P x) → (xs : List A) → All P xs
   all-every f [] = tt

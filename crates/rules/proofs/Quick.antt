@@ -11,7 +11,7 @@ use lib.ListN.{length, getD, replicate, length-set, length-replicate}
 use Rattle.rules.specs.Words.{tabulate, first-number, push}
 use Rattle.rules.specs.Limits.{max-connections}
 use Rattle.rules.specs.Model.{Connection, Past, State, Call, link, admit, offer, notice, close, tick, Answer, no-connection, no-past, fresh, with-connections, with-closed}
-use Rattle.rules.specs.Admission.{largest-bound}
+use Rattle.rules.specs.Admission.{charge-time}
 use Rattle.rules.specs.Service.{ticked, charge-over, expired, swept-connections, swept-pasts, swept-marks, swept}
 use Rattle.rules.specs.SoundState.{Sound}
 use Rattle.rules.specs.SoundTest.{sound}
@@ -29,20 +29,20 @@ use Rattle.rules.proofs.SoundExact.{exact}
 -- ---- the numbers freed in one go
 
 abbrev pub sweep : {A : Type 0} → A → ℕ → ℕ → List A → List Past → List Bool → List A
-sweep d bound t [] hs bs = []
-sweep d bound t (x ∷ xs) [] bs = []
-sweep d bound t (x ∷ xs) (h ∷ hs) [] = []
-sweep d bound t (x ∷ xs) (h ∷ hs) (b ∷ bs) = cond (b && charge-over bound t h) d x ∷ sweep d bound t xs hs bs
+sweep d time t [] hs bs = []
+sweep d time t (x ∷ xs) [] bs = []
+sweep d time t (x ∷ xs) (h ∷ hs) [] = []
+sweep d time t (x ∷ xs) (h ∷ hs) (b ∷ bs) = cond (b && charge-over time t h) d x ∷ sweep d time t xs hs bs
 
-sweep-is : {A : Type 0} (d : A) (bound t n : ℕ) (xs : List A) (hs : List Past) (bs : List Bool) → length xs ≡ n → length hs ≡ n → length bs ≡ n
-    → tabulate n (λ c. cond (getD bs c false && charge-over bound t (getD hs c no-past)) d (getD xs c d)) ≡ sweep d bound t xs hs bs
-sweep-is d bound t zero [] hs bs e f g = refl
-sweep-is d bound t zero (x ∷ xs) hs bs e f g = absurd (omega arith)
-sweep-is d bound t (suc n) [] hs bs e f g = absurd (omega arith)
-sweep-is d bound t (suc n) (x ∷ xs) [] bs e f g = absurd (omega arith)
-sweep-is d bound t (suc n) (x ∷ xs) (h ∷ hs) [] e f g = absurd (omega arith)
-sweep-is {A} d bound t (suc n) (x ∷ xs) (h ∷ hs) (b ∷ bs) e f g =
-    ap (λ (l : List A). cond (b && charge-over bound t h) d x ∷ l) (sweep-is d bound t n xs hs bs (omega arith) (omega arith) (omega arith))
+sweep-is : {A : Type 0} (d : A) (time t n : ℕ) (xs : List A) (hs : List Past) (bs : List Bool) → length xs ≡ n → length hs ≡ n → length bs ≡ n
+    → tabulate n (λ c. cond (getD bs c false && charge-over time t (getD hs c no-past)) d (getD xs c d)) ≡ sweep d time t xs hs bs
+sweep-is d time t zero [] hs bs e f g = refl
+sweep-is d time t zero (x ∷ xs) hs bs e f g = absurd (omega arith)
+sweep-is d time t (suc n) [] hs bs e f g = absurd (omega arith)
+sweep-is d time t (suc n) (x ∷ xs) [] bs e f g = absurd (omega arith)
+sweep-is d time t (suc n) (x ∷ xs) (h ∷ hs) [] e f g = absurd (omega arith)
+sweep-is {A} d time t (suc n) (x ∷ xs) (h ∷ hs) (b ∷ bs) e f g =
+    ap (λ (l : List A). cond (b && charge-over time t h) d x ∷ l) (sweep-is d time t n xs hs bs (omega arith) (omega arith) (omega arith))
 
 -- one entry for each number
 pub record Numbered (s : State) : Type 0 where
@@ -52,20 +52,20 @@ pub record Numbered (s : State) : Type 0 where
 
 abbrev pub quick-swept : State → State
 quick-swept s =
-    let d = largest-bound (s .link) in
+    let time = charge-time (s .link) in
     with-closed
-    (with-connections s (sweep no-connection d (s .clock) (s .connections) (s .pasts) (s .closed)) (sweep no-past d (s .clock) (s .pasts) (s .pasts) (s .closed)))
-    (sweep false d (s .clock) (s .closed) (s .pasts) (s .closed))
+    (with-connections s (sweep no-connection time (s .clock) (s .connections) (s .pasts) (s .closed)) (sweep no-past time (s .clock) (s .pasts) (s .pasts) (s .closed)))
+    (sweep false time (s .clock) (s .closed) (s .pasts) (s .closed))
 
 swept-is : (s : State) → Numbered s → swept s ≡ quick-swept s
 unfolding expired swept-connections swept-pasts swept-marks
 swept-is s N =
     ap (λ (cs : List Connection). with-closed (with-connections s cs (swept-pasts s)) (swept-marks s))
-    (sweep-is no-connection (largest-bound (s .link)) (s .clock) max-connections (s .connections) (s .pasts) (s .closed) (N .connections) (N .pasts) (N .closed))
+    (sweep-is no-connection (charge-time (s .link)) (s .clock) max-connections (s .connections) (s .pasts) (s .closed) (N .connections) (N .pasts) (N .closed))
     ∙ ap (λ (hs : List Past). with-closed (with-connections s (quick-swept s .connections) hs) (swept-marks s))
-    (sweep-is no-past (largest-bound (s .link)) (s .clock) max-connections (s .pasts) (s .pasts) (s .closed) (N .pasts) (N .pasts) (N .closed))
+    (sweep-is no-past (charge-time (s .link)) (s .clock) max-connections (s .pasts) (s .pasts) (s .closed) (N .pasts) (N .pasts) (N .closed))
     ∙ ap (λ (bs : List Bool). with-closed (with-connections s (quick-swept s .connections) (quick-swept s .pasts)) bs)
-    (sweep-is false (largest-bound (s .link)) (s .clock) max-connections (s .closed) (s .pasts) (s .closed) (N .closed) (N .pasts) (N .closed))
+    (sweep-is false (charge-time (s .link)) (s .clock) max-connections (s .closed) (s .pasts) (s .closed) (N .closed) (N .pasts) (N .closed))
 
 sound-numbered : (s : State) → Sound s → Numbered s
 sound-numbered s S =

@@ -6,19 +6,20 @@ use mathlib.Core.Bool.{Bool, true, false, cond, not}
 use mathlib.Core.Logic.{_⊎_, inl, inr, ⊎-elim, _↔_}
 use mathlib.Core.List.{List, [], _∷_, _++_, map}
 use mathlib.Core.Option.{Option, none, some}
-use lib.Dec.{leb, eqb}
+use lib.Dec.{leb, ltb, eqb}
 use lib.ListN.{length, getElem?, length-append}
 use borrow.Author.Tests.{not-true, eq-eqb, ne-eqb, eqb-false, leb-false}
-use Rattle.rules.specs.Words.{within}
-use Rattle.rules.specs.Limits.{clock-end, max-notices, notice-number}
-use Rattle.rules.specs.Model.{Connection, Packet, State, Call, link, admit, offer, notice, close, tick, no-short, figures}
-use Rattle.rules.specs.Admission.{owned, joining, stands, stamped, reservation, level-test}
+use Rattle.rules.specs.Words.{within, first-number}
+use Rattle.rules.specs.Limits.{max-connections, max-reserved, clock-end, max-notices, notice-number}
+use Rattle.rules.specs.Model.{Connection, Packet, State, Call, link, admit, offer, notice, close, tick, Short, no-short, figures}
+use Rattle.rules.specs.Admission.{level-within, figures-within, free-number, owned, joining, stands, stamped, reservation, reserved, level-test}
+use Rattle.rules.specs.WithoutWindows.{bounds-verdicts}
 use Rattle.rules.specs.Service.{suits, Spaced, of, early-at, started}
 use Rattle.rules.specs.SoundState.{Sound}
 use Rattle.rules.specs.SoundTest.{sound}
 use Rattle.rules.specs.Calls.{causes, heard, verdicts, verdict, eligibility-now, packet, done, refused-number, settle, answer}
 use Rattle.rules.specs.Runs.{Departure, History, logged, after, run-from, nothing-yet, run, departures, in-hub, bound-of, allowed, offer-ticks, Keeps-its-word, Exchange, exchanges, own-answer}
-use Rattle.rules.specs.Promises.{Demand-1-refusals, Test-is-exact, Verdict-1-exactly, No-link-means-zero, Sound-is-kept, Runs-are-sound, Rows-fit, Notices-fit, Notices-come-last, Fifteen-after-thirteen, Names-the-lowest, Level-test-tells, Short-is-told, Units-are-missing, Units-fit, Sums-fit, Eligibilities-fit, Charges-fit, Distances-fit, Answers-fit, Conservation, Conservation-since, Conservation-by-owner, Left-by, Demand-3-first, Demand-3-in-the-log, Each-has-a-bound, Demand-3-second, Told-by-its-own, Bed-nine-and-bed-ten, Counted, Spacing-says, No-window-holds-more, The-count-is-reached, The-count-never-falls, Without-average, Without-silence, Close-is-refused, Closed-gets-10, Closed-or-freed, Freed-by-the-tick, Charge-lasts, Lowest-number-is-given, First-kind, Second-kind, Level-test-counts-alike, Ten-exactly, No-cause, Seventeen-exactly, No-finish-before, Demand-3-for-stamps, Stamps-told-by-their-own, Bed-nine-and-bed-ten-with-stamps, Early-comes-last, Early-never-idles, Eighteen-exactly, Stamps-never-18, Never-far-ahead, Without-stand-by, Quiet-ticks-pass}
+use Rattle.rules.specs.Promises.{Demand-1-refusals, Test-is-exact, Verdict-1-exactly, No-link-means-zero, Sound-is-kept, Runs-are-sound, Rows-fit, Notices-fit, Notices-come-last, Fifteen-after-thirteen, Names-the-lowest, Level-test-tells, Short-is-told, Units-are-missing, Units-fit, Finer-test-says, At-the-bounds, Windows-at-the-bounds, Without-windows, Late-betas-never-decide, Flat-betas-never-decide, Quick-holds-exactly, Quick-excess-is-exact, Quick-test-is-exact, Sums-fit, Eligibilities-fit, Charges-fit, Distances-fit, Answers-fit, Conservation, Conservation-since, Conservation-by-owner, Left-by, Demand-3-first, Demand-3-in-the-log, Each-has-a-bound, Demand-3-second, Told-by-its-own, Bed-nine-and-bed-ten, Counted, Spacing-says, No-window-holds-more, The-count-is-reached, The-count-never-falls, Without-average, Without-silence, Close-is-refused, Closed-gets-10, Closed-or-freed, Freed-by-the-tick, Charge-lasts, Lowest-number-is-given, First-kind, Second-kind, Level-test-counts-alike, Ten-exactly, No-cause, Seventeen-exactly, No-finish-before, Demand-3-for-stamps, Stamps-told-by-their-own, Bed-nine-and-bed-ten-with-stamps, Early-comes-last, Early-never-idles, Eighteen-exactly, Stamps-never-18, Never-far-ahead, Without-stand-by, Quiet-ticks-pass}
 use Rattle.rules.proofs.Sums.{same, cond-is}
 use Rattle.rules.proofs.Tests.{and-true, and-intro, not-true-false, never-number}
 use Rattle.rules.proofs.Lists.{All, all-map}
@@ -45,6 +46,7 @@ use Rattle.rules.proofs.Fields.{unit-done, unit-short, short-fits, answ
 use Rattle.rules.proofs.Shortage.{tells, names, sums-le, reserved-most}
 use Rattle.rules.proofs.Room.{near-arrival, not-for-room, welcome}
 use Rattle.rules.proofs.Lower.{call-begun, begun}
+use Rattle.rules.proofs.Finer.{late-left-out, flat-left-out, quick-exact, quick-excess-exact, quick-test-exact, finer-says, bounds-where-equal, as-without, no-windows-asked}
 use Rattle.rules.proofs.Keeper.{run-append, All-taken, all-taken, Word-before, word-before, on-arrival, has-room}
 use Rattle.rules.proofs.Alone.{Own, own-ticks, told-by-own, ticks-are-own, no-exchanges, own-answers}
 use Rattle.rules.proofs.AloneStamped.{told-with-stamps, alike-with-stamps}
@@ -177,13 +179,60 @@ short-is-told k s = (λ n. go k (verdict k s) (λ e. n (answer-verdict k s ∙ e
         (sym i) (λ e. (told-short x s e, short-named x s e))
 
 pub units-are-missing : Units-are-missing
-units-are-missing x s v e = let n = short-named x s e in (λ h. omega (arith, n .units-are), λ h. omega (arith, n .units-are))
+units-are-missing x s v e F = (λ h. omega (arith, F .units-are), λ h. omega (arith, F .units-are, F .fails))
 
 pub units-fit : Units-fit
 units-fit x s e = short-fits x s (short-refused s x (eight x s e)) (answer (admit x) s .short) (short-named x s e)
 
 pub sums-fit : Sums-fit
 sums-fit l cs e few f = (sums-le l cs e few f, reserved-most l cs e few f)
+
+-- ---- the finer test
+
+pub finer-test-says : Finer-test-says
+finer-test-says l cs m e = finer-says l cs m e
+
+bounds-verdict : (s : State) (x : Connection) → At-the-bounds (s .link) → verdict (admit x) s ≡ first-number (bounds-verdicts x s)
+unfolding verdicts
+bounds-verdict s x h =
+    ap
+    (λ (t : Short).
+    first-number
+    ((1, not (sound s))
+    ∷ (2, eqb (s .link .levels) 0)
+    ∷ (5, not (level-within (s .link) x))
+    ∷ (6, not (figures-within (s .link) x))
+    ∷ (7, leb max-connections (free-number (s .connections)))
+    ∷ (8, not (eqb (t .level) 0))
+    ∷ (9, ltb max-reserved (reserved (s .link) (joining (s .connections) x))) ∷ []))
+    (bounds-where-equal (s .link) (joining (s .connections) x) h)
+
+pub windows-at-the-bounds : Windows-at-the-bounds
+windows-at-the-bounds = (
+  λ l cs h. bounds-where-equal l cs h,
+  λ s x h. (
+    answer-verdict (admit x) s ∙ bounds-verdict s x h,
+    λ e. told-short x s e ∙ bounds-where-equal (s .link) (joining (s .connections) x) h,
+  ),
+)
+
+pub without-windows : Without-windows
+without-windows = (no-windows-asked, as-without)
+
+pub late-betas-never-decide : Late-betas-never-decide
+late-betas-never-decide l cs m = late-left-out l cs m
+
+pub flat-betas-never-decide : Flat-betas-never-decide
+flat-betas-never-decide l cs m β k n flat h = flat-left-out l cs m β k n flat h
+
+pub quick-holds-exactly : Quick-holds-exactly
+quick-holds-exactly l cs m = quick-exact l cs m
+
+pub quick-excess-is-exact : Quick-excess-is-exact
+quick-excess-is-exact l cs m = quick-excess-exact l cs m
+
+pub quick-test-is-exact : Quick-test-is-exact
+quick-test-is-exact l cs = quick-test-exact l cs
 
 pub answers-fit : Answers-fit
 answers-fit k s S = answer-fits k s S

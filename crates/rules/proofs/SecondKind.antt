@@ -12,7 +12,7 @@ use borrow.Author.Tests.{eq-eqb, ne-eqb, lt-leb, leb-false}
 use Rattle.rules.specs.Words.{within, upto, sum, All}
 use Rattle.rules.specs.Limits.{max-gap, max-allowance, clock-end}
 use Rattle.rules.specs.Model.{Link, Connection, Past, State, Call, offer, nth, past, figures}
-use Rattle.rules.specs.Admission.{burst, stamped, average-within, figures-within, stands, bound, average-count, count, reservation, ahead, cost, level-sum, short-from, level-test}
+use Rattle.rules.specs.Admission.{burst, stamped, average-within, figures-within, stands, bound, average-count, count, reservation, ahead, cost, conditions, span, level-sum, excess-from, excess, short-from, level-test}
 use Rattle.rules.specs.Service.{nth-before, ticks-after, earliest, suits, untimely, untimely-by, Spaced, of, eligibilities}
 use Rattle.rules.specs.SoundState.{departed-of, Near-by, Beyond, Queue, Sound}
 use Rattle.rules.specs.SoundTest.{latest-by-gap, latest}
@@ -157,24 +157,32 @@ unfolding burst average-count count
 count-alike x w = refl
 
 module _ (l : Link) (cs : List Connection) where
-  sum-alike : (m : ℕ) → level-sum l cs m ≡ level-sum l (map by-its-gap cs) m
-  sum-alike m =
+  -- what a connection adds to the sum of condition i of level m
+  term : ℕ → ℕ → Connection → ℕ
+  term m i x = upto (x .level) m (count x (span l m i (x .level)) * cost l (x .size))
+
+  sum-alike : (m i : ℕ) → level-sum l cs m i ≡ level-sum l (map by-its-gap cs) m i
+  unfolding term
+  sum-alike m i =
       omega (
         arith,
-        sum-is l cs m,
-        sum-is l (map by-its-gap cs) m,
-        ap (λ (n : ℕ). sum n (λ c. upto (nth (map by-its-gap cs) c .level) m (count (nth (map by-its-gap cs) c) (bound l m) * cost l (nth (map by-its-gap cs) c .size)))) (length-map by-its-gap cs),
-        sum-eq (length cs)
-            {f = λ c. upto (nth (map by-its-gap cs) c .level) m (count (nth (map by-its-gap cs) c) (bound l m) * cost l (nth (map by-its-gap cs) c .size))}
-            {g = λ c. upto (nth cs c .level) m (count (nth cs c) (bound l m) * cost l (nth cs c .size))}
+        sum-is l cs m i,
+        sum-is l (map by-its-gap cs) m i,
+        ap (λ (n : ℕ). sum n (λ c. term m i (nth (map by-its-gap cs) c))) (length-map by-its-gap cs),
+        sum-eq (length cs) {f = λ c. term m i (nth (map by-its-gap cs) c)} {g = λ c. term m i (nth cs c)}
             (λ c _.
-            ap (λ (x : Connection). upto (x .level) m (count x (bound l m) * cost l (x .size))) (nth-alike cs c)
-            ∙ ap (λ (n : ℕ). upto (nth cs c .level) m (n * cost l (nth cs c .size))) (count-alike (nth cs c) (bound l m))),
+            ap (term m i) (nth-alike cs c)
+            ∙ ap (λ (n : ℕ). upto (nth cs c .level) m (n * cost l (nth cs c .size))) (count-alike (nth cs c) (span l m i (nth cs c .level)))),
       )
 
+  excess-alike : (m i n : ℕ) → excess-from l cs m i n ≡ excess-from l (map by-its-gap cs) m i n
+  excess-alike m i zero = refl
+  excess-alike m i (suc n) = rw (sum-alike m i, excess-alike m (suc i) n) refl
+
   short-alike : (m k : ℕ) → short-from l cs m k ≡ short-from l (map by-its-gap cs) m k
+  unfolding excess
   short-alike m zero = refl
-  short-alike m (suc k) = rw (sum-alike m, short-alike (suc m) k) refl
+  short-alike m (suc k) = rw (excess-alike m 0 (conditions l m), short-alike (suc m) k) refl
 
 pub test-alike : Level-test-counts-alike
 unfolding level-test

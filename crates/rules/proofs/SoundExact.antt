@@ -12,7 +12,7 @@ use borrow.Author.Tests.{not-true, not-false, leb-true, le-leb, eqb-true, eqb-fa
 use Rattle.rules.specs.Words.{within, every, each}
 use Rattle.rules.specs.Limits.{max-levels, max-connections, clock-end, max-notices, notice-number, max-remembered}
 use Rattle.rules.specs.Model.{Link, Connection, Past, Packet, Notice, State, no-link, no-connection, no-past, fresh, nth, past, figures, closed-at, first-notice}
-use Rattle.rules.specs.Admission.{link-within, level-within, figures-within, owned, largest-bound, reservation, passes, ahead}
+use Rattle.rules.specs.Admission.{link-within, level-within, figures-within, owned, charge-time, reservation, passes, ahead}
 use Rattle.rules.specs.Service.{earliest, remember-all, of, eligibilities, first, early-at, charge-over, expired}
 use Rattle.rules.specs.SoundState.{margin, Free-number, Orderly, departed-of, Fits, Dated, Notice-fits, Idle, In-service, Notice-in-service, Serves, Sound-with-link, Sound}
 use Rattle.rules.specs.SoundTest.{all-zero, blank, free-sound, one-each, number-sound, closed-sound, nothing-used, connection-sound, admissions-sound, row-sound, departed-by, paced, left-in-time, same-numbers, kept-sound, before-pass, behind-pass, queues-sound, rows-sound, notice-sound, notices-sound, serves, serves-notice, busy-sound, line-sound, sound}
@@ -39,9 +39,9 @@ zeros-of (suc n) (d ∷ ds) e z =
     let r : ds ≡ replicate n 0 = zeros-of n ds (omega arith) (k .1) in
     cc
 
-blank-link : (n most q y : ℕ) (ds : List ℕ) → n ≡ 0 → most ≡ 0 → q ≡ 0 → y ≡ 0 → ds ≡ replicate max-levels 0
-    → _≡_ {A = Link} (record { levels = n; largest = most; silence = q; early = y; bounds = ds }) no-link
-blank-link n most q y ds e f g i h = rw (e, f, g, i, h)
+blank-link : (n most q y : ℕ) (ds ws : List ℕ) → n ≡ 0 → most ≡ 0 → q ≡ 0 → y ≡ 0 → ds ≡ replicate max-levels 0 → ws ≡ replicate max-levels 0
+    → _≡_ {A = Link} (record { levels = n; largest = most; silence = q; early = y; bounds = ds; windows = ws }) no-link
+blank-link n most q y ds ws e f g i h j = rw (e, f, g, i, h, j)
 
 -- one entry for each number, all the same
 same-entries : {A : Type 0} (n : ℕ) (xs : List A) (a d : A) → length xs ≡ n → ((c : ℕ) → c < n → getD xs c d ≡ a) → xs ≡ replicate n a
@@ -103,7 +103,9 @@ module _ (s : State) where
       let l = and-true (eqb (s .link .largest) 0) _ (a .0) in
       let k = and-true (eqb (s .link .silence) 0) _ (l .1) in
       let y = and-true (eqb (s .link .early) 0) _ (k .1) in
-      let b = and-true (eqb (length (s .link .bounds)) max-levels) _ (y .1) in
+      let v = and-true (eqb (length (s .link .bounds)) max-levels && each (λ d. eqb d 0) (s .link .bounds)) _ (y .1) in
+      let b = and-true (eqb (length (s .link .bounds)) max-levels) _ (v .0) in
+      let x = and-true (eqb (length (s .link .windows)) max-levels) _ (v .1) in
       let c = and-true (one-each s) _ (a .1) in
       let d = and-true (every max-connections (free-sound s)) _ (c .1) in
       let e = and-true (eqb (s .clock) 0) _ (d .1) in
@@ -118,6 +120,7 @@ module _ (s : State) where
       let e3 : s .connections ≡ replicate max-connections no-connection = same-entries max-connections (s .connections) no-connection no-connection (w .0) (λ j i. free j i .no-figures) in
       let e4 : s .pasts ≡ replicate max-connections no-past = same-entries max-connections (s .pasts) no-past no-past (w .1) (λ j i. free j i .no-memory) in
       let e12 : s .closed ≡ replicate max-connections false = same-entries max-connections (s .closed) false false (w .2) (λ j i. free j i .not-closed) in
+      let e14 : s .link .windows ≡ replicate max-levels 0 = zeros-of max-levels (s .link .windows) (eqb-true _ max-levels (x .0)) (x .1) in
       let e5 : s .clock ≡ 0 = eqb-true _ 0 (e .0) in
       let e6 : s .held ≡ [] = nil-of (s .held) (eqb-true _ 0 (f .0)) in
       let e9 : s .notices ≡ [] = nil-of (s .notices) (eqb-true _ 0 (n .0)) in
@@ -127,7 +130,7 @@ module _ (s : State) where
       let e11 : s .link .silence ≡ 0 = eqb-true _ 0 (k .0) in
       let e13 : s .link .early ≡ 0 = eqb-true _ 0 (y .0) in
       blank-state (s .link) (s .connections) (s .pasts) (s .closed) (s .clock) (s .held) (s .notices) (s .serving) (s .to-go) (s .silent)
-      (blank-link (s .link .levels) (s .link .largest) (s .link .silence) (s .link .early) (s .link .bounds) z e1 e11 e13 e2) e3 e4 e12 e5 e6 e9 e7 e8 e10
+      (blank-link (s .link .levels) (s .link .largest) (s .link .silence) (s .link .early) (s .link .bounds) (s .link .windows) z e1 e11 e13 e2 e14) e3 e4 e12 e5 e6 e9 e7 e8 e10
 
 nothing-of-fresh : nothing-used fresh ≡ true
 unfolding nothing-used
@@ -285,7 +288,7 @@ module _ (s : State) where
 
   -- of one that is closed: it holds nothing, and its charge is not over
   abbrev Closed-holds : ℕ → Type 0
-  Closed-holds c = closed-at s c ≡ true → (of c (s .held) ≡ []) × (charge-over (largest-bound (s .link)) (s .clock) (past s c) ≡ false)
+  Closed-holds c = closed-at s c ≡ true → (of c (s .held) ≡ []) × (charge-over (charge-time (s .link)) (s .clock) (past s c) ≡ false)
 
   closed-true : (c : ℕ) → closed-sound s c ≡ true → Closed-holds c
   closed-true c h k =

@@ -9,7 +9,7 @@ use mathlib.Core.Option.{Option}
 use lib.ListN.{length, length-append, length-replicate, getD-replicate, List·getD-eq-default}
 use lib.Seq.{getD-set-other}
 use Rattle.rules.specs.Model.{Link, Connection, no-connection, no-past, Notice, State, Call, link, admit, offer, notice, close, tick, fresh, nth, past, figures, closed-at, first-notice}
-use Rattle.rules.specs.Admission.{link-within, level-within, figures-within, owned, free-number, joining, bound, count, cost, reservation, goes-early, ahead}
+use Rattle.rules.specs.Admission.{link-within, level-within, figures-within, owned, free-number, joining, bound, count, cost, span, reservation, goes-early, ahead}
 use Rattle.rules.specs.Service.{remember, of, eligibilities, early-at, ticked, expired, swept}
 use Rattle.rules.specs.SoundState.{Queue, Notice-fits, Notice-in-service, Free-number, Orderly, Sound-with-link, Sound}
 use Rattle.rules.specs.Calls.{verdict, linked, joined, eligibility-now, placed, noted, marked, done, answer}
@@ -22,7 +22,7 @@ use Rattle.rules.proofs.Count.{count-none}
 use Rattle.rules.proofs.Notices.{first-notice-is, of-none}
 use Rattle.rules.proofs.Standing.{level-free, free-level, owned-same, stands-open, free-is, length-joining, nth-new, nth-old, nth-other, nth-joined, fits-old, open-unexpired, expired-same}
 use Rattle.rules.proofs.LevelTest.{test-holds}
-use Rattle.rules.proofs.Figures.{link-facts, connection-facts, cost-largest, sum-is, reservation-is}
+use Rattle.rules.proofs.Figures.{link-facts, connection-facts, cost-largest, limit-some, sum-is, reservation-is}
 use Rattle.rules.proofs.Queue.{regulated-of, chained-queue, chained-new}
 use Rattle.rules.proofs.Verdicts.{settled, link-done, Admit-done, admit-done, Offer-done, offer-done, Notice-done, notice-done, close-done, tick-done}
 use Rattle.rules.proofs.Line.{tick-leaves}
@@ -192,8 +192,8 @@ sum-fresh f z =
     sum-eq (length (fresh .connections)) {f = λ c. f (nth (fresh .connections) c)} {g = λ _. 0} (λ c l. ap f (fresh-figures c) ∙ z)
     ∙ sum-zero (length (fresh .connections))
 
-share-fresh : (l : Link) (m : ℕ) → upto 0 m (count no-connection (bound l m) * cost l 0) ≡ 0
-share-fresh l m = omega (arith, upto-le 0 m (count no-connection (bound l m) * cost l 0), ap (λ (k : ℕ). k * cost l 0) (count-none (bound l m)))
+share-fresh : (l : Link) (m w : ℕ) → upto 0 m (count no-connection w * cost l 0) ≡ 0
+share-fresh l m w = omega (arith, upto-le 0 m (count no-connection w * cost l 0), ap (λ (k : ℕ). k * cost l 0) (count-none w))
 
 orderly-first : (l : Link) → link-within l ≡ true → Orderly (linked fresh l)
 orderly-first l ok = record {
@@ -204,12 +204,13 @@ orderly-first l ok = record {
   one-past-each = length-replicate max-connections no-past;
   one-mark-each = length-replicate max-connections false;
   free-blank = λ c k o. record { no-figures = fresh-figures c; no-memory = fresh-past c; not-closed = fresh-open c };
-  tested = λ m low high.
+  tested = λ m low high i k.
       omega (
         arith,
-        sum-is l (fresh .connections) m,
-        sum-fresh (λ x. upto (x .level) m (count x (bound l m) * cost l (x .size))) (share-fresh l m),
+        sum-is l (fresh .connections) m i,
+        sum-fresh (λ x. upto (x .level) m (count x (span l m i (x .level)) * cost l (x .size))) (share-fresh l m (span l m i 0)),
         cost-largest l ok m low high,
+        limit-some l ok m i low high,
       );
   reserved-le = omega (arith, sum-fresh (reservation l) (reservation-is l no-connection ∙ count-none (bound l 0)));
   clock-le = omega arith;

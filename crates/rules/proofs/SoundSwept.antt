@@ -12,7 +12,7 @@ use borrow.Author.Tests.{eq-eqb}
 use Rattle.rules.specs.Words.{upto, sum}
 use Rattle.rules.specs.Limits.{max-connections}
 use Rattle.rules.specs.Model.{Connection, Past, Packet, State, no-connection, nth, past, figures, closed-at}
-use Rattle.rules.specs.Admission.{owned, stands, level-within, figures-within, bound, count, reservation, reserved, cost, level-sum, goes-early, ahead}
+use Rattle.rules.specs.Admission.{owned, stands, level-within, figures-within, bound, count, reservation, reserved, cost, span, level-sum, goes-early, ahead}
 use Rattle.rules.specs.Service.{of, eligibilities, early-at, expired, swept}
 use Rattle.rules.specs.SoundState.{Fits, Queue, In-service, Free-number, Orderly, Sound-with-link}
 use Rattle.rules.specs.Calls.{marked}
@@ -79,21 +79,21 @@ module _ (s : State) (S : Orderly s) where
       one c l true e = omega (arith, ap f (freed-figures s c l e))
       one c l false e = omega (arith, ap f (kept-figures s c l e))
 
-  share : ℕ → Connection → ℕ
-  share m x = upto (x .level) m (count x (bound (s .link) m) * cost (s .link) (x .size))
+  share : ℕ → ℕ → Connection → ℕ
+  share m i x = upto (x .level) m (count x (span (s .link) m i (x .level)) * cost (s .link) (x .size))
 
-  share-none : (m : ℕ) → share m no-connection ≡ 0
+  share-none : (m i : ℕ) → share m i no-connection ≡ 0
   unfolding share
-  share-none m =
+  share-none m i =
       omega (
         arith,
-        upto-le 0 m (count no-connection (bound (s .link) m) * cost (s .link) 0),
-        ap (λ (k : ℕ). k * cost (s .link) 0) (count-none (bound (s .link) m)),
+        upto-le 0 m (count no-connection (span (s .link) m i 0) * cost (s .link) 0),
+        ap (λ (k : ℕ). k * cost (s .link) 0) (count-none (span (s .link) m i 0)),
       )
 
-  sum-le-swept : (m : ℕ) → level-sum (s .link) (swept s .connections) m ≤ level-sum (s .link) (s .connections) m
+  sum-le-swept : (m i : ℕ) → level-sum (s .link) (swept s .connections) m i ≤ level-sum (s .link) (s .connections) m i
   unfolding share
-  sum-le-swept m = omega (arith, sum-is (s .link) (swept s .connections) m, sum-is (s .link) (s .connections) m, sum-swept (share m) (share-none m))
+  sum-le-swept m i = omega (arith, sum-is (s .link) (swept s .connections) m i, sum-is (s .link) (s .connections) m i, sum-swept (share m i) (share-none m i))
 
   reserved-le-swept : reserved (s .link) (swept s .connections) ≤ reserved (s .link) (s .connections)
   reserved-le-swept = sum-swept (reservation (s .link)) (reservation-is (s .link) no-connection ∙ count-none (bound (s .link) 0))
@@ -118,7 +118,7 @@ module _ (s : State) (S : Orderly s) where
     one-past-each = swept-pasts-length s;
     one-mark-each = swept-marks-length s;
     free-blank = λ c l o. blank c l o (expired s c) refl;
-    tested = λ m low high. omega (arith, sum-le-swept m, S .tested m low high);
+    tested = λ m low high i k. omega (arith, sum-le-swept m i, S .tested m low high i k);
     reserved-le = omega (arith, reserved-le-swept, S .reserved-le);
     clock-le = S .clock-le;
     fit = all-zip (λ p f e. fits-swept p f e) (s .held) (S .fit) held-stay;

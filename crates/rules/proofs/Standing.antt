@@ -13,7 +13,7 @@ use borrow.Author.Tests.{eqb-true, eq-eqb, ne-eqb, not-false, not-true}
 use Rattle.rules.specs.Words.{tabulate}
 use Rattle.rules.specs.Limits.{max-connections}
 use Rattle.rules.specs.Model.{Connection, Past, Packet, State, no-connection, no-past, nth, past, figures, closed-at}
-use Rattle.rules.specs.Admission.{owned, stands, free-number, joining, largest-bound}
+use Rattle.rules.specs.Admission.{owned, stands, free-number, joining, charge-time}
 use Rattle.rules.specs.Service.{charge-over, expired, swept-connections, swept-pasts, swept-marks, swept}
 use Rattle.rules.specs.SoundState.{Fits}
 use Rattle.rules.proofs.Sums.{split, same, cond-is}
@@ -139,21 +139,21 @@ module _ {A : Type 0} where
   pub tabulate-list : (n : ℕ) (f : ℕ → A) (xs : List A) (d : A) → length xs ≡ n → ((i : ℕ) → i < n → f i ≡ getD xs i d) → tabulate n f ≡ xs
   tabulate-list n f xs d e h = tabulate-eq n f (λ i. getD xs i d) h ∙ ap (λ (k : ℕ). tabulate k (λ i. getD xs i d)) (sym e) ∙ tabulate-getD xs d
 
-pub expired-closed : (s : State) (c : ℕ) → expired s c ≡ true → (closed-at s c ≡ true) × (charge-over (largest-bound (s .link)) (s .clock) (past s c) ≡ true)
+pub expired-closed : (s : State) (c : ℕ) → expired s c ≡ true → (closed-at s c ≡ true) × (charge-over (charge-time (s .link)) (s .clock) (past s c) ≡ true)
 unfolding expired
 expired-closed s c e = and-true (closed-at s c) _ e
 
 pub open-unexpired : (s : State) (c : ℕ) → closed-at s c ≡ false → expired s c ≡ false
 unfolding expired
-open-unexpired s c e = ap (λ (b : Bool). b && charge-over (largest-bound (s .link)) (s .clock) (past s c)) e
+open-unexpired s c e = ap (λ (b : Bool). b && charge-over (charge-time (s .link)) (s .clock) (past s c)) e
 
-pub unexpired-charged : (s : State) (c : ℕ) → expired s c ≡ false → closed-at s c ≡ true → charge-over (largest-bound (s .link)) (s .clock) (past s c) ≡ false
+pub unexpired-charged : (s : State) (c : ℕ) → expired s c ≡ false → closed-at s c ≡ true → charge-over (charge-time (s .link)) (s .clock) (past s c) ≡ false
 unfolding expired
-unexpired-charged s c e k = sym (ap (λ (b : Bool). b && charge-over (largest-bound (s .link)) (s .clock) (past s c)) k) ∙ e
+unexpired-charged s c e k = sym (ap (λ (b : Bool). b && charge-over (charge-time (s .link)) (s .clock) (past s c)) k) ∙ e
 
-pub charged-unexpired : (s : State) (c : ℕ) → charge-over (largest-bound (s .link)) (s .clock) (past s c) ≡ false → expired s c ≡ false
+pub charged-unexpired : (s : State) (c : ℕ) → charge-over (charge-time (s .link)) (s .clock) (past s c) ≡ false → expired s c ≡ false
 unfolding expired
-charged-unexpired s c e = go (closed-at s c) (charge-over (largest-bound (s .link)) (s .clock) (past s c)) e
+charged-unexpired s c e = go (closed-at s c) (charge-over (charge-time (s .link)) (s .clock) (past s c)) e
   where
     go : (a b : Bool) → b ≡ false → (a && b) ≡ false
     go true b e = e
@@ -246,11 +246,11 @@ pub swept-unexpired : (s : State) (c : ℕ) → c < max-connections → expired 
 unfolding expired
 swept-unexpired s c l = go (expired s c) refl
   where
-    go : (b : Bool) → expired s c ≡ b → (closed-at (swept s) c && charge-over (largest-bound (s .link)) (s .clock) (past (swept s) c)) ≡ false
-    go true e = ap (λ (k : Bool). k && charge-over (largest-bound (s .link)) (s .clock) (past (swept s) c)) (freed-closed s c l e)
+    go : (b : Bool) → expired s c ≡ b → (closed-at (swept s) c && charge-over (charge-time (s .link)) (s .clock) (past (swept s) c)) ≡ false
+    go true e = ap (λ (k : Bool). k && charge-over (charge-time (s .link)) (s .clock) (past (swept s) c)) (freed-closed s c l e)
     go false e =
-        ap (λ (k : Bool). k && charge-over (largest-bound (s .link)) (s .clock) (past (swept s) c)) (kept-closed s c l e)
-        ∙ ap (λ (h : Past). closed-at s c && charge-over (largest-bound (s .link)) (s .clock) h) (kept-past s c l e)
+        ap (λ (k : Bool). k && charge-over (charge-time (s .link)) (s .clock) (past (swept s) c)) (kept-closed s c l e)
+        ∙ ap (λ (h : Past). closed-at s c && charge-over (charge-time (s .link)) (s .clock) h) (kept-past s c l e)
         ∙ e
 
 -- it hangs on the mark, the clock, the link and what is remembered

@@ -60,13 +60,6 @@ upto-mono a b {x} {y} f = go (split a b)
     go (inl h) = omega (arith, upto-yes a b x h, upto-yes a b y h, f h)
     go (inr h) = omega (arith, upto-no a b x h)
 
-pub upto-add : (a b x y : ℕ) → upto a b (x + y) ≡ upto a b x + upto a b y
-upto-add a b x y = go (split a b)
-  where
-    go : (a ≤ b) ⊎ (b < a) → upto a b (x + y) ≡ upto a b x + upto a b y
-    go (inl h) = omega (arith, upto-yes a b (x + y) h, upto-yes a b x h, upto-yes a b y h)
-    go (inr h) = omega (arith, upto-no a b (x + y) h, upto-no a b x h, upto-no a b y h)
-
 pub upto-mul : (a b x y : ℕ) → upto a b (x * y) ≡ x * upto a b y
 upto-mul a b x y = go (split a b)
   where

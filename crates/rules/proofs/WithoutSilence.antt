@@ -2,7 +2,7 @@
 use Prim.Native.Nat.{ℕ, zero, suc, _*_, _≤_}
 use native.Mathlib.Omega.{arith}
 use native.Mathlib.Nat.{le-refl}
-use mathlib.Core.Path.{_≡_, refl, ap}
+use mathlib.Core.Path.{_≡_, refl, ap, _∙_}
 use mathlib.Core.Bool.{Bool, true, false, cond}
 use mathlib.Core.Logic.{_⊎_, inl, inr}
 use mathlib.Core.List.{List, [], _∷_}
@@ -12,13 +12,15 @@ use borrow.Author.Tests.{le-leb}
 use Rattle.rules.specs.Words.{upto}
 use Rattle.rules.specs.Limits.{max-silence, notice-number}
 use Rattle.rules.specs.Model.{Link, Connection, Notice, State, Call, link, admit, offer, notice, close, tick, nth}
-use Rattle.rules.specs.Admission.{link-within, bound, count, cost, level-sum, short-from, level-test}
+use Rattle.rules.specs.Admission.{link-within, bound, count, cost}
+use Rattle.rules.specs.WithoutWindows.{bounds-sum, bounds-from, bounds-test}
 use Rattle.rules.specs.Service.{started, packet-departs, notice-departs, after-unit, ticked}
 use Rattle.rules.specs.SoundState.{Sound}
 use Rattle.rules.specs.Calls.{verdict, done, answer}
 use Rattle.rules.specs.Promises.{base-within, base-sum, base-short, As-in-the-base, No-silence-runs}
 use Rattle.rules.proofs.Sums.{same, sum-eq}
 use Rattle.rules.proofs.Verdicts.{settled}
+use Rattle.rules.proofs.Finer.{as-without}
 
 -- ---- the link and the level test
 
@@ -31,8 +33,8 @@ module _ (l : Link) (z : l .silence ≡ 0) where
   unfolding link-within
   same-limits = rw (le-leb (l .silence) max-silence (omega arith), same-cost (l .largest)) refl
 
-  same-sum : (cs : List Connection) (m : ℕ) → level-sum l cs m ≡ base-sum l cs m
-  unfolding level-sum
+  same-sum : (cs : List Connection) (m : ℕ) → bounds-sum l cs m ≡ base-sum l cs m
+  unfolding bounds-sum
   same-sum cs m =
       omega (
         arith,
@@ -43,13 +45,21 @@ module _ (l : Link) (z : l .silence ≡ 0) where
             (λ c i. ap (λ (x : ℕ). upto (nth cs c .level) m (count (nth cs c) (bound l m) * x)) (same-cost (nth cs c .size))),
       )
 
-  same-short : (cs : List Connection) (m k : ℕ) → short-from l cs m k ≡ base-short l cs m k
+  same-short : (cs : List Connection) (m k : ℕ) → bounds-from l cs m k ≡ base-short l cs m k
   same-short cs m zero = refl
   same-short cs m (suc k) = rw (same-sum cs m, same-short cs (suc m) k) refl
 
+  same-test : (cs : List Connection) → bounds-test l cs ≡ base-short l cs 1 (l .levels)
+  unfolding bounds-test
+  same-test cs = same-short cs 1 (l .levels)
+
   pub as-in-the-base : As-in-the-base l
-  unfolding level-test
-  as-in-the-base = record { cost-is = same-cost; limits-are = same-limits; sum-is = same-sum; test-is = λ cs. same-short cs 1 (l .levels) }
+  as-in-the-base = record {
+    cost-is = same-cost;
+    limits-are = same-limits;
+    sum-is = λ e cs m. as-without l e .sum-is cs m ∙ same-sum cs m;
+    test-is = λ e cs. as-without l e .test-is cs ∙ same-test cs;
+  }
 
 -- ---- no silence runs
 

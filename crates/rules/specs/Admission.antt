@@ -1,13 +1,13 @@
 -- Who may come in: the limits, the window count, the reservation and the level test.
--- Document 01, "Link, connections, places" and "The level test"; document 02, R-2, R-4, R-6, R-8, R-9 and R-11.
-use Prim.Native.Nat.{ℕ, zero, suc, _+_, _*_, _-_, _/_, _%_, min}
+-- Document 01, "Link, connections, places" and "The level test"; document 02, R-2, R-4, R-6, R-8, R-9, R-11 and R-12.
+use Prim.Native.Nat.{ℕ, zero, suc, _+_, _*_, _-_, _/_, _%_, _≤_, _<_, min, max}
 use mathlib.Core.Bool.{Bool, true, false, cond, not, _&&_, _||_}
 use mathlib.Core.List.{List, [], _∷_}
 use mathlib.Core.Option.{Option, none, some}
-use lib.Dec.{leb, eqb}
+use lib.Dec.{leb, ltb, eqb}
 use lib.ListN.{length, getD, set}
 use Rattle.rules.specs.Words.{within, upto, sum}
-use Rattle.rules.specs.Limits.{max-levels, max-largest, max-silence, max-bound, max-gap, max-window, max-burst, max-allowance}
+use Rattle.rules.specs.Limits.{max-levels, max-largest, max-silence, max-bound, max-level-window, max-gap, max-window, max-burst, max-allowance}
 use Rattle.rules.specs.Model.{Link, Connection, State, Short, no-short, nth, closed-at}
 
 -- ---- "Link, connections, places"
@@ -23,12 +23,29 @@ rising low (suc n) (d ∷ ds) = leb low d && (leb d max-bound && rising (suc d) 
 unfoldable pub cost : Link → ℕ → ℕ
 cost l len = len + l .silence
 
+-- a link has windows, one for each level (document 02, R-12). As none is below its bound, the first is not 0 then; without windows each is 0
+unfoldable pub windowed : Link → Bool
+windowed l = ltb 0 (getD (l .windows) 0 0)
+
+-- n windows, "d at most w, w at most 32,768"; past the n-th each is 0
+abbrev pub windows-from : ℕ → List ℕ → List ℕ → Bool
+windows-from zero ds [] = true
+windows-from zero ds (w ∷ ws) = eqb w 0 && windows-from zero ds ws
+windows-from (suc n) ds [] = false
+windows-from (suc n) [] (w ∷ ws) = false
+windows-from (suc n) (d ∷ ds) (w ∷ ws) = leb d w && (leb w max-level-window && windows-from n ds ws)
+
+-- one for each level, or none
+unfoldable pub windows-within : Link → Bool
+windows-within l = windows-from (cond (windowed l) (l .levels) 0) (l .bounds) (l .windows)
+
 -- Link: 1 to 8 levels, S from 1 to its limit, a silence up to its own, the stand-by queue 0 or 1, off or on (document 02, R-11), the first bound at least S plus
--- the silence
+-- the silence; and its windows, if it has them
 unfoldable pub link-within : Link → Bool
 link-within l =
     within 1 max-levels (l .levels)
-    && (within 1 max-largest (l .largest) && (leb (l .silence) max-silence && (leb (l .early) 1 && rising (cost l (l .largest)) (l .levels) (l .bounds))))
+    && (within 1 max-largest (l .largest)
+    && (leb (l .silence) max-silence && (leb (l .early) 1 && (rising (cost l (l .largest)) (l .levels) (l .bounds) && windows-within l))))
 
 -- Connection: level 1 to n
 unfoldable pub level-within : Link → Connection → Bool
@@ -80,9 +97,26 @@ abbrev pub bound : Link → ℕ → ℕ
 bound l zero = 0
 bound l (suc m) = getD (l .bounds) m 0
 
+-- its window w; d on a link without windows (document 02, R-12)
+abbrev pub own-window : Link → ℕ → ℕ
+own-window l zero = 0
+own-window l (suc m) = getD (l .windows) m 0
+
+unfoldable pub window : Link → ℕ → ℕ
+window l m = cond (windowed l) (own-window l m) (bound l m)
+
 -- the largest bound: the last one
 abbrev pub largest-bound : Link → ℕ
 largest-bound l = bound l (l .levels)
+
+-- the largest window: any one may be it
+abbrev pub largest-of : List ℕ → ℕ
+largest-of [] = 0
+largest-of (w ∷ ws) = max w (largest-of ws)
+
+-- how long a closed connection is charged past its last eligibility (document 02, R-8): the largest d; on a link with windows "the largest d plus the largest w" (R-12)
+unfoldable pub charge-time : Link → ℕ
+charge-time l = cond (windowed l) (largest-bound l + largest-of (l .windows)) (largest-bound l)
 
 -- w divided by x, rounded up
 abbrev pub rounded-up : ℕ → ℕ → ℕ
@@ -125,19 +159,50 @@ ahead l c = cond (goes-early l c) (some (distance l c)) none
 
 -- ---- "The level test"
 
--- over all connections of levels 1 to m, the count within d times size
+-- b over all connections of levels 1 to m, added up: the count within a window times size, each packet with its silence. The window by the connection's level
+abbrev pub load-by : Link → List Connection → ℕ → (ℕ → ℕ) → ℕ
+load-by l cs m w = sum (length cs) (λ c. upto (nth cs c .level) m (count (nth cs c) (w (nth cs c .level)) * cost l (nth cs c .size)))
+
+-- .. within one window for all of them
 abbrev pub load : Link → List Connection → ℕ → ℕ → ℕ
-load l cs m d = sum (length cs) (λ c. upto (nth cs c .level) m (count (nth cs c) d * cost l (nth cs c .size)))
+load l cs m w = load-by l cs m (λ _. w)
 
--- .. add S, which costs the line as any packet does
-unfoldable pub level-sum : Link → List Connection → ℕ → ℕ
-level-sum l cs m = load l cs m (bound l m) + cost l (l .largest)
+-- the conditions of level m, in their order (document 02, R-12; source document 001, equation 6): number 0 is the w condition, number β + 1 that of β, "for every β
+-- from 0 to w - 1". A link without windows has but number 0, with d for w: document 01's test
+unfoldable pub conditions : Link → ℕ → ℕ
+conditions l m = cond (windowed l) (suc (window l m)) 1
 
--- the lowest level whose sum is above its bound, and by how many units (document 02, R-2): the k levels from m on
+-- the window in which a connection of level v is counted: w at every level; for β it is β + 1 at level m, and "the smaller of d + β and w" at the more urgent ones
+abbrev pub span : Link → ℕ → ℕ → ℕ → ℕ
+span l m zero v = window l m
+span l m (suc β) v = cond (eqb v m) (suc β) (min (bound l m + β) (window l m))
+
+-- what the sum may reach: w, for β d + β
+abbrev pub limit-at : Link → ℕ → ℕ → ℕ
+limit-at l m zero = window l m
+limit-at l m (suc β) = bound l m + β
+
+-- the sum, with S added, which costs the line as any packet does
+unfoldable pub level-sum : Link → List Connection → ℕ → ℕ → ℕ
+level-sum l cs m i = load-by l cs m (span l m i) + cost l (l .largest)
+
+-- every condition of level m holds
+abbrev pub Level-holds : Link → List Connection → ℕ → Type 0
+Level-holds l cs m = (i : ℕ) → i < conditions l m → level-sum l cs m i ≤ limit-at l m i
+
+-- its first excess, among the n conditions from number i on: the units by which the first that fails is over; 0 where none does
+abbrev pub excess-from : Link → List Connection → ℕ → ℕ → ℕ → ℕ
+excess-from l cs m i zero = 0
+excess-from l cs m i (suc n) =
+    cond (leb (level-sum l cs m i) (limit-at l m i)) (excess-from l cs m (suc i) n) (level-sum l cs m i - limit-at l m i)
+
+unfoldable pub excess : Link → List Connection → ℕ → ℕ
+excess l cs m = excess-from l cs m 0 (conditions l m)
+
+-- "the first failing level and its first excess, the w condition first, then β upward" (document 02, R-2 and R-12): the k levels from m on
 abbrev pub short-from : Link → List Connection → ℕ → ℕ → Short
 short-from l cs m zero = no-short
-short-from l cs m (suc k) =
-    cond (leb (level-sum l cs m) (bound l m)) (short-from l cs (suc m) k) (record { level = m; units = level-sum l cs m - bound l m })
+short-from l cs m (suc k) = cond (eqb (excess l cs m) 0) (short-from l cs (suc m) k) (record { level = m; units = excess l cs m })
 
 -- every level 1 to n
 unfoldable pub level-test : Link → List Connection → Short

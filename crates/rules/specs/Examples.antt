@@ -7,7 +7,7 @@ use mathlib.Core.Option.{none, some}
 use lib.ListN.{length, replicate, set}
 use Rattle.rules.specs.Words.{first-number}
 use Rattle.rules.specs.Limits.{max-remembered}
-use Rattle.rules.specs.Model.{Connection, Past, State, Call, link, admit, offer, notice, close, tick, Short, no-short, no-connection, no-past, fresh, past, figures, with-link, with-connections, with-closed, with-held}
+use Rattle.rules.specs.Model.{Connection, Past, State, Call, link, admit, offer, notice, close, tick, Short, no-short, no-windows, no-connection, no-past, fresh, past, figures, with-link, with-connections, with-closed, with-held}
 use Rattle.rules.specs.Admission.{joining, reservation, level-sum}
 use Rattle.rules.specs.Service.{remember-all, Spaced, eligibilities}
 use Rattle.rules.specs.SoundState.{in-order, departed-of, Beyond}
@@ -15,7 +15,8 @@ use Rattle.rules.specs.Calls.{causes, placed, answer}
 use Rattle.rules.specs.Runs.{Departure, History, run-from, run, own-departures, Exchange, exchanges}
 use Rattle.rules.specs.TwoHubs.{Follows, Carries, asked-of}
 
--- what is seen of a call: its verdict, its number, which level was short and by how many units, and for an admission the level sums with the newcomer counted and its reservation;
+-- what is seen of a call: its verdict, its number, which level was short and by how many units, and for an admission the level sums with the newcomer counted, within d or
+-- within w where the link has windows, and its reservation;
 -- and the finishes once so many ticks have followed
 pub record Seen : Type 0 where
   pub verdict : ℕ
@@ -34,7 +35,7 @@ pub record Case : Type 0 where
 
 abbrev pub sums-at : State → Call → List ℕ
 sums-at s (link l) = []
-sums-at s (admit x) = level-sum (s .link) (joining (s .connections) x) 1 ∷ level-sum (s .link) (joining (s .connections) x) 2 ∷ []
+sums-at s (admit x) = level-sum (s .link) (joining (s .connections) x) 1 0 ∷ level-sum (s .link) (joining (s .connections) x) 2 0 ∷ []
 sums-at s (offer c len tag st) = []
 sums-at s (notice len tag) = []
 sums-at s (close c) = []
@@ -62,7 +63,7 @@ seen x =
 
 -- Link A: S 4, bounds 10, 20
 abbrev pub link-a : Call
-link-a = link (record { levels = 2; largest = 4; silence = 0; early = 0; bounds = 10 ∷ 20 ∷ 0 ∷ 0 ∷ 0 ∷ 0 ∷ 0 ∷ 0 ∷ [] })
+link-a = link (record { levels = 2; largest = 4; silence = 0; early = 0; bounds = 10 ∷ 20 ∷ 0 ∷ 0 ∷ 0 ∷ 0 ∷ 0 ∷ 0 ∷ []; windows = no-windows })
 
 -- an admission with level, gap and size
 abbrev pub line : ℕ → ℕ → ℕ → Call
@@ -126,7 +127,7 @@ table =
 -- document 02, R-2: a bound that is longer by the units lengthens the window too, so a level can fail again. A line of gap 1 and size 1 on a link with S 1:
 -- with bound 4 one unit is missing, and with bound 5 one is missing again
 abbrev pub one-level : ℕ → Call
-one-level d = link (record { levels = 1; largest = 1; silence = 0; early = 0; bounds = d ∷ 0 ∷ 0 ∷ 0 ∷ 0 ∷ 0 ∷ 0 ∷ 0 ∷ [] })
+one-level d = link (record { levels = 1; largest = 1; silence = 0; early = 0; bounds = d ∷ 0 ∷ 0 ∷ 0 ∷ 0 ∷ 0 ∷ 0 ∷ 0 ∷ []; windows = no-windows })
 
 abbrev pub longer-bound : List Case
 longer-bound =
@@ -142,7 +143,7 @@ Worked-examples = map seen table ≡ map (λ (x : Case). x .expected) table
 
 -- document 02, R-4: a link with S 4, a silence and two bounds, the second longer by 12. With a silence of 2 a packet of 4 units takes the line for 6 ticks
 abbrev pub link-with-silence : ℕ → ℕ → Call
-link-with-silence silence bound = link (record { levels = 2; largest = 4; silence = silence; early = 0; bounds = bound ∷ (bound + 12) ∷ 0 ∷ 0 ∷ 0 ∷ 0 ∷ 0 ∷ 0 ∷ [] })
+link-with-silence silence bound = link (record { levels = 2; largest = 4; silence = silence; early = 0; bounds = bound ∷ (bound + 12) ∷ 0 ∷ 0 ∷ 0 ∷ 0 ∷ 0 ∷ 0 ∷ []; windows = no-windows })
 
 abbrev pub two-lines : List Call
 two-lines = link-with-silence 2 12 ∷ line 1 12 4 ∷ line 2 24 4 ∷ []
@@ -247,7 +248,7 @@ abbrev pub left-too-early : State
 left-too-early =
     with-held
     (with-connections
-    (with-link fresh (record { levels = 1; largest = 1; silence = 0; early = 0; bounds = 72 ∷ replicate 7 0 }))
+    (with-link fresh (record { levels = 1; largest = 1; silence = 0; early = 0; bounds = 72 ∷ replicate 7 0; windows = no-windows }))
     (set (fresh .connections) 0 (record { level = 1; gap = 2; size = 1; window = 4; average = 4; kind = 0; allowance = 0 }))
     (set (fresh .pasts) 0 (160 ∷ 156 ∷ 152 ∷ 148 ∷ 144 ∷ 140 ∷ 136 ∷ 132 ∷ 128 ∷ 124 ∷ 120 ∷ 116 ∷ 112 ∷ 108 ∷ 104 ∷ 100 ∷ [])))
     (record { connection = 0; len = 1; tag = 71; arrival = 0; eligibility = 160 } ∷ [])
@@ -309,7 +310,7 @@ Worked-closings = map seen closings ≡ map (λ (x : Case). x .expected) closing
 -- packet has left at 5
 abbrev pub before-early : List Call
 before-early =
-    link (record { levels = 2; largest = 2; silence = 0; early = 0; bounds = 4 ∷ 5 ∷ 0 ∷ 0 ∷ 0 ∷ 0 ∷ 0 ∷ 0 ∷ [] })
+    link (record { levels = 2; largest = 2; silence = 0; early = 0; bounds = 4 ∷ 5 ∷ 0 ∷ 0 ∷ 0 ∷ 0 ∷ 0 ∷ 0 ∷ []; windows = no-windows })
     ∷ notice 2 70 ∷ tick ∷ line 1 6 2 ∷ offer 0 2 71 none ∷ line 2 9 1 ∷ offer 1 1 72 none ∷ tick ∷ tick ∷ tick ∷ close 0 ∷ []
 
 -- number 0 is freed, whatever the clock
@@ -392,7 +393,7 @@ A-broken-gap-can-be-told-apart =
 -- packet still waits, and it gets 12
 abbrev pub stamps-broken-calls : List Call → List Call
 stamps-broken-calls others =
-    link (record { levels = 2; largest = 2; silence = 0; early = 0; bounds = 4 ∷ 8 ∷ 0 ∷ 0 ∷ 0 ∷ 0 ∷ 0 ∷ 0 ∷ [] })
+    link (record { levels = 2; largest = 2; silence = 0; early = 0; bounds = 4 ∷ 8 ∷ 0 ∷ 0 ∷ 0 ∷ 0 ∷ 0 ∷ 0 ∷ []; windows = no-windows })
     ∷ admit (record { level = 1; gap = 4; size = 1; window = 0; average = 0; kind = 1; allowance = 4 }) ∷ line 2 8 2
     ∷ replicate 9 tick ++ others ++ tick ∷ offer 0 1 72 (some 6) ∷ offer 0 1 73 (some 10) ∷ tick ∷ offer 0 1 74 (some 12) ∷ []
 
@@ -426,7 +427,7 @@ A-row-of-two =
 
 -- document 02, R-11: link A with the stand-by queue on, 1, or off, 0
 abbrev pub link-early : ℕ → Call
-link-early early = link (record { levels = 2; largest = 4; silence = 0; early = early; bounds = 10 ∷ 20 ∷ 0 ∷ 0 ∷ 0 ∷ 0 ∷ 0 ∷ 0 ∷ [] })
+link-early early = link (record { levels = 2; largest = 4; silence = 0; early = early; bounds = 10 ∷ 20 ∷ 0 ∷ 0 ∷ 0 ∷ 0 ∷ 0 ∷ 0 ∷ []; windows = no-windows })
 
 -- a line of gap 10 and reservation 1 has sent at 0, and its packet has left at 4
 abbrev pub sent-once : ℕ → List Call
@@ -439,7 +440,7 @@ sent-twice early = sent-once early ++ offer 0 4 72 none ∷ []
 -- S 1 and bound 4: a line of gap 4 has sent at 0 and at 1; its second packet, eligible at 4, has left at 2
 abbrev pub early-hub-1 : List Call
 early-hub-1 =
-    link (record { levels = 1; largest = 1; silence = 0; early = 1; bounds = 4 ∷ 0 ∷ 0 ∷ 0 ∷ 0 ∷ 0 ∷ 0 ∷ 0 ∷ [] })
+    link (record { levels = 1; largest = 1; silence = 0; early = 1; bounds = 4 ∷ 0 ∷ 0 ∷ 0 ∷ 0 ∷ 0 ∷ 0 ∷ 0 ∷ []; windows = no-windows })
     ∷ line 1 4 1 ∷ offer 0 1 71 none ∷ tick ∷ offer 0 1 72 none ∷ tick ∷ []
 
 abbrev pub admission-after-early : List Call → Call → ℕ → List ℕ → Case
@@ -484,7 +485,7 @@ Worked-stand-by = map seen early-departures ≡ map (λ (x : Case). x .expected)
 
 -- "verdict 1 follows it": at 8 the second packet has left two ticks before its eligibility. This state is sound where the queue is on, and would not be where it is off
 abbrev pub turned-off : State → State
-turned-off s = with-link s (record { levels = s .link .levels; largest = s .link .largest; silence = s .link .silence; early = 0; bounds = s .link .bounds })
+turned-off s = with-link s (record { levels = s .link .levels; largest = s .link .largest; silence = s .link .silence; early = 0; bounds = s .link .bounds; windows = s .link .windows })
 
 abbrev pub Verdict-1-by-the-setting : Type 0
 Verdict-1-by-the-setting =

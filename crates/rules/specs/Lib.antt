@@ -1,8 +1,9 @@
--- Read in this order: Words, Limits, Model, Admission, Service, SoundState, SoundTest, Calls, Runs, WithoutAverage, WithoutStandBy, Promises, TwoHubs, Examples, WorkedLimits.
+-- Read in this order: Words, Limits, Model, Admission, QuickTest, Service, SoundState, SoundTest, Calls, Runs, WithoutAverage, WithoutStandBy, WithoutWindows, Promises, TwoHubs, Examples, WorkedLimits, WorkedWindows.
 pub mod Words
 pub mod Limits
 pub mod Model
 pub mod Admission
+pub mod QuickTest
 pub mod Service
 pub mod SoundState
 pub mod SoundTest
@@ -10,7 +11,9 @@ pub mod Calls
 pub mod Runs
 pub mod WithoutAverage
 pub mod WithoutStandBy
+pub mod WithoutWindows
 pub mod Promises
 pub mod TwoHubs
 pub mod Examples
 pub mod WorkedLimits
+pub mod WorkedWindows

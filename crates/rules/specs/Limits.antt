@@ -11,6 +11,10 @@ max-largest = 2_048
 abbrev pub max-bound : ℕ
 max-bound = 32_768
 
+-- document 02, R-12: ticks of a level's window
+abbrev pub max-level-window : ℕ
+max-level-window = 32_768
+
 abbrev pub max-gap : ℕ
 max-gap = 65_535
 

@@ -1,5 +1,5 @@
 -- What the rules speak of: the state of a hub, the calls on it and their answers. Document 01, "Link, connections, places"; document 02, R-1,
--- R-2, R-4, R-6, R-8, R-9 and R-11.
+-- R-2, R-4, R-6, R-8, R-9, R-11 and R-12.
 use Prim.Native.Nat.{ℕ}
 use mathlib.Core.Bool.{Bool, false}
 use mathlib.Core.List.{List, [], _∷_}
@@ -55,8 +55,12 @@ pub record Answer : Type 0 where
   pub departed : Option Packet
   pub next : State
 
+-- what a link without windows has for them (document 02, R-12)
+abbrev pub no-windows : List ℕ
+no-windows = replicate max-levels 0
+
 abbrev pub no-link : Link
-no-link = record { levels = 0; largest = 0; silence = 0; early = 0; bounds = replicate max-levels 0 }
+no-link = record { levels = 0; largest = 0; silence = 0; early = 0; bounds = replicate max-levels 0; windows = no-windows }
 
 abbrev pub no-connection : Connection
 no-connection = record { level = 0; gap = 0; size = 0; window = 0; average = 0; kind = 0; allowance = 0 }

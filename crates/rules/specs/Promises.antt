@@ -1,22 +1,24 @@
 -- THE STATEMENTS, apart from their proofs: each is proved in proofs/Results under the same name in small letters.
-use Prim.Native.Nat.{ℕ, zero, suc, _+_, _*_, _-_, _≤_, _<_}
+use Prim.Native.Nat.{ℕ, zero, suc, _+_, _*_, _-_, _≤_, _<_, min}
 use mathlib.Core.Path.{_≡_}
 use mathlib.Core.Bool.{Bool, true, false, cond, _&&_}
 use mathlib.Core.Logic.{_⊎_, _↔_}
 use mathlib.Core.List.{List, [], _∷_, _++_, map}
 use mathlib.Core.Option.{Option, none, some}
-use lib.Dec.{leb}
+use lib.Dec.{leb, eqb}
 use lib.ListN.{length, getElem?, drop}
 use Rattle.rules.specs.Words.{within, upto, sum, first-number, All}
-use Rattle.rules.specs.Limits.{max-levels, max-largest, max-silence, max-bound, max-allowance, max-connections, max-reserved, clock-end, beyond-32-bits, max-notices, notice-number}
-use Rattle.rules.specs.Model.{Link, Connection, Past, Packet, State, Call, link, admit, offer, notice, close, tick, Short, no-short, Answer, fresh, no-past, nth, past, figures, closed-at, with-clock, with-line}
-use Rattle.rules.specs.Admission.{rising, cost, link-within, level-within, burst, stamped, average-within, figures-within, owned, stands, joining, bound, largest-bound, rounded-up, count, reservation, reserved, stand-by-on, distance, ahead, level-sum, level-test}
+use Rattle.rules.specs.Limits.{max-levels, max-largest, max-silence, max-bound, max-level-window, max-allowance, max-connections, max-reserved, clock-end, beyond-32-bits, max-notices, notice-number}
+use Rattle.rules.specs.Model.{Link, Connection, Past, Packet, State, Call, link, admit, offer, notice, close, tick, Short, no-short, Answer, no-windows, fresh, no-past, nth, past, figures, closed-at, with-clock, with-line}
+use Rattle.rules.specs.Admission.{rising, cost, link-within, level-within, burst, stamped, average-within, figures-within, owned, stands, joining, windowed, windows-within, window, bound, largest-bound, charge-time, rounded-up, count, reservation, reserved, stand-by-on, distance, ahead, conditions, span, limit-at, level-sum, Level-holds, excess-from, excess, level-test}
+use Rattle.rules.specs.QuickTest.{quick-holds, quick-excess, quick-test}
 use Rattle.rules.specs.Service.{nth-before, next-eligibility, suits, untimely-by, Spaced, of, eligibilities, first, stand-by, line-after-start, started, tick-answer, ticked, charge-over}
 use Rattle.rules.specs.SoundState.{Queue, In-service, Sound}
 use Rattle.rules.specs.SoundTest.{latest-by-gap, latest, sound}
 use Rattle.rules.specs.Calls.{heard, answer, refused-number, eligibility-now, packet}
 use Rattle.rules.specs.WithoutAverage.{Plain, Apart, in-ticks, base-figures-within, base-count, base-eligibility, Base-spaced, Base-queue, Memory-kept}
 use Rattle.rules.specs.WithoutStandBy.{only-link-within, only-start, Only-queue, Only-in-service, only-verdicts}
+use Rattle.rules.specs.WithoutWindows.{bounds-link-within, bounds-sum, bounds-test, bounds-verdicts}
 use Rattle.rules.specs.Runs.{History, run, departures, in-hub, bound-of, sender-bounds, allowed, Keeps-its-word, Exchange, exchanges, own-answer, own-stamp-answers}
 
 -- ---- demand 1: any call on any state ends with an answer or a numbered refusal (`answer` is a function); a refused call changes nothing
@@ -78,7 +80,7 @@ Eligibilities-fit =
 
 -- .. and so does each time at which a charge can end (document 02, R-8)
 abbrev pub Charges-fit : Type 0
-Charges-fit = (s : State) → Sound s → (c : ℕ) → All (λ e. e + largest-bound (s .link) < beyond-32-bits) (past s c)
+Charges-fit = (s : State) → Sound s → (c : ℕ) → All (λ e. e + charge-time (s .link) < beyond-32-bits) (past s c)
 
 -- .. and the farthest eligibility that may be given while the stand-by queue is on (document 02, R-11)
 abbrev pub Distances-fit : Type 0
@@ -86,16 +88,24 @@ Distances-fit = (s : State) → Sound s → (c : ℕ) → s .clock + distance (s
 
 -- ---- which level was short (document 02, R-2)
 
--- level t .level of link l fails with connections cs, every lower-numbered one holds, and the units are exactly sum plus S less d there
+-- condition `which` of level m is the first that fails, the w condition first, then β upward (document 02, R-12), and it does by exactly u units: sum plus S less its
+-- limit. On a link without windows there is but the first, with the sum of document 01 and the limit d (`Without-windows`)
+pub record First-excess (l : Link) (cs : List Connection) (m u : ℕ) : Type 0 where
+  pub which : ℕ
+  pub is-condition : which < conditions l m
+  pub fails : limit-at l m which < level-sum l cs m which
+  pub earlier-hold : (i : ℕ) → i < which → level-sum l cs m i ≤ limit-at l m i
+  pub units-are : u ≡ level-sum l cs m which - limit-at l m which
+
+-- level t .level of link l fails with connections cs, every lower-numbered one holds, and the units are its first excess
 pub record Names-the-lowest (l : Link) (cs : List Connection) (t : Short) : Type 0 where
   pub is-level : (1 ≤ t .level) × (t .level ≤ l .levels)
-  pub fails : bound l (t .level) < level-sum l cs (t .level)
-  pub lower-hold : (m : ℕ) → 1 ≤ m → m < t .level → level-sum l cs m ≤ bound l m
-  pub units-are : t .units ≡ level-sum l cs (t .level) - bound l (t .level)
+  pub lower-hold : (m : ℕ) → 1 ≤ m → m < t .level → Level-holds l cs m
+  pub first-excess : First-excess l cs (t .level) (t .units)
 
 -- every level holds
 abbrev pub No-level-fails : Link → List Connection → Type 0
-No-level-fails l cs = (m : ℕ) → 1 ≤ m → m ≤ l .levels → level-sum l cs m ≤ bound l m
+No-level-fails l cs = (m : ℕ) → 1 ≤ m → m ≤ l .levels → Level-holds l cs m
 
 -- the level test names the lowest failing level; level and units are 0 exactly where none fails
 abbrev pub Level-test-tells : Type 0
@@ -113,36 +123,115 @@ Short-is-told =
     × ((x : Connection) → k ≡ admit x → answer k s .verdict ≡ 8
     → (answer k s .short ≡ level-test (s .link) (joining (s .connections) x)) × Names-the-lowest (s .link) (joining (s .connections) x) (answer k s .short))
 
--- the units are what the technician is short of: that level's sum stays within its bound and v units more exactly if v is at least the units.
--- (A larger bound would lengthen the window too: `Examples`, `longer-bound`)
+-- the units are what the technician is short of: the sum of the condition that failed stays within its limit and v units more exactly if v is at least the units.
+-- (On a link without windows a larger bound would lengthen the window too: `Examples`, `longer-bound`)
 abbrev pub Units-are-missing : Type 0
 Units-are-missing =
     (x : Connection) (s : State) (v : ℕ)
     → answer (admit x) s .verdict ≡ 8
-    → level-sum (s .link) (joining (s .connections) x) (answer (admit x) s .short .level) ≤ bound (s .link) (answer (admit x) s .short .level) + v
+    → (F : First-excess (s .link) (joining (s .connections) x) (answer (admit x) s .short .level) (answer (admit x) s .short .units))
+    → level-sum (s .link) (joining (s .connections) x) (answer (admit x) s .short .level) (F .which) ≤ limit-at (s .link) (answer (admit x) s .short .level) (F .which) + v
     ↔ answer (admit x) s .short .units ≤ v
 
--- the units are at most the newcomer's own term in that level's sum, and so at most 69,206,016: four bytes hold them
-abbrev pub own-term : Link → Connection → ℕ → ℕ
-own-term l x m = count x (bound l m) * cost l (x .size)
+-- the units are at most the newcomer's own term in the sum of the condition that failed, and so at most 69,206,016: four bytes hold them
+abbrev pub own-term : Link → Connection → ℕ → ℕ → ℕ
+own-term l x m i = count x (span l m i (x .level)) * cost l (x .size)
 
 abbrev pub Units-fit : Type 0
 Units-fit =
     (x : Connection) (s : State)
     → answer (admit x) s .verdict ≡ 8
-    → (answer (admit x) s .short .units ≤ own-term (s .link) x (answer (admit x) s .short .level))
-    × (answer (admit x) s .short .units ≤ max-bound * (max-largest + max-silence))
+    → ((F : First-excess (s .link) (joining (s .connections) x) (answer (admit x) s .short .level) (answer (admit x) s .short .units))
+    → answer (admit x) s .short .units ≤ own-term (s .link) x (answer (admit x) s .short .level) (F .which))
+    × (answer (admit x) s .short .units ≤ max-level-window * (max-largest + max-silence))
 
--- over any connections within the limits, as many as may stand, whether they pass the tests or not (document 02, R-7): a level's sum is at most 13,841,205,312, which
--- is within 34 bits, and all reservations together are at most 19,660,600
+-- over any connections within the limits, as many as may stand, whether they pass the tests or not (document 02, R-7): the sum of each condition of a level is at
+-- most 13,841,205,312, which is within 34 bits, and all reservations together are at most 19,660,600
 abbrev pub Sums-fit : Type 0
 Sums-fit =
     (l : Link) (cs : List Connection)
     → link-within l ≡ true
     → length cs ≤ max-connections
     → ((c : ℕ) → c < length cs → (level-within l (nth cs c) ≡ true) × (figures-within l (nth cs c) ≡ true))
-    → ((m : ℕ) → 1 ≤ m → m ≤ l .levels → level-sum l cs m ≤ max-connections * (max-bound * (max-largest + max-silence)) + (max-largest + max-silence))
+    → ((m : ℕ) → 1 ≤ m → m ≤ l .levels → (i : ℕ) → i < conditions l m
+    → level-sum l cs m i ≤ max-connections * (max-level-window * (max-largest + max-silence)) + (max-largest + max-silence))
     × (reserved l cs ≤ max-connections * (max-allowance + max-bound))
+
+-- ---- the finer test (document 02, R-12)
+
+-- b of a connection within w ticks, "the window count of R-6 times the sum of size and silence"; added up over levels 1 to m, over level m alone, and over the more
+-- urgent levels
+abbrev pub b-of : Link → Connection → ℕ → ℕ
+b-of l x w = count x w * cost l (x .size)
+
+abbrev pub b-up-to : Link → List Connection → ℕ → ℕ → ℕ
+b-up-to l cs m w = sum (length cs) (λ c. upto (nth cs c .level) m (b-of l (nth cs c) w))
+
+abbrev pub b-at : Link → List Connection → ℕ → ℕ → ℕ
+b-at l cs m w = sum (length cs) (λ c. cond (eqb (nth cs c .level) m) (b-of l (nth cs c) w) 0)
+
+abbrev pub b-before : Link → List Connection → ℕ → ℕ → ℕ
+b-before l cs m w = sum (length cs) (λ c. upto (suc (nth cs c .level)) m (b-of l (nth cs c) w))
+
+-- "accept at level m exactly if S plus the sum of b(w) over levels 1 to m is at most w, and for every β from 0 to w - 1, S plus the sum of b(β + 1) over level m plus the
+-- sum of b over the more urgent levels, for the smaller of d + β and w, is at most d + β"; S with its silence
+pub record Accepts-at (l : Link) (cs : List Connection) (m : ℕ) : Type 0 where
+  pub within-w : cost l (l .largest) + b-up-to l cs m (window l m) ≤ window l m
+  pub for-every-β : (β : ℕ) → β < window l m
+      → cost l (l .largest) + b-at l cs m (suc β) + b-before l cs m (min (bound l m + β) (window l m)) ≤ bound l m + β
+
+-- on a link with windows this is what the conditions of a level say
+abbrev pub Finer-test-says : Type 0
+Finer-test-says = (l : Link) (cs : List Connection) (m : ℕ) → windowed l ≡ true → Level-holds l cs m ↔ Accepts-at l cs m
+
+-- "with every w equal to its d the verdicts are the old test's": level and units, whatever the connections; so is the verdict of an admission on any state, and what is
+-- told with 8
+abbrev pub At-the-bounds : Link → Type 0
+At-the-bounds l = (m : ℕ) → 1 ≤ m → m ≤ l .levels → window l m ≡ bound l m
+
+abbrev pub Windows-at-the-bounds : Type 0
+Windows-at-the-bounds =
+    ((l : Link) (cs : List Connection) → At-the-bounds l → level-test l cs ≡ bounds-test l cs)
+    × ((s : State) (x : Connection) → At-the-bounds (s .link)
+    → (answer (admit x) s .verdict ≡ first-number (bounds-verdicts x s))
+    × (answer (admit x) s .verdict ≡ 8 → answer (admit x) s .short ≡ bounds-test (s .link) (joining (s .connections) x)))
+
+-- on a link without windows all is as it was: a level has one condition, document 01's sum is at most d; the test says what it said, and R-8's charge is the one
+-- that it was
+pub record As-without-windows (l : Link) : Type 0 where
+  pub one-condition : (m : ℕ) → conditions l m ≡ 1
+  pub sum-is : (cs : List Connection) (m : ℕ) → level-sum l cs m 0 ≡ bounds-sum l cs m
+  pub limit-is : (m : ℕ) → limit-at l m 0 ≡ bound l m
+  pub test-is : (cs : List Connection) → level-test l cs ≡ bounds-test l cs
+  pub charge-is : charge-time l ≡ largest-bound l
+
+-- .. and one whose windows are all 0 has none, with the limits that it had
+abbrev pub Without-windows : Type 0
+Without-windows =
+    ((l : Link) → l .windows ≡ no-windows → (windowed l ≡ false) × (link-within l ≡ bounds-link-within l))
+    × ((l : Link) → windowed l ≡ false → As-without-windows l)
+
+-- β from w - d on never decides: the w condition and those of β below w - d give the first excess, whatever the link and the connections
+abbrev pub Late-betas-never-decide : Type 0
+Late-betas-never-decide = (l : Link) (cs : List Connection) (m : ℕ) → excess l cs m ≡ excess-from l cs m 0 (suc (window l m - bound l m))
+
+-- nor does a β with the sum of a smaller one that holds: only those decide at which some count rises
+abbrev pub Flat-betas-never-decide : Type 0
+Flat-betas-never-decide =
+    (l : Link) (cs : List Connection) (m β k n : ℕ)
+    → ((j : ℕ) → j ≤ k → level-sum l cs m (suc (β + j)) ≡ level-sum l cs m (suc β))
+    → level-sum l cs m (suc β) ≤ limit-at l m (suc β)
+    → excess-from l cs m (suc β) (suc k + n) ≡ excess-from l cs m (suc (β + suc k)) n
+
+-- the quick test (QuickTest) says what the level test says: whether a level holds, its first excess, and the first failing level
+abbrev pub Quick-holds-exactly : Type 0
+Quick-holds-exactly = (l : Link) (cs : List Connection) (m : ℕ) → quick-holds l cs m ≡ true ↔ Level-holds l cs m
+
+abbrev pub Quick-excess-is-exact : Type 0
+Quick-excess-is-exact = (l : Link) (cs : List Connection) (m : ℕ) → quick-excess l cs m ≡ excess l cs m
+
+abbrev pub Quick-test-is-exact : Type 0
+Quick-test-is-exact = (l : Link) (cs : List Connection) → quick-test l cs ≡ level-test l cs
 
 -- an answer's numbers fit the fields of its record (document 01, "Trace and answer records"), whatever the call: one byte of verdict and of level, one of a connection's
 -- number, four of units, of an eligibility, of an arrival and of a finish, which is the clock then. A departed packet's tag is as it was offered (`Conservation`)
@@ -282,9 +371,11 @@ Counted =
 -- silence runs. First its formulas, each written out once
 
 -- "Link, connections, places": 1 to 8 levels, S from 1 to its limit, bounds that rise strictly, the first at least S; the stand-by queue is off or on (document 02,
--- R-11)
+-- R-11), and windows are as R-12 says
 abbrev pub base-within : Link → Bool
-base-within l = within 1 max-levels (l .levels) && (within 1 max-largest (l .largest) && (leb (l .early) 1 && rising (l .largest) (l .levels) (l .bounds)))
+base-within l =
+    within 1 max-levels (l .levels)
+    && (within 1 max-largest (l .largest) && (leb (l .early) 1 && (rising (l .largest) (l .levels) (l .bounds) && windows-within l)))
 
 -- "The level test": over all connections of levels 1 to m, d divided by X, rounded up, times size; add S
 abbrev pub base-sum : Link → List Connection → ℕ → ℕ
@@ -296,12 +387,12 @@ base-short l cs m zero = no-short
 base-short l cs m (suc k) =
     cond (leb (base-sum l cs m) (bound l m)) (base-short l cs (suc m) k) (record { level = m; units = base-sum l cs m - bound l m })
 
--- a packet takes the line for its length; the link's limits and the level test, its sums, its level and its units, are these
+-- a packet takes the line for its length; the link's limits are these, and, without windows, the level test, its sums, its level and its units
 pub record As-in-the-base (l : Link) : Type 0 where
   pub cost-is : (len : ℕ) → cost l len ≡ len
   pub limits-are : link-within l ≡ base-within l
-  pub sum-is : (cs : List Connection) (m : ℕ) → level-sum l cs m ≡ base-sum l cs m
-  pub test-is : (cs : List Connection) → level-test l cs ≡ base-short l cs 1 (l .levels)
+  pub sum-is : windowed l ≡ false → (cs : List Connection) (m : ℕ) → level-sum l cs m 0 ≡ base-sum l cs m
+  pub test-is : windowed l ≡ false → (cs : List Connection) → level-test l cs ≡ base-short l cs 1 (l .levels)
 
 -- in a sound state no silence is still to run, nor after any call on it; and a tick of any state leaves no longer one than it found
 pub record No-silence-runs (s : State) : Type 0 where
@@ -360,26 +451,26 @@ pub record Still-charged (s : State) (c : ℕ) (r : State) : Type 0 where
   pub same-figures : figures r c ≡ figures s c
   pub same-memory : past r c ≡ past s c
 
--- a connection that is closed is freed at once where it never sent or the clock has reached its last eligibility plus the largest bound; else it is charged
+-- a connection that is closed is freed at once where it never sent or the clock has reached its last eligibility plus the charge's time; else it is charged
 abbrev pub Closed-or-freed : Type 0
 Closed-or-freed =
     (c : ℕ) (s : State) → answer (close c) s .verdict ≡ 0
-    → (charge-over (largest-bound (s .link)) (s .clock) (past s c) ≡ true → owned (answer (close c) s .next .connections) c ≡ false)
-    × (charge-over (largest-bound (s .link)) (s .clock) (past s c) ≡ false → Still-charged s c (answer (close c) s .next))
+    → (charge-over (charge-time (s .link)) (s .clock) (past s c) ≡ true → owned (answer (close c) s .next .connections) c ≡ false)
+    × (charge-over (charge-time (s .link)) (s .clock) (past s c) ≡ false → Still-charged s c (answer (close c) s .next))
 
 -- a charged connection is freed by the tick that reaches its time, and by no other
 abbrev pub Freed-by-the-tick : Type 0
 Freed-by-the-tick =
     (c : ℕ) (s : State) → answer tick s .verdict ≡ 0 → closed-at s c ≡ true
-    → (charge-over (largest-bound (s .link)) (s .clock + 1) (past s c) ≡ true → owned (answer tick s .next .connections) c ≡ false)
-    × (charge-over (largest-bound (s .link)) (s .clock + 1) (past s c) ≡ false → Still-charged s c (answer tick s .next))
+    → (charge-over (charge-time (s .link)) (s .clock + 1) (past s c) ≡ true → owned (answer tick s .next .connections) c ≡ false)
+    × (charge-over (charge-time (s .link)) (s .clock + 1) (past s c) ≡ false → Still-charged s c (answer tick s .next))
 
 -- so from the close on, whatever the call: a number is charged as long as the clock has not reached its time, and free once it has
 abbrev pub Charge-lasts : Type 0
 Charge-lasts =
     (k : Call) (s : State) (c : ℕ) → Sound s → closed-at s c ≡ true
-    → (charge-over (largest-bound (s .link)) (answer k s .next .clock) (past s c) ≡ false → Still-charged s c (answer k s .next))
-    × (charge-over (largest-bound (s .link)) (answer k s .next .clock) (past s c) ≡ true → owned (answer k s .next .connections) c ≡ false)
+    → (charge-over (charge-time (s .link)) (answer k s .next .clock) (past s c) ≡ false → Still-charged s c (answer k s .next))
+    × (charge-over (charge-time (s .link)) (answer k s .next .clock) (past s c) ≡ true → owned (answer k s .next .connections) c ≡ false)
 
 -- an admission gives the lowest number n that has no owner, and its new owner starts fresh
 pub record Lowest-free (s : State) (x : Connection) (n : ℕ) (r : State) : Type 0 where
@@ -577,7 +668,7 @@ Quiet-line s =
 
 -- no charge ends with the tick
 abbrev pub Nobody-freed : State → Type 0
-Nobody-freed s = (c : ℕ) → c < max-connections → closed-at s c ≡ true → charge-over (largest-bound (s .link)) (s .clock + 1) (past s c) ≡ false
+Nobody-freed s = (c : ℕ) → c < max-connections → closed-at s c ≡ true → charge-over (charge-time (s .link)) (s .clock + 1) (past s c) ≡ false
 
 -- such a tick moves the clock, and takes a unit or a tick of the silence
 abbrev pub passed-by : State → State

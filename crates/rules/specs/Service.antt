@@ -8,7 +8,7 @@ use lib.ListN.{getElem?, take}
 use Rattle.rules.specs.Words.{tabulate}
 use Rattle.rules.specs.Limits.{max-connections, notice-number, max-remembered}
 use Rattle.rules.specs.Model.{Connection, Past, Packet, Notice, State, Answer, no-short, no-connection, no-past, past, figures, closed-at, notice-packet, with-connections, with-closed, with-clock, with-held, with-notices, with-line}
-use Rattle.rules.specs.Admission.{cost, burst, stamped, goes-early, largest-bound}
+use Rattle.rules.specs.Admission.{cost, burst, charge-time, stamped, goes-early}
 
 -- ---- "Eligibility"
 
@@ -176,14 +176,14 @@ line-left s = cond (eqb (s .to-go) 0) (s .silent) (cost (s .link) (s .to-go))
 
 -- ---- closed connections (document 02, R-8)
 
--- the charge is over: nothing was ever sent, or the clock t has reached the last eligibility plus the largest bound
+-- the charge is over: nothing was ever sent, or the clock t has reached the last eligibility plus its time (`charge-time`)
 abbrev pub charge-over : ℕ → ℕ → Past → Bool
-charge-over bound t [] = true
-charge-over bound t (e ∷ h) = leb (e + bound) t
+charge-over time t [] = true
+charge-over time t (e ∷ h) = leb (e + time) t
 
 -- number c is closed and its charge is over
 unfoldable pub expired : State → ℕ → Bool
-expired s c = closed-at s c && charge-over (largest-bound (s .link)) (s .clock) (past s c)
+expired s c = closed-at s c && charge-over (charge-time (s .link)) (s .clock) (past s c)
 
 -- every such number is freed: nothing is left of its owner
 unfoldable pub swept-connections : State → List Connection

@@ -12,7 +12,7 @@ use lib.ListN.{length, drop}
 use Rattle.rules.specs.Words.{All}
 use Rattle.rules.specs.Limits.{max-connections, max-reserved, clock-end, max-notices, notice-number, max-remembered}
 use Rattle.rules.specs.Model.{Link, Connection, Past, Packet, Notice, State, no-connection, no-past, fresh, nth, past, figures, closed-at, first-notice}
-use Rattle.rules.specs.Admission.{link-within, level-within, figures-within, owned, bound, burst, stamped, reservation, ahead, reserved, level-sum}
+use Rattle.rules.specs.Admission.{link-within, level-within, figures-within, owned, burst, stamped, reservation, ahead, reserved, Level-holds}
 use Rattle.rules.specs.Service.{nth-before, ticks-after, earliest, remember-all, Spaced, of, eligibilities, first, early-at, expired}
 
 -- ---- the held rows, each by itself
@@ -156,7 +156,7 @@ pub record Orderly (s : State) : Type 0 where
   pub one-past-each : length (s .pasts) ≡ max-connections
   pub one-mark-each : length (s .closed) ≡ max-connections
   pub free-blank : (c : ℕ) → c < max-connections → owned (s .connections) c ≡ false → Free-number s c
-  pub tested : (m : ℕ) → 1 ≤ m → m ≤ s .link .levels → level-sum (s .link) (s .connections) m ≤ bound (s .link) m
+  pub tested : (m : ℕ) → 1 ≤ m → m ≤ s .link .levels → Level-holds (s .link) (s .connections) m
   pub reserved-le : reserved (s .link) (s .connections) ≤ max-reserved
   -- the clock is at most its end
   pub clock-le : s .clock ≤ clock-end

@@ -9,14 +9,19 @@ use lib.ListN.{length}
 use Rattle.rules.specs.Words.{within, every, each}
 use Rattle.rules.specs.Limits.{max-levels, max-connections, max-reserved, clock-end, max-notices, notice-number, max-remembered}
 use Rattle.rules.specs.Model.{Link, Connection, Past, Packet, Notice, State, nth, past, figures, closed-at, first-notice}
-use Rattle.rules.specs.Admission.{link-within, level-within, figures-within, owned, largest-bound, burst, stamped, reservation, ahead, reserved, passes}
+use Rattle.rules.specs.Admission.{link-within, level-within, figures-within, owned, charge-time, burst, stamped, reservation, ahead, reserved, passes}
 use Rattle.rules.specs.Service.{nth-before, ticks-after, earliest, remember-all, of, eligibilities, first, early-at, charge-over}
 use Rattle.rules.specs.SoundState.{departed-of, reach, settles, margin}
 
 -- ---- with no link set
 
 abbrev pub all-zero : Link → Bool
-all-zero l = eqb (l .largest) 0 && (eqb (l .silence) 0 && (eqb (l .early) 0 && (eqb (length (l .bounds)) max-levels && each (λ d. eqb d 0) (l .bounds))))
+all-zero l =
+    eqb (l .largest) 0
+    && (eqb (l .silence) 0
+    && (eqb (l .early) 0
+    && ((eqb (length (l .bounds)) max-levels && each (λ d. eqb d 0) (l .bounds))
+    && (eqb (length (l .windows)) max-levels && each (λ w. eqb w 0) (l .windows)))))
 
 -- a free number: everything unused is zero
 abbrev pub blank : Connection → Bool
@@ -127,7 +132,7 @@ queues-sound s =
 
 -- a closed connection holds nothing, and its charge is not over
 abbrev pub closed-sound : State → ℕ → Bool
-closed-sound s c = not (closed-at s c) || (eqb (length (of c (s .held))) 0 && not (charge-over (largest-bound (s .link)) (s .clock) (past s c)))
+closed-sound s c = not (closed-at s c) || (eqb (length (of c (s .held))) 0 && not (charge-over (charge-time (s .link)) (s .clock) (past s c)))
 
 unfoldable pub rows-sound : State → Bool
 rows-sound s =

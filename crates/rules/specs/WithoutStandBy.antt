@@ -9,7 +9,7 @@ use lib.ListN.{length}
 use Rattle.rules.specs.Words.{within, All}
 use Rattle.rules.specs.Limits.{max-levels, max-largest, max-silence, clock-end, notice-number, max-remembered}
 use Rattle.rules.specs.Model.{Link, Connection, Past, Packet, Notice, State, past, figures}
-use Rattle.rules.specs.Admission.{rising, cost, burst, stamped, reservation}
+use Rattle.rules.specs.Admission.{rising, cost, windows-within, burst, stamped, reservation}
 use Rattle.rules.specs.Service.{nth-before, remember-all, Spaced, of, first, untimely-by, chosen}
 use Rattle.rules.specs.SoundState.{in-order, departed-of, Near-by}
 use Rattle.rules.specs.SoundTest.{sound}
@@ -20,7 +20,7 @@ use Rattle.rules.specs.Calls.{heard}
 abbrev pub only-link-within : Link → Bool
 only-link-within l =
     within 1 max-levels (l .levels)
-    && (within 1 max-largest (l .largest) && (leb (l .silence) max-silence && rising (cost l (l .largest)) (l .levels) (l .bounds)))
+    && (within 1 max-largest (l .largest) && (leb (l .silence) max-silence && (rising (cost l (l .largest)) (l .levels) (l .bounds) && windows-within l)))
 
 -- ---- what an idle line takes
 

@@ -7,7 +7,7 @@ use mathlib.Core.List.{List, [], _∷_, _++_, map}
 use mathlib.Core.Option.{none, some}
 use lib.ListN.{length, getD, replicate}
 use Rattle.rules.specs.Limits.{max-levels, max-connections}
-use Rattle.rules.specs.Model.{Link, Connection, Past, Packet, Notice, State, Call, link, admit, offer, notice, close, tick, no-link, no-connection, no-past, fresh, with-closed, with-line}
+use Rattle.rules.specs.Model.{Link, Connection, Past, Packet, Notice, State, Call, link, admit, offer, notice, close, tick, no-link, no-windows, no-connection, no-past, fresh, with-closed, with-line}
 use Rattle.rules.specs.Calls.{answer}
 use Rattle.rules.specs.Runs.{Departure, run-from}
 use Rattle.rules.specs.Examples.{line, average-line, gap-3}
@@ -37,11 +37,11 @@ outcome x = record {
 
 -- levels, S, silence, bounds; 0 behind them
 abbrev pub wire : ℕ → ℕ → ℕ → List ℕ → Link
-wire levels largest silence bounds = record { levels = levels; largest = largest; silence = silence; early = 0; bounds = bounds ++ replicate (max-levels - length bounds) 0 }
+wire levels largest silence bounds = record { levels = levels; largest = largest; silence = silence; early = 0; bounds = bounds ++ replicate (max-levels - length bounds) 0; windows = no-windows }
 
 -- document 02, R-11: S 4, bounds 10, 20, the stand-by queue off, 0, or on, 1
 abbrev pub wire-by : ℕ → Link
-wire-by early = record { levels = 2; largest = 4; silence = 0; early = early; bounds = 10 ∷ 20 ∷ 0 ∷ 0 ∷ 0 ∷ 0 ∷ 0 ∷ 0 ∷ [] }
+wire-by early = record { levels = 2; largest = 4; silence = 0; early = early; bounds = 10 ∷ 20 ∷ 0 ∷ 0 ∷ 0 ∷ 0 ∷ 0 ∷ 0 ∷ []; windows = no-windows }
 
 -- level, gap, size
 abbrev pub connection : ℕ → ℕ → ℕ → Connection

@@ -2,13 +2,14 @@
 
 // Document 01, "Link, connections, places": n levels, the largest packet S, a delay bound for each level, level 1 first. Document 02, R-4: the silence
 // that the line needs after each packet, in ticks. R-11: the stand-by queue, 1 where it is on, 0 where it is off: with nothing else to send, a line whose queue is
-// on sends held packets early.
+// on sends held packets early. R-12: a window for each level; each is 0 where the link has none.
 pub struct Link {
     pub levels: u32,
     pub largest: u32,
     pub silence: u32,
     pub early: u32,
     pub bounds: [u32; 8],
+    pub windows: [u32; 8],
 }
 
 // The same section: a connection as it was admitted. Document 02, R-6: its averaging window and its average gap, both 0 where it has none. R-9: its kind, 0

@@ -9,14 +9,15 @@ use lib.ListN.{length, getD, drop}
 use lib.Dec.{leb}
 use lib.Seq.{drop-length}
 use borrow.Author.Tests.{leb-true, eq-eqb, ne-eqb}
-use Rattle.rules.specs.Limits.{clock-end}
+use Rattle.rules.specs.Limits.{clock-end, beyond-32-bits}
 use Rattle.rules.specs.declared.Packet.{Packet}
 use Rattle.rules.specs.declared.Notice.{Notice}
 use Rattle.rules.specs.Model.{State}
-use Rattle.rules.specs.Admission.{largest-bound}
+use Rattle.rules.specs.Admission.{charge-time}
 use Rattle.rules.specs.Service.{stand-by}
 use Rattle.rules.specs.SoundTest.{sound}
 use Rattle.rules.proofs.Tests.{never}
+use Rattle.rules.proofs.Figures.{charge-le}
 use Rattle.rules.proofs.SoundExact.{exact}
 use Rattle.connections.specs.Members.{first-closed}
 use Rattle.tables.specs.Places.{rows, row-at}
@@ -173,7 +174,10 @@ module _ (s : State) (ok : sound s ≡ true) (left : ℕ) where
     pub clock-in-time : s .clock ≤ clock-end
     clock-in-time = exact s .0 ok .with-one n .orderly .clock-le
 
-    pub some-quiet : (k : ℕ) → k ≡ min (min (min (quiet-for (s .to-go) (s .silent) (s .held) (s .notices) (stand-by s) (s .clock)) (clock-end - s .clock)) (charged-for (first-closed (s .pasts) (s .closed)) (largest-bound (s .link)) (s .clock))) left → k ≡ quiet-ticks left s
+    pub time-fits : charge-time (s .link) < beyond-32-bits
+    time-fits = omega (arith, charge-le (s .link) (exact s .0 ok .with-one n .orderly .link-in))
+
+    pub some-quiet : (k : ℕ) → k ≡ min (min (min (quiet-for (s .to-go) (s .silent) (s .held) (s .notices) (stand-by s) (s .clock)) (clock-end - s .clock)) (charged-for (first-closed (s .pasts) (s .closed)) (charge-time (s .link)) (s .clock))) left → k ≡ quiet-ticks left s
     unfolding quiet-ticks
     some-quiet k e = rw (ok, ne-eqb (s .link .levels) 0 n) e
 
@@ -183,13 +187,13 @@ quiet-room left s e n = rw e (quiets left s (λ z. n (e ∙ z)))
 
 -- ---- the charges
 
-pub no-charge : (first bound clock : ℕ) → first ≡ 0 → clock-end ≡ charged-for first bound clock
-no-charge zero bound clock e = refl
-no-charge (suc f) bound clock e = absurd (omega arith)
+pub no-charge : (first time clock : ℕ) → first ≡ 0 → clock-end ≡ charged-for first time clock
+no-charge zero time clock e = refl
+no-charge (suc f) time clock e = absurd (omega arith)
 
-pub charge-ends : (first bound clock k : ℕ) → (first ≡ 0 → ⊥) → k ≡ first + bound - 2 - clock → k ≡ charged-for first bound clock
-charge-ends zero bound clock k n e = absurd (n refl)
-charge-ends (suc f) bound clock k n e = e
+pub charge-ends : (first time clock k : ℕ) → (first ≡ 0 → ⊥) → k ≡ first + time - 2 - clock → k ≡ charged-for first time clock
+charge-ends zero time clock k n e = absurd (n refl)
+charge-ends (suc f) time clock k n e = e
 
 -- the smallest of the line's quiet, the clock's rest and the charges', where the code has them as q, m, w and r
 pub quiet-parts : (line end charge q m w r left k : ℕ) → q ≡ line → m ≡ min q end → w ≡ charge → r ≡ min m w → k ≡ min r left → k ≡ min (min (min line end) charge) left

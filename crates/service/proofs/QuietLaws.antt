@@ -14,7 +14,7 @@ use Rattle.rules.specs.Limits.{clock-end}
 use Rattle.rules.specs.declared.Packet.{Packet}
 use Rattle.rules.specs.declared.Notice.{Notice}
 use Rattle.rules.specs.Model.{Past, State, tick, Answer, past, closed-at}
-use Rattle.rules.specs.Admission.{largest-bound}
+use Rattle.rules.specs.Admission.{charge-time}
 use Rattle.rules.specs.SoundState.{Sound-with-link, Sound}
 use Rattle.rules.specs.SoundTest.{sound}
 use Rattle.rules.specs.Service.{stand-by, tick-answer, charge-over}
@@ -41,7 +41,7 @@ Still s k = ((s .to-go ≡ 0) × (s .silent ≡ 0) × None-before (s .clock + k)
 
 -- for k ticks no charge ends: each that is closed has sent, and its time lies behind them
 abbrev Charged : State → ℕ → Type 0
-Charged s k = (c : ℕ) → closed-at s c ≡ true → (1 ≤ length (past s c)) × (s .clock + k < last-of (past s c) + largest-bound (s .link))
+Charged s k = (c : ℕ) → closed-at s c ≡ true → (1 ≤ length (past s c)) × (s .clock + k < last-of (past s c) + charge-time (s .link))
 
 -- a sound hub with a link of which that holds, up to the clock's end
 pub record Quiet (s : State) (k : ℕ) : Type 0 where
@@ -67,9 +67,9 @@ module _ (s : State) (k : ℕ) (Q : Quiet s (suc k)) where
   nobody-freed : Nobody-freed s
   nobody-freed c _ e = let q = Q .charged c e in charge-left (past s c) (q .0) (q .1)
     where
-      charge-left : (h : Past) → 1 ≤ length h → s .clock + suc k < last-of h + largest-bound (s .link) → charge-over (largest-bound (s .link)) (s .clock + 1) h ≡ false
+      charge-left : (h : Past) → 1 ≤ length h → s .clock + suc k < last-of h + charge-time (s .link) → charge-over (charge-time (s .link)) (s .clock + 1) h ≡ false
       charge-left [] l i = absurd (omega arith)
-      charge-left (x ∷ h) l i = lt-leb (x + largest-bound (s .link)) (s .clock + 1) (omega arith)
+      charge-left (x ∷ h) l i = lt-leb (x + charge-time (s .link)) (s .clock + 1) (omega arith)
 
   pub one-quiet-tick : answer tick s ≡ quiet-answer s
   one-quiet-tick = quiet-passes s (Q .sound-state) (Q .set) (omega (arith, Q .in-time)) (line-quiet (Q .still)) nobody-freed
@@ -123,7 +123,7 @@ still-for s k p h = go (s .to-go) refl (s .silent) refl (s .notices) refl (stand
     go (suc u) e q f ns i o j l = inr (inr (omega arith))
 
 -- .. and no charge ends in them
-charged-still : (s : State) (k : ℕ) → Sound-with-link s → 0 < k → k ≤ charged-for (first-closed (s .pasts) (s .closed)) (largest-bound (s .link)) (s .clock) → Charged s k
+charged-still : (s : State) (k : ℕ) → Sound-with-link s → 0 < k → k ≤ charged-for (first-closed (s .pasts) (s .closed)) (charge-time (s .link)) (s .clock) → Charged s k
 charged-still s k S p h c e =
     let l : c < length (s .closed) = marked-below (s .closed) c e in
     let f = first-before (s .pasts) (s .closed) c (omega (arith, S .orderly .one-past-each, S .orderly .one-mark-each)) e in
@@ -134,11 +134,11 @@ charged-still s k S p h c e =
     marked-below (b ∷ bs) zero x = omega arith
     marked-below (b ∷ bs) (suc i) x = omega (arith, marked-below bs i x)
 
-    has-sent : (q : Past) → charge-over (largest-bound (s .link)) (s .clock) q ≡ false → 1 ≤ length q
+    has-sent : (q : Past) → charge-over (charge-time (s .link)) (s .clock) q ≡ false → 1 ≤ length q
     has-sent [] x = never (sym x)
     has-sent (a ∷ q) x = omega arith
 
-    go : (f : ℕ) → k ≤ charged-for f (largest-bound (s .link)) (s .clock) → 0 < f → f ≤ suc (last-of (past s c)) → s .clock + k < last-of (past s c) + largest-bound (s .link)
+    go : (f : ℕ) → k ≤ charged-for f (charge-time (s .link)) (s .clock) → 0 < f → f ≤ suc (last-of (past s c)) → s .clock + k < last-of (past s c) + charge-time (s .link)
     go zero a b d = absurd (omega arith)
     go (suc f) a b d = omega arith
 
@@ -152,7 +152,7 @@ unfolding quiet-ticks
 quiets left s n = go (sound s && not (eqb (s .link .levels) 0)) refl n
   where
     k : ℕ
-    k = min (min (min (quiet-for (s .to-go) (s .silent) (s .held) (s .notices) (stand-by s) (s .clock)) (clock-end - s .clock)) (charged-for (first-closed (s .pasts) (s .closed)) (largest-bound (s .link)) (s .clock))) left
+    k = min (min (min (quiet-for (s .to-go) (s .silent) (s .held) (s .notices) (stand-by s) (s .clock)) (clock-end - s .clock)) (charged-for (first-closed (s .pasts) (s .closed)) (charge-time (s .link)) (s .clock))) left
 
     go : (b : Bool) → (sound s && not (eqb (s .link .levels) 0)) ≡ b → (cond b k 0 ≡ 0 → ⊥) → Quiets left s (cond b k 0)
     go true e z =

@@ -1,5 +1,5 @@
 -- QUIET TICKS: those in which nothing starts, nothing departs and no charge ends, so that many can be passed over at once. Document 01, "One tick"; document 02,
--- R-1, R-4, R-8 and R-11.
+-- R-1, R-4, R-8, R-11 and R-12.
 use Prim.Native.Nat.{ℕ, zero, suc, _+_, _-_, min}
 use mathlib.Core.Path.{_≡_}
 use mathlib.Core.Bool.{Bool, false, not, cond, _&&_}
@@ -11,7 +11,7 @@ use Rattle.rules.specs.declared.Packet.{Packet}
 use Rattle.rules.specs.declared.Notice.{Notice}
 use Rattle.rules.specs.Limits.{clock-end}
 use Rattle.rules.specs.Model.{State, with-clock, with-line}
-use Rattle.rules.specs.Admission.{largest-bound}
+use Rattle.rules.specs.Admission.{charge-time}
 use Rattle.rules.specs.Service.{stand-by}
 use Rattle.rules.specs.SoundTest.{sound}
 use Rattle.tables.specs.Places.{rows, row-at}
@@ -48,15 +48,15 @@ quiet-for zero zero held (n ∷ ns) o clock = 0
 quiet-for zero (suc silent) held ns o clock = suc silent
 quiet-for (suc to-go) silent held ns o clock = to-go
 
--- the ticks in which no charge ends: up to the one before the earliest end, which is the earliest last eligibility of those that are closed plus the largest bound;
--- `first` is one more than that eligibility, and 0 where none is closed
+-- the ticks in which no charge ends: up to the one before the earliest end, which is the earliest last eligibility of those that are closed plus the time of a
+-- charge; `first` is one more than that eligibility, and 0 where none is closed
 abbrev pub charged-for : ℕ → ℕ → ℕ → ℕ
-charged-for zero bound clock = clock-end
-charged-for (suc last) bound clock = suc last + bound - 2 - clock
+charged-for zero time clock = clock-end
+charged-for (suc last) time clock = suc last + time - 2 - clock
 
 -- of `left` ticks those that are passed over at once: none without a link, and none beyond the clock's end
 unfoldable pub quiet-ticks : ℕ → State → ℕ
 quiet-ticks left s =
     cond (sound s && not (eqb (s .link .levels) 0))
-    (min (min (min (quiet-for (s .to-go) (s .silent) (s .held) (s .notices) (stand-by s) (s .clock)) (clock-end - s .clock)) (charged-for (first-closed (s .pasts) (s .closed)) (largest-bound (s .link)) (s .clock))) left)
+    (min (min (min (quiet-for (s .to-go) (s .silent) (s .held) (s .notices) (stand-by s) (s .clock)) (clock-end - s .clock)) (charged-for (first-closed (s .pasts) (s .closed)) (charge-time (s .link)) (s .clock))) left)
     0

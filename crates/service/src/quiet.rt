@@ -1,10 +1,10 @@
 // Quiet ticks, in which no charge ends either: how many of those asked for can be passed over at once, and the hub after them.
 ghost use mathlib.Core.Path.{_≡_};
 ghost use mathlib.Core.Bool.{true};
-ghost use Prim.Native.Nat.{_+_, _*_, _-_, _≤_, min};
+ghost use Prim.Native.Nat.{_+_, _*_, _-_, _≤_, _<_, min};
 ghost use lib.ListN.{length};
-ghost use Rattle.rules.specs.Limits.{clock-end};
-ghost use Rattle.rules.specs.Admission.{bound};
+ghost use Rattle.rules.specs.Limits.{clock-end, beyond-32-bits};
+ghost use Rattle.rules.specs.Admission.{charge-time};
 ghost use Rattle.rules.specs.Service.{first-early};
 ghost use Rattle.rules.specs.SoundTest.{sound};
 ghost use Rattle.tables.specs.Places.{rows, written-places, places-length};
@@ -124,15 +124,15 @@ fn least_wide(a: u32, b: u64) -> u32
 
 // The ticks in which no charge ends: up to the one before the earliest end.
 fn charged_for(h: Hub, members: &[u32]) -> u64
-    requires { ⌜ length (now members) ≡ members-length ⌝ }
-    ensures { λ r. ⌜ r ≡ charged-for (first-in (now (members .entry))) (bound (h .link) (h .link .levels)) (h .clock) ⌝ }
+    requires { ⌜ (length (now members) ≡ members-length) × (charge-time (h .link) < beyond-32-bits) ⌝ }
+    ensures { λ r. ⌜ r ≡ charged-for (first-in (now (members .entry))) (charge-time (h .link)) (h .clock) ⌝ }
 {
     let first = connections::closing::first_charge(members);
     if first == 0 {
         return CLOCK_END as u64;
     }
-    let bound = connections::bound_of(h.link, h.link.levels);
-    let end = first as u64 + bound as u64;
+    let time = connections::closing::charge_time(h.link);
+    let end = first as u64 + time as u64;
     let reached = h.clock as u64 + 2;
     if end < reached {
         return 0;

@@ -18,7 +18,7 @@ use Rattle.rules.specs.declared.Packet.{Packet}
 use Rattle.rules.specs.Words.{All, every}
 use Rattle.rules.specs.Limits.{max-connections, max-reserved, max-remembered, beyond-32-bits}
 use Rattle.rules.specs.Model.{Past, nth, no-past}
-use Rattle.rules.specs.Admission.{bound, burst, stamped, owned, largest-bound, reservation, goes-early, distance, ahead}
+use Rattle.rules.specs.Admission.{bound, burst, stamped, owned, charge-time, reservation, goes-early, distance, ahead}
 use Rattle.rules.specs.Service.{earliest, nth-before, ticks-after, remember, remember-all, of, eligibilities, charge-over}
 use Rattle.rules.specs.SoundState.{departed-of, settles, margin}
 use Rattle.rules.specs.SoundTest.{latest-by-gap, latest, latest-early, last-tick, in-pace, departed-by, paced, left-in-time, left-sound, same-numbers, before-pass, behind-pass, closed-sound}
@@ -534,18 +534,18 @@ module _ (h : Hub) (t : Tables) (names : Names (t .members) (t .places)) (seen :
 module _ (h : Hub) (t : List ℕ) (c n : ℕ) (l : c < max-connections) (mark : ℕ) (e : mark ≡ getD (row-in member-width t c) 7 0) where
   pub not-closed : mark ≡ 0 → true ≡ closed-with h t n c
   not-closed z =
-      sym (ap (λ (b : Bool). not b || (eqb n 0 && not (charge-over (largest-bound (h .link)) (h .clock) (past-in t c)))) (closed-is t c l ∙ ap not (eq-eqb (getD (row-in member-width t c) 7 0) 0 (sym e ∙ z))))
+      sym (ap (λ (b : Bool). not b || (eqb n 0 && not (charge-over (charge-time (h .link)) (h .clock) (past-in t c)))) (closed-is t c l ∙ ap not (eq-eqb (getD (row-in member-width t c) 7 0) 0 (sym e ∙ z))))
 
   module _ (m : mark ≡ 0 → ⊥) where
-    marked : closed-with h t n c ≡ (eqb n 0 && not (charge-over (largest-bound (h .link)) (h .clock) (past-in t c)))
+    marked : closed-with h t n c ≡ (eqb n 0 && not (charge-over (charge-time (h .link)) (h .clock) (past-in t c)))
     marked =
-        ap (λ (b : Bool). not b || (eqb n 0 && not (charge-over (largest-bound (h .link)) (h .clock) (past-in t c)))) (closed-is t c l ∙ ap not (ne-eqb (getD (row-in member-width t c) 7 0) 0 (λ z. m (e ∙ z))))
+        ap (λ (b : Bool). not b || (eqb n 0 && not (charge-over (charge-time (h .link)) (h .clock) (past-in t c)))) (closed-is t c l ∙ ap not (ne-eqb (getD (row-in member-width t c) 7 0) 0 (λ z. m (e ∙ z))))
 
     pub holds-one : (n ≡ 0 → ⊥) → false ≡ closed-with h t n c
     holds-one k = fails (eqb n 0) _ (ne-eqb n 0 k) ∙ sym marked
 
-    pub charged-by : n ≡ 0 → (bound : ℕ) → bound ≡ largest-bound (h .link) → (old : Past) → old ≡ past-in t c → (r : Bool) → r ≡ charge-over bound (h .clock) old → not r ≡ closed-with h t n c
-    charged-by z bound b old o r k =
+    pub charged-by : n ≡ 0 → (time : ℕ) → time ≡ charge-time (h .link) → (old : Past) → old ≡ past-in t c → (r : Bool) → r ≡ charge-over time (h .clock) old → not r ≡ closed-with h t n c
+    charged-by z time b old o r k =
         goes-on (eqb n 0) _ _ (eq-eqb n 0 z)
-        (ap not (k ∙ ap (λ (d : ℕ). charge-over d (h .clock) old) b ∙ ap (charge-over (largest-bound (h .link)) (h .clock)) o))
+        (ap not (k ∙ ap (λ (d : ℕ). charge-over d (h .clock) old) b ∙ ap (charge-over (charge-time (h .link)) (h .clock)) o))
         ∙ sym marked

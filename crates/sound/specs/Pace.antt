@@ -1,5 +1,5 @@
 -- What the pass over the rows keeps of each connection: how many rows it has, and a table of connections that remembers them one by one. Document 01, "A sound
--- state"; docs/RULES-AFTER-BASE.md, R-6, R-8 and R-11.
+-- state"; docs/RULES-AFTER-BASE.md, R-6, R-8, R-11 and R-12.
 use Prim.Native.Nat.{ℕ, _+_, _≤_, _<_}
 use mathlib.Core.Path.{_≡_}
 use mathlib.Core.Bool.{Bool, true, false, not, _&&_, _||_}
@@ -11,7 +11,7 @@ use Rattle.rules.specs.declared.Connection.{Connection}
 use Rattle.rules.specs.declared.Packet.{Packet}
 use Rattle.rules.specs.Limits.{max-connections, max-reserved, beyond-32-bits}
 use Rattle.rules.specs.Model.{Past, nth, no-connection, no-past}
-use Rattle.rules.specs.Admission.{owned, bound, largest-bound}
+use Rattle.rules.specs.Admission.{owned, bound, charge-time}
 use Rattle.rules.specs.Service.{of, remember-all, eligibilities, charge-over}
 use Rattle.rules.specs.SoundTest.{left-sound}
 use Rattle.tables.specs.Places.{rows, row-at}
@@ -71,4 +71,4 @@ left-with h t n c = not (owned (connections-in t) c) || left-sound (h .link) (nt
 
 -- closed: it holds nothing, and its charge is not over
 abbrev pub closed-with : Hub → List ℕ → ℕ → ℕ → Bool
-closed-with h t n c = not (getD (closed-in t) c false) || (eqb n 0 && not (charge-over (largest-bound (h .link)) (h .clock) (past-in t c)))
+closed-with h t n c = not (getD (closed-in t) c false) || (eqb n 0 && not (charge-over (charge-time (h .link)) (h .clock) (past-in t c)))

@@ -156,7 +156,9 @@ fn blank_ok(l: Link) -> bool
     ensures { λ r. ⌜ r ≡ all-zero l ⌝ }
 {
     let bounds = l.bounds;
-    (l.largest == 0) & ((l.silence == 0) & ((l.early == 0) & zero_from(&bounds, 0)))
+    let windows = l.windows;
+    let lists = zero_from(&bounds, 0) & zero_from(&windows, 0);
+    (l.largest == 0) & ((l.silence == 0) & ((l.early == 0) & lists))
 }
 
 // Everything is zero: the link, the clock, the tables and the line.

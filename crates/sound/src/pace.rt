@@ -4,10 +4,10 @@ ghost use mathlib.Core.Bool.{true, _&&_};
 ghost use mathlib.Core.List.{List, []};
 ghost use Prim.Native.Nat.{ℕ, _+_, _≤_, _<_};
 ghost use lib.ListN.{length, getD, drop};
-ghost use Rattle.rules.specs.Limits.{max-connections, max-reserved, max-remembered};
+ghost use Rattle.rules.specs.Limits.{max-connections, max-reserved, max-remembered, beyond-32-bits};
 ghost use Rattle.rules.specs.Words.{every};
 ghost use Rattle.rules.specs.Model.{nth};
-ghost use Rattle.rules.specs.Admission.{burst, distance, ahead};
+ghost use Rattle.rules.specs.Admission.{burst, distance, ahead, charge-time};
 ghost use Rattle.rules.specs.Service.{remember};
 ghost use Rattle.rules.specs.SoundState.{margin};
 ghost use Rattle.rules.specs.SoundTest.{latest-by-gap, latest, latest-early, last-tick, in-pace, paced, left-in-time, queues-sound, closed-sound};
@@ -19,6 +19,7 @@ ghost use Rattle.sound.specs.Pace.{Counts, counted, Countable, past-in, 
 use super::wide;
 use connections::Member;
 use connections::closing::charge_over;
+use connections::closing::charge_time;
 use connections::regulator::after_nth;
 use connections::regulator::earliest_behind;
 use connections::regulator::greatest;
@@ -259,7 +260,7 @@ fn queues_ok(h: Hub, members: &[u32], places: &[u32], held: usize, seen: &[u32])
 
 // Number c, of which n packets are held: it is not closed, or it holds nothing and its charge is not over.
 fn closed_ok(h: Hub, members: &[u32], c: usize, n: u32) -> bool
-    requires { ⌜ (rows-formed (now members) ≡ true) × (c < max-connections) ⌝ }
+    requires { ⌜ (rows-formed (now members) ≡ true) × (c < max-connections) × (charge-time (h .link) < beyond-32-bits) ⌝ }
     ensures { λ r. ⌜ r ≡ closed-with h (now (members .entry)) n c ⌝ }
 {
     if connections::number(members, c, connections::MARK) == 0 {
@@ -268,13 +269,13 @@ fn closed_ok(h: Hub, members: &[u32], c: usize, n: u32) -> bool
     if n != 0 {
         return false;
     }
-    let bound = connections::bound_of(h.link, h.link.levels);
-    !charge_over(connections::member_at(members, c), bound, h.clock)
+    let time = charge_time(h.link);
+    !charge_over(connections::member_at(members, c), time, h.clock)
 }
 
 // All numbers, with the rows that were counted.
 fn each_closed_ok(h: Hub, members: &[u32], seen: &[u32]) -> bool
-    requires { ⌜ (rows-formed (now members) ≡ true) × (length (now seen) ≡ max-connections) ⌝ }
+    requires { ⌜ (rows-formed (now members) ≡ true) × (length (now seen) ≡ max-connections) × (charge-time (h .link) < beyond-32-bits) ⌝ }
     ensures { λ r. ⌜ r ≡ every max-connections (λ c. closed-with h (now (members .entry)) (getD (now (seen .entry)) c 0) c) ⌝ }
 {
     let mut c: usize = 0;

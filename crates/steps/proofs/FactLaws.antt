@@ -17,7 +17,7 @@ use Rattle.service.specs.Quiet.{passed, quiet-ticks}
 use Rattle.service.proofs.QuietLaws.{quiets}
 use Rattle.fields.proofs.NumberLaws.{cond-by}
 use Rattle.traces.specs.declared.Record.{Record}
-use Rattle.traces.specs.declared.Record.the-variants.{Link as LinkRecord, LinkStandBy, Admit, AdmitStamped, Close, Offer, OfferStamped, Notice, Ticks, Malformed}
+use Rattle.traces.specs.declared.Record.the-variants.{Link as LinkRecord, LinkStandBy, LinkWindows, Admit, AdmitStamped, Close, Offer, OfferStamped, Notice, Ticks, Malformed}
 use Rattle.traces.specs.Trace.{longest-record}
 use Rattle.answers.specs.declared.Reply.the-variants.{Linked, Admitted, Closed, Offered, Noticed, Departed, Ticked, Broken}
 use Rattle.answers.specs.Answers.{answer-bytes, longest-answer}
@@ -52,6 +52,7 @@ waits-facts at q q′ h len last r k w g m =
 record-short : (r : Record) (k at : ℕ) (s : State) → length (record-next r k at s .bytes) ≤ longest-answer
 record-short (LinkRecord n m silence d1 d2 d3 d4 d5 d6 d7 d8) k at s = answer-short (Linked _)
 record-short (LinkStandBy n m silence early d1 d2 d3 d4 d5 d6 d7 d8) k at s = answer-short (Linked _)
+record-short (LinkWindows n m silence early d1 d2 d3 d4 d5 d6 d7 d8 w1 w2 w3 w4 w5 w6 w7 w8) k at s = answer-short (Linked _)
 record-short (Admit a b d e f) k at s = answer-short (Admitted _ _ _ _)
 record-short (AdmitStamped a b d e) k at s = answer-short (Admitted _ _ _ _)
 record-short (Close a) k at s = answer-short (Closed _)
@@ -88,6 +89,7 @@ record-facts w k at s h len last r a e z l f m b = go w k e z l f
         → Facts (cursor-at at Reading h) len last r a
     go (LinkRecord n q silence d1 d2 d3 d4 d5 d6 d7 d8) zero d z i g = never (cc (z refl))
     go (LinkStandBy n q silence early d1 d2 d3 d4 d5 d6 d7 d8) zero d z i g = never (cc (z refl))
+    go (LinkWindows n q silence early d1 d2 d3 d4 d5 d6 d7 d8 w1 w2 w3 w4 w5 w6 w7 w8) zero d z i g = never (cc (z refl))
     go (Admit x y c p q) zero d z i g = never (cc (z refl))
     go (AdmitStamped x y c p) zero d z i g = never (cc (z refl))
     go (Close x) zero d z i g = never (cc (z refl))
@@ -99,6 +101,8 @@ record-facts w k at s h len last r a e z l f m b = go w k e z l f
         taken-facts at (suc j) h len last r a (omega arith) i g (short (LinkRecord n q silence d1 d2 d3 d4 d5 d6 d7 d8) (suc j) d) (rw d) (rw d) b (rw d (λ e. cc))
     go (LinkStandBy n q silence early d1 d2 d3 d4 d5 d6 d7 d8) (suc j) d z i g =
         taken-facts at (suc j) h len last r a (omega arith) i g (short (LinkStandBy n q silence early d1 d2 d3 d4 d5 d6 d7 d8) (suc j) d) (rw d) (rw d) b (rw d (λ e. cc))
+    go (LinkWindows n q silence early d1 d2 d3 d4 d5 d6 d7 d8 w1 w2 w3 w4 w5 w6 w7 w8) (suc j) d z i g =
+        taken-facts at (suc j) h len last r a (omega arith) i g (short (LinkWindows n q silence early d1 d2 d3 d4 d5 d6 d7 d8 w1 w2 w3 w4 w5 w6 w7 w8) (suc j) d) (rw d) (rw d) b (rw d (λ e. cc))
     go (Admit x y c p q) (suc j) d z i g = taken-facts at (suc j) h len last r a (omega arith) i g (short (Admit x y c p q) (suc j) d) (rw d) (rw d) b (rw d (λ e. cc))
     go (AdmitStamped x y c p) (suc j) d z i g = taken-facts at (suc j) h len last r a (omega arith) i g (short (AdmitStamped x y c p) (suc j) d) (rw d) (rw d) b (rw d (λ e. cc))
     go (Close x) (suc j) d z i g = taken-facts at (suc j) h len last r a (omega arith) i g (short (Close x) (suc j) d) (rw d) (rw d) b (rw d (λ e. cc))

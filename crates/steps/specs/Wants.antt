@@ -2,13 +2,14 @@
 use Rattle.rules.specs.Model.{link, admit, offer, notice, close}
 use mathlib.Core.List.{[], _∷_}
 use Rattle.connections.specs.Stamps.{stamp-if}
-use Rattle.named.specs.Named.{stand-by-named}
+use Rattle.named.specs.Named.{windows-named}
 use Rattle.log.specs.Log.{Asked, one-call, some-ticks, unread}
 use Rattle.steps.specs.declared.reading.Wanted.{Wanted}
 use Rattle.steps.specs.declared.reading.Wanted.the-variants.{ToLink, ToAdmit, ToClose, ToOffer, ToNotice, ToTick, ToEnd}
 
 abbrev pub asks-as : Wanted → Asked
-asks-as (ToLink n m silence early d1 d2 d3 d4 d5 d6 d7 d8) = one-call (link (stand-by-named (n ∷ m ∷ silence ∷ early ∷ d1 ∷ d2 ∷ d3 ∷ d4 ∷ d5 ∷ d6 ∷ d7 ∷ d8 ∷ [])))
+asks-as (ToLink n m silence early d1 d2 d3 d4 d5 d6 d7 d8 w1 w2 w3 w4 w5 w6 w7 w8) =
+    one-call (link (windows-named (n ∷ m ∷ silence ∷ early ∷ d1 ∷ d2 ∷ d3 ∷ d4 ∷ d5 ∷ d6 ∷ d7 ∷ d8 ∷ w1 ∷ w2 ∷ w3 ∷ w4 ∷ w5 ∷ w6 ∷ w7 ∷ w8 ∷ [])))
 asks-as (ToAdmit x) = one-call (admit x)
 asks-as (ToClose c) = one-call (close c)
 asks-as (ToOffer p) = one-call (offer (p .connection) (p .len) (p .tag) (stamp-if (p .brings) (p .stamp)))

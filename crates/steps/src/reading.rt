@@ -57,6 +57,14 @@ enum Wanted {
         d6: u16,
         d7: u16,
         d8: u16,
+        w1: u16,
+        w2: u16,
+        w3: u16,
+        w4: u16,
+        w5: u16,
+        w6: u16,
+        w7: u16,
+        w8: u16,
     },
     ToAdmit {
         x: Connection,
@@ -98,7 +106,7 @@ fn read_at(s: &[u8], at: u32) -> Found
     f
 }
 
-// `LK`, which took `used` bytes and ends at offset `at`.
+// `LK`, `LE` and `LW`: the record took `used` bytes and ends at offset `at`.
 fn link_step(
     h: Hub,
     members: &[u32],
@@ -283,7 +291,7 @@ fn begin_ticks(h: Hub, ticks: u16, at: u32, used: usize) -> Stepped
     }
 }
 
-// What a record asks. Two kinds of record set a link, two ask for an admission, and two make an offer, so that each step stands in one place of the text and is compiled into the loop of steps.
+// What a record asks. Three kinds of record set a link, two ask for an admission, and two make an offer, so that each step stands in one place of the text and is compiled into the loop of steps.
 fn asked_by(what: Record) -> Wanted
     ensures { λ r. ⌜ asks-as r ≡ asks what ⌝ }
 {
@@ -313,6 +321,14 @@ fn asked_by(what: Record) -> Wanted
             d6: d6,
             d7: d7,
             d8: d8,
+            w1: 0,
+            w2: 0,
+            w3: 0,
+            w4: 0,
+            w5: 0,
+            w6: 0,
+            w7: 0,
+            w8: 0,
         },
         Record::LinkStandBy {
             levels,
@@ -340,6 +356,57 @@ fn asked_by(what: Record) -> Wanted
             d6: d6,
             d7: d7,
             d8: d8,
+            w1: 0,
+            w2: 0,
+            w3: 0,
+            w4: 0,
+            w5: 0,
+            w6: 0,
+            w7: 0,
+            w8: 0,
+        },
+        Record::LinkWindows {
+            levels,
+            largest,
+            silence,
+            early,
+            d1,
+            d2,
+            d3,
+            d4,
+            d5,
+            d6,
+            d7,
+            d8,
+            w1,
+            w2,
+            w3,
+            w4,
+            w5,
+            w6,
+            w7,
+            w8,
+        } => Wanted::ToLink {
+            levels: levels,
+            largest: largest,
+            silence: silence,
+            early: early,
+            d1: d1,
+            d2: d2,
+            d3: d3,
+            d4: d4,
+            d5: d5,
+            d6: d6,
+            d7: d7,
+            d8: d8,
+            w1: w1,
+            w2: w2,
+            w3: w3,
+            w4: w4,
+            w5: w5,
+            w6: w6,
+            w7: w7,
+            w8: w8,
         },
         Record::Admit {
             level,
@@ -417,8 +484,16 @@ fn record_step(
             d6,
             d7,
             d8,
+            w1,
+            w2,
+            w3,
+            w4,
+            w5,
+            w6,
+            w7,
+            w8,
         } => {
-            let l = named::stand_by_named(
+            let l = named::windows_named(
                 levels,
                 largest,
                 silence,
@@ -431,6 +506,14 @@ fn record_step(
                 d6,
                 d7,
                 d8,
+                w1,
+                w2,
+                w3,
+                w4,
+                w5,
+                w6,
+                w7,
+                w8,
             );
             link_step(h, members, places, notices, l, to, used, out)
         }

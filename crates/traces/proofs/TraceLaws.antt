@@ -3,22 +3,23 @@ use mathlib.Core.Path.{_≡_, refl, ap, _∙_, subst}
 use mathlib.Core.Bool.{true}
 use mathlib.Core.List.{List, [], _∷_, _++_}
 use mathlib.Core.Option.{some}
-use Prim.Native.Nat.{ℕ, _+_, _%_, _<_}
+use Prim.Native.Nat.{ℕ, _+_, _*_, _%_, _<_, _≤_}
 use native.Mathlib.Omega.{arith}
-use lib.ListN.{length, getD, take, drop}
+use lib.ListN.{length, getD, take, drop, replicate}
+use lib.Seq.{length-take-le}
 use Rattle.fields.specs.Numbers.{little, number, put-fields, get-fields, sum}
 use Rattle.fields.specs.Kinds.{Kind, bytes}
-use Rattle.traces.specs.Kinds.{levels-allowed, LK, LE, CN, CS, CL, PK, PS, NQ, TK}
+use Rattle.traces.specs.Kinds.{levels-allowed, windowed, LK, LE, LW, CN, CS, CL, PK, PS, NQ, TK}
 use Rattle.fields.specs.Formats.{starts, read-kind, read-kinds, laid}
 use Rattle.traces.specs.Trace.{trace, trace-table, longest-record, link-layout, trace-layout}
 use Rattle.fields.specs.Laws.{Written, Reads-back-what-is-written, Has-the-length-of}
 use Rattle.traces.specs.declared.Record.{Record}
-use Rattle.traces.specs.declared.Record.the-variants.{Link, LinkStandBy, Admit, AdmitStamped, Close, Offer, OfferStamped, Notice, Ticks, Malformed}
+use Rattle.traces.specs.declared.Record.the-variants.{Link, LinkStandBy, LinkWindows, Admit, AdmitStamped, Close, Offer, OfferStamped, Notice, Ticks, Malformed}
 use Rattle.fields.proofs.NumberLaws.{one-byte}
 use Rattle.fields.proofs.FormatLaws.{made-of, Fair, All-fair, two-letters, plain-fair, kind-back, length-bytes}
 use Rattle.fields.proofs.WindowLaws.{All-within}
 use Rattle.fields.proofs.MarkLaws.{distinct, absent}
-use Rattle.traces.proofs.LinkLaws.{sum-link, sum-stand-by, allowed-range, range-allowed, has-bytes, laid-out, written-in-range, written-as, taken-all, layout-of-link}
+use Rattle.traces.proofs.LinkLaws.{sum-link, sum-stand-by, sum-windows, allowed-range, range-allowed, has-bytes, laid-out, written-in-range, written-as, both-zero, taken-all, both-pairs, length-pairs, windows-made, windowed-same, layout-of-link, layout-of-windows}
 
 pub trace-marks : distinct (trace .kinds) ≡ true
 unfolding distinct absent number
@@ -32,35 +33,47 @@ of-all : (n : ℕ) (ds : List ℕ) (make : ℕ → ℕ → ℕ → ℕ → ℕ �
 of-all n ds make z =
     rw (taken-all n ds 0 z, taken-all n ds 1 z, taken-all n ds 2 z, taken-all n ds 3 z, taken-all n ds 4 z, taken-all n ds 5 z, taken-all n ds 6 z, taken-all n ds 7 z)
 
+-- The same of an `LW`: of its bounds and its windows.
+windows-of-all : (n s silence early : ℕ) (ds ws : List ℕ) → length ds ≡ 8 → length ws ≡ 8 → n ≤ 8 → sum (drop n ds ++ drop n ws) ≡ 0
+    → made-of LW (n ∷ s ∷ silence ∷ early ∷ take n ds ++ take n ws) ≡ windowed n s silence early (λ k. getD ds k 0) (λ k. getD ws k 0)
+windows-of-all n s silence early ds ws ed ew few z =
+    let zs = both-zero (drop n ds) (drop n ws) z in
+    windows-made s silence early (take n ds) (take n ws) n (length-take-le n ds (omega arith)) (length-take-le n ws (omega arith))
+    ∙ windowed-same n s silence early _ _ _ _ (λ k. taken-all n ds k (zs .0)) (λ k. taken-all n ws k (zs .1))
+
 -- A link of kind k that is written is read back: its mark has two letters, it allows each n that a link has, and its bytes are read as of its kind.
--- `ds` are its eight bounds.
-link-told : (k : Kind Record) (n : ℕ) (figures ds rest : List ℕ) (r : Record)
+link-told : (k : Kind Record) (n : ℕ) (numbers past rest : List ℕ) (r : Record)
     → length (k .mark) ≡ 2
     → (levels-allowed n ≡ true → k .allows n ≡ true)
     → ((xs : List ℕ) → read-kinds (trace .kinds) (bytes k (n ∷ xs) ++ rest) ≡ read-kind k (n % 256) (bytes k (n ∷ xs) ++ rest))
-    → (sum (drop n ds) ≡ 0 → made-of k (n ∷ figures ++ take n ds) ≡ r)
-    → Written (link-layout k n figures ds)
-    → read-kinds (trace .kinds) (laid (link-layout k n figures ds) ++ rest) ≡ some (r, length (laid (link-layout k n figures ds)))
+    → (n ≤ 8 → sum past ≡ 0 → made-of k (n ∷ numbers) ≡ r)
+    → Written (link-layout k n numbers past)
+    → read-kinds (trace .kinds) (laid (link-layout k n numbers past) ++ rest) ≡ some (r, length (laid (link-layout k n numbers past)))
 unfolding laid
-link-told k n figures ds rest r two allowed picked same w =
-    let there = laid-out k n figures ds w in
-    let is = written-in-range n ds there in
+link-told k n numbers past rest r two allowed picked same w =
+    let there = laid-out k n numbers past w in
+    let is = written-in-range n past there in
     let e : n % 256 ≡ n = omega arith in
-    let xs = n ∷ figures ++ take n ds in
-    let as-numbers = written-as k n figures ds there in
+    let xs = n ∷ numbers in
+    let as-numbers = written-as k n numbers past there in
     rw as-numbers
-    (picked (figures ++ take n ds)
+    (picked numbers
     ∙ kind-back k xs rest (n % 256) two (subst Written as-numbers w) (ap (k .allows) e ∙ allowed (range-allowed n (is .0) (is .1))) (ap (k .widths) e)
-    ∙ ap (λ q. some (q, length (bytes k xs))) (same (is .2)))
+    ∙ ap (λ q. some (q, length (bytes k xs))) (same (is .1) (is .2)))
 
 pub trace-back : Reads-back-what-is-written trace
 unfolding read-kinds starts laid bytes put-fields little
 trace-back (Link n s silence d1 d2 d3 d4 d5 d6 d7 d8) rest w =
     let ds = d1 ∷ d2 ∷ d3 ∷ d4 ∷ d5 ∷ d6 ∷ d7 ∷ d8 ∷ [] in
-    link-told LK n (s ∷ silence ∷ []) ds rest _ refl (λ a. a) (λ xs. refl) (of-all n ds (Link n s silence)) w
+    link-told LK n (s ∷ silence ∷ take n ds) (drop n ds) rest _ refl (λ a. a) (λ xs. refl) (λ few. of-all n ds (Link n s silence)) w
 trace-back (LinkStandBy n s silence early d1 d2 d3 d4 d5 d6 d7 d8) rest w =
     let ds = d1 ∷ d2 ∷ d3 ∷ d4 ∷ d5 ∷ d6 ∷ d7 ∷ d8 ∷ [] in
-    link-told LE n (s ∷ silence ∷ early ∷ []) ds rest _ refl (λ a. a) (λ xs. refl) (of-all n ds (LinkStandBy n s silence early)) w
+    link-told LE n (s ∷ silence ∷ early ∷ take n ds) (drop n ds) rest _ refl (λ a. a) (λ xs. refl) (λ few. of-all n ds (LinkStandBy n s silence early)) w
+trace-back (LinkWindows n s silence early d1 d2 d3 d4 d5 d6 d7 d8 w1 w2 w3 w4 w5 w6 w7 w8) rest w =
+    let ds = d1 ∷ d2 ∷ d3 ∷ d4 ∷ d5 ∷ d6 ∷ d7 ∷ d8 ∷ [] in
+    let ws = w1 ∷ w2 ∷ w3 ∷ w4 ∷ w5 ∷ w6 ∷ w7 ∷ w8 ∷ [] in
+    link-told LW n (s ∷ silence ∷ early ∷ take n ds ++ take n ws) (drop n ds ++ drop n ws) rest _ refl (λ a. a) (λ xs. refl)
+    (windows-of-all n s silence early ds ws refl refl) w
 trace-back (Admit level gap size window average) rest w = kind-back CN (level ∷ gap ∷ size ∷ window ∷ average ∷ []) rest _ refl w refl refl
 trace-back (AdmitStamped level gap size allowance) rest w = kind-back CS (level ∷ gap ∷ size ∷ allowance ∷ []) rest _ refl w refl refl
 trace-back (Close connection) rest w = kind-back CL (connection ∷ []) rest _ refl w refl refl
@@ -89,6 +102,21 @@ stand-by-fair =
       same-layout = λ bs a. rw (one-byte bs 2) (layout-of-link LE (getD bs 2 0) (number 2 bs 3 ∷ number 1 bs 5 ∷ number 1 bs 6 ∷ []) bs 7 a);
     }
 
+windows-fair : Fair trace-layout LW
+unfolding get-fields
+windows-fair =
+    record {
+      letters = two-letters 0x4C 0x57 (omega arith) (omega arith);
+      same-widths = λ bs a. ap (LW .widths) (one-byte bs 2);
+      same-layout = λ bs a.
+          let n = getD bs 2 0 in
+          let xs = get-fields (replicate n 2) bs 7 in
+          let ys = get-fields (replicate n 2) bs (7 + 2 * n) in
+          rw (one-byte bs 2, both-pairs n bs 7)
+          (ap trace-layout (windows-made (number 2 bs 3) (number 1 bs 5) (number 1 bs 6) xs ys n (length-pairs n bs 7) (length-pairs n bs (7 + 2 * n)))
+          ∙ layout-of-windows LW n (number 2 bs 3 ∷ number 1 bs 5 ∷ number 1 bs 6 ∷ []) bs 7 a);
+    }
+
 pub trace-fair : All-fair trace-layout (trace .kinds)
 unfolding All-fair get-fields
 trace-fair = (
@@ -96,18 +124,21 @@ trace-fair = (
   (
     stand-by-fair,
     (
-      plain-fair CN (two-letters 0x43 0x4E (omega arith) (omega arith)) (λ b c. refl) (λ bs a. refl),
+      windows-fair,
       (
-        plain-fair CS (two-letters 0x43 0x53 (omega arith) (omega arith)) (λ b c. refl) (λ bs a. refl),
+        plain-fair CN (two-letters 0x43 0x4E (omega arith) (omega arith)) (λ b c. refl) (λ bs a. refl),
         (
-          plain-fair CL (two-letters 0x43 0x4C (omega arith) (omega arith)) (λ b c. refl) (λ bs a. refl),
+          plain-fair CS (two-letters 0x43 0x53 (omega arith) (omega arith)) (λ b c. refl) (λ bs a. refl),
           (
-            plain-fair PK (two-letters 0x50 0x4B (omega arith) (omega arith)) (λ b c. refl) (λ bs a. refl),
+            plain-fair CL (two-letters 0x43 0x4C (omega arith) (omega arith)) (λ b c. refl) (λ bs a. refl),
             (
-              plain-fair PS (two-letters 0x50 0x53 (omega arith) (omega arith)) (λ b c. refl) (λ bs a. refl),
+              plain-fair PK (two-letters 0x50 0x4B (omega arith) (omega arith)) (λ b c. refl) (λ bs a. refl),
               (
-                plain-fair NQ (two-letters 0x4E 0x51 (omega arith) (omega arith)) (λ b c. refl) (λ bs a. refl),
-                (plain-fair TK (two-letters 0x54 0x4B (omega arith) (omega arith)) (λ b c. refl) (λ bs a. refl), tt),
+                plain-fair PS (two-letters 0x50 0x53 (omega arith) (omega arith)) (λ b c. refl) (λ bs a. refl),
+                (
+                  plain-fair NQ (two-letters 0x4E 0x51 (omega arith) (omega arith)) (λ b c. refl) (λ bs a. refl),
+                  (plain-fair TK (two-letters 0x54 0x4B (omega arith) (omega arith)) (λ b c. refl) (λ bs a. refl), tt),
+                ),
               ),
             ),
           ),
@@ -118,18 +149,24 @@ trace-fair = (
 )
 
 -- The bytes of a link are as many as its kind says.
-link-length : (k : Kind Record) (n : ℕ) (figures ds : List ℕ) → 0 < length (laid (link-layout k n figures ds))
-    → length (laid (link-layout k n figures ds)) ≡ length (k .mark) + sum (k .widths n)
+link-length : (k : Kind Record) (n : ℕ) (numbers past : List ℕ) → 0 < length (laid (link-layout k n numbers past))
+    → length (laid (link-layout k n numbers past)) ≡ length (k .mark) + sum (k .widths n)
 unfolding laid
-link-length k n figures ds h =
-    ap (λ l. length (laid l)) (written-as k n figures ds (has-bytes k n figures ds h)) ∙ length-bytes k (n ∷ figures ++ take n ds)
+link-length k n numbers past h =
+    ap (λ l. length (laid l)) (written-as k n numbers past (has-bytes k n numbers past h)) ∙ length-bytes k (n ∷ numbers)
 
 pub trace-length : Has-the-length-of trace trace-table
 unfolding laid sum
 trace-length (Link n s silence d1 d2 d3 d4 d5 d6 d7 d8) h =
-    link-length LK n (s ∷ silence ∷ []) (d1 ∷ d2 ∷ d3 ∷ d4 ∷ d5 ∷ d6 ∷ d7 ∷ d8 ∷ []) h ∙ sum-link n
+    let ds = d1 ∷ d2 ∷ d3 ∷ d4 ∷ d5 ∷ d6 ∷ d7 ∷ d8 ∷ [] in
+    link-length LK n (s ∷ silence ∷ take n ds) (drop n ds) h ∙ sum-link n
 trace-length (LinkStandBy n s silence early d1 d2 d3 d4 d5 d6 d7 d8) h =
-    link-length LE n (s ∷ silence ∷ early ∷ []) (d1 ∷ d2 ∷ d3 ∷ d4 ∷ d5 ∷ d6 ∷ d7 ∷ d8 ∷ []) h ∙ sum-stand-by n
+    let ds = d1 ∷ d2 ∷ d3 ∷ d4 ∷ d5 ∷ d6 ∷ d7 ∷ d8 ∷ [] in
+    link-length LE n (s ∷ silence ∷ early ∷ take n ds) (drop n ds) h ∙ sum-stand-by n
+trace-length (LinkWindows n s silence early d1 d2 d3 d4 d5 d6 d7 d8 w1 w2 w3 w4 w5 w6 w7 w8) h =
+    let ds = d1 ∷ d2 ∷ d3 ∷ d4 ∷ d5 ∷ d6 ∷ d7 ∷ d8 ∷ [] in
+    let ws = w1 ∷ w2 ∷ w3 ∷ w4 ∷ w5 ∷ w6 ∷ w7 ∷ w8 ∷ [] in
+    link-length LW n (s ∷ silence ∷ early ∷ take n ds ++ take n ws) (drop n ds ++ drop n ws) h ∙ sum-windows n
 trace-length (Admit level gap size window average) h = length-bytes CN (level ∷ gap ∷ size ∷ window ∷ average ∷ [])
 trace-length (AdmitStamped level gap size allowance) h = length-bytes CS (level ∷ gap ∷ size ∷ allowance ∷ [])
 trace-length (Close connection) h = length-bytes CL (connection ∷ [])
@@ -139,7 +176,7 @@ trace-length (Notice len tag) h = length-bytes NQ (len ∷ tag ∷ [])
 trace-length (Ticks ticks) h = length-bytes TK (ticks ∷ [])
 trace-length Malformed h = absurd (omega arith)
 
--- The longest trace record is an `LE` of eight levels.
+-- The longest trace record is an `LW` of eight levels.
 pub trace-within : All-within longest-record (trace .kinds)
 unfolding All-within sum
 trace-within = (
@@ -147,7 +184,7 @@ trace-within = (
   (
     λ b a. let r = allowed-range b a in let e = sum-stand-by b in omega arith,
     (
-      λ b a. omega arith,
+      λ b a. let r = allowed-range b a in let e = sum-windows b in omega arith,
       (
         λ b a. omega arith,
         (
@@ -158,7 +195,10 @@ trace-within = (
               λ b a. omega arith,
               (
                 λ b a. omega arith,
-                (λ b a. omega arith, tt),
+                (
+                  λ b a. omega arith,
+                  (λ b a. omega arith, tt),
+                ),
               ),
             ),
           ),

@@ -1,29 +1,48 @@
--- Document 01, "Trace and answer records": the trace kinds of its table, in its order; and those of document 02, R-11 behind `LK`, R-9 and R-8 behind `CN`,
--- R-9 and R-1 behind `PK`. `LK` as R-4 has it, `CN` as R-6. Each with the record that its numbers make.
-use mathlib.Core.Bool.{Bool, _&&_}
+-- Document 01, "Trace and answer records": the trace kinds of its table, in its order; and those of document 02, R-11 and R-12 behind `LK`, R-9 and R-8 behind
+-- `CN`, R-9 and R-1 behind `PK`. `LK` as R-4 has it, `CN` as R-6. Each with the record that its numbers make.
+use mathlib.Core.Bool.{Bool, cond, _&&_}
 use mathlib.Core.List.{List, [], _∷_, _++_}
-use Prim.Native.Nat.{ℕ}
+use Prim.Native.Nat.{ℕ, _+_}
 use lib.ListN.{replicate}
-use lib.Dec.{leb}
+use lib.Dec.{leb, ltb}
 use Rattle.fields.specs.Kinds.{Kind, plain}
 use Rattle.traces.specs.declared.Record.{Record}
-use Rattle.traces.specs.declared.Record.the-variants.{Link, LinkStandBy, Admit, AdmitStamped, Close, Offer, OfferStamped, Notice, Ticks}
+use Rattle.traces.specs.declared.Record.the-variants.{Link, LinkStandBy, LinkWindows, Admit, AdmitStamped, Close, Offer, OfferStamped, Notice, Ticks}
 
--- document 01: "malformed means: .. an `LK` with n outside 1 to 8"; and so is an `LE`
+-- document 01: "malformed means: .. an `LK` with n outside 1 to 8"; and so is an `LE`, and an `LW`
 abbrev pub levels-allowed : ℕ → Bool
 levels-allowed n = leb 1 n && leb n 8
 
--- A kind of links: n (1), figures of these widths, "then n bounds (2 each)". "Bounds past n are read as 0": they are not among the numbers
-abbrev pub link-kind : List ℕ → List ℕ → ((ℕ → ℕ) → Record) → Kind Record
-link-kind mark figures make = record { mark = mark; allows = levels-allowed; widths = λ n. 1 ∷ figures ++ replicate n 2; make = make }
+-- A kind of links: n (1), figures of these widths, and what its n levels have. "Bounds past n are read as 0": they are not among the numbers
+abbrev pub link-kind : List ℕ → List ℕ → (ℕ → List ℕ) → ((ℕ → ℕ) → Record) → Kind Record
+link-kind mark figures levels make = record { mark = mark; allows = levels-allowed; widths = λ n. 1 ∷ figures ++ levels n; make = make }
+
+-- "n bounds (2 each)"
+abbrev pub pairs : ℕ → List ℕ
+pairs n = replicate n 2
 
 -- document 02, R-4, as docs/RULES-AFTER-BASE.md lays it out: "n (1), S (2), silence (1), then n bounds (2 each)"
 abbrev pub LK : Kind Record
-LK = link-kind (0x4C ∷ 0x4B ∷ []) (2 ∷ 1 ∷ []) (λ x. Link (x 0) (x 1) (x 2) (x 3) (x 4) (x 5) (x 6) (x 7) (x 8) (x 9) (x 10))
+LK = link-kind (0x4C ∷ 0x4B ∷ []) (2 ∷ 1 ∷ []) pairs (λ x. Link (x 0) (x 1) (x 2) (x 3) (x 4) (x 5) (x 6) (x 7) (x 8) (x 9) (x 10))
 
 -- document 02, R-11, as docs/RULES-AFTER-BASE.md lays it out: "number of levels n (1), S (2), silence (1), setting (1), the n bounds (2 each)"
 abbrev pub LE : Kind Record
-LE = link-kind (0x4C ∷ 0x45 ∷ []) (2 ∷ 1 ∷ 1 ∷ []) (λ x. LinkStandBy (x 0) (x 1) (x 2) (x 3) (x 4) (x 5) (x 6) (x 7) (x 8) (x 9) (x 10) (x 11))
+LE = link-kind (0x4C ∷ 0x45 ∷ []) (2 ∷ 1 ∷ 1 ∷ []) pairs (λ x. LinkStandBy (x 0) (x 1) (x 2) (x 3) (x 4) (x 5) (x 6) (x 7) (x 8) (x 9) (x 10) (x 11))
+
+-- The k-th, from 0 on, of the n numbers that stand behind the first `first` ones; 0 past them.
+abbrev pub among : (ℕ → ℕ) → ℕ → ℕ → ℕ → ℕ
+among x first n k = cond (ltb k n) (x (first + k)) 0
+
+-- An `LW` with its bounds and its windows.
+abbrev pub windowed : ℕ → ℕ → ℕ → ℕ → (ℕ → ℕ) → (ℕ → ℕ) → Record
+windowed n s silence early d w = LinkWindows n s silence early (d 0) (d 1) (d 2) (d 3) (d 4) (d 5) (d 6) (d 7) (w 0) (w 1) (w 2) (w 3) (w 4) (w 5) (w 6) (w 7)
+
+-- document 02, R-12, as docs/RULES-AFTER-BASE.md lays it out: "number of levels n (1), S (2), silence (1), setting (1), the n bounds (2 each), the n windows
+-- (2 each)"
+abbrev pub LW : Kind Record
+LW =
+    link-kind (0x4C ∷ 0x57 ∷ []) (2 ∷ 1 ∷ 1 ∷ []) (λ n. pairs n ++ pairs n)
+    (λ x. windowed (x 0) (x 1) (x 2) (x 3) (among x 4 (x 0)) (among x (4 + x 0) (x 0)))
 
 -- document 02, R-6, as docs/RULES-AFTER-BASE.md lays it out: "level (1), gap (2), size (2), window (2), average gap (2)"
 abbrev pub CN : Kind Record

@@ -1,4 +1,4 @@
-// The trace records of document 01, "Trace and answer records", and of document 02, R-1, R-4, R-6, R-8, R-9 and R-11: their kinds as values, read and written.
+// The trace records of document 01, "Trace and answer records", and of document 02, R-1, R-4, R-6, R-8, R-9, R-11 and R-12: their kinds as values, read and written.
 mod link; // link.rt: links, of which one number says how many follow
 
 ghost use mathlib.Core.Path.{_≡_};
@@ -19,6 +19,8 @@ const LK: [u8; 2] = *b"LK";
 
 const LE: [u8; 2] = *b"LE";
 
+const LW: [u8; 2] = *b"LW";
+
 const CN: [u8; 2] = *b"CN";
 
 const CS: [u8; 2] = *b"CS";
@@ -36,7 +38,7 @@ const TK: [u8; 2] = *b"TK";
 // The bytes of the longest trace record, which no record of another format passes.
 pub const LONGEST_RECORD: usize = fields::LONGEST;
 
-// A trace record with its numbers, or malformed. Bounds past `levels` are 0.
+// A trace record with its numbers, or malformed. Bounds and windows past `levels` are 0.
 pub enum Record {
     Link {
         levels: u8,
@@ -64,6 +66,28 @@ pub enum Record {
         d6: u16,
         d7: u16,
         d8: u16,
+    },
+    LinkWindows {
+        levels: u8,
+        largest: u16,
+        silence: u8,
+        early: u8,
+        d1: u16,
+        d2: u16,
+        d3: u16,
+        d4: u16,
+        d5: u16,
+        d6: u16,
+        d7: u16,
+        d8: u16,
+        w1: u16,
+        w2: u16,
+        w3: u16,
+        w4: u16,
+        w5: u16,
+        w6: u16,
+        w7: u16,
+        w8: u16,
     },
     Admit {
         level: u8,
@@ -131,13 +155,15 @@ pub(crate) fn whole_of(s: &[u8], size: usize, what: Record) -> Found
     }
 }
 
-// The mark that the bytes start with, as a number, its first letter low; 0 where it is none of LK, CN, CS, CL, PK, PS, NQ and TK.
+// The mark that the bytes start with, as a number, its first letter low; 0 where it is none of LK, LE, LW, CN, CS, CL, PK, PS, NQ
+// and TK.
 fn mark_of(s: &[u8]) -> u16
     ensures { λ r. ⌜ r ≡ mark-among (trace .kinds) (now (s .entry)) ⌝ }
 {
     let mark = two(s, 0);
     match mark {
-        0x4B4C | 0x454C | 0x4E43 | 0x5343 | 0x4C43 | 0x4B50 | 0x5350 | 0x514E | 0x4B54 => mark,
+        0x4B4C | 0x454C | 0x574C | 0x4E43 | 0x5343 | 0x4C43 | 0x4B50 | 0x5350 | 0x514E | 0x4B54 =>
+            mark,
         _ => 0,
     }
 }
@@ -166,7 +192,7 @@ fn offer_stamped(s: &[u8]) -> Record
     }
 }
 
-// The record that the bytes start with: the marks are LK, LE, CN, CS, CL, PK, PS, NQ and TK as numbers.
+// The record that the bytes start with: the marks are LK, LE, LW, CN, CS, CL, PK, PS, NQ and TK as numbers.
 pub fn read(s: &[u8]) -> Found
     ensures { λ r. ⌜ r ≡ read-trace (now (s .entry)) ⌝ }
 {
@@ -175,6 +201,7 @@ pub fn read(s: &[u8]) -> Found
     match mark {
         0x4B4C => link::read(s),
         0x454C => link::read_stand_by(s),
+        0x574C => link::read_windows(s),
         0x4E43 => {
             let admit = Record::Admit {
                 level: first,
@@ -256,6 +283,35 @@ fn draft(r: Record) -> Draft
             silence,
             early,
             [d1, d2, d3, d4, d5, d6, d7, d8],
+        ),
+        Record::LinkWindows {
+            levels,
+            largest,
+            silence,
+            early,
+            d1,
+            d2,
+            d3,
+            d4,
+            d5,
+            d6,
+            d7,
+            d8,
+            w1,
+            w2,
+            w3,
+            w4,
+            w5,
+            w6,
+            w7,
+            w8,
+        } => link::draft_windows(
+            levels,
+            largest,
+            silence,
+            early,
+            [d1, d2, d3, d4, d5, d6, d7, d8],
+            [w1, w2, w3, w4, w5, w6, w7, w8],
         ),
         Record::Admit {
             level,

@@ -295,7 +295,7 @@ fn close_about_its_time(script: &mut Script, link: &Link) {
     };
     let last = script.hub().last_eligibility(number);
     if let Some(last) = last.filter(|_| script.random.once_in(4)) {
-        ticks_about(script, last + Tick::from(link.largest_bound()));
+        ticks_about(script, last + Tick::from(link.charge_time()));
     }
     script.close(number);
 }
@@ -398,7 +398,7 @@ pub fn beds(script: &mut Script, size: usize) {
             }
         }
         if script.random.once_in(2) {
-            script.ticks(Tick::from(link.largest_bound()));
+            script.ticks(Tick::from(link.charge_time()));
             while admit_for(script, &link, 3) == DONE {}
         }
     }
@@ -479,7 +479,8 @@ fn long_window(script: &mut Script, link: &Link) -> Figures {
     let camera = camera(script, link);
     let packets = camera.window / camera.average;
     let longest = u16::MAX / packets;
-    let least = link.largest_bound().max(camera.gap).min(longest);
+    let charge = link.charge_time().min(u32::from(u16::MAX)) as u16;
+    let least = charge.max(camera.gap).min(longest);
     let average = script.random.between16(least, longest);
     camera.with_average(packets * average, average)
 }
@@ -514,7 +515,7 @@ pub fn end(script: &mut Script, size: usize) {
     script.mix_in(3, closes_and_newcomers);
     flood(script, size);
     script.mix_in_nothing();
-    let last = CLOCK_END - Tick::from(link.largest_bound());
+    let last = CLOCK_END - Tick::from(link.charge_time());
     script.ticks_until(last - 9_000);
     script.mix_in(3, closes_and_newcomers);
     while script.clock() < last - 8_000 {

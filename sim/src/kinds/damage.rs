@@ -1,7 +1,7 @@
 //! Damaged traces: changed, cut, spliced and made-up bytes.
 
 use super::script::Script;
-use super::{closing, early, edges, notices, stamps, traffic};
+use super::{closing, early, edges, notices, stamps, traffic, windows};
 use crate::random::Random;
 
 /// A mark and how many bytes follow it.
@@ -37,6 +37,7 @@ enum Of {
     Closes,
     Stamps,
     Early,
+    Windows,
 }
 
 /// A record that came later, and its answer.
@@ -79,9 +80,18 @@ const EARLY: [Later; 1] = [Later {
     answer: (b"LA", 1),
 }];
 
-/// An `LK` and an `LE` up to their bounds, with any n.
+const WINDOWS: [Later; 1] = [Later {
+    record: b"LW\x08\x01\x00\x02\x00\
+        \x09\x00\x0A\x00\x0B\x00\x0C\x00\x0D\x00\x0E\x00\x0F\x00\x10\x00\
+        \x19\x00\x1A\x00\x1B\x00\x1C\x00\x1D\x00\x1E\x00\x1F\x00\x20\x00",
+    marked: (b"LW", 9),
+    answer: (b"LA", 1),
+}];
+
+/// An `LK`, an `LE` and an `LW` up to their bounds, with any n.
 const LINK: [u8; 6] = *b"LK\0\x01\0\0";
 const LINK_BY_SETTING: [u8; 7] = *b"LE\0\x01\0\0\x01";
+const LINK_BY_WINDOWS: [u8; 7] = *b"LW\0\x01\0\0\0";
 
 impl Of {
     fn later(self) -> &'static [Later] {
@@ -91,6 +101,16 @@ impl Of {
             Of::Closes => &CLOSES,
             Of::Stamps => &STAMPS,
             Of::Early => &EARLY,
+            Of::Windows => &WINDOWS,
+        }
+    }
+
+    /// Up to its bounds the link that came later.
+    fn link(self) -> Option<[u8; 7]> {
+        match self {
+            Of::Early => Some(LINK_BY_SETTING),
+            Of::Windows => Some(LINK_BY_WINDOWS),
+            _ => None,
         }
     }
 
@@ -179,13 +199,18 @@ pub fn bad_early(seed: u64, random: &mut Random, size: usize) -> Vec<u8> {
     bad_later(seed, random, size, Of::Early)
 }
 
+/// The same for `LW`, in traces with windows; and `LW`s with n outside 1 to 8.
+pub fn bad_window(seed: u64, random: &mut Random, size: usize) -> Vec<u8> {
+    bad_later(seed, random, size, Of::Windows)
+}
+
 /// The cuts come at the end and, in other turns, between records, where the next bytes are read as
 /// the missing fields.
 fn bad_later(seed: u64, random: &mut Random, size: usize, of: Of) -> Vec<u8> {
     let mut trace = good_trace(random, size, of);
     let (mut inside, mut at_the_end) = (Vec::new(), Vec::new());
-    if of == Of::Early {
-        inside.extend(BAD_LEVELS.map(|levels| link_of(&LINK_BY_SETTING, levels)));
+    if let Some(head) = of.link() {
+        inside.extend(BAD_LEVELS.map(|levels| link_of(&head, levels)));
     }
     for later in of.later() {
         inside.push(answer_of(later.answer));
@@ -225,6 +250,10 @@ pub fn damaged_early(_seed: u64, random: &mut Random, size: usize) -> Vec<u8> {
     damaged(random, size, Of::Early)
 }
 
+pub fn damaged_windows(_seed: u64, random: &mut Random, size: usize) -> Vec<u8> {
+    damaged(random, size, Of::Windows)
+}
+
 fn damaged(random: &mut Random, size: usize, of: Of) -> Vec<u8> {
     let mut trace = good_trace(random, size, of);
     for _ in 0..random.between(1, 2) {
@@ -242,6 +271,7 @@ fn good_trace(random: &mut Random, size: usize, of: Of) -> Trace {
         Of::Closes => good_closes(&mut script, random, size),
         Of::Stamps => good_stamps(&mut script, random, size),
         Of::Early => good_early(&mut script, random, size),
+        Of::Windows => good_windows(&mut script, random, size),
     }
     let (bytes, starts) = script.finish();
     Trace { bytes, starts, of }
@@ -289,6 +319,14 @@ fn good_early(script: &mut Script, random: &mut Random, size: usize) {
         1 => early::distances(script, size / 4),
         2 => early::flooded(script, 4 * size),
         _ => early::small(script, 2 * size),
+    }
+}
+
+fn good_windows(script: &mut Script, random: &mut Random, size: usize) {
+    match random.between(0, 3) {
+        0 | 1 => windows::links(script, size),
+        2 => windows::edges(script, size / 2),
+        _ => windows::small(script, 2 * size),
     }
 }
 
@@ -380,12 +418,13 @@ fn answer_of((mark, fields): Marked) -> Vec<u8> {
     answer
 }
 
-/// A link with all the bounds that it promises.
+/// A link with all the bounds that it promises, and all the windows.
 fn link_of(head: &[u8], levels: u8) -> Vec<u8> {
     let mut link = head.to_vec();
     link[2] = levels;
-    for bound in 1..=u16::from(levels) {
-        link.extend_from_slice(&bound.to_le_bytes());
+    let numbers = if head.starts_with(b"LW") { 2 } else { 1 } * u16::from(levels);
+    for number in 1..=numbers {
+        link.extend_from_slice(&number.to_le_bytes());
     }
     link
 }
@@ -393,8 +432,8 @@ fn link_of(head: &[u8], levels: u8) -> Vec<u8> {
 /// A link with n outside 1 to 8.
 fn insert_link_of_bad_n(trace: &mut Trace, random: &mut Random) {
     let levels = random.pick([0, 9, 9, 10, 128, 255]);
-    let link = match trace.of {
-        Of::Early if random.once_in(2) => link_of(&LINK_BY_SETTING, levels),
+    let link = match trace.of.link() {
+        Some(head) if random.once_in(2) => link_of(&head, levels),
         _ => link_of(&LINK, levels),
     };
     let late = late_start(trace, random);

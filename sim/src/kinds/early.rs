@@ -11,7 +11,7 @@ use super::stamps::{admit_stamped, offer_on_the_edge};
 use super::traffic::{admit_one, admit_some, flood, modest_link, some_line};
 use crate::departure::Tick;
 use crate::hub::CLOCK_END;
-use crate::link::{Connection, Figures, OFF, ON};
+use crate::link::{Connection, Figures, LinkFigures, OFF, ON};
 use crate::record::Record;
 use crate::verdict::{Refusal, DONE};
 
@@ -30,7 +30,7 @@ fn ward(script: &mut Script) {
 }
 
 /// Some line whose packets may go early.
-fn any_by_its_gap(script: &mut Script) -> Option<(u8, Connection)> {
+pub fn any_by_its_gap(script: &mut Script) -> Option<(u8, Connection)> {
     let mut lines = script.standing();
     lines.retain(|(_, connection)| connection.allowance().is_none());
     script.random.one_of(&lines)
@@ -85,7 +85,7 @@ pub fn distances(script: &mut Script, size: usize) {
 }
 
 /// Offers, each behind a packet that has left or before that, until one is too far off.
-fn run_ahead(script: &mut Script, number: u8, connection: &Connection) {
+pub fn run_ahead(script: &mut Script, number: u8, connection: &Connection) {
     for _ in 0..script.random.between(1, 30) {
         match script.offer_good(number, connection) {
             TOO_FAR => return,
@@ -248,7 +248,7 @@ pub fn end(script: &mut Script, size: usize) {
     }
 }
 
-fn offer_on_all(script: &mut Script, times: usize) {
+pub fn offer_on_all(script: &mut Script, times: usize) {
     for (number, connection) in script.standing() {
         for _ in 0..times {
             script.offer_good(number, &connection);
@@ -260,12 +260,13 @@ fn offer_on_all(script: &mut Script, times: usize) {
 pub fn limit(script: &mut Script, size: usize) {
     ward(script);
     flood(script, size);
-    let record = Record::Link {
+    let record = Record::Link(Box::new(LinkFigures {
         levels: 2,
         largest: 4,
         silence: 3,
         setting: Some(ON),
         bounds: [10, 20, 0, 0, 0, 0, 0, 0],
-    };
+        windows: None,
+    }));
     at_the_limit(script, record);
 }

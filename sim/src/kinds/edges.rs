@@ -3,10 +3,10 @@
 use super::script::Script;
 use super::traffic::{admit_one, admit_some, flood, modest_link};
 use crate::hub::CLOCK_END;
-use crate::level_test::level_sum;
+use crate::level_test::{level_sum, shortage_of};
 use crate::link::{
-    Connection, Figures, Link, HIGHEST_BOUND, MOST_CONNECTIONS, MOST_PER_WINDOW, MOST_RESERVED,
-    MOST_SILENCE, MOST_UNITS,
+    Connection, Figures, Link, LinkFigures, HIGHEST_BOUND, MOST_CONNECTIONS, MOST_PER_WINDOW,
+    MOST_RESERVED, MOST_SILENCE, MOST_UNITS,
 };
 use crate::record::Record;
 use crate::replay::SIZE_LIMIT;
@@ -275,6 +275,9 @@ pub fn largest_passing(link: &Link, connections: &[Connection], figures: Figures
         Ok(newcomer) => newcomer,
         Err(_) => return 0,
     };
+    if link.has_windows() {
+        return largest_by_halves(link, connections, figures);
+    }
     (newcomer.level()..=link.levels())
         .map(|one| {
             let bound = link.bound(one);
@@ -285,6 +288,23 @@ pub fn largest_passing(link: &Link, connections: &[Connection], figures: Figures
         })
         .min()
         .map_or(0, |most| most.min(u64::from(link.largest())) as u16)
+}
+
+/// The same by the finer test, which no smaller size fails where a larger one passes.
+fn largest_by_halves(link: &Link, connections: &[Connection], figures: Figures) -> u16 {
+    let mut counted = connections.to_vec();
+    let (mut passing, mut failing) = (0, link.largest() + 1);
+    while passing + 1 < failing {
+        let size = (passing + failing) / 2;
+        let sized = Connection::new(link, Figures { size, ..figures });
+        counted.extend(sized);
+        match shortage_of(link, &counted) {
+            None => passing = size,
+            Some(_) => failing = size,
+        }
+        counted.truncate(connections.len());
+    }
+    passing
 }
 
 /// Traffic up to the clock's end and all kinds of calls behind it.
@@ -375,13 +395,14 @@ pub fn limit(script: &mut Script, size: usize) {
 /// The bytes of a good record of any of document 01's four kinds.
 fn some_record(script: &mut Script) -> Vec<u8> {
     let record = match script.random.between(0, 3) {
-        0 => Record::Link {
+        0 => Record::Link(Box::new(LinkFigures {
             levels: 2,
             largest: 4,
             silence: 3,
             setting: None,
             bounds: [10, 20, 0, 0, 0, 0, 0, 0],
-        },
+            windows: None,
+        })),
         1 => Record::Connection(Figures::plain(1, 9, 1).with_average(36, 12)),
         2 => Record::Packet {
             connection: 0,

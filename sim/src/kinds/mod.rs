@@ -12,21 +12,23 @@ mod short;
 mod silence;
 mod stamps;
 mod traffic;
+mod windows;
 
 use crate::link::{OFF, ON};
 use crate::random::Random;
-use script::Script;
+use script::{Script, Windows};
 
 enum Maker {
     /// Good records, carried out while they are written.
     Scripted(fn(&mut Script, usize)),
-    /// The scripted kinds of these names in turn, their links with a setting.
-    Set(u8, &'static [&'static str]),
+    /// The scripted kinds of these names in turn, their links with a setting and windows or without
+    ///
+    Set(u8, Windows, &'static [&'static str]),
     /// Bytes of any sort.
     Bytes(fn(u64, &mut Random, usize) -> Vec<u8>),
 }
 
-/// The kinds whose hubs stand by too: of traffic, of notices and silences, of averages and places, of
+/// The kinds whose hubs stand by too, or have windows: of traffic, of notices and silences, of averages and places, of
 /// closes, of stamps.
 const TRAFFIC: [&str; 9] = [
     "quiet",
@@ -92,7 +94,7 @@ pub struct Kind {
 }
 
 #[rustfmt::skip] // One line for each kind.
-pub const KINDS: [Kind; 68] = [
+pub const KINDS: [Kind; 85] = [
     Kind { name: "quiet", size: 60, maker: Maker::Scripted(traffic::quiet) },
     Kind { name: "flooded", size: 60, maker: Maker::Scripted(traffic::flooded) },
     Kind { name: "wild", size: 60, maker: Maker::Scripted(traffic::wild) },
@@ -146,12 +148,12 @@ pub const KINDS: [Kind; 68] = [
     Kind { name: "badstamp", size: 20, maker: Maker::Bytes(damage::bad_stamp) },
     Kind { name: "stampend", size: 40, maker: Maker::Scripted(stamps::end) },
     Kind { name: "stamplimit", size: 40, maker: Maker::Scripted(stamps::limit) },
-    Kind { name: "early", size: 60, maker: Maker::Set(ON, &TRAFFIC) },
-    Kind { name: "earlynotices", size: 60, maker: Maker::Set(ON, &NOTICES) },
-    Kind { name: "earlyaverages", size: 60, maker: Maker::Set(ON, &AVERAGES) },
-    Kind { name: "earlycloses", size: 60, maker: Maker::Set(ON, &CLOSES) },
-    Kind { name: "earlystamps", size: 60, maker: Maker::Set(ON, &STAMPS) },
-    Kind { name: "earlyoff", size: 60, maker: Maker::Set(OFF, &SOME) },
+    Kind { name: "early", size: 60, maker: Maker::Set(ON, Windows::None, &TRAFFIC) },
+    Kind { name: "earlynotices", size: 60, maker: Maker::Set(ON, Windows::None, &NOTICES) },
+    Kind { name: "earlyaverages", size: 60, maker: Maker::Set(ON, Windows::None, &AVERAGES) },
+    Kind { name: "earlycloses", size: 60, maker: Maker::Set(ON, Windows::None, &CLOSES) },
+    Kind { name: "earlystamps", size: 60, maker: Maker::Set(ON, Windows::None, &STAMPS) },
+    Kind { name: "earlyoff", size: 60, maker: Maker::Set(OFF, Windows::None, &SOME) },
     Kind { name: "earlyflood", size: 10_000, maker: Maker::Scripted(early::flooded) },
     Kind { name: "earlydistance", size: 20, maker: Maker::Scripted(early::distances) },
     Kind { name: "earlysmall", size: 400, maker: Maker::Scripted(early::small) },
@@ -161,6 +163,23 @@ pub const KINDS: [Kind; 68] = [
     Kind { name: "badearly", size: 20, maker: Maker::Bytes(damage::bad_early) },
     Kind { name: "earlyend", size: 40, maker: Maker::Scripted(early::end) },
     Kind { name: "earlylimit", size: 40, maker: Maker::Scripted(early::limit) },
+    Kind { name: "windows", size: 60, maker: Maker::Set(OFF, Windows::Any, &TRAFFIC) },
+    Kind { name: "windownotices", size: 60, maker: Maker::Set(OFF, Windows::Any, &NOTICES) },
+    Kind { name: "windowaverages", size: 60, maker: Maker::Set(OFF, Windows::Any, &AVERAGES) },
+    Kind { name: "windowcloses", size: 60, maker: Maker::Set(OFF, Windows::Any, &CLOSES) },
+    Kind { name: "windowstamps", size: 60, maker: Maker::Set(OFF, Windows::Any, &STAMPS) },
+    Kind { name: "windowearly", size: 60, maker: Maker::Set(ON, Windows::Any, &SOME) },
+    Kind { name: "windowbounds", size: 60, maker: Maker::Set(OFF, Windows::AtTheBounds, &SOME) },
+    Kind { name: "windowzeros", size: 60, maker: Maker::Set(OFF, Windows::Zeros, &SOME) },
+    Kind { name: "windowflood", size: 40, maker: Maker::Scripted(windows::flooded) },
+    Kind { name: "windowedges", size: 40, maker: Maker::Scripted(windows::edges) },
+    Kind { name: "windowsmall", size: 400, maker: Maker::Scripted(windows::small) },
+    Kind { name: "windowcharges", size: 12, maker: Maker::Scripted(windows::charges) },
+    Kind { name: "windowlinks", size: 30, maker: Maker::Scripted(windows::links) },
+    Kind { name: "windowdamage", size: 30, maker: Maker::Bytes(damage::damaged_windows) },
+    Kind { name: "badwindow", size: 20, maker: Maker::Bytes(damage::bad_window) },
+    Kind { name: "windowend", size: 40, maker: Maker::Scripted(windows::end) },
+    Kind { name: "windowlimit", size: 40, maker: Maker::Scripted(windows::limit) },
 ];
 
 impl Kind {
@@ -178,9 +197,10 @@ impl Kind {
                 script.set_seed(seed);
                 make(&mut script, usual);
             }
-            Maker::Set(setting, names) => {
+            Maker::Set(setting, windows, names) => {
                 let turns = names.len() as u64;
                 script.links_by(Some(setting));
+                script.links_with(windows);
                 script.set_seed(seed / turns);
                 let kind = Kind::named(names[(seed % turns) as usize]);
                 if let Some((size, Maker::Scripted(make))) =

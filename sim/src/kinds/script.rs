@@ -6,7 +6,8 @@ use std::convert::Infallible;
 use crate::departure::Tick;
 use crate::hub::Hub;
 use crate::link::{
-    Connection, Figures, Link, MOST_LEVELS, MOST_PER_WINDOW, MOST_RESERVED, MOST_SILENCE,
+    Connection, Figures, Link, LinkFigures, LONGEST_WINDOW, MOST_LEVELS, MOST_PER_WINDOW,
+    MOST_RESERVED, MOST_SILENCE,
 };
 use crate::random::Random;
 use crate::record::Record;
@@ -21,6 +22,17 @@ pub struct Script {
     starts: Vec<usize>,
     mixed_in: Option<Mixed>,
     setting: Option<u8>,
+    windows: Windows,
+}
+
+/// Which windows the links of a script come with: none, in an `LK` or an `LE`; or in an `LW` all 0,
+/// each at its bound, or any within their limits.
+#[derive(Clone, Copy, Debug, PartialEq, Eq)]
+pub enum Windows {
+    None,
+    Zeros,
+    AtTheBounds,
+    Any,
 }
 
 /// Calls that come before one `TK` in so many.
@@ -40,6 +52,7 @@ impl Script {
             starts: Vec::new(),
             mixed_in: None,
             setting: None,
+            windows: Windows::None,
         }
     }
 
@@ -108,19 +121,58 @@ impl Script {
         self.setting = setting;
     }
 
+    /// From now on links come with such windows.
+    pub fn links_with(&mut self, windows: Windows) {
+        self.windows = windows;
+    }
+
     pub fn link(&mut self, largest: u16, silence: u8, used: &[u16]) -> u8 {
-        let mut bounds = [0; MOST_LEVELS];
-        for (bound, value) in bounds.iter_mut().zip(used) {
-            *bound = *value;
-        }
-        let levels = used.len().min(MOST_LEVELS) as u8;
-        self.put(Record::Link {
-            levels,
+        let windows = match self.windows {
+            Windows::None => None,
+            Windows::Zeros => Some(vec![0; used.len()]),
+            Windows::AtTheBounds => Some(used.to_vec()),
+            Windows::Any => Some(self.some_windows(used)),
+        };
+        self.link_with(largest, silence, used, windows.as_deref())
+    }
+
+    /// A link with these windows, or without.
+    pub fn link_with(
+        &mut self,
+        largest: u16,
+        silence: u8,
+        used: &[u16],
+        windows: Option<&[u16]>,
+    ) -> u8 {
+        self.put(Record::Link(Box::new(LinkFigures {
+            levels: used.len().min(MOST_LEVELS) as u8,
             largest,
             silence,
             setting: self.setting,
-            bounds,
-        })
+            bounds: of_all_levels(used),
+            windows: windows.map(of_all_levels),
+        })))
+    }
+
+    /// Windows for these bounds: at them, little longer, some times as long, falling, any, or the
+    /// longest.
+    pub fn some_windows(&mut self, bounds: &[u16]) -> Vec<u16> {
+        let style = self.random.between(0, 6);
+        let top = self.random.between16(1, 9);
+        let last = bounds.last().copied().unwrap_or(0);
+        let mut windows = Vec::new();
+        for (place, &bound) in (0..).zip(bounds) {
+            let window = match style {
+                0 => bound,
+                1 => bound.saturating_add(self.random.between16(0, 40)),
+                2 => bound.saturating_mul(self.random.between16(1, 4)),
+                3 | 4 => last.saturating_mul(top) / (1 + place),
+                5 => self.random.between16(bound, LONGEST_WINDOW),
+                _ => LONGEST_WINDOW,
+            };
+            windows.push(window.min(LONGEST_WINDOW).max(bound));
+        }
+        windows
     }
 
     /// An admission without an average.
@@ -332,4 +384,13 @@ impl Script {
             self.ticks(some);
         }
     }
+}
+
+/// The numbers of the levels that are used, 0 for all others.
+fn of_all_levels(used: &[u16]) -> [u16; MOST_LEVELS] {
+    let mut all = [0; MOST_LEVELS];
+    for (number, value) in all.iter_mut().zip(used) {
+        *number = *value;
+    }
+    all
 }

@@ -4,7 +4,7 @@
 use super::edges::{bad_admission, largest_passing};
 use super::script::Script;
 use super::traffic::{admit_one, modest_link};
-use crate::level_test::{lowest_shortage, sums};
+use crate::level_test::shortage_of;
 use crate::link::{Connection, Figures, Link, HIGHEST_BOUND, MOST_LEVELS, MOST_UNITS};
 
 /// Newcomers aimed at each level in turn, between others that fill the levels up.
@@ -111,5 +111,5 @@ fn some_gap(script: &mut Script, bound: u16) -> u16 {
 fn fails_first(link: &Link, standing: &[Connection], newcomer: Figures) -> Option<u8> {
     let mut counted = standing.to_vec();
     counted.push(Connection::new(link, newcomer).ok()?);
-    lowest_shortage(link, &sums(link, &counted)).map(|short| short.level)
+    shortage_of(link, &counted).map(|short| short.level)
 }

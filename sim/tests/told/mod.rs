@@ -1,10 +1,10 @@
 //! A trace as its records and answers tell it: who has which number, what each has sent and
-//! what of it has departed.
+//! what of it has departed; the level test and the finer test counted packet by packet.
 
 #![allow(dead_code)] // Each test needs a part of it.
 
 use sim::departure::Departure;
-use sim::link::{Figures, Link, MOST_CONNECTIONS};
+use sim::link::{Figures, Link, MOST_CONNECTIONS, MOST_LEVELS};
 use sim::notices::NOTICE_NUMBER;
 use sim::record::{Answer, Record};
 use sim::replay::{Job, Pace};
@@ -34,10 +34,10 @@ impl Line {
         self.eligibilities.len() - self.departed
     }
 
-    /// The clock has reached the last eligibility plus the largest bound, or nothing was sent.
-    pub fn charge_is_over(&self, clock: u64, largest_bound: u64) -> bool {
+    /// The clock has reached the last eligibility plus the time of a charge, or nothing was sent.
+    pub fn charge_is_over(&self, clock: u64, time: u64) -> bool {
         let last = self.eligibilities.last();
-        last.map_or(true, |last| clock >= last + largest_bound)
+        last.map_or(true, |last| clock >= last + time)
     }
 
     pub fn gap(&self) -> u64 {
@@ -100,12 +100,119 @@ impl Line {
     }
 }
 
+/// A link as its record has it.
+#[derive(Clone, Copy, Debug)]
+pub struct Terms {
+    pub levels: usize,
+    pub largest: u16,
+    pub silence: u8,
+    pub bounds: [u16; MOST_LEVELS],
+    pub windows: [u16; MOST_LEVELS],
+}
+
+impl Terms {
+    pub fn of(record: &Record) -> Option<Terms> {
+        match record {
+            Record::Link(figures) => Some(Terms {
+                levels: usize::from(figures.levels),
+                largest: figures.largest,
+                silence: figures.silence,
+                bounds: figures.bounds,
+                windows: figures.windows.unwrap_or([0; MOST_LEVELS]),
+            }),
+            _ => None,
+        }
+    }
+
+    pub fn has_windows(&self) -> bool {
+        self.windows.iter().any(|&window| window > 0)
+    }
+
+    /// The largest bound and the longest window, which is 0 where there is none.
+    pub fn charge_time(&self) -> u64 {
+        let most = |numbers: &[u16]| numbers.iter().copied().max().map_or(0, u64::from);
+        most(&self.bounds) + most(&self.windows)
+    }
+
+    /// The first level that fails, which of its conditions fails first, and by how much, by the words of
+    /// the rule: each condition in turn, each packet by itself.
+    pub fn short(&self, lines: &[Figures]) -> Option<(u8, Condition, u64)> {
+        (1..=self.levels as u8).find_map(|level| {
+            let (condition, units) = self.short_at(lines, level)?;
+            Some((level, condition, units))
+        })
+    }
+
+    fn short_at(&self, lines: &[Figures], level: u8) -> Option<(Condition, u64)> {
+        let place = usize::from(level) - 1;
+        let bound = usize::from(self.bounds[place]);
+        let window = if self.has_windows() {
+            usize::from(self.windows[place])
+        } else {
+            bound
+        };
+        let own = self.demand(lines.iter().filter(|line| line.level == level), window);
+        let urgent = self.demand(lines.iter().filter(|line| line.level < level), window);
+        let blocked = u64::from(self.largest) + u64::from(self.silence);
+        let over = |sum: u64, limit: usize| sum.checked_sub(limit as u64 + 1).map(|less| less + 1);
+        if let Some(units) = over(blocked + own[window] + urgent[window], window) {
+            return Some((Condition::W, units));
+        }
+        let betas = if self.has_windows() { 0..window } else { 0..0 };
+        betas.into_iter().find_map(|beta| {
+            let seen = (bound + beta).min(window);
+            let units = over(blocked + own[beta + 1] + urgent[seen], bound + beta)?;
+            Some((Condition::Beta(beta), units))
+        })
+    }
+
+    /// What lines may send within 0, 1, .. ticks up to a window, with the silences.
+    fn demand<'a>(&self, lines: impl Iterator<Item = &'a Figures>, window: usize) -> Vec<u64> {
+        let mut within = vec![0; window + 1];
+        for line in lines {
+            for tick in sent_before(window as u64, line) {
+                within[tick as usize + 1] += u64::from(line.size) + u64::from(self.silence);
+            }
+        }
+        for ticks in 1..=window {
+            within[ticks] += within[ticks - 1];
+        }
+        within
+    }
+}
+
+/// The conditions of a level; without windows there is only the first, with d for w.
+#[derive(Clone, Copy, Debug, PartialEq, Eq)]
+pub enum Condition {
+    W,
+    Beta(usize),
+}
+
+/// When the packets of a connection go before a tick, if it sends from 0 on whenever its gap and its
+/// average allow it: packet by packet.
+pub fn sent_before(end: u64, figures: &Figures) -> Vec<u64> {
+    let (gap, window) = (u64::from(figures.gap), u64::from(figures.window));
+    let mut sent: Vec<u64> = Vec::new();
+    loop {
+        let mut next = sent.last().map_or(0, |last| last + gap);
+        if window > 0 {
+            let nth = usize::from(figures.window / figures.average) - 1;
+            next = next.max(sent.iter().rev().nth(nth).map_or(0, |one| one + window));
+        }
+        if next >= end {
+            return sent;
+        }
+        sent.push(next);
+    }
+}
+
 /// A trace so far, with all lines that ever were and the packets of levels that the last record has let
 /// go.
 pub struct Told {
     pub job: Job,
     pub lines: Vec<Line>,
     pub departed: Vec<Departure>,
+    pub terms: Option<Terms>,
     owners: [Option<usize>; MOST_CONNECTIONS],
 }
 
@@ -115,6 +222,7 @@ impl Told {
             job: Job::new(Pace::Passing),
             lines: Vec::new(),
             departed: Vec::new(),
+            terms: None,
             owners: [None; MOST_CONNECTIONS],
         }
     }
@@ -123,9 +231,14 @@ impl Told {
         self.job.hub().clock()
     }
 
-    pub fn largest_bound(&self) -> u64 {
-        let link = self.job.hub().link();
-        link.map_or(0, |link| u64::from(link.bounds()[link.bounds().len() - 1]))
+    /// How long behind its last eligibility a closed line is charged.
+    pub fn charge_time(&self) -> u64 {
+        self.terms.map_or(0, |terms| terms.charge_time())
+    }
+
+    /// The figures of all that have a number.
+    pub fn counted(&self) -> Vec<Figures> {
+        self.owners().map(|(_, line)| line.figures).collect()
     }
 
     /// The line that has a number, whether it stands or is charged.
@@ -158,7 +271,7 @@ impl Told {
     /// length; never before its arrival plus its length.
     pub fn carry_out(&mut self, record: Record) -> Answer {
         let (mut last, mut departed) = (None, Vec::new());
-        let result: Result<(), ()> = self.job.carry_out(record, &mut |answer| {
+        let result: Result<(), ()> = self.job.carry_out(record.clone(), &mut |answer| {
             match answer {
                 Answer::Departed(departure) => departed.push(departure),
                 _ => last = Some(answer),
@@ -218,15 +331,16 @@ impl Told {
                 line.lengths.push(length);
             }
             (Record::Close { connection }, _) => self.line_of(connection).closed = true,
+            (link @ Record::Link(_), _) => self.terms = Terms::of(&link),
             _ => {}
         }
     }
 
     /// Numbers whose line is closed and no longer charged have no owner.
     fn free(&mut self) {
-        let (clock, bound) = (self.clock(), self.largest_bound());
+        let (clock, time) = (self.clock(), self.charge_time());
         for owner in &mut self.owners {
-            let over = |line: &Line| line.closed && line.charge_is_over(clock, bound);
+            let over = |line: &Line| line.closed && line.charge_is_over(clock, time);
             *owner = owner.filter(|&line| !over(&self.lines[line]));
         }
     }

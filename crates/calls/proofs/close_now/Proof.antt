@@ -1,11 +1,6 @@
-use Prim.Native.Nat.{ℕ}
 use native.Mathlib.Omega.{arith}
-use mathlib.Core.Path.{_≡_, sym, ap, _∙_}
-use Rattle.rules.specs.Model.{past}
-use Rattle.rules.specs.Admission.{largest-bound}
-use Rattle.rules.specs.Service.{charge-over}
-use Rattle.connections.specs.Members.{past-of}
-use Rattle.state.specs.View.{tables, view}
+use mathlib.Core.Path.{_∙_}
+use Rattle.state.specs.View.{tables}
 use Rattle.state.proofs.SoundLaws as S
 use Rattle.calls.proofs.ActLaws as A
 use borrow.Author.Needs.{needs}
@@ -18,8 +13,11 @@ member-at-requires c κs =
     let t = tables (z .args .members .now) (z .args .places .now) (z .args .notices .now) in
     omega (arith, A.close-below (z .args .h) t (z .pre .0) (z .args .c) (z .pre .1), S.members-size (z .args .h) t (z .pre .0))
 
-bound-of-requires : tie.Need-bound-of-requires
-bound-of-requires c κs = search needs
+charge-time-requires : tie.Need-charge-time-requires
+charge-time-requires c κs =
+    let z = c .before .before .before .before .before in
+    let t = tables (z .args .members .now) (z .args .places .now) (z .args .notices .now) in
+    A.close-time (z .args .h) t (z .pre .0) (z .args .c) (z .pre .1)
 
 charge-over-requires : tie.Need-charge-over-requires
 charge-over-requires c κs =
@@ -45,8 +43,7 @@ returns c =
     let z = c .before .before .before .before .before .before .before .before .before .before .before .before .before in
     let t = tables (z .args .members .now) (z .args .places .now) (z .args .notices .now) in
     let m = c .before .before .before .before .before .before .before .before .member-at in
-    let e : charge-over (largest-bound (z .args .h .link)) (z .args .h .clock) (past (view (z .args .h) t) (z .args .c)) ≡ _ = ap (charge-over (largest-bound (z .args .h .link)) (z .args .h .clock)) (sym (A.close-reads (z .args .h) t (z .pre .0) (z .args .c) (z .pre .1) (m .result) (m .ensures) .past)) ∙ ap (λ (b : ℕ). charge-over b (z .args .h .clock) (past-of (m .result))) (sym (c .before .before .before .before .before .before .before .bound-of .ensures)) ∙ sym (c .before .before .before .before .before .before .charge-over .ensures) in
-    A.close-frees (z .args .h) t (z .pre .0) (z .args .c) (z .pre .1) _ _ (e ∙ c .before .before .before .before .before .if1 .taken) (c .say .ensures) (c .before .before .before .free-member .ensures)
+    A.close-frees (z .args .h) t (z .pre .0) (z .args .c) (z .pre .1) _ _ (A.close-over (z .args .h) t (z .pre .0) (z .args .c) (z .pre .1) (m .result) _ _ (m .ensures) (c .before .before .before .before .before .before .before .charge-time .ensures) (c .before .before .before .before .before .before .charge-over .ensures) ∙ c .before .before .before .before .before .if1 .taken) (c .say .ensures) (c .before .before .before .free-member .ensures)
 
 mark-closed-requires : tie.Need-mark-closed-requires
 mark-closed-requires c κs =
@@ -65,8 +62,7 @@ returns-2 c =
     let z = c .before .before .before .before .before .before .before .before .before .before .before .before .before in
     let t = tables (z .args .members .now) (z .args .places .now) (z .args .notices .now) in
     let m = c .before .before .before .before .before .before .before .before .member-at in
-    let e : charge-over (largest-bound (z .args .h .link)) (z .args .h .clock) (past (view (z .args .h) t) (z .args .c)) ≡ _ = ap (charge-over (largest-bound (z .args .h .link)) (z .args .h .clock)) (sym (A.close-reads (z .args .h) t (z .pre .0) (z .args .c) (z .pre .1) (m .result) (m .ensures) .past)) ∙ ap (λ (b : ℕ). charge-over b (z .args .h .clock) (past-of (m .result))) (sym (c .before .before .before .before .before .before .before .bound-of .ensures)) ∙ sym (c .before .before .before .before .before .before .charge-over .ensures) in
-    A.close-charges (z .args .h) t (z .pre .0) (z .args .c) (z .pre .1) _ _ (e ∙ c .before .before .before .before .before .if1 .left) (c .say2 .ensures) (c .before .before .before .mark-closed .ensures)
+    A.close-charges (z .args .h) t (z .pre .0) (z .args .c) (z .pre .1) _ _ (A.close-over (z .args .h) t (z .pre .0) (z .args .c) (z .pre .1) (m .result) _ _ (m .ensures) (c .before .before .before .before .before .before .before .charge-time .ensures) (c .before .before .before .before .before .before .charge-over .ensures) ∙ c .before .before .before .before .before .if1 .left) (c .say2 .ensures) (c .before .before .before .mark-closed .ensures)
 
 pub close-now-spec : {M : Type 1} → statement M
-close-now-spec = tie.close (tie.spec member-at-requires bound-of-requires charge-over-requires free-member-requires say-requires same-length returns mark-closed-requires say-requires-2 same-length-2 returns-2)
+close-now-spec = tie.close (tie.spec member-at-requires charge-time-requires charge-over-requires free-member-requires say-requires same-length returns mark-closed-requires say-requires-2 same-length-2 returns-2)

@@ -11,10 +11,10 @@ returns : tie.Need-returns
 returns c =
     let s = c .before .before in
     let a = s .args in
-    (sym (ap (share-of (a .l) (a .m) (a .d)) (s .pre .0 (c .if1 .taken)) ∙ L.share-free (a .l) (a .m) (a .d)), search needs)
+    (sym (ap (share-of (a .l) (a .m) (a .w)) (s .pre .0 (c .if1 .taken)) ∙ L.share-free (a .l) (a .m) (a .w)), search needs)
 
 returns-2 : tie.Need-returns-2
-returns-2 c = let a = c .before .before .before .before .args in (L.share-none (a .l) (a .m) (a .d) (a .x) (search needs), search needs)
+returns-2 c = let a = c .before .before .before .before .args in (L.share-none (a .l) (a .m) (a .w) (a .x) (search needs), search needs)
 
 count-in-requires : tie.Need-count-in-requires
 count-in-requires c κs = c .before .before .before .before .pre .1 (c .before .before .if1 .left)
@@ -31,7 +31,7 @@ returns-3 : tie.Need-returns-3
 returns-3 c =
     let a = c .before .before .before .before .before .before .args in
     let e : c .cost-of .result ≡ a .x .size + a .l .silence = c .cost-of .ensures .0 in
-    (rw (c .before .count-in .ensures .0, e) (L.share-is (a .l) (a .m) (a .d) (a .x) (search needs)), L.share-fits (c .before .count-in .result) (c .cost-of .result) (omega arith) (omega arith))
+    (rw (c .before .count-in .ensures .0, e) (L.share-is (a .l) (a .m) (a .w) (a .x) (search needs)), L.share-fits (c .before .count-in .result) (c .cost-of .result) (omega arith) (omega arith))
 
 pub share-spec : {M : Type 1} → statement M
 share-spec = tie.close (tie.spec returns returns-2 count-in-requires cost-of-requires mul-result returns-3)

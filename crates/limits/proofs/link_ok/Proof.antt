@@ -1,4 +1,6 @@
 use borrow.Author.Needs.{needs}
+use borrow.Author.Tests.{not-true, not-false}
+use mathlib.Core.Path.{sym, _∙_}
 use Rattle.limits.proofs.LimitLaws as L
 use Rattle.limits.proofs.ChainLaws as C
 use Rattle.rules.specs.Limits.{max-levels, max-largest}
@@ -36,10 +38,18 @@ bounds-ok-requires c κs = search needs
 
 returns-7 : tie.Need-returns-7
 returns-7 c =
-    let a = c .before .before .before .before .before .before .before .before .before .before .before .before .before .before .before .before .args in
-    L.bounds-rest (a .l) (within-intro 1 max-levels (a .l .levels) (search needs) (search needs)) (within-intro 1 max-largest (a .l .largest) (search needs) (search needs)) (search needs) (search needs) (c .bounds-ok .result) (c .bounds-ok .ensures)
+    let a = c .before .before .before .before .before .before .before .before .before .before .before .before .before .before .before .before .before .args in
+    L.bounds-out (a .l) (within-intro 1 max-levels (a .l .levels) (search needs) (search needs)) (within-intro 1 max-largest (a .l .largest) (search needs) (search needs)) (search needs) (search needs) (sym (c .before .bounds-ok .ensures) ∙ not-true _ (c .if7 .taken))
+
+own-or-none-requires : tie.Need-own-or-none-requires
+own-or-none-requires c κs = search needs
+
+returns-8 : tie.Need-returns-8
+returns-8 c =
+    let a = c .before .before .before .before .before .before .before .before .before .before .before .before .before .before .before .before .before .before .args in
+    L.windows-rest (a .l) (within-intro 1 max-levels (a .l .levels) (search needs) (search needs)) (within-intro 1 max-largest (a .l .largest) (search needs) (search needs)) (search needs) (search needs) (sym (c .before .before .bounds-ok .ensures) ∙ not-false _ (c .before .if7 .left)) (c .own-or-none .result) (c .own-or-none .ensures)
 
 pub link-ok-spec : {M : Type 1} → statement M
 link-ok-spec =
     tie.close
-    (tie.spec returns returns-2 returns-3 returns-4 returns-5 returns-6 add-bounds-ok cast-bounds-ok bounds-ok-requires returns-7)
+    (tie.spec returns returns-2 returns-3 returns-4 returns-5 returns-6 add-bounds-ok cast-bounds-ok bounds-ok-requires returns-7 own-or-none-requires returns-8)

@@ -22,6 +22,9 @@ read-requires c κs = search needs
 read-stand-by-requires : tie.Need-read-stand-by-requires
 read-stand-by-requires c κs = search needs
 
+read-windows-requires : tie.Need-read-windows-requires
+read-windows-requires c κs = search needs
+
 two-requires : tie.Need-two-requires
 two-requires c κs = search needs
 
@@ -94,8 +97,15 @@ returns-2 c =
     (c .read-stand-by .ensures)
 
 returns-3 : tie.Need-returns-3
-unfolding read-numbered number read-kind get-fields sum
+unfolding read-numbered number
 returns-3 c =
+    let m = c .before .before .before .mark-of in
+    rw (numbered (trace .kinds) (c .before .before .before .before .before .args .s .now) (m .result) 0x574C trace-marks (m .ensures) (search needs))
+    (c .read-windows .ensures)
+
+returns-4 : tie.Need-returns-4
+unfolding read-numbered number read-kind get-fields sum
+returns-4 c =
     let m = c .before .before .before .before .before .before .before .mark-of in
     rw (numbered (trace .kinds) (c .before .before .before .before .before .before .before .before .before .args .s .now) (m .result) 0x4E43 trace-marks (m .ensures) (search needs))
     (rw (
@@ -107,56 +117,57 @@ returns-3 c =
       c .before .two4 .ensures,
     ))
 
-returns-4 : tie.Need-returns-4
+returns-5 : tie.Need-returns-5
 unfolding read-numbered number read-kind get-fields sum
-returns-4 c =
+returns-5 c =
     let m = c .before .before .before .before .mark-of in
     rw (numbered (trace .kinds) (c .before .before .before .before .before .before .args .s .now) (m .result) 0x5343 trace-marks (m .ensures) (search needs))
     (rw (c .whole-of2 .ensures, c .before .admit-stamped .ensures))
 
-returns-5 : tie.Need-returns-5
+returns-6 : tie.Need-returns-6
 unfolding read-numbered number read-kind get-fields sum
-returns-5 c =
+returns-6 c =
     let m = c .before .before .before .mark-of in
     rw (numbered (trace .kinds) (c .before .before .before .before .before .args .s .now) (m .result) 0x4C43 trace-marks (m .ensures) (search needs))
     (rw (c .whole-of3 .ensures, c .before .before .one .ensures))
 
-returns-6 : tie.Need-returns-6
+returns-7 : tie.Need-returns-7
 unfolding read-numbered number read-kind get-fields sum
-returns-6 c =
+returns-7 c =
     let m = c .before .before .before .before .before .mark-of in
     rw (numbered (trace .kinds) (c .before .before .before .before .before .before .before .args .s .now) (m .result) 0x4B50 trace-marks (m .ensures) (search needs))
     (rw (c .whole-of4 .ensures, c .before .before .before .before .one .ensures, c .before .before .two5 .ensures, c .before .four .ensures))
 
-returns-7 : tie.Need-returns-7
+returns-8 : tie.Need-returns-8
 unfolding read-numbered number read-kind get-fields sum
-returns-7 c =
+returns-8 c =
     let m = c .before .before .before .before .mark-of in
     rw (numbered (trace .kinds) (c .before .before .before .before .before .before .args .s .now) (m .result) 0x5350 trace-marks (m .ensures) (search needs))
     (rw (c .whole-of5 .ensures, c .before .offer-stamped .ensures))
 
-returns-8 : tie.Need-returns-8
+returns-9 : tie.Need-returns-9
 unfolding read-numbered number read-kind get-fields sum
-returns-8 c =
+returns-9 c =
     let m = c .before .before .before .before .before .mark-of in
     rw (numbered (trace .kinds) (c .before .before .before .before .before .before .before .args .s .now) (m .result) 0x514E trace-marks (m .ensures) (search needs))
     (rw (c .whole-of6 .ensures, c .before .before .two6 .ensures, c .before .four2 .ensures))
 
-returns-9 : tie.Need-returns-9
+returns-10 : tie.Need-returns-10
 unfolding read-numbered number read-kind get-fields sum
-returns-9 c =
+returns-10 c =
     let m = c .before .before .before .before .mark-of in
     rw (numbered (trace .kinds) (c .before .before .before .before .before .before .args .s .now) (m .result) 0x4B54 trace-marks (m .ensures) (search needs))
     (rw (c .whole-of7 .ensures, c .before .two7 .ensures))
 
-returns-10 : tie.Need-returns-10
+returns-11 : tie.Need-returns-11
 unfolding read-numbered number
-returns-10 c =
+returns-11 c =
     let m = c .before .before .before .mark-of in
     rw (
       numbered (trace .kinds) (c .before .before .before .before .before .args .s .now) (m .result) (m .result) trace-marks (m .ensures) refl,
       ne-eqb (m .result) 0x4B4C (search needs),
       ne-eqb (m .result) 0x454C (search needs),
+      ne-eqb (m .result) 0x574C (search needs),
       ne-eqb (m .result) 0x4E43 (search needs),
       ne-eqb (m .result) 0x5343 (search needs),
       ne-eqb (m .result) 0x4C43 (search needs),
@@ -175,6 +186,7 @@ read-spec =
     one-requires
     read-requires
     read-stand-by-requires
+    read-windows-requires
     two-requires
     two-requires-2
     two-requires-3
@@ -203,4 +215,5 @@ read-spec =
     returns-7
     returns-8
     returns-9
-    returns-10)
+    returns-10
+    returns-11)

@@ -25,7 +25,7 @@ returns-2 : tie.Need-returns-2
 returns-2 c =
     let a = c .before .before .before .before .before .args in
     rw (
-      L.charge-by-first (a .bound) (a .clock) (a .t1 .known) (a .t1 .ticks) (c .before .before .before .before .if1 .left) (search needs),
+      L.charge-by-first (a .time) (a .clock) (a .t1 .known) (a .t1 .ticks) (c .before .before .before .before .if1 .left) (search needs),
       c .before .before .wide .ensures .0,
       c .before .wide2 .ensures .0,
       c .wide3 .ensures .0,

@@ -15,10 +15,10 @@ use Rattle.connections.proofs.closing.clear_each.Statement.{statement}
 use Rattle.connections.proofs.closing.clear_each.Tie as tie
 
 abbrev Inv-loop : tie.InvT-loop
-Inv-loop members₀ n bound clock i₀ members i = (members ≡ S.rows-freed members₀ bound clock i) × (i ≤ n)
+Inv-loop members₀ n time clock i₀ members i = (members ≡ S.rows-freed members₀ time clock i) × (i ≤ n)
 
 abbrev μ-loop : tie.MeasureT-loop
-μ-loop members₀ n bound clock i₀ members i = n - i
+μ-loop members₀ n time clock i₀ members i = n - i
 
 loop-holds : tie.Need-loop-holds Inv-loop μ-loop
 loop-holds c = let s = c .before in (rows-written (s .args .members .now) (W.rows-length (s .args .members .now) (s .pre .0)), omega arith)
@@ -26,7 +26,7 @@ loop-holds c = let s = c .before in (rows-written (s .args .members .now) (W.row
 clear-ended-requires : tie.Need-clear-ended-requires Inv-loop μ-loop
 clear-ended-requires c κs =
     let s = c .before .before .before .before in
-    (subst (λ (l : List ℕ). rows-formed l ≡ true) (sym (c .before .before .loop .inv .0)) (S.rows-freed-formed (s .args .members .now) (s .pre .0) (s .args .bound) (s .args .clock) (c .before .before .loop .i)), omega arith)
+    (subst (λ (l : List ℕ). rows-formed l ≡ true) (sym (c .before .before .loop .inv .0)) (S.rows-freed-formed (s .args .members .now) (s .pre .0) (s .args .time) (s .args .clock) (c .before .before .loop .i)), omega arith)
 
 add-i : tie.Need-add-i Inv-loop μ-loop
 add-i c = search needs
@@ -40,9 +40,9 @@ loop-again c =
     let a = s .args in
     let i = c .before .before .before .before .before .loop .i in (
       c .before .before .clear-ended .ensures
-          ∙ ap (λ (l : List ℕ). written-rows (set (members-in l) i (freed (a .bound) (a .clock) (getD (members-in l) i no-member))) (used-in l) (first-in l)) (c .before .before .before .before .before .loop .inv .0)
-          ∙ S.rows-freed-next (a .members .now) (s .pre .0) (a .bound) (a .clock) i
-          ∙ ap (S.rows-freed (a .members .now) (a .bound) (a .clock)) (sym (add-one i)),
+          ∙ ap (λ (l : List ℕ). written-rows (set (members-in l) i (freed (a .time) (a .clock) (getD (members-in l) i no-member))) (used-in l) (first-in l)) (c .before .before .before .before .before .loop .inv .0)
+          ∙ S.rows-freed-next (a .members .now) (s .pre .0) (a .time) (a .clock) i
+          ∙ ap (S.rows-freed (a .members .now) (a .time) (a .clock)) (sym (add-one i)),
       omega arith,
     )
 
@@ -51,7 +51,7 @@ same-length c =
     let s = c .before .before .before in
     let t = s .args .members .now in
     ap length (c .before .loop .inv .0)
-    ∙ W.rows-length (S.rows-freed t (s .args .bound) (s .args .clock) (c .before .loop .i)) (S.rows-freed-formed t (s .pre .0) (s .args .bound) (s .args .clock) (c .before .loop .i))
+    ∙ W.rows-length (S.rows-freed t (s .args .time) (s .args .clock) (c .before .loop .i)) (S.rows-freed-formed t (s .pre .0) (s .args .time) (s .args .clock) (c .before .loop .i))
     ∙ sym (W.rows-length t (s .pre .0))
 
 returns : tie.Need-returns Inv-loop μ-loop
@@ -60,8 +60,8 @@ returns c =
     let a = s .args in
     let e : c .before .loop .i ≡ a .n = omega arith in
     c .before .loop .inv .0
-    ∙ ap (S.rows-freed (a .members .now) (a .bound) (a .clock)) e
-    ∙ S.all-rows-freed (a .members .now) (s .pre .0) (a .bound) (a .clock) (s .pre .1) (a .n) (s .pre .2)
+    ∙ ap (S.rows-freed (a .members .now) (a .time) (a .clock)) e
+    ∙ S.all-rows-freed (a .members .now) (s .pre .0) (a .time) (a .clock) (s .pre .1) (a .n) (s .pre .2)
 
 pub clear-each-spec : {M : Type 1} → statement M
 clear-each-spec =

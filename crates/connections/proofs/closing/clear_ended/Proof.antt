@@ -20,7 +20,7 @@ returns : tie.Need-returns
 returns c =
     let s = c .before .before .before .before in
     let t = s .args .members .now in
-    S.row-stays t (s .pre .0) (s .args .bound) (s .args .clock) (s .args .i) (s .pre .1) (S.open-stays t (s .args .bound) (s .args .clock) (s .args .i) (sym (c .before .number .ensures) ∙ c .if1 .taken))
+    S.row-stays t (s .pre .0) (s .args .time) (s .args .clock) (s .args .i) (s .pre .1) (S.open-stays t (s .args .time) (s .args .clock) (s .args .i) (sym (c .before .number .ensures) ∙ c .if1 .taken))
 
 member-at-requires : tie.Need-member-at-requires
 member-at-requires c κs = omega (arith, W.rows-length (c .before .before .before .before .before .args .members .now) (c .before .before .before .before .before .pre .0))
@@ -43,11 +43,11 @@ returns-2 : tie.Need-returns-2
 returns-2 c =
     let s = c .before .before .before .before .before .before .before .before .before .before .before .before .before in
     let t = s .args .members .now in
-    let e = S.ended-by-charge t (s .args .bound) (s .args .clock) (s .args .i) (λ z. c .before .before .before .before .before .before .before .before .before .if1 .left (c .before .before .before .before .before .before .before .before .before .before .number .ensures ∙ z)) in
+    let e = S.ended-by-charge t (s .args .time) (s .args .clock) (s .args .i) (λ z. c .before .before .before .before .before .before .before .before .before .if1 .left (c .before .before .before .before .before .before .before .before .before .before .number .ensures ∙ z)) in
     c .before .before .put-member .ensures
     ∙ ap (put-member t (s .args .i)) (c .before .before .before .no-member .ensures)
-    ∙ S.row-goes t (s .pre .0) (s .args .bound) (s .args .clock) (s .args .i) (s .pre .1)
-    (e ∙ ap (λ (m : Member). charge-over (s .args .bound) (s .args .clock) (past-of m)) (sym (c .before .before .before .before .before .before .before .member-at .ensures)) ∙ sym (c .before .before .before .before .before .before .charge-over .ensures) ∙ c .before .before .before .before .before .if2 .taken)
+    ∙ S.row-goes t (s .pre .0) (s .args .time) (s .args .clock) (s .args .i) (s .pre .1)
+    (e ∙ ap (λ (m : Member). charge-over (s .args .time) (s .args .clock) (past-of m)) (sym (c .before .before .before .before .before .before .before .member-at .ensures)) ∙ sym (c .before .before .before .before .before .before .charge-over .ensures) ∙ c .before .before .before .before .before .if2 .taken)
 
 same-length-3 : tie.Need-same-length-3
 same-length-3 c = search needs
@@ -56,9 +56,9 @@ returns-3 : tie.Need-returns-3
 returns-3 c =
     let s = c .before .before .before .before .before .before .before .before in
     let t = s .args .members .now in
-    let e = S.ended-by-charge t (s .args .bound) (s .args .clock) (s .args .i) (λ z. c .before .before .before .before .if1 .left (c .before .before .before .before .before .number .ensures ∙ z)) in
-    S.row-stays t (s .pre .0) (s .args .bound) (s .args .clock) (s .args .i) (s .pre .1)
-    (e ∙ ap (λ (m : Member). charge-over (s .args .bound) (s .args .clock) (past-of m)) (sym (c .before .before .member-at .ensures)) ∙ sym (c .before .charge-over .ensures) ∙ c .if2 .left)
+    let e = S.ended-by-charge t (s .args .time) (s .args .clock) (s .args .i) (λ z. c .before .before .before .before .if1 .left (c .before .before .before .before .before .number .ensures ∙ z)) in
+    S.row-stays t (s .pre .0) (s .args .time) (s .args .clock) (s .args .i) (s .pre .1)
+    (e ∙ ap (λ (m : Member). charge-over (s .args .time) (s .args .clock) (past-of m)) (sym (c .before .before .member-at .ensures)) ∙ sym (c .before .charge-over .ensures) ∙ c .if2 .left)
 
 pub clear-ended-spec : {M : Type 1} → statement M
 clear-ended-spec =

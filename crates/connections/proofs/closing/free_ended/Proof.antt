@@ -29,8 +29,8 @@ sum-up-requires c κs =
     let h : used-by (connections-in t) ≤ n = omega (arith, c .before .before .before .before .before .used .ensures, W.used-is t (s .pre .0)) in
     let r = c .before .before .before .clear-each .last .0 in
     let e = c .before .before .before .clear-each .ensures in
-    let m = S.left-members t f (a .bound) (a .clock) (s .pre .1) n h r e in
-    (S.left-formed t f (a .bound) (a .clock) (s .pre .1) n h r e, S.in-order-left t r (a .bound) (a .clock) m (s .pre .1), omega (arith, S.used-left t r (a .bound) (a .clock) m), omega (arith, c .before .before .before .before .before .used .ensures, W.used-is t (s .pre .0), used-le (connections-in t), connections-length t))
+    let m = S.left-members t f (a .time) (a .clock) (s .pre .1) n h r e in
+    (S.left-formed t f (a .time) (a .clock) (s .pre .1) n h r e, S.in-order-left t r (a .time) (a .clock) m (s .pre .1), omega (arith, S.used-left t r (a .time) (a .clock) m), omega (arith, c .before .before .before .before .before .used .ensures, W.used-is t (s .pre .0), used-le (connections-in t), connections-length t))
 
 same-length : tie.Need-same-length
 same-length c = search needs
@@ -45,7 +45,7 @@ returns c =
     let r = c .before .before .before .before .before .before .clear-each .last .0 in
     λ z stands.
     c .before .before .sum-up .ensures
-    ∙ S.swept-written t (a .bound) (a .clock) z stands (members-in r) (S.left-members t (W.members-rows t (s .pre .0)) (a .bound) (a .clock) (s .pre .1) n h r (c .before .before .before .before .before .before .clear-each .ensures))
+    ∙ S.swept-written t (a .time) (a .clock) z stands (members-in r) (S.left-members t (W.members-rows t (s .pre .0)) (a .time) (a .clock) (s .pre .1) n h r (c .before .before .before .before .before .before .clear-each .ensures))
 
 pub free-ended-spec : {M : Type 1} → statement M
 free-ended-spec =

@@ -12,7 +12,7 @@ same-length : tie.Need-same-length
 same-length c = search needs
 
 returns : tie.Need-returns
-returns c = let s = c .before .before .before .before in S.swept-as-is (s .args .members .now) (s .pre .0) (s .args .bound) (s .args .clock) (s .pre .1) (λ p. absurd (omega (arith, c .before .first-charge .ensures)))
+returns c = let s = c .before .before .before .before in S.swept-as-is (s .args .members .now) (s .pre .0) (s .args .time) (s .args .clock) (s .pre .1) (λ p. absurd (omega (arith, c .before .first-charge .ensures)))
 
 wide-requires : tie.Need-wide-requires
 wide-requires c κs = search needs
@@ -33,7 +33,7 @@ same-length-2 : tie.Need-same-length-2
 same-length-2 c = search needs
 
 returns-2 : tie.Need-returns-2
-returns-2 c = let s = c .before .before .before .before .before .before .before .before in S.swept-as-is (s .args .members .now) (s .pre .0) (s .args .bound) (s .args .clock) (s .pre .1) (λ p. omega (arith, c .before .before .before .before .before .first-charge .ensures))
+returns-2 c = let s = c .before .before .before .before .before .before .before .before in S.swept-as-is (s .args .members .now) (s .pre .0) (s .args .time) (s .args .clock) (s .pre .1) (λ p. omega (arith, c .before .before .before .before .before .first-charge .ensures))
 
 free-ended-requires : tie.Need-free-ended-requires
 free-ended-requires c κs = search needs

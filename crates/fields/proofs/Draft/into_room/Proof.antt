@@ -20,7 +20,7 @@ abbrev μ-loop : tie.MeasureT-loop
 returns : tie.Need-returns Inv-loop μ-loop
 returns c =
     let d = c .before .args .t1 in
-    let h : 22 < length (d .bytes) = search needs in
+    let h : 38 < length (d .bytes) = search needs in
     let e = count-held d (omega arith) in
     no-room (held d) (c .before .args .room .now) (omega arith)
 
@@ -44,7 +44,7 @@ loop-again c =
     let k = c .before .before .loop .k in
     let d = c .before .before .before .before .args .t1 in
     let room = c .before .before .before .before .args .room .now in
-    let h : 22 < length (d .bytes) = search needs in (
+    let h : 38 < length (d .bytes) = search needs in (
       search needs,
       simp length-set (search needs),
       rw (add-one k, c .before .before .loop .inv .2) (copied k (d .bytes) room (omega arith) (omega arith)),
@@ -57,7 +57,7 @@ returns-2 : tie.Need-returns-2 Inv-loop μ-loop
 returns-2 c =
     let d = c .before .before .before .args .t1 in
     let room = c .before .before .before .args .room .now in
-    let h : 22 < length (d .bytes) = search needs in
+    let h : 38 < length (d .bytes) = search needs in
     let e = count-held d (omega arith) in
     let n : c .before .loop .k ≡ d .len = omega arith in
     let w = room-enough (held d) room (omega arith) in (

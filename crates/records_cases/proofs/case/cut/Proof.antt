@@ -5,7 +5,7 @@ use Rattle.records_cases.proofs.case.cut.Statement.{statement}
 use Rattle.records_cases.proofs.case.cut.Tie as tie
 
 abbrev Inv-loop : tie.InvT-loop
-Inv-loop traced buffer end t t₀ e₀ t' e = 10 ≤ e
+Inv-loop traced buffer end t t₀ e₀ t' e = 12 ≤ e
 
 abbrev μ-loop : tie.MeasureT-loop
 μ-loop traced buffer end t t₀ e₀ t' e = end - e

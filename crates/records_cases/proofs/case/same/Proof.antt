@@ -5,10 +5,10 @@ use Rattle.records_cases.proofs.case.same.Statement.{statement}
 use Rattle.records_cases.proofs.case.same.Tie as tie
 
 abbrev Inv-loop : tie.InvT-loop
-Inv-loop numbers a i₀ i = i ≤ 14
+Inv-loop numbers a i₀ i = i ≤ 22
 
 abbrev μ-loop : tie.MeasureT-loop
-μ-loop numbers a i₀ i = 14 - i
+μ-loop numbers a i₀ i = 22 - i
 
 loop-holds : tie.Need-loop-holds Inv-loop μ-loop
 loop-holds c = search needs

@@ -14,8 +14,8 @@ cast-result c = search needs
 returns : tie.Need-returns
 returns c = search needs
 
-bound-of-requires : tie.Need-bound-of-requires
-bound-of-requires c κs = search needs
+charge-time-requires : tie.Need-charge-time-requires
+charge-time-requires c κs = search needs
 
 cast-end : tie.Need-cast-end
 cast-end c = search needs
@@ -35,12 +35,12 @@ add-reached c = search needs
 returns-2 : tie.Need-returns-2
 returns-2 c =
     let f = c .before .before .before .before .first-charge in
-    charge-ends _ _ _ _ (λ z. c .before .before .before .if1 .left (f .ensures ∙ z)) (omega (arith, f .ensures, c .before .before .bound-of .ensures))
+    charge-ends _ _ _ _ (λ z. c .before .before .before .if1 .left (f .ensures ∙ z)) (omega (arith, f .ensures, c .before .before .charge-time .ensures))
 
 returns-3 : tie.Need-returns-3
 returns-3 c =
     let f = c .before .before .before .before .first-charge in
-    charge-ends _ _ _ _ (λ z. c .before .before .before .if1 .left (f .ensures ∙ z)) (omega (arith, f .ensures, c .before .before .bound-of .ensures))
+    charge-ends _ _ _ _ (λ z. c .before .before .before .if1 .left (f .ensures ∙ z)) (omega (arith, c .before .before .charge-time .ensures, f .ensures))
 
 pub charged-for-spec : {M : Type 1} → statement M
 charged-for-spec =
@@ -49,7 +49,7 @@ charged-for-spec =
     first-charge-requires
     cast-result
     returns
-    bound-of-requires
+    charge-time-requires
     cast-end
     cast-end-2
     add-end

@@ -2,10 +2,10 @@ use native.Mathlib.Omega.{arith}
 use Rattle.state.specs.View.{tables, view}
 use Prim.Native.Nat.{ℕ}
 use mathlib.Core.Path.{ap, _∙_}
-use Rattle.rules.specs.Admission.{bound}
+use Rattle.rules.specs.Admission.{charge-time}
 use Rattle.connections.proofs.WrittenLaws.{members-long, first-is}
 use Rattle.service.specs.Quiet.{charged-for}
-use Rattle.service.proofs.QuietCases.{none-without-link, clock-in-time, some-quiet, quiet-parts}
+use Rattle.service.proofs.QuietCases.{none-without-link, clock-in-time, time-fits, some-quiet, quiet-parts}
 use borrow.Author.Needs.{needs}
 use Rattle.service.proofs.quiet.quiet_ticks.Statement.{statement}
 use Rattle.service.proofs.quiet.quiet_ticks.Tie as tie
@@ -29,7 +29,10 @@ least-requires : tie.Need-least-requires
 least-requires c κs = search needs
 
 charged-for-requires : tie.Need-charged-for-requires
-charged-for-requires c κs = let s = c .before .before .before .before .before .before .before .before in members-long (s .args .members .now) (s .pre .3)
+charged-for-requires c κs =
+    let s = c .before .before .before .before .before .before .before .before in
+    let a = s .args in
+    (members-long (a .members .now) (s .pre .3), time-fits (view (a .h) (tables (a .members .now) (a .places .now) (a .notices .now))) (s .pre .0) (a .left) (c .before .before .before .if1 .left))
 
 least-wide-requires : tie.Need-least-wide-requires
 least-wide-requires c κs = search needs
@@ -44,7 +47,7 @@ returns-2 c =
     let a = s .args in
     some-quiet (view (a .h) (tables (a .members .now) (a .places .now) (a .notices .now))) (s .pre .0) (a .left) (i .if1 .left) _
     (quiet-parts _ _ _ _ _ _ _ (a .left) _ (c .before .before .before .before .before .quiet-for .ensures) (c .before .before .before .least .ensures)
-    (c .before .before .charged-for .ensures ∙ ap (λ (f : ℕ). charged-for f (bound (a .h .link) (a .h .link .levels)) (a .h .clock)) (first-is (a .members .now) (s .pre .3))) (c .before .least-wide .ensures) (omega arith))
+    (c .before .before .charged-for .ensures ∙ ap (λ (f : ℕ). charged-for f (charge-time (a .h .link)) (a .h .clock)) (first-is (a .members .now) (s .pre .3))) (c .before .least-wide .ensures) (omega arith))
 
 returns-3 : tie.Need-returns-3
 returns-3 c =
@@ -53,7 +56,7 @@ returns-3 c =
     let a = s .args in
     some-quiet (view (a .h) (tables (a .members .now) (a .places .now) (a .notices .now))) (s .pre .0) (a .left) (i .if1 .left) _
     (quiet-parts _ _ _ _ _ _ _ (a .left) _ (c .before .before .before .before .before .quiet-for .ensures) (c .before .before .before .least .ensures)
-    (c .before .before .charged-for .ensures ∙ ap (λ (f : ℕ). charged-for f (bound (a .h .link) (a .h .link .levels)) (a .h .clock)) (first-is (a .members .now) (s .pre .3))) (c .before .least-wide .ensures) (omega arith))
+    (c .before .before .charged-for .ensures ∙ ap (λ (f : ℕ). charged-for f (charge-time (a .h .link)) (a .h .clock)) (first-is (a .members .now) (s .pre .3))) (c .before .least-wide .ensures) (omega arith))
 
 pub quiet-ticks-spec : {M : Type 1} → statement M
 quiet-ticks-spec =

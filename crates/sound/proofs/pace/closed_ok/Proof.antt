@@ -17,8 +17,8 @@ returns c = let s = c .before .before .before in L.not-closed (s .args .h) (s .a
 returns-2 : tie.Need-returns-2
 returns-2 c = let s = c .before .before .before .before in L.holds-one (s .args .h) (s .args .members .now) (s .args .c) (s .args .n) (s .pre .1) _ (c .before .before .number .ensures) (c .before .if1 .left) (c .if2 .taken)
 
-bound-of-requires : tie.Need-bound-of-requires
-bound-of-requires c κs = search needs
+charge-time-requires : tie.Need-charge-time-requires
+charge-time-requires c κs = c .before .before .before .before .pre .2
 
 member-at-requires : tie.Need-member-at-requires
 member-at-requires c κs = let s = c .before .before .before .before .before in omega (arith, W.rows-length (s .args .members .now) (s .pre .0), s .pre .1)
@@ -30,7 +30,7 @@ returns-3 : tie.Need-returns-3
 returns-3 c =
     let s = c .before .before .before .before .before .before .before in
     let old = ap past-of (c .before .member-at .ensures) ∙ sym (M.past-is (s .args .members .now) (s .args .c) (s .pre .1)) in
-    L.charged-by (s .args .h) (s .args .members .now) (s .args .c) (s .args .n) (s .pre .1) _ (c .before .before .before .before .before .number .ensures) (c .before .before .before .before .if1 .left) (search needs) _ (c .before .before .bound-of .ensures) _ old _ (c .charge-over .ensures)
+    L.charged-by (s .args .h) (s .args .members .now) (s .args .c) (s .args .n) (s .pre .1) _ (c .before .before .before .before .before .number .ensures) (c .before .before .before .before .if1 .left) (search needs) _ (c .before .before .charge-time .ensures) _ old _ (c .charge-over .ensures)
 
 pub closed-ok-spec : {M : Type 1} → statement M
 closed-ok-spec =
@@ -39,7 +39,7 @@ closed-ok-spec =
     number-requires
     returns
     returns-2
-    bound-of-requires
+    charge-time-requires
     member-at-requires
     charge-over-requires
     returns-3)

@@ -28,7 +28,7 @@ shared-slice-read-closed-ok : tie.Need-shared-slice-read-closed-ok Inv-loop μ-l
 shared-slice-read-closed-ok c = search needs
 
 closed-ok-requires : tie.Need-closed-ok-requires Inv-loop μ-loop
-closed-ok-requires c κs = let s = c .before .before .before .before .before in (s .pre .0, search needs)
+closed-ok-requires c κs = let s = c .before .before .before .before .before in (s .pre .0, search needs, s .pre .2)
 
 returns : tie.Need-returns Inv-loop μ-loop
 returns c =

@@ -1,5 +1,6 @@
 use Rattle.sound.proofs.PaceLaws as L
 use Rattle.sound.proofs.PartLaws as S
+use Rattle.rules.proofs.Figures as F
 use native.Mathlib.Omega.{arith}
 use mathlib.Core.Path.{_∙_}
 use Rattle.state.specs.View.{tables}
@@ -28,7 +29,9 @@ slice-aggregate-each-closed-ok : tie.Need-slice-aggregate-each-closed-ok
 slice-aggregate-each-closed-ok c = search needs
 
 each-closed-ok-requires : tie.Need-each-closed-ok-requires
-each-closed-ok-requires c κs = (c .before .before .before .before .before .before .before .before .before .pre .1 .0, c .before .before .before .before .before .count-rows .ensures .size)
+each-closed-ok-requires c κs =
+    let s = c .before .before .before .before .before .before .before .before .before in
+    (s .pre .1 .0, c .before .before .before .before .before .count-rows .ensures .size, omega (arith, F.charge-le (s .args .h .link) (s .pre .1 .2 .link-in)))
 
 returns-2 : tie.Need-returns-2
 returns-2 c =

@@ -20,8 +20,8 @@ asked-by-requires c κs = search needs
 enum-known-wanted : tie.Need-enum-known-wanted
 enum-known-wanted c = search needs
 
-stand-by-named-requires : tie.Need-stand-by-named-requires
-stand-by-named-requires c κs = search needs
+windows-named-requires : tie.Need-windows-named-requires
+windows-named-requires c κs = search needs
 
 link-step-requires : tie.Need-link-step-requires
 link-step-requires c κs = search needs
@@ -79,7 +79,7 @@ returns c =
     let a = c .before .before .before .before .before .before .before .before .before .before .before .before .before .before .before .before .args in
     let q = c .before .before .before .before .before .before .before .before .before .before .before .asked-by in
     let k = c .before .before .link-step in
-    (as-asked (q .result) (a .f .what) (a .f .taken) (a .at) (view (a .h) (tables (a .members .now) (a .places .now) (a .notices .now))) _ _ _ _ (q .ensures) (rw (c .before .before .before .before .before .before .before .before .before .wanted .given .1) (rw (c .before .before .before .before .before .before .before .stand-by-named .ensures) at (k .ensures))), rw (k .ensures .answers) (omega arith))
+    (as-asked (q .result) (a .f .what) (a .f .taken) (a .at) (view (a .h) (tables (a .members .now) (a .places .now) (a .notices .now))) _ _ _ _ (q .ensures) (rw (c .before .before .before .before .before .before .before .before .before .wanted .given .1) (rw (c .before .before .before .before .before .before .before .windows-named .ensures) at (k .ensures))), rw (k .ensures .answers) (omega arith))
 
 same-length-5 : tie.Need-same-length-5
 same-length-5 c = search needs
@@ -184,7 +184,7 @@ record-step-spec =
     add-to
     asked-by-requires
     enum-known-wanted
-    stand-by-named-requires
+    windows-named-requires
     link-step-requires
     enum-known-wanted-2
     admit-step-requires

@@ -1,6 +1,7 @@
 -- `traces::link::draft` meets its contract: the numbers of an `LK` behind its mark, in their order.
 use mathlib.Core.Path.{refl}
-use mathlib.Core.List.{[], _∷_}
+use mathlib.Core.List.{_∷_}
+use lib.ListN.{take, drop}
 use native.Mathlib.Omega.{arith}
 use Rattle.fields.specs.Numbers.{sum}
 use Rattle.fields.proofs.DraftLaws.{before}
@@ -27,7 +28,7 @@ unfolding sum
 returns c =
     let a = c .before .before .before .before .args in
     let n = a .levels in
-    link-drafted LK n (a .largest ∷ a .silence ∷ []) (a .bounds) (search needs) refl (c .before .before .before .headed .ensures)
+    link-drafted LK n (a .largest ∷ a .silence ∷ take n (a .bounds)) (drop n (a .bounds)) (search needs) refl (c .before .before .before .headed .ensures)
     (λ w. before (c .before .before .two .ensures) (before (c .before .one .ensures) (c .bounded .ensures .0 w))) (c .bounded .ensures .1) (λ few. omega (arith, sum-link n))
 
 pub draft-spec : {M : Type 1} → statement M

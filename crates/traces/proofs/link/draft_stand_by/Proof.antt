@@ -1,6 +1,7 @@
 -- `traces::link::draft_stand_by` meets its contract: the numbers of an `LE` behind its mark, in their order.
 use mathlib.Core.Path.{refl}
-use mathlib.Core.List.{[], _∷_}
+use mathlib.Core.List.{_∷_}
+use lib.ListN.{take, drop}
 use native.Mathlib.Omega.{arith}
 use Rattle.fields.specs.Numbers.{sum}
 use Rattle.fields.proofs.DraftLaws.{before}
@@ -30,7 +31,7 @@ unfolding sum
 returns c =
     let a = c .before .before .before .before .before .args in
     let n = a .levels in
-    link-drafted LE n (a .largest ∷ a .silence ∷ a .early ∷ []) (a .bounds) (search needs) refl (c .before .before .before .before .headed .ensures)
+    link-drafted LE n (a .largest ∷ a .silence ∷ a .early ∷ take n (a .bounds)) (drop n (a .bounds)) (search needs) refl (c .before .before .before .before .headed .ensures)
     (λ w. before (c .before .before .before .two .ensures) (before (c .before .before .one .ensures) (before (c .before .one2 .ensures) (c .bounded .ensures .0 w)))) (c .bounded .ensures .1) (λ few. omega (arith, sum-stand-by n))
 
 pub draft-stand-by-spec : {M : Type 1} → statement M

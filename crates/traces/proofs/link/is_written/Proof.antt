@@ -11,7 +11,7 @@ use Rattle.traces.proofs.link.is_written.Statement.{statement}
 use Rattle.traces.proofs.link.is_written.Tie as tie
 
 abbrev Inv-loop : tie.InvT-loop
-Inv-loop levels bounds i₀ i = (i ≤ 8) × (length bounds ≡ 8) × (eqb (sum (drop i bounds)) 0 ≡ link-written levels bounds)
+Inv-loop levels bounds i₀ i = (i ≤ 8) × (length bounds ≡ 8) × (eqb (sum (drop i bounds)) 0 ≡ link-written levels (drop levels bounds))
 
 abbrev μ-loop : tie.MeasureT-loop
 μ-loop levels bounds i₀ i = 8 - i
@@ -20,10 +20,10 @@ returns : tie.Need-returns Inv-loop μ-loop
 returns c = let e : c .before .args .levels ≡ 0 = search needs in rw (e, zero-unwritten)
 
 returns-2 : tie.Need-returns-2 Inv-loop μ-loop
-returns-2 c = sym (large-unwritten (c .before .before .args .levels) (c .before .before .args .t2) (search needs))
+returns-2 c = sym (large-unwritten (c .before .before .args .levels) (drop (c .before .before .args .levels) (c .before .before .args .t2)) (search needs))
 
 loop-holds : tie.Need-loop-holds Inv-loop μ-loop
-loop-holds c = (search needs, search needs, sym (zeros-decide (c .before .before .args .levels) (c .before .before .args .t2) (search needs) (search needs)))
+loop-holds c = (search needs, search needs, sym (zeros-decide (c .before .before .args .levels) (drop (c .before .before .args .levels) (c .before .before .args .t2)) (search needs) (search needs)))
 
 mul-if3 : tie.Need-mul-if3 Inv-loop μ-loop
 mul-if3 c = search needs

@@ -1,0 +1,38 @@
+-- `traces::link::draft_windows` meets its contract: the numbers of an `LW` behind its mark, in their order.
+use mathlib.Core.Path.{refl}
+use mathlib.Core.List.{_∷_, _++_}
+use lib.ListN.{take, drop}
+use native.Mathlib.Omega.{arith}
+use Rattle.fields.specs.Numbers.{sum}
+use Rattle.fields.proofs.DraftLaws.{before}
+use Rattle.traces.specs.Kinds.{LW}
+use Rattle.traces.proofs.LinkLaws.{sum-windows, link-drafted}
+use borrow.Author.Needs.{needs}
+use Rattle.traces.proofs.link.draft_windows.Statement.{statement}
+use Rattle.traces.proofs.link.draft_windows.Tie as tie
+
+headed-requires : tie.Need-headed-requires
+headed-requires c κs = search needs
+
+two-requires : tie.Need-two-requires
+two-requires c κs = search needs
+
+one-requires : tie.Need-one-requires
+one-requires c κs = search needs
+
+one-requires-2 : tie.Need-one-requires-2
+one-requires-2 c κs = search needs
+
+windows-behind-requires : tie.Need-windows-behind-requires
+windows-behind-requires c κs = search needs
+
+returns : tie.Need-returns
+unfolding sum
+returns c =
+    let a = c .before .before .before .before .before .args in
+    let n = a .levels in
+    link-drafted LW n (a .largest ∷ a .silence ∷ a .setting ∷ take n (a .bounds) ++ take n (a .windows)) (drop n (a .bounds) ++ drop n (a .windows)) (search needs) refl (c .before .before .before .before .headed .ensures)
+    (λ w. before (c .before .before .before .two .ensures) (before (c .before .before .one .ensures) (before (c .before .one2 .ensures) (c .windows-behind .ensures .0 w)))) (c .windows-behind .ensures .1) (λ few. omega (arith, sum-windows n))
+
+pub draft-windows-spec : {M : Type 1} → statement M
+draft-windows-spec = tie.close (tie.spec headed-requires two-requires one-requires one-requires-2 windows-behind-requires returns)
