@@ -1,4 +1,4 @@
-"""The .edit files of a crate: replacements in a copy of it, written as `rt must-fail` takes them; and the function whose body an edit changes."""
+"""The .edit files of a crate: replacements in a copy of it, written as `rt must-fail` takes them; and the functions whose bodies an edit changes."""
 
 import os
 import re
@@ -22,14 +22,18 @@ class Body(NamedTuple):
     begin: int
     end: int
 
+    def proof(self):
+        """The file of the function's proof."""
+        return os.path.join("proofs", *self.names, "Proof.antt")
+
 
 class Edit(NamedTuple):
-    """An edit: its crate, its name, its replacements (file, old, new), the one body that they change, or None, and the file that refuses it, where it names one."""
+    """An edit: its crate, its name, its replacements (file, old, new), the bodies that they change, none where they change more, and the file that refuses it, where it names one."""
 
     crate: str
     name: str
     pairs: tuple
-    body: Optional[Body]
+    bodies: frozenset
     at: Optional[str]
 
 
@@ -85,6 +89,14 @@ def body_of(folder, file, old):
     return inside[0] if found and old not in behind and inside else None
 
 
+def bodies_of(folder, pairs):
+    """The bodies that replacements change, with the proofs of their functions; none where they change anything else."""
+    proofs = {file for file, _, _ in pairs if file.startswith("proofs/")}
+    changed = {body_of(folder, file, old) for file, old, _ in pairs if file not in proofs}
+    is_all = changed and None not in changed and proofs <= {body.proof() for body in changed}
+    return frozenset(changed) if is_all else frozenset()
+
+
 def edits_of(project, crate, part="edits"):
     """The edits of a crate in edits/, or in must-fail/, by name."""
     above = os.path.join(project, "crates", crate)
@@ -93,8 +105,7 @@ def edits_of(project, crate, part="edits"):
         if name.endswith(".edit"):
             text = text_of(os.path.join(folder, name))
             pairs = tuple(pairs_of(text))
-            changed = {body_of(above, file, old) for file, old, _ in pairs}
-            yield Edit(crate, name.removesuffix(".edit"), pairs, changed.pop() if len(changed) == 1 else None, at_of(text))
+            yield Edit(crate, name.removesuffix(".edit"), pairs, bodies_of(above, pairs), at_of(text))
 
 
 def apply(edit, folder):

@@ -16,7 +16,7 @@ use Rattle.rules.proofs.Tests.{and-true, and-cases, or-cases, or-false, not-tru
 use Rattle.tables.specs.Places.{rows, row-at, no-packet}
 use Rattle.tables.proofs.PlacesLaws.{rows-from}
 use Rattle.service.specs.declared.Best.{Best}
-use Rattle.service.specs.Candidates.{option, best-of, candidate, ahead, Not-eligible}
+use Rattle.service.specs.Candidates.{option, best-of, candidate, leader, Not-eligible}
 
 -- what was given is read back
 pub option-back : (o : Option Packet) → option (best-of o) ≡ o
@@ -59,50 +59,50 @@ module _ (level : ℕ → ℕ) where
       not-true-false _ (λ t. let k = before p q t in let e : level (p .connection) ≡ level (q .connection) = omega (arith, h .0, k .0) in omega (arith, h .1 (sym e), k .1 e))
 
   -- with none, the other
-  pub ahead-none : (o : Option Packet) → ahead level o none ≡ o
-  ahead-none none = refl
-  ahead-none (some p) = refl
+  pub leader-none : (o : Option Packet) → leader level o none ≡ o
+  leader-none none = refl
+  leader-none (some p) = refl
 
   -- THE LAW OF THE PASS: of three candidates it is the same one that goes first, whichever two are compared first
-  pub ahead-assoc : (a b c : Option Packet) → ahead level (ahead level a b) c ≡ ahead level a (ahead level b c)
-  ahead-assoc none b c = refl
-  ahead-assoc (some p) none c = refl
-  ahead-assoc (some p) (some q) none = ahead-none (ahead level (some p) (some q))
-  ahead-assoc (some p) (some q) (some r) = go (goes-first level p q) refl (goes-first level q r) refl
+  pub leader-assoc : (a b c : Option Packet) → leader level (leader level a b) c ≡ leader level a (leader level b c)
+  leader-assoc none b c = refl
+  leader-assoc (some p) none c = refl
+  leader-assoc (some p) (some q) none = leader-none (leader level (some p) (some q))
+  leader-assoc (some p) (some q) (some r) = go (goes-first level p q) refl (goes-first level q r) refl
     where
       go : (u : Bool) → goes-first level p q ≡ u → (v : Bool) → goes-first level q r ≡ v
-          → ahead level (cond u (some p) (some q)) (some r) ≡ ahead level (some p) (cond v (some q) (some r))
+          → leader level (cond u (some p) (some q)) (some r) ≡ leader level (some p) (cond v (some q) (some r))
       go true e true f = rw (e, is-before p r (still-ahead 0 p q r (before p q e) (before q r f)))
       go true e false f = refl
       go false e true f = rw (e, f)
       go false e false f = rw (f, is-behind p r (still-ahead 1 r q p (behind q r f) (behind p q e)))
 
   module _ (clock : ℕ) where
-    choice-cons : (p : Packet) (ps : List Packet) → choice level clock (p ∷ ps) ≡ ahead level (candidate clock p) (choice level clock ps)
+    choice-cons : (p : Packet) (ps : List Packet) → choice level clock (p ∷ ps) ≡ leader level (candidate clock p) (choice level clock ps)
     choice-cons p ps = go (leb (p .eligibility) clock)
       where
-        go : (u : Bool) → cond u (better level p (choice level clock ps)) (choice level clock ps) ≡ ahead level (cond u (some p) none) (choice level clock ps)
+        go : (u : Bool) → cond u (better level p (choice level clock ps)) (choice level clock ps) ≡ leader level (cond u (some p) none) (choice level clock ps)
         go true = refl
         go false = refl
 
     -- the best of the rows before i, against the choice of the rows from i on
     abbrev pub Walked : List ℕ → ℕ → Best → Type 0
-    Walked t i b = (b ≡ best-of (option b)) × (ahead level (option b) (choice level clock (drop i (rows t))) ≡ choice level clock (rows t))
+    Walked t i b = (b ≡ best-of (option b)) × (leader level (option b) (choice level clock (drop i (rows t))) ≡ choice level clock (rows t))
 
     -- no row is walked yet
     pub walk-start : (t : List ℕ) (p : Packet) → p ≡ no-packet → Walked t 0 (record { found = false; packet = p })
     walk-start t p e = (ap (λ (q : Packet). record { found = false; packet = q }) e, refl)
 
     -- p, which is row i, is taken in
-    pub walk : (t : List ℕ) (i : ℕ) (b d : Best) (p : Packet) → i < length (rows t) → p ≡ row-at t i → d ≡ best-of (ahead level (option b) (candidate clock p)) → Walked t i b → Walked t (i + 1) d
+    pub walk : (t : List ℕ) (i : ℕ) (b d : Best) (p : Packet) → i < length (rows t) → p ≡ row-at t i → d ≡ best-of (leader level (option b) (candidate clock p)) → Walked t i b → Walked t (i + 1) d
     walk t i b d p l e f w =
         let rest : List Packet = drop (suc i) (rows t) in
-        let o : option d ≡ ahead level (option b) (candidate clock p) = ap option f ∙ option-back _ in (
+        let o : option d ≡ leader level (option b) (candidate clock p) = ap option f ∙ option-back _ in (
           f ∙ ap best-of (sym o),
           rw (add-one i)
-              (ap (λ (v : Option Packet). ahead level v (choice level clock rest)) o
-              ∙ ahead-assoc (option b) (candidate clock p) (choice level clock rest)
-              ∙ ap (ahead level (option b)) (sym (choice-cons p rest) ∙ ap (λ (q : Packet). choice level clock (q ∷ rest)) e ∙ ap (choice level clock) (sym (rows-from t i l)))
+              (ap (λ (v : Option Packet). leader level v (choice level clock rest)) o
+              ∙ leader-assoc (option b) (candidate clock p) (choice level clock rest)
+              ∙ ap (leader level (option b)) (sym (choice-cons p rest) ∙ ap (λ (q : Packet). choice level clock (q ∷ rest)) e ∙ ap (choice level clock) (sym (rows-from t i l)))
               ∙ w .1),
         )
 
@@ -122,29 +122,29 @@ module _ (level : ℕ → ℕ) where
     pub pass : (t : List ℕ) (i r : ℕ) (b : Best) → i ≤ r → r ≤ length (rows t) → Not-eligible t clock i r → Walked t i b → Walked t r b
     pass t i r b a l h w =
         let e : i + (r - i) ≡ r = omega arith in
-        (w .0, ap (ahead level (option b)) (sym (subst (λ (j : ℕ). choice level clock (drop i (rows t)) ≡ choice level clock (drop j (rows t))) e (passed-rows t i (r - i) (omega arith) (λ j u v. h j u (omega arith))))) ∙ w .1)
+        (w .0, ap (leader level (option b)) (sym (subst (λ (j : ℕ). choice level clock (drop i (rows t)) ≡ choice level clock (drop j (rows t))) e (passed-rows t i (r - i) (omega arith) (λ j u v. h j u (omega arith))))) ∙ w .1)
 
     -- no row is left
     pub walked : (t : List ℕ) (i : ℕ) (b : Best) → i ≡ length (rows t) → Walked t i b → b ≡ best-of (choice level clock (rows t))
     walked t i b e w =
         w .0
         ∙ ap best-of
-        (sym (ahead-none (option b))
-        ∙ ap (λ (ps : List Packet). ahead level (option b) (choice level clock ps)) (sym (drop-length (rows t)) ∙ ap (λ (j : ℕ). drop j (rows t)) (sym e))
+        (sym (leader-none (option b))
+        ∙ ap (λ (ps : List Packet). leader level (option b) (choice level clock ps)) (sym (drop-length (rows t)) ∙ ap (λ (j : ℕ). drop j (rows t)) (sym e))
         ∙ w .1)
 
     -- ---- one row: what is best with p
 
     module _ (p : Packet) (b : Best) where
       abbrev with-it : Best
-      with-it = best-of (ahead level (option b) (candidate clock p))
+      with-it = best-of (leader level (option b) (candidate clock p))
 
       abbrev it : Best
       it = record { found = true; packet = p }
 
       pub not-eligible : b ≡ best-of (option b) → clock < p .eligibility → b ≡ with-it
       not-eligible k h =
-          let e : option b ≡ ahead level (option b) (candidate clock p) = rw (lt-leb (p .eligibility) clock h) (sym (ahead-none (option b))) in
+          let e : option b ≡ leader level (option b) (candidate clock p) = rw (lt-leb (p .eligibility) clock h) (sym (leader-none (option b))) in
           k ∙ ap best-of e
 
       pub none-yet : p .eligibility ≤ clock → b .found ≡ false → it ≡ with-it

@@ -13,7 +13,7 @@ use Rattle.rules.proofs.Tests.{never}
 use Rattle.tables.specs.Places.{row-at}
 use Rattle.service.specs.declared.Best.{Best}
 use Rattle.service.specs.declared.Lead.{Lead}
-use Rattle.service.specs.Candidates.{option, best-of, candidate, ahead, level-in, named, Leads, Leads-with, Not-eligible}
+use Rattle.service.specs.Candidates.{option, best-of, candidate, leader, level-in, named, Leads, Leads-with, Not-eligible}
 use Rattle.service.proofs.ChoiceLaws as L
 
 module _ (t : List ℕ) (l : Lead) where
@@ -46,7 +46,7 @@ module _ (cs t : List ℕ) (clock : ℕ) (l : Lead) (i : ℕ) (W : Leads cs t l)
     it-leads = record { inside = λ _. room; level = λ _. ey; eligibility = λ _. refl }
 
     abbrev Best-with : Best → Best → Type 0
-    Best-with a b = a ≡ best-of (ahead (level-in cs) (option b) (candidate clock p))
+    Best-with a b = a ≡ best-of (leader (level-in cs) (option b) (candidate clock p))
 
     pub none-yet : l .found ≡ false → Leads-with cs t clock l i it
     none-yet f = (subst (λ (b : Best). Best-with (named t it) b) (sym (named-none t l f)) (L.none-yet (level-in cs) clock p (best-of none) h refl), it-leads)

@@ -38,9 +38,9 @@ abbrev pub candidate : ℕ → Packet → Option Packet
 candidate t p = cond (leb (p .eligibility) t) (some p) none
 
 -- of two candidates, the first one offered earlier, the one that goes first
-abbrev pub ahead : (ℕ → ℕ) → Option Packet → Option Packet → Option Packet
-ahead level none o = o
-ahead level (some p) o = better level p o
+abbrev pub leader : (ℕ → ℕ) → Option Packet → Option Packet → Option Packet
+leader level none o = o
+leader level (some p) o = better level p o
 
 -- ---- the best row so far, by its place
 
@@ -56,7 +56,7 @@ pub record Leads (cs t : List ℕ) (l : Lead) : Type 0 where
 
 -- what is named once row i, which was offered later, is taken in
 abbrev pub Leads-with : List ℕ → List ℕ → ℕ → Lead → ℕ → Lead → Type 0
-Leads-with cs t clock l i r = (named t r ≡ best-of (ahead (level-in cs) (option (named t l)) (candidate clock (row-at t i)))) × Leads cs t r
+Leads-with cs t clock l i r = (named t r ≡ best-of (leader (level-in cs) (option (named t l)) (candidate clock (row-at t i)))) × Leads cs t r
 
 -- of the rows from row i on, those before row r are not eligible
 abbrev pub Not-eligible : List ℕ → ℕ → ℕ → ℕ → Type 0
