@@ -14,13 +14,14 @@ INSERTED = {
     "R-9": [],  # nothing: it has brought two
     "R-11": [],  # nothing: it has brought one
     "R-12": [],  # nothing: it has brought one
+    "R-13": [],  # nothing: it has brought two
 }
 
 # The verdicts of an admission that met a limit of before R-7: 64 connections, 512 places.
 OLD_LIMITS = (7, 9)
 
 # The records that requests have brought since R-8, which were malformed before.
-BROUGHT = {"R-8": [b"CL"], "R-9": [b"CS", b"PS"], "R-11": [b"LE"], "R-12": [b"LW"]}
+BROUGHT = {"R-8": [b"CL"], "R-9": [b"CS", b"PS"], "R-11": [b"LE"], "R-12": [b"LW"], "R-13": [b"LF", b"CF"]}
 
 
 def from_then_on(request):

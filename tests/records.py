@@ -7,8 +7,10 @@ TRACE = {
     b"LK": ("link", [("levels", 1), ("largest", 2), ("silence", 1)]),
     b"LE": ("link with setting", [("levels", 1), ("largest", 2), ("silence", 1), ("setting", 1)]),
     b"LW": ("link with windows", [("levels", 1), ("largest", 2), ("silence", 1), ("setting", 1)]),
+    b"LF": ("link of frames", [("frame", 2), ("largest", 2), ("silence", 1)]),
     b"CN": ("admit", [("level", 1), ("gap", 2), ("size", 2), ("window", 2), ("average", 2)]),
     b"CS": ("admit by stamps", [("level", 1), ("gap", 2), ("size", 2), ("allowance", 2)]),
+    b"CF": ("admit with units", [("units", 2), ("places", 2)]),
     b"CL": ("close", [("connection", 1)]),
     b"PK": ("offer", [("connection", 1), ("length", 2), ("tag", 4)]),
     b"PS": ("offer with stamp", [("connection", 1), ("length", 2), ("tag", 4), ("stamp", 4)]),
@@ -82,6 +84,11 @@ def link(largest, silence, bounds, setting=None, windows=None):
     return head + b"".join(struct.pack("<H", number) for number in (*bounds, *(windows or ())))
 
 
+def framing(frame, largest, silence):
+    """A link of frames."""
+    return written(b"LF", frame, largest, silence)
+
+
 def admit(level, gap, size, window=0, average=0):
     """A connection; window and average gap are both 0 where it has no average."""
     return written(b"CN", level, gap, size, window, average)
@@ -90,6 +97,11 @@ def admit(level, gap, size, window=0, average=0):
 def admit_stamped(level, gap, size, allowance):
     """A connection by stamps."""
     return written(b"CS", level, gap, size, allowance)
+
+
+def share(units, places):
+    """A connection on a line with frames."""
+    return written(b"CF", units, places)
 
 
 def close(connection):

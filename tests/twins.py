@@ -6,12 +6,14 @@ notices and the calls around it, closes among them, are drawn anew for each. The
 differ, and may have had other owners before; in every fourth pair up to 199 lines stand before it
 (R-7). In other pairs the line is by stamps (R-9): its offers of allowed length come a gap apart,
 with any stamps. In others again the stand-by queue is on (R-11), in both traces or in one of them.
+In others the line has frames (R-13), and at most half as many of its offers of allowed length as it
+has places come in each frame.
 """
 
 import random
 from collections import namedtuple
 
-from records import ANSWERS, CannotRead, admit, admit_stamped, close, link, notice, offer, offer_stamped, records, ticks, written
+from records import ANSWERS, CannotRead, admit, admit_stamped, close, framing, link, notice, offer, offer_stamped, records, share, ticks, written
 
 CLOCK_END = 4_000_000_000
 LAST_TICK = 240
@@ -42,6 +44,7 @@ class Line:
 
     by_stamps = False
     stand_by = False
+    framed = False
 
     def __init__(self, numbers, bounds, largest, silence):
         self.level = numbers.randint(1, len(bounds))
@@ -229,6 +232,89 @@ class Ward:
             tick += step
 
 
+class FramedLine(Line):
+    """The same on a line with frames; `used` is what it has used of each frame."""
+
+    framed = True
+
+    def __init__(self, numbers, frame, largest, silence):
+        self.frame, self.largest, self.silence = frame, largest, silence
+        self.units = numbers.choice((silence, silence + 1, largest + silence, numbers.randint(1, frame - largest - silence))) or 1
+        self.places = numbers.choice((2, 3, 4, 5, numbers.randint(2, 20)))
+        self.admitted = numbers.randint(0, 20)
+        self.offers, self.used = {}, {}
+        left = {}
+        for tick in range(self.admitted, LAST_TICK):
+            now = tick // frame
+            while numbers.random() < 0.3 and left.setdefault(now, self.places // 2):
+                left[now] -= 1
+                rest = self.units - self.used.get(now, 0) - silence
+                length = numbers.choice((1, rest, rest + 1, numbers.randint(1, largest)))
+                self.add(tick, min(max(1, length), largest), numbers)
+            if numbers.random() < 0.05:
+                self.add(tick, numbers.choice((0, largest + 1, 65_535)), numbers)
+        self.at_end = self.offered(CLOCK_END, 1, 0, numbers) if numbers.random() < 0.05 else None
+
+    def admission(self):
+        return share(self.units, self.places)
+
+    def told(self, tick, length, _stamp=None):
+        now = tick // self.frame
+        used = self.used.get(now, 0) + length + self.silence
+        if not 1 <= length <= self.largest:
+            return written(b"PA", 11, 0)
+        if tick == CLOCK_END:
+            return written(b"PA", 13, 0)
+        if used > self.units:
+            return written(b"PA", 19, 0)
+        self.used[now] = used
+        return written(b"PA", 0, (now + 1) * self.frame)
+
+
+class FramedWard(Ward):
+    """One of two traces with frames; some of the others' calls are of the other discipline."""
+
+    def __init__(self, numbers, line, busy):
+        self.numbers, self.line, self.busy = numbers, line, busy
+        self.largest = line.largest
+        self.link = framing(line.frame, line.largest, line.silence)
+        self.records = [self.link]
+        self.own, self.now, self.expected = None, 0, {}
+
+    def others(self):
+        numbers = self.numbers
+        tag = numbers.getrandbits(32)
+        choice = numbers.random()
+        if choice < 0.15:
+            return share(numbers.randint(0, max(1, self.line.frame // 4)), numbers.choice((0, 1, 3, numbers.randint(1, 60))))
+        if choice < 0.3:
+            return notice(numbers.randint(0, self.largest + 1), tag)
+        if choice < 0.4:
+            level = (admit(1, 20, 1), admit_stamped(1, 20, 1, 5), close(self.another()), offer_stamped(self.another(), 1, tag, 0), link(4, 0, [20]))
+            return numbers.choice((self.link, *level))
+        return offer(self.another(), numbers.randint(0, self.largest + 1), tag)
+
+
+def framed_twin(seed, which, run):
+    """One trace of a pair with frames, run; nothing if the shared line is refused even where it is alone."""
+    shared = random.Random(f"frames {seed}")
+    largest = shared.randint(1, 8)
+    silence = shared.choice((0, 0, 1, 2, shared.randint(1, 64)))
+    frame = (largest + silence) * shared.randint(2, 9) + shared.randint(1, 20)
+    for busy in (4, 3, 2, 1, 0):
+        line = FramedLine(random.Random(f"line {seed}"), frame, largest, silence)
+        ward = FramedWard(random.Random(f"{seed} {which} {busy} frames"), line, busy)
+        admitted = answers_of(ward, ward.until_admitted(), run)[-1]
+        if admitted[2] == 0:
+            return told_of(ward, admitted[3], run)
+    return None
+
+
+def told_of(ward, number, run):
+    given = answers_of(ward, ward.after_admitted(number), run)
+    return Twin(b"".join(given[at] for at in ward.expected), b"".join(ward.expected.values()), number)
+
+
 def answers_of(ward, trace, run):
     given = answers(run(trace))
     if len(given) != len(ward.records):
@@ -238,6 +324,8 @@ def answers_of(ward, trace, run):
 
 def twin(seed, which, run, kind=Line):
     """One trace of a pair, run; nothing if the shared line, by its gap or by stamps, is refused even where it is alone."""
+    if kind.framed:
+        return framed_twin(seed, which, run)
     shared = random.Random(f"stamps {seed}" if kind.by_stamps else seed)
     largest = shared.randint(1, 8)
     silence = shared.choice((0, 0, 1, 2, shared.randint(1, 64)))
@@ -255,7 +343,5 @@ def twin(seed, which, run, kind=Line):
             ward.many_stand()
         admitted = answers_of(ward, ward.until_admitted(), run)[-1]
         if admitted[2] == 0:
-            given = answers_of(ward, ward.after_admitted(admitted[3]), run)
-            told = b"".join(given[at] for at in ward.expected)
-            return Twin(told, b"".join(ward.expected.values()), admitted[3])
+            return told_of(ward, admitted[3], run)
     return None

@@ -2,39 +2,15 @@
 
 use crate::departure::{Departure, Tick};
 use crate::level_test::{loads, shortage_with, with};
+use crate::line::{Line, Sent};
 use crate::link::{Connection, Figures, Link, MOST_RESERVED};
-use crate::notices::{Notice, Notices};
+use crate::notices::Notices;
 use crate::owners::Owners;
 use crate::queues::{Queues, Started};
 use crate::verdict::Refusal;
 
 /// The clock begins at 0 and ends here (section "Link, connections, places").
 pub const CLOCK_END: Tick = 4_000_000_000;
-
-/// What the output line is doing. A silence with no tick to go is an idle line.
-#[derive(Clone, Copy, Debug, PartialEq, Eq)]
-pub(crate) enum Line {
-    Idle,
-    Serving { sent: Sent, units_to_go: u16 },
-    Silent { ticks_to_go: u8 },
-}
-
-impl Line {
-    /// The line when so many ticks of silence are still to run.
-    fn silent_for(ticks_to_go: u8) -> Line {
-        match ticks_to_go {
-            0 => Line::Idle,
-            _ => Line::Silent { ticks_to_go },
-        }
-    }
-}
-
-/// What is in service: the first packet of a connection, or the first notice.
-#[derive(Clone, Copy, Debug, PartialEq, Eq)]
-pub(crate) enum Sent {
-    FirstOf(Started),
-    FirstNotice,
-}
 
 /// The whole state.
 #[derive(Clone, Debug)]
@@ -43,7 +19,7 @@ pub struct Hub {
     pub(crate) owners: Owners,
     pub(crate) queues: Queues,
     pub(crate) notices: Notices,
-    pub(crate) line: Line,
+    pub(crate) line: Line<Started>,
     pub(crate) clock: Tick,
 }
 
@@ -102,6 +78,7 @@ impl Hub {
     }
 
     /// How many packets a connection holds; one in service counts until its last unit has gone.
+    #[inline]
     pub fn held_by(&self, connection: u8) -> usize {
         self.queues.held_by(connection)
     }
@@ -125,10 +102,7 @@ impl Hub {
 
     /// How many ticks of silence are still to run; 0 while something is in service.
     pub fn silence_left(&self) -> u8 {
-        match self.line {
-            Line::Silent { ticks_to_go } => ticks_to_go,
-            _ => 0,
-        }
+        self.line.silence_left()
     }
 
     /// Sets the link: verdicts 3 and 4.
@@ -215,22 +189,7 @@ impl Hub {
     #[inline]
     pub fn offer_notice(&mut self, length: u16, tag: u32) -> Result<Tick, Refusal> {
         let largest = self.link()?.largest();
-        if !(1..=largest).contains(&length) {
-            return Err(Refusal::Length);
-        }
-        if self.clock >= CLOCK_END {
-            return Err(Refusal::ClockEnded);
-        }
-        if self.notices.are_full() {
-            return Err(Refusal::NoticesFull);
-        }
-        let arrival = self.clock;
-        self.notices.add(Notice {
-            length,
-            tag,
-            arrival,
-        });
-        Ok(arrival)
+        self.notices.offer(largest, self.clock, length, tag)
     }
 
     /// Closes a connection: verdicts 2, 10, 16 in that order. It stays charged until the link's
@@ -288,31 +247,10 @@ impl Hub {
         }
     }
 
-    /// Step 2: one unit goes; without one to go a tick of the silence runs.
+    /// Step 2: with its last unit the packet or the notice departs.
     #[inline]
     fn send_or_be_silent(&mut self, silence: u8) -> Option<Departure> {
-        match self.line {
-            Line::Idle => None,
-            Line::Serving { sent, units_to_go } => self.send_one_unit(sent, units_to_go, silence),
-            Line::Silent { ticks_to_go } => {
-                self.line = Line::silent_for(ticks_to_go - 1);
-                None
-            }
-        }
-    }
-
-    /// Step 2: with its last unit the packet or the notice departs, and the whole silence is still
-    /// to run.
-    #[inline]
-    fn send_one_unit(&mut self, sent: Sent, units_to_go: u16, silence: u8) -> Option<Departure> {
-        if units_to_go > 1 {
-            self.line = Line::Serving {
-                sent,
-                units_to_go: units_to_go - 1,
-            };
-            return None;
-        }
-        self.line = Line::silent_for(silence);
+        let sent = self.line.send_or_be_silent(silence)?;
         let finish = self.clock + 1;
         match sent {
             Sent::FirstOf(started) => self.queues.depart(started, finish),
@@ -337,11 +275,10 @@ impl Hub {
             return 0;
         }
         let to_the_end = CLOCK_END - self.clock;
-        let quiet = match self.line {
-            Line::Serving { units_to_go, .. } => Tick::from(units_to_go) - 1,
-            Line::Silent { ticks_to_go } => Tick::from(ticks_to_go),
-            Line::Idle if self.notices.count() > 0 || self.queues.any_stands_by() => 0,
-            Line::Idle => self.ticks_until_one_is_eligible().unwrap_or(to_the_end),
+        let quiet = match self.line.quiet_ticks() {
+            Some(quiet) => quiet,
+            None if self.notices.count() > 0 || self.queues.any_stands_by() => 0,
+            None => self.ticks_until_one_is_eligible().unwrap_or(to_the_end),
         };
         quiet.min(to_the_end)
     }
@@ -359,13 +296,7 @@ impl Hub {
     #[inline]
     pub fn pass_over(&mut self, at_most: Tick) -> Tick {
         let passed = at_most.min(self.quiet_ticks());
-        match &mut self.line {
-            Line::Idle => {}
-            Line::Serving { units_to_go, .. } => *units_to_go -= passed as u16,
-            Line::Silent { ticks_to_go } => {
-                self.line = Line::silent_for(*ticks_to_go - passed as u8);
-            }
-        }
+        self.line.pass_over(passed);
         self.run_clock(passed);
         passed
     }

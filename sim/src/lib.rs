@@ -6,9 +6,11 @@
 
 pub mod departure;
 pub mod firmware;
+pub mod frames;
 pub mod hub;
 pub mod kinds;
 pub mod level_test;
+mod line;
 pub mod link;
 pub mod notices;
 pub mod owners;
@@ -18,5 +20,6 @@ pub mod recent;
 pub mod record;
 pub mod replay;
 pub mod sound;
+mod sound_frames;
 pub mod stats;
 pub mod verdict;

@@ -3,6 +3,8 @@
 use std::collections::VecDeque;
 
 use crate::departure::{Departure, Tick};
+use crate::hub::CLOCK_END;
+use crate::verdict::Refusal;
 
 /// The places of the queue; the notice in service keeps its own until its last unit has gone.
 pub const MOST_NOTICES: usize = 64;
@@ -38,8 +40,44 @@ impl Notices {
         self.count() >= MOST_NOTICES
     }
 
+    #[inline]
     pub fn add(&mut self, notice: Notice) {
         self.waiting.push_back(notice);
+    }
+
+    /// Offers a notice on a line with a link, whatever its discipline, and gives its eligibility, the
+    /// present tick: verdicts 11, 13, 15 in that order.
+    #[inline]
+    pub fn offer(
+        &mut self,
+        largest: u16,
+        clock: Tick,
+        length: u16,
+        tag: u32,
+    ) -> Result<Tick, Refusal> {
+        if !(1..=largest).contains(&length) {
+            return Err(Refusal::Length);
+        }
+        if clock >= CLOCK_END {
+            return Err(Refusal::ClockEnded);
+        }
+        if self.are_full() {
+            return Err(Refusal::NoticesFull);
+        }
+        self.add(Notice {
+            length,
+            tag,
+            arrival: clock,
+        });
+        Ok(clock)
+    }
+
+    /// Whether all may wait: not too many, each of a length from 1 to S and no later than the clock.
+    pub fn are_sound(&self, largest: u16, clock: Tick) -> bool {
+        let fits = |length| (1..=largest).contains(&length);
+        let mut all = self.all();
+        self.count() <= MOST_NOTICES
+            && all.all(|notice| fits(notice.length) && notice.arrival <= clock)
     }
 
     /// The notice that is next to start, or is in service.

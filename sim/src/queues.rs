@@ -75,6 +75,7 @@ impl Queues {
     }
 
     /// How many packets a connection holds.
+    #[inline]
     pub fn held_by(&self, connection: u8) -> usize {
         let line = self.lines.get(usize::from(connection));
         line.map_or(0, VecDeque::len)

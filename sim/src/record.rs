@@ -1,9 +1,10 @@
 //! Trace and answer records (section "Trace and answer records"; `NQ` and `NA` by R-1,
 //! level and units in `CA` by R-2, the silence in `LK` by R-4, window and average gap in `CN` by
 //! R-6, `CL` and `CD` by R-8, `CS` and `PS` by R-9, `LE` by R-11, `LW`
-//! by R-12).
+//! by R-12, `LF` and `CF` by R-13).
 
 use crate::departure::{Departure, Tick};
+use crate::frames::{Framing, Share};
 use crate::link::{Figures, LinkFigures, MOST_LEVELS, OFF};
 use crate::verdict::{Refusal, Shortage};
 
@@ -16,11 +17,14 @@ pub const NO_CONNECTION: u8 = 255;
 /// A trace record. A link with windows stands in an `LW`, one with a setting alone in an `LE`,
 /// one without in an `LK`; with windows it has a setting too. Its figures are kept apart, so that other
 /// records are short. Figures with an allowance stand in a `CS`, others in a `CN`; a packet with a stamp in a
-/// `PS`, one without in a `PK`.
+/// `PS`, one without in a `PK`. Of the discipline of frames `LF` is the link and `CF` the connection
+///
 #[derive(Clone, Debug, PartialEq, Eq)]
 pub enum Record {
     Link(Box<LinkFigures>),
+    Framing(Framing),
     Connection(Figures),
+    Share(Share),
     Close {
         connection: u8,
     },
@@ -64,8 +68,10 @@ impl Record {
             b"LK" => Record::Link(read_link(&mut fields, false, false)?),
             b"LE" => Record::Link(read_link(&mut fields, true, false)?),
             b"LW" => Record::Link(read_link(&mut fields, true, true)?),
+            b"LF" => Record::Framing(read_framing(&mut fields)?),
             b"CN" => Record::Connection(read_figures(&mut fields)?),
             b"CS" => Record::Connection(read_stamped(&mut fields)?),
+            b"CF" => Record::Share(read_share(&mut fields)?),
             b"CL" => Record::Close {
                 connection: fields.one()?,
             },
@@ -97,7 +103,9 @@ impl Record {
     pub fn append_to(&self, out: &mut Vec<u8>) {
         match *self {
             Record::Link(ref figures) => append_link(out, figures),
+            Record::Framing(framing) => append_framing(out, &framing),
             Record::Connection(figures) => append_connection(out, &figures),
+            Record::Share(share) => append_share(out, &share),
             Record::Close { connection } => out.extend_from_slice(&[b'C', b'L', connection]),
             Record::Packet {
                 connection,
@@ -142,6 +150,19 @@ fn append_used(out: &mut Vec<u8>, levels: u8, numbers: &[u16; MOST_LEVELS]) {
     for number in numbers.iter().take(usize::from(levels)) {
         out.extend_from_slice(&number.to_le_bytes());
     }
+}
+
+fn append_framing(out: &mut Vec<u8>, framing: &Framing) {
+    out.extend_from_slice(b"LF");
+    out.extend_from_slice(&framing.frame.to_le_bytes());
+    out.extend_from_slice(&framing.largest.to_le_bytes());
+    out.push(framing.silence);
+}
+
+fn append_share(out: &mut Vec<u8>, share: &Share) {
+    out.extend_from_slice(b"CF");
+    out.extend_from_slice(&share.units.to_le_bytes());
+    out.extend_from_slice(&share.places.to_le_bytes());
 }
 
 /// With an allowance there is no average to be written.
@@ -193,6 +214,23 @@ fn read_figures(fields: &mut Fields) -> Option<Figures> {
 fn read_stamped(fields: &mut Fields) -> Option<Figures> {
     let plain = Figures::plain(fields.one()?, fields.two()?, fields.two()?);
     Some(plain.by_stamps(fields.two()?))
+}
+
+#[inline(always)]
+fn read_framing(fields: &mut Fields) -> Option<Framing> {
+    Some(Framing {
+        frame: fields.two()?,
+        largest: fields.two()?,
+        silence: fields.one()?,
+    })
+}
+
+#[inline(always)]
+fn read_share(fields: &mut Fields) -> Option<Share> {
+    Some(Share {
+        units: fields.two()?,
+        places: fields.two()?,
+    })
 }
 
 /// An `LK`, an `LE`, which has a setting, or an `LW`, which has windows besides, with n outside 1 to 8 is
@@ -385,7 +423,8 @@ fn append_accepted(out: &mut Vec<u8>, head: [u8; 3], eligibility: Tick) {
 
 /// No tick of a run needs more: an accepted offer is made before the clock's end, and its eligibility
 /// lies less than 65,536 beyond, by a stamp as well, which is never later than the offer; while packets
-/// stand by at most a reservation times a gap past the offer, which is less than a bound and a gap.
+/// stand by at most a reservation times a gap past the offer, which is less than a bound and a gap; on a
+/// line with frames at most a frame past it.
 fn four_bytes(tick: Tick) -> [u8; 4] {
     (tick as u32).to_le_bytes()
 }

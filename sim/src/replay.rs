@@ -2,14 +2,18 @@
 
 use std::io::{self, Read, Write};
 
-use crate::departure::Tick;
+use crate::departure::{Departure, Tick};
+use crate::frames::{Frames, Framing};
 use crate::hub::Hub;
-use crate::link::{Figures, Link};
+use crate::link::Link;
 use crate::record::{Answer, Record, LONGEST_RECORD, NO_CONNECTION};
 use crate::verdict::{number_of, Refusal, DONE};
 
 /// The size limit: a record that would end beyond it is malformed.
 pub const SIZE_LIMIT: u64 = 16_777_216;
+
+/// The verdict of a discipline that has no link.
+const NO_LINK: u8 = Refusal::NoLink.number();
 
 const BLOCK: usize = 1 << 16;
 
@@ -27,29 +31,87 @@ pub enum Pace {
     Tested,
 }
 
-/// The hub and the way its ticks are run.
+/// One line with either discipline, and the way its ticks are run. The first link that is accepted
+/// decides; the other discipline stays as it is when nothing has come, and answers 2.
 #[derive(Clone, Debug)]
 pub struct Job {
     hub: Hub,
+    frames: Frames,
     pace: Pace,
+}
+
+/// What both disciplines do with a `TK`.
+trait Ticking {
+    fn has_link(&self) -> Result<(), Refusal>;
+    fn tick(&mut self) -> Result<Option<Departure>, Refusal>;
+    fn pass_over(&mut self, at_most: Tick) -> Tick;
+}
+
+impl Ticking for Hub {
+    fn has_link(&self) -> Result<(), Refusal> {
+        self.link().map(|_| ())
+    }
+
+    #[inline]
+    fn tick(&mut self) -> Result<Option<Departure>, Refusal> {
+        Hub::tick(self)
+    }
+
+    #[inline]
+    fn pass_over(&mut self, at_most: Tick) -> Tick {
+        Hub::pass_over(self, at_most)
+    }
+}
+
+impl Ticking for Frames {
+    fn has_link(&self) -> Result<(), Refusal> {
+        self.link().map(|_| ())
+    }
+
+    fn tick(&mut self) -> Result<Option<Departure>, Refusal> {
+        Frames::tick(self)
+    }
+
+    fn pass_over(&mut self, at_most: Tick) -> Tick {
+        Frames::pass_over(self, at_most)
+    }
 }
 
 impl Job {
     pub fn new(pace: Pace) -> Job {
         Job {
             hub: Hub::new(),
+            frames: Frames::new(),
             pace,
         }
     }
 
+    /// The discipline of levels.
     pub fn hub(&self) -> &Hub {
         &self.hub
+    }
+
+    /// The discipline of frames.
+    pub fn frames(&self) -> &Frames {
+        &self.frames
+    }
+
+    /// The clock of the discipline that is set; the other one's stays at 0.
+    pub fn clock(&self) -> Tick {
+        self.hub.clock().max(self.frames.clock())
+    }
+
+    /// Whether both disciplines are sound and at most one of them has a link.
+    fn is_sound(&self) -> bool {
+        self.hub.is_sound()
+            && self.frames.is_sound()
+            && !(self.hub.link().is_ok() && self.frames.link().is_ok())
     }
 
     /// Whether the state is sound, where it is tested.
     #[inline]
     pub fn stands_the_test(&self) -> bool {
-        self.pace != Pace::Tested || self.hub.is_sound()
+        self.pace != Pace::Tested || self.is_sound()
     }
 
     /// Carries out one record and hands over its answers in order.
@@ -60,9 +122,6 @@ impl Job {
         hand_over: &mut impl FnMut(Answer) -> Result<(), E>,
     ) -> Result<(), E> {
         match record {
-            Record::Link(figures) => hand_over(self.set_link(figures.link())),
-            Record::Connection(figures) => hand_over(self.admit(figures)),
-            Record::Close { connection } => hand_over(self.close(connection)),
             Record::Packet {
                 connection,
                 length,
@@ -74,32 +133,47 @@ impl Job {
                 let answer = self.run_ticks(asked, hand_over)?;
                 hand_over(answer)
             }
+            rare => hand_over(self.set_up(rare)),
         }
     }
 
-    #[inline]
+    /// The records that are rare, kept apart so that the others are carried out quickly.
+    #[inline(never)]
+    fn set_up(&mut self, record: Record) -> Answer {
+        match record {
+            Record::Link(figures) => self.set_link(figures.link()),
+            Record::Framing(framing) => self.set_framing(framing),
+            Record::Connection(figures) => admitted(self.hub.admit(figures)),
+            Record::Share(share) => admitted(self.frames.admit(share)),
+            Record::Close { connection } => self.close(connection),
+            Record::Packet { .. } | Record::Notice { .. } | Record::Ticks { .. } => {
+                unreachable!("carried out by itself")
+            }
+        }
+    }
+
+    /// A link of levels; 3 where one of frames is set.
     fn set_link(&mut self, link: Option<Link>) -> Answer {
-        let result = self.hub.set_link(link);
+        let result = match self.frames.link() {
+            Ok(_) => Err(Refusal::LinkSetAlready),
+            Err(_) => self.hub.set_link(link),
+        };
         Answer::Link {
             verdict: number_of(&result),
         }
     }
 
-    #[inline]
-    fn admit(&mut self, figures: Figures) -> Answer {
-        let result = self.hub.admit(figures);
-        let short = match result {
-            Err(Refusal::LevelTest(shortage)) => Some(shortage),
-            _ => None,
+    /// A link of frames; 3 where one of levels is set.
+    fn set_framing(&mut self, framing: Framing) -> Answer {
+        let result = match self.hub.link() {
+            Ok(_) => Err(Refusal::LinkSetAlready),
+            Err(_) => self.frames.set_link(framing),
         };
-        Answer::Connection {
+        Answer::Link {
             verdict: number_of(&result),
-            connection: result.unwrap_or(NO_CONNECTION),
-            short,
         }
     }
 
-    #[inline]
     fn close(&mut self, connection: u8) -> Answer {
         let result = self.hub.close(connection);
         Answer::Closed {
@@ -107,68 +181,119 @@ impl Job {
         }
     }
 
+    /// Where the discipline of levels has no link that of frames is asked, which answers 2 if it has none
+    /// either; it knows no stamps.
     #[inline]
     fn offer(&mut self, connection: u8, length: u16, tag: u32, stamp: Option<u32>) -> Answer {
-        let stamp = stamp.map(Tick::from);
-        let result = self.hub.offer_with(connection, length, tag, stamp);
+        let ticks = stamp.map(Tick::from);
+        let result = self.hub.offer_with(connection, length, tag, ticks);
+        let verdict = number_of(&result);
+        if verdict == NO_LINK && stamp.is_none() {
+            return self.offer_to_frames(connection, length, tag);
+        }
+        Answer::Packet {
+            verdict,
+            eligibility: result.unwrap_or(0),
+        }
+    }
+
+    #[inline(never)]
+    fn offer_to_frames(&mut self, connection: u8, length: u16, tag: u32) -> Answer {
+        let result = self.frames.offer(connection, length, tag);
         Answer::Packet {
             verdict: number_of(&result),
             eligibility: result.unwrap_or(0),
         }
     }
 
+    /// The same of a notice.
     #[inline]
     fn offer_notice(&mut self, length: u16, tag: u32) -> Answer {
         let result = self.hub.offer_notice(length, tag);
+        let verdict = number_of(&result);
+        if verdict == NO_LINK {
+            return self.notice_to_frames(length, tag);
+        }
+        Answer::Notice {
+            verdict,
+            eligibility: result.unwrap_or(0),
+        }
+    }
+
+    #[inline(never)]
+    fn notice_to_frames(&mut self, length: u16, tag: u32) -> Answer {
+        let result = self.frames.offer_notice(length, tag);
         Answer::Notice {
             verdict: number_of(&result),
             eligibility: result.unwrap_or(0),
         }
     }
 
-    /// `TK`: the asked ticks one by one, stopping at the first refused one.
+    /// `TK`, by the discipline that is set.
     #[inline]
     fn run_ticks<E>(
         &mut self,
         asked: u16,
         hand_over: &mut impl FnMut(Answer) -> Result<(), E>,
     ) -> Result<Answer, E> {
-        if asked == 0 {
-            return Ok(self.no_ticks());
+        match run_ticks(&mut self.hub, self.pace, asked, hand_over)? {
+            (NO_LINK, _) => self.run_frames(asked, hand_over),
+            (verdict, done) => Ok(Answer::Ticks { verdict, done }),
         }
-        let mut done = 0;
-        while done < asked {
-            done += self.pass_over(asked - done);
-            if done == asked {
-                break;
-            }
-            match self.hub.tick() {
-                Ok(Some(departure)) => hand_over(Answer::Departed(departure))?,
-                Ok(None) => {}
-                Err(refusal) => {
-                    let verdict = refusal.number();
-                    return Ok(Answer::Ticks { verdict, done });
-                }
-            }
-            done += 1;
-        }
-        let verdict = DONE;
+    }
+
+    #[inline(never)]
+    fn run_frames<E>(
+        &mut self,
+        asked: u16,
+        hand_over: &mut impl FnMut(Answer) -> Result<(), E>,
+    ) -> Result<Answer, E> {
+        let (verdict, done) = run_ticks(&mut self.frames, self.pace, asked, hand_over)?;
         Ok(Answer::Ticks { verdict, done })
     }
+}
 
-    /// `TK` 0 changes nothing; 2 where it applies, else 0, even at the clock's end.
-    fn no_ticks(&self) -> Answer {
-        let verdict = number_of(&self.hub.link());
-        Answer::Ticks { verdict, done: 0 }
+/// The answer to an admission.
+fn admitted(result: Result<u8, Refusal>) -> Answer {
+    let short = match result {
+        Err(Refusal::LevelTest(shortage)) => Some(shortage),
+        _ => None,
+    };
+    Answer::Connection {
+        verdict: number_of(&result),
+        connection: result.unwrap_or(NO_CONNECTION),
+        short,
     }
+}
 
-    #[inline]
-    fn pass_over(&mut self, at_most: u16) -> u16 {
-        match self.pace {
-            Pace::Plain => 0,
-            Pace::Passing | Pace::Tested => self.hub.pass_over(Tick::from(at_most)) as u16,
+/// The asked ticks one by one, stopping at the first refused one: the verdict, and how many were done.
+/// `TK` 0 changes nothing: 2 where it applies, else 0, even at the clock's end.
+#[inline(always)]
+fn run_ticks<L: Ticking, E>(
+    line: &mut L,
+    pace: Pace,
+    asked: u16,
+    hand_over: &mut impl FnMut(Answer) -> Result<(), E>,
+) -> Result<(u8, u16), E> {
+    if asked == 0 {
+        return Ok((number_of(&line.has_link()), 0));
+    }
+    let mut done = 0;
+    while done < asked {
+        if pace != Pace::Plain {
+            done += line.pass_over(Tick::from(asked - done)) as u16;
         }
+        if done == asked {
+            break;
+        }
+        match line.tick() {
+            Ok(Some(departure)) => hand_over(Answer::Departed(departure))?,
+            Ok(None) => {}
+            Err(refusal) => return Ok((refusal.number(), done)),
+        }
+        done += 1;
     }
+    Ok((DONE, done))
 }
 
 /// What the trace holds next.

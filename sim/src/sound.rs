@@ -5,10 +5,10 @@
 use std::collections::VecDeque;
 
 use crate::departure::Tick;
-use crate::hub::{Hub, Line, Sent, CLOCK_END};
+use crate::hub::{Hub, CLOCK_END};
 use crate::level_test::{loads, lowest_shortage};
+use crate::line::{Line, Sent};
 use crate::link::{Connection, Link, MOST_PER_WINDOW, MOST_RESERVED};
-use crate::notices::MOST_NOTICES;
 use crate::owners::Owner;
 use crate::queues::Held;
 
@@ -21,7 +21,7 @@ impl Hub {
                 self.clock <= CLOCK_END
                     && link.is_within()
                     && self.owners_are_sound(link)
-                    && self.notices_are_sound(link)
+                    && self.notices.are_sound(link.largest(), self.clock)
                     && self.line_is_sound(link)
                     && self.firsts_are_sound(link)
             }
@@ -75,21 +75,9 @@ impl Hub {
         })
     }
 
-    fn notices_are_sound(&self, link: &Link) -> bool {
-        let fits = |length| (1..=link.largest()).contains(&length);
-        let mut all = self.notices.all();
-        self.notices.count() <= MOST_NOTICES
-            && all.all(|notice| fits(notice.length) && notice.arrival <= self.clock)
-    }
-
     /// What is in service has 1 to its length units to go; a packet is eligible unless it may go early.
     fn line_is_sound(&self, link: &Link) -> bool {
-        let (sent, units_to_go) = match self.line {
-            Line::Idle => return true,
-            Line::Silent { ticks_to_go } => return (1..=link.silence()).contains(&ticks_to_go),
-            Line::Serving { sent, units_to_go } => (sent, units_to_go),
-        };
-        let length = match sent {
+        self.line.is_sound(link.silence(), |sent| match sent {
             Sent::FirstNotice => self.notices.first().map(|notice| notice.length),
             Sent::FirstOf(started) => {
                 let first = self.queues.first_of(started.connection);
@@ -98,8 +86,7 @@ impl Hub {
                 let length = first.filter(eligible).map(|held| held.length);
                 length.filter(|&length| length == started.length)
             }
-        };
-        length.map_or(false, |length| (1..=length).contains(&units_to_go))
+        })
     }
 
     /// The level of a number whose packets may go early.

@@ -19,14 +19,15 @@ const MARKS: [&str; 7] = ["LA", "CA", "PA", "TA", "ER", "NA", "CD"];
 const UNIT_BYTES: usize = 4;
 
 /// How often each answer carried each verdict, how many packets departed and how many notices
-/// were among them; which levels were short, and how many bytes their units needed.
+/// were among them; which levels were short, a frame before level 1, and how many bytes their units
+/// needed.
 #[derive(Clone, Debug, Default, PartialEq, Eq)]
 pub struct Stats {
     counts: [[u64; VERDICTS]; MARKS.len()],
     pub departures: u64,
     pub notices: u64,
     pub ticks: u64,
-    pub short_levels: [u64; MOST_LEVELS],
+    pub short_levels: [u64; MOST_LEVELS + 1],
     pub short_units: [u64; UNIT_BYTES],
 }
 
@@ -45,7 +46,7 @@ impl Stats {
             Answer::Link { .. } => 0,
             Answer::Connection { short, .. } => {
                 if let Some(short) = short {
-                    self.short_levels[usize::from(short.level) - 1] += 1;
+                    self.short_levels[usize::from(short.level)] += 1;
                     self.short_units[bytes_for(short.units) - 1] += 1;
                 }
                 1
@@ -118,9 +119,9 @@ impl Stats {
         table
     }
 
-    /// The head line for `short_line`: levels, then the bytes that the units need.
+    /// The head line for `short_line`: frames, levels, then the bytes that the units need.
     pub fn short_head(name: &str) -> String {
-        let mut head = format!("{name:<15}");
+        let mut head = format!("{name:<15}{:>9}", "frame");
         for level in 1..=MOST_LEVELS {
             let _ = write!(head, "{:>9}", format!("level {level}"));
         }
@@ -130,7 +131,7 @@ impl Stats {
         head
     }
 
-    /// Admissions refused with 8: by the level that was short, then by its units.
+    /// Admissions refused with 8: by the frame or the level that was short, then by its units.
     pub fn short_line(&self, name: &str) -> String {
         let mut line = format!("{name:<15}");
         for count in self.short_levels.iter().chain(&self.short_units) {

@@ -1,6 +1,7 @@
-//! The verdict numbers (section "Verdict numbers"; 15 by R-1, 16 by R-8, 17 by R-9, 18 by R-11).
+//! The verdict numbers (section "Verdict numbers"; 15 by R-1, 16 by R-8, 17 by R-9, 18 by R-11, 19 by R-13).
 
-/// A level that fails and by how many units: its sum, in which S is counted, less its bound.
+/// A level that fails and by how many units: its sum, in which S is counted, less its bound. Level 0 is a
+/// frame, with the sum of its units.
 #[derive(Clone, Copy, Debug, PartialEq, Eq)]
 pub struct Shortage {
     pub level: u8,
@@ -27,13 +28,14 @@ pub enum Refusal {
     PacketsHeld,
     Untimely,
     TooFar,
+    PastItsUnits,
 }
 
 /// The verdict of a call that was done.
 pub const DONE: u8 = 0;
 
 /// The highest verdict number.
-pub const HIGHEST: u8 = Refusal::TooFar.number();
+pub const HIGHEST: u8 = Refusal::PastItsUnits.number();
 
 impl Refusal {
     pub const fn number(self) -> u8 {
@@ -55,6 +57,7 @@ impl Refusal {
             Refusal::PacketsHeld => 16,
             Refusal::Untimely => 17,
             Refusal::TooFar => 18,
+            Refusal::PastItsUnits => 19,
         }
     }
 }

@@ -3,7 +3,7 @@
 
 mod told;
 
-use sim::kinds::{Kind, KINDS};
+use sim::kinds::Kind;
 use sim::link::Connection;
 use sim::record::{Answer, Record};
 use told::{records, By, Line, Told};
@@ -170,7 +170,7 @@ fn follow(trace: &[u8], met: &mut Met) {
 #[test]
 fn every_connection_of_every_trace() {
     let mut met = Met::default();
-    for kind in KINDS.iter().filter(|kind| !kind.name.ends_with("limit")) {
+    for kind in Kind::of_levels().filter(|kind| !kind.name.ends_with("limit")) {
         let seeds = if kind.name.ends_with("end") { 4 } else { 12 };
         for seed in 0..seeds {
             follow(&kind.trace(seed, None), &mut met);

@@ -4,7 +4,7 @@
 mod told;
 
 use sim::hub::CLOCK_END;
-use sim::kinds::{Kind, KINDS};
+use sim::kinds::Kind;
 use sim::link::{Connection, Figures, Link, MOST_RESERVED};
 use sim::record::{Answer, Record};
 use told::{records, Line, Told};
@@ -254,7 +254,7 @@ const WITH_CLOSES: [&str; 21] = [
 
 #[test]
 fn every_number_of_every_trace() {
-    for kind in KINDS.iter().filter(|kind| !kind.name.ends_with("limit")) {
+    for kind in Kind::of_levels().filter(|kind| !kind.name.ends_with("limit")) {
         let seeds = if kind.name.ends_with("end") { 1 } else { 12 };
         let met = met_by(kind.name, seeds);
         let closes = met.never_sent + met.time_reached + met.charged;

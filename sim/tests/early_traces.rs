@@ -5,7 +5,7 @@
 mod told;
 
 use sim::hub::CLOCK_END;
-use sim::kinds::{Kind, KINDS};
+use sim::kinds::Kind;
 use sim::link::{Link, OFF};
 use sim::record::{Answer, Record};
 use sim::replay::{answers, Pace};
@@ -162,7 +162,7 @@ fn check_finishes(trace: &[u8]) {
 
 #[test]
 fn every_packet_leaves_in_time() {
-    for kind in KINDS.iter().filter(|kind| !slow(kind)) {
+    for kind in Kind::of_levels().filter(|kind| !slow(kind)) {
         let seeds = if kind.name.ends_with("end") { 1 } else { 10 };
         let met = follow(kind, seeds);
         let on = kind.name.contains("early") && kind.name != "earlyoff";
@@ -238,7 +238,7 @@ fn move_offset(answers: &mut [u8], inserted: usize) {
 
 #[test]
 fn off_is_as_without() {
-    for kind in KINDS.iter().filter(|kind| !slow(kind)) {
+    for kind in Kind::of_levels().filter(|kind| !slow(kind)) {
         let seeds = if kind.name.ends_with("end") { 1 } else { 12 };
         for trace in (0..seeds).map(|seed| kind.trace(seed, None)) {
             if is_set(&trace) {

@@ -43,6 +43,8 @@ fn both_paces_agree() {
         "earlyend",
         "windowlimit",
         "windowend",
+        "framelimit",
+        "frameend",
     ];
     for kind in KINDS.iter().filter(|kind| !slow.contains(&kind.name)) {
         for seed in 0..SEEDS {

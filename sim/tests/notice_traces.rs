@@ -2,7 +2,7 @@
 
 use std::collections::VecDeque;
 
-use sim::kinds::KINDS;
+use sim::kinds::Kind;
 use sim::notices::{MOST_NOTICES, NOTICE_NUMBER};
 use sim::record::{Answer, Record};
 use sim::replay::{answers, Job, Pace};
@@ -97,7 +97,7 @@ impl Told {
 #[test]
 fn accepted_is_departed_followed_by_waiting() {
     let mut departed = 0;
-    for kind in KINDS.iter().filter(|kind| !kind.name.ends_with("limit")) {
+    for kind in Kind::of_levels().filter(|kind| !kind.name.ends_with("limit")) {
         for seed in 0..10 {
             let trace = kind.trace(seed, None);
             let (mut job, mut told, mut rest) =
@@ -148,7 +148,7 @@ fn calls_beside(trace: &[u8]) -> Vec<Answer> {
 
 #[test]
 fn notices_change_no_answer_of_links_admissions_and_ticks() {
-    for kind in KINDS.iter().filter(|kind| kind.name.starts_with("notice")) {
+    for kind in Kind::of_levels().filter(|kind| kind.name.starts_with("notice")) {
         if kind.name == "noticelimit" {
             continue;
         }

@@ -5,7 +5,7 @@ mod told;
 use std::collections::BTreeSet;
 
 use sim::hub::Hub;
-use sim::kinds::{Kind, KINDS};
+use sim::kinds::Kind;
 use sim::link::{Figures, Link};
 use sim::record::{Answer, Record};
 use sim::replay::{answers, Pace};
@@ -218,7 +218,7 @@ fn counted(met: &Met) -> (u8, u64) {
 #[test]
 fn level_and_units_of_every_refused_admission() {
     let mut refused = 0;
-    for kind in KINDS.iter().filter(|kind| !kind.name.ends_with("limit")) {
+    for kind in Kind::of_levels().filter(|kind| !kind.name.ends_with("limit")) {
         for seed in 0..6 {
             for met in admissions(&kind.trace(seed, None)) {
                 let told = met.short.map_or((0, 0), |short| (short.level, short.units));

@@ -3,7 +3,7 @@
 //! that go early (section R-11).
 
 use sim::departure::Departure;
-use sim::kinds::{Kind, KINDS};
+use sim::kinds::Kind;
 use sim::notices::NOTICE_NUMBER;
 use sim::record::{Answer, Record};
 use sim::replay::{Job, Pace};
@@ -138,7 +138,7 @@ fn schedule(accepted: Vec<Accepted>, silence: u64, clock: u64) -> Vec<Departure>
 #[test]
 fn departures_are_those_of_the_schedule() {
     let (mut behind_a_silence, mut early) = (0, 0);
-    for kind in KINDS.iter().filter(|kind| !kind.name.ends_with("limit")) {
+    for kind in Kind::of_levels().filter(|kind| !kind.name.ends_with("limit")) {
         for seed in 0..12 {
             let (told, job) = told(&kind.trace(seed, None));
             let silence = job.hub().link().map_or(0, |link| u64::from(link.silence()));

@@ -4,7 +4,7 @@
 mod told;
 
 use sim::hub::CLOCK_END;
-use sim::kinds::{Kind, KINDS};
+use sim::kinds::Kind;
 use sim::link::{Link, MOST_CONNECTIONS};
 use sim::record::{Answer, Record};
 use told::{records, Line, Told};
@@ -305,7 +305,7 @@ const WITH_STAMPS: [&str; 17] = [
 
 #[test]
 fn every_offer_of_every_trace() {
-    for kind in KINDS.iter().filter(|kind| !kind.name.ends_with("limit")) {
+    for kind in Kind::of_levels().filter(|kind| !kind.name.ends_with("limit")) {
         let seeds = if kind.name.ends_with("end") { 1 } else { 12 };
         let met = met_by(kind.name, seeds);
         let with_stamps = kind.name.contains("stamp") || WITH_STAMPS.contains(&kind.name);

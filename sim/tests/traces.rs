@@ -4,7 +4,7 @@ use std::io::{self, Read};
 
 use sim::departure::Departure;
 use sim::hub::CLOCK_END;
-use sim::kinds::KINDS;
+use sim::kinds::Kind;
 use sim::link::{Connection, MOST_CONNECTIONS};
 use sim::notices::NOTICE_NUMBER;
 use sim::record::{Answer, Record};
@@ -223,7 +223,7 @@ impl Read for Pieces<'_> {
 
 #[test]
 fn short_pieces() {
-    for kind in KINDS.iter().filter(|kind| !kind.name.ends_with("limit")) {
+    for kind in Kind::of_levels().filter(|kind| !kind.name.ends_with("limit")) {
         let trace = kind.trace(1, None);
         let mut given = Vec::new();
         let pieces = Pieces {
@@ -238,7 +238,7 @@ fn short_pieces() {
 
 #[test]
 fn reading_what_is_written_gives_the_record_back() {
-    for kind in KINDS.iter().filter(|kind| !kind.name.ends_with("limit")) {
+    for kind in Kind::of_levels().filter(|kind| !kind.name.ends_with("limit")) {
         let trace = kind.trace(2, None);
         let mut rest = &trace[..];
         while let Some((record, length)) = Record::read(rest) {
@@ -254,7 +254,7 @@ fn reading_what_is_written_gives_the_record_back() {
 #[test]
 fn the_bound_is_kept() {
     // Each accepted packet with eligibility e at a level with bound d finishes by e + d.
-    for kind in KINDS.iter().filter(|kind| !kind.name.ends_with("limit")) {
+    for kind in Kind::of_levels().filter(|kind| !kind.name.ends_with("limit")) {
         for seed in 0..10 {
             let trace = kind.trace(seed, None);
             check_bounds(&trace, kind.name, seed);
@@ -289,7 +289,7 @@ fn check_bounds(trace: &[u8], kind: &str, seed: u64) {
 #[test]
 fn lines_that_keep_their_word_are_eligible_on_arrival() {
     let (mut plain, mut with_average) = (0, 0);
-    for kind in KINDS.iter().filter(|kind| !kind.name.ends_with("limit")) {
+    for kind in Kind::of_levels().filter(|kind| !kind.name.ends_with("limit")) {
         for seed in 0..10 {
             let checked = check_words(&kind.trace(seed, None), kind.name, seed);
             plain += checked.0;

@@ -4,7 +4,7 @@
 
 mod told;
 
-use sim::kinds::{Kind, KINDS};
+use sim::kinds::Kind;
 use sim::level_test::shortage_of;
 use sim::link::{Connection, Figures, Link, OFF};
 use sim::random::Random;
@@ -155,7 +155,7 @@ fn with_windows(kind: &&Kind) -> bool {
 
 #[test]
 fn every_admission_and_every_departure() {
-    for kind in KINDS.iter().filter(with_windows) {
+    for kind in Kind::of_levels().filter(with_windows) {
         let seeds = if kind.name.ends_with("end") { 1 } else { 9 };
         follow(kind, seeds);
     }

@@ -3,24 +3,23 @@ use Prim.Native.Nat.{ℕ, _+_, _*_, _-_, _≤_, _<_}
 use mathlib.Core.Logic.{⊎-elim}
 use native.Mathlib.Omega.{arith}
 use mathlib.Core.Path.{_≡_, refl, sym, ap, _∙_, subst}
-use mathlib.Core.Bool.{Bool, true, false, cond, not}
+use mathlib.Core.Bool.{Bool, true, false}
 use mathlib.Core.List.{List, [], _∷_, _++_}
 use mathlib.Core.Option.{Option, none, some}
-use lib.Dec.{eqb}
-use lib.ListN.{length, getD, set, drop, length-append, length-map, length-set, List·getD-eq-default}
-use lib.Seq.{drop-length, getD-set-same, getD-set-other}
+use lib.ListN.{length, getD, set, length-append, length-set, List·getD-eq-default}
+use lib.Seq.{getD-set-same, getD-set-other}
 use Rattle.rules.specs.declared.Link.{Link}
 use Rattle.rules.specs.declared.Connection.{Connection}
 use Rattle.rules.specs.declared.Packet.{Packet}
+use Rattle.rules.specs.declared.Notice.{Notice}
 use Rattle.rules.specs.declared.Short.{Short}
 use Rattle.rules.specs.Words.{All}
-use Rattle.rules.specs.Limits.{max-connections, clock-end, beyond-32-bits, notice-number}
+use Rattle.rules.specs.Limits.{max-connections, clock-end, beyond-32-bits}
 use Rattle.rules.specs.Model.{Past, State, Call, link, admit, offer, notice, close, tick, no-short, no-connection, no-past, past, figures, closed-at, notice-packet}
 use Rattle.rules.specs.Admission.{owned, free-number, joining, charge-time}
-use Rattle.rules.specs.Service.{eligibility-by, untimely-by, remember, of, ticked, charge-over, expired, swept-connections, swept-pasts, swept-marks}
+use Rattle.rules.specs.Service.{eligibility-by, untimely-by, remember, ticked, charge-over, expired, swept-connections, swept-pasts, swept-marks}
 use Rattle.rules.specs.SoundState.{Free-number}
 use Rattle.rules.specs.Calls.{verdict, refused-number, refused-short, eligibility-now, placed, marked}
-use Rattle.rules.proofs.Rows.{map-append}
 use Rattle.rules.proofs.Lists.{list-eq}
 use Rattle.rules.proofs.Sums.{split, same}
 use Rattle.rules.proofs.Tests.{never}
@@ -33,8 +32,8 @@ use Rattle.rules.proofs.Stamps.{in-time-of}
 use Rattle.rules.proofs.SoundKept.{done-sound}
 use Rattle.rules.proofs.Verdicts.{tick-done, admit-done, Offer-done, offer-done, notice-done, Close-done, close-done}
 use Rattle.tables.specs.Places.{places-length, rows, written-places, table-of, no-packet}
-use Rattle.tables.specs.Notices.{notices-length, notice-of, notices-in}
-use Rattle.tables.proofs.NoticeLaws.{notice-rows}
+use Rattle.tables.specs.Notices.{notices-formed}
+use Rattle.tables.proofs.NoticeLaws.{note-room, note-behind}
 use Rattle.connections.specs.declared.Member.{Member}
 use Rattle.connections.specs.Members.{member-in, connections-in, pasts-in, closed-in, connection-of, past-of, last-of, used-by, used-in, first-in, written-table, written-members}
 use Rattle.connections.specs.Closing.{Closed-in-order, Swept}
@@ -49,12 +48,12 @@ use Rattle.state.specs.View.{Tables, tables, view, sound-hub}
 use Rattle.state.specs.Told.{refusal}
 use Rattle.state.specs.Does.{Does}
 use Rattle.state.proofs.SoundLaws as S
-use Rattle.state.proofs.SoundLaws.{shapes, formed-tables, is-sound, members-kept, places-kept, notices-kept, tables-kept, notices-size, line-holds, others, figures-in-limits}
+use Rattle.state.proofs.SoundLaws.{shapes, formed-tables, is-sound, members-kept, places-kept, notices-kept, tables-kept, others, figures-in-limits}
 use Rattle.state.proofs.DoesLaws.{refuses, acts}
 use Rattle.service.specs.Ready.{Ready}
 use Rattle.service.specs.Gives.{Gives}
 use Rattle.service.proofs.ReadyLaws.{ready}
-use Rattle.calls.specs.declared.verdicts.Ruling.{Ruling}
+use Rattle.causes.specs.declared.Ruling.{Ruling}
 use Rattle.calls.specs.Rulings.{ruling-of}
 
 module _ (h : Hub) (t : Tables) (ok : sound-hub h t ≡ true) where
@@ -77,7 +76,7 @@ module _ (h : Hub) (t : Tables) (ok : sound-hub h t ≡ true) where
   pub ready-to-tick : (h .link .levels ≡ 0 → ⊥) → h .clock < clock-end → Ready h (t .places) (t .notices)
   ready-to-tick n r =
       let f = shapes t (formed-tables h t ok) in
-      ready h (t .members) (t .places) (t .notices) (f .places-shape) (f .notices-shape) (others h t ok n) (line-holds h t ok n) r
+      ready h (t .members) (t .places) (t .notices) (f .places-shape) (f .notices-shape) (others h t ok n) (S.linked h t ok n .line) r
 
   -- what is closed has an owner that has sent
   module _ (n : h .link .levels ≡ 0 → ⊥) where
@@ -174,24 +173,6 @@ module _ (h : Hub) (t : Tables) (ok : sound-hub h t ≡ true) (x : Connection) w
 
 -- ---- an offer
 
--- how many packets of c the rows have, row by row
-pub one-more : (c : ℕ) (l : List Packet) (p : Packet) (ps : List Packet) → l ≡ p ∷ ps → length (of c l) ≡ cond (eqb (p .connection) c) 1 0 + length (of c ps)
-one-more c l p ps e = ap (λ (q : List Packet). length (of c q)) e ∙ go (eqb (p .connection) c)
-  where
-    go : (b : Bool) → length (cond b (p ∷ of c ps) (of c ps)) ≡ cond b 1 0 + length (of c ps)
-    go true = omega arith
-    go false = omega arith
-
-pub bit-le : (a b : ℕ) → cond (eqb a b) 1 0 ≤ 1
-bit-le a b = go (eqb a b)
-  where
-    go : (u : Bool) → cond u 1 0 ≤ 1
-    go true = omega arith
-    go false = omega arith
-
-pub all-counted : (c : ℕ) (ps : List Packet) (n i : ℕ) → i ≡ length ps → n + length (of c (drop i ps)) ≡ length (of c ps) → n ≡ length (of c ps)
-all-counted c ps n i e h = omega (arith, ap (λ (l : List Packet). length (of c l)) (ap (λ (j : ℕ). drop j ps) e ∙ drop-length ps))
-
 module _ (h : Hub) (t : Tables) (ok : sound-hub h t ≡ true) (c len tag : ℕ) (st : Option ℕ) (good : verdict (offer c len tag st) (view h t) ≡ 0) where
   did : Offer-done (view h t) c len st
   did = offer-done (view h t) c len tag st good
@@ -244,20 +225,20 @@ module _ (h : Hub) (t : Tables) (ok : sound-hub h t ≡ true) (c len tag : ℕ) 
 -- ---- a notice
 
 module _ (h : Hub) (t : Tables) (ok : sound-hub h t ≡ true) (len tag : ℕ) (good : verdict (notice len tag) (view h t) ≡ 0) where
-  abbrev note : Packet
-  note = record { connection = notice-number; len = len; tag = tag; arrival = h .clock; eligibility = h .clock }
+  abbrev note : Notice
+  note = record { len = len; tag = tag; arrival = h .clock }
+
+  shape : notices-formed (t .notices) ≡ true
+  shape = shapes t (formed-tables h t ok) .notices-shape
 
   -- a place is left
   pub notice-room : 5 * length (rows (t .notices)) + 5 ≤ length (t .notices)
-  notice-room = omega (arith, notices-size h t ok, notice-done (view h t) len tag good .room, length-map (rows (t .notices)) notice-of)
+  notice-room = note-room (t .notices) shape (notice-done (view h t) len tag good .room)
 
-  pub notice-acts : (r : Told) (q : List ℕ) → r ≡ refusal h 0 (h .clock) → q ≡ table-of (length (t .notices)) (rows (t .notices) ++ note ∷ [])
+  pub notice-acts : (r : Told) (q : List ℕ) → r ≡ refusal h 0 (h .clock) → q ≡ table-of (length (t .notices)) (rows (t .notices) ++ notice-packet note ∷ [])
       → Does (notice len tag) h t r (tables (t .members) (t .places) q)
   notice-acts r q j l =
-      let k = l
-      ∙ ap (λ (n : ℕ). table-of n (rows (t .notices) ++ note ∷ [])) (notices-size h t ok)
-      ∙ ap (λ (ps : List Packet). table-of notices-length (ps ++ note ∷ [])) (sym (notice-rows (t .notices) (shapes t (formed-tables h t ok) .notices-shape)))
-      ∙ ap (table-of notices-length) (sym (map-append notice-packet (notices-in (t .notices)) (record { len = len; tag = tag; arrival = h .clock } ∷ []))) in
+      let k = l ∙ note-behind (t .notices) shape note in
       acts (notice len tag) h t ok r (tables (t .members) (t .places) q) good j (λ i. tables (members-kept h t ok i) (places-kept h t ok i) (k i))
 
 -- ---- a close

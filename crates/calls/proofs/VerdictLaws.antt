@@ -2,13 +2,12 @@
 use Prim.Native.Nat.{ℕ, _+_, _≤_, _<_}
 use native.Mathlib.Omega.{arith}
 use mathlib.Core.Path.{_≡_, refl, sym, ap, _∙_, subst}
-use mathlib.Core.Logic.{_⊎_, inl, inr}
 use mathlib.Core.Bool.{Bool, true, false, cond, not, _&&_}
-use mathlib.Core.List.{List, [], _∷_, _++_}
+use mathlib.Core.List.{List, [], _∷_}
 use mathlib.Core.Option.{Option}
 use lib.Dec.{leb, ltb, eqb}
 use lib.ListN.{length, getD}
-use borrow.Author.Tests.{eq-eqb, ne-eqb, lt-ltb, le-ltb, leb-false, not-false}
+use borrow.Author.Tests.{eq-eqb, ne-eqb, leb-false, not-false}
 use Rattle.rules.specs.declared.Link.{Link}
 use Rattle.rules.specs.declared.Connection.{Connection}
 use Rattle.rules.specs.declared.Short.{Short}
@@ -19,15 +18,17 @@ use Rattle.rules.specs.Admission.{level-within, owned, stands, free-number, joi
 use Rattle.rules.specs.Service.{suits, untimely, untimely-by, eligibility-by, of}
 use Rattle.rules.specs.SoundTest.{sound}
 use Rattle.rules.specs.Calls.{heard, too-far, no-link-set, no-such-connection, clock-ended, causes, verdicts, verdict, refused-short}
-use Rattle.rules.proofs.Tests.{passed, never, never-number, within-intro, within-true}
-use Rattle.rules.proofs.Sums.{cond-is, split}
+use Rattle.rules.proofs.Tests.{passed, never, never-number, within-true}
+use Rattle.rules.proofs.Sums.{cond-is}
 use Rattle.rules.proofs.Standing.{owned-level, level-free, stands-is, stands-owned, stands-below, free-is}
 use Rattle.rules.proofs.LevelTest.{holds-test}
 use Rattle.rules.proofs.Verdicts.{heard-parts}
 use Rattle.rules.proofs.Bounds.{distances-fit-32}
 use Rattle.rules.proofs.Results.{level-test-tells}
-use Rattle.limits.proofs.ChainLaws.{too-low, too-high}
 use Rattle.tables.specs.Places.{rows}
+use Rattle.causes.specs.declared.Ruling.{Ruling}
+use Rattle.causes.specs.Causes.{nothing-short, early-offer}
+use Rattle.causes.proofs.CauseLaws.{sound-first, front-gives, behind-gives, says-nothing}
 use Rattle.connections.specs.declared.Member.{Member}
 use Rattle.connections.specs.Members.{member-in, connection-of, past-of, connections-in, pasts-in}
 use Rattle.connections.specs.Stamps.{stamp-if}
@@ -38,43 +39,11 @@ use Rattle.connections.proofs.FigureLaws.{link-limits, figure-limits, entry-lim
 use Rattle.state.specs.declared.Hub.{Hub}
 use Rattle.state.specs.View.{Tables, view, sound-hub}
 use Rattle.state.proofs.SoundLaws.{sound-view, is-sound, figures-in-limits}
-use Rattle.calls.specs.Rulings.{ruling-of, early-admit, early-offer, early-close, too-far-in}
+use Rattle.calls.specs.Rulings.{ruling-of, early-admit, early-close, too-far-in}
 
 pub by-causes : (k : Call) (s : State) → sound s ≡ true → first-number (causes k s) ≡ verdict k s
 unfolding verdicts
-by-causes k s ok = rw ok
-
--- rows in front, decided first: what they give where they give something, and what the rows behind them give where they do not
-pub front-gives : (front behind : List (ℕ × Bool)) → (first-number front ≡ 0 → ⊥) → first-number front ≡ first-number (front ++ behind)
-front-gives [] behind h = absurd (h refl)
-front-gives (r ∷ rs) behind h = step (r .1) h (front-gives rs behind)
-  where
-    step : (b : Bool) → (cond b (r .0) (first-number rs) ≡ 0 → ⊥) → ((first-number rs ≡ 0 → ⊥) → first-number rs ≡ first-number (rs ++ behind))
-        → cond b (r .0) (first-number rs) ≡ cond b (r .0) (first-number (rs ++ behind))
-    step true h f = refl
-    step false h f = f h
-
-none-in-front : (rs behind : List (ℕ × Bool)) → All (λ r. r .1 ≡ false) rs → first-number behind ≡ first-number (rs ++ behind)
-none-in-front [] behind k = refl
-none-in-front (r ∷ rs) behind k = none-in-front rs behind (k .1) ∙ sym (cond-is (r .0) (first-number (rs ++ behind)) (k .0))
-
-pub behind-gives : (front behind : List (ℕ × Bool)) → All (λ r. 0 < r .0) front → first-number front ≡ 0 → first-number behind ≡ first-number (front ++ behind)
-behind-gives front behind a e = none-in-front front behind (passed front a e)
-
-pub zero-then : (v w : ℕ) → v ≡ w → v ≡ 0 → w ≡ 0
-zero-then v w e z = sym e ∙ z
-
--- ---- a length that does not fit
-
-pub too-short : (largest len : ℕ) → len < 1 → true ≡ not (within 1 largest len)
-too-short largest len h = ap not (sym (too-low 1 largest len h))
-
-pub too-long : (largest len : ℕ) → 1 ≤ len → ltb largest len ≡ not (within 1 largest len)
-too-long largest len h = go (split len largest)
-  where
-    go : (len ≤ largest) ⊎ (largest < len) → ltb largest len ≡ not (within 1 largest len)
-    go (inl k) = le-ltb largest len k ∙ ap not (sym (within-intro 1 largest len h k))
-    go (inr k) = lt-ltb largest len k ∙ ap not (sym (too-high 1 largest len h k))
+by-causes k s ok = sound-first (sound s) (causes k s) ok
 
 -- ---- an offer: what needs no walk over the places, then the rest
 
@@ -113,7 +82,7 @@ far-is : (h : Hub) (t : Tables) (c : ℕ) (st : Option ℕ) → too-far-in (h .l
 unfolding too-far
 far-is h t c st = refl
 
-module _ (h : Hub) (t : Tables) (ok : sound-hub h t ≡ true) (c len tag : ℕ) (st : Option ℕ) (b : Bool) (there : b ≡ heard (view h t) c st) (x : Connection) (is : x ≡ nth (connections-in (t .members)) c) where
+module _ (h : Hub) (t : Tables) (ok : sound-hub h t ≡ true) (c len tag : ℕ) (st : Option ℕ) (u : Bool) (unset : u ≡ eqb (h .link .levels) 0) (b : Bool) (there : b ≡ heard (view h t) c st) (x : Connection) (is : x ≡ nth (connections-in (t .members)) c) where
   abbrev offered : State
   offered = view h t
 
@@ -130,15 +99,15 @@ module _ (h : Hub) (t : Tables) (ok : sound-hub h t ≡ true) (c len tag : ℕ) 
   abbrev rest : List (ℕ × Bool)
   rest = rest-of (figures offered c) (too-far offered c st)
 
-  front-is : early-offer (h .link) b x len ≡ in-front
-  front-is i = no-link-set offered ∷ (10, not (there i)) ∷ (11, not (within 1 (is i .size) len)) ∷ []
+  front-is : early-offer u b (x .size) len ≡ in-front
+  front-is i = (2, unset i) ∷ (10, not (there i)) ∷ (11, not (within 1 (is i .size) len)) ∷ []
 
-  pub offer-early : (v : ℕ) → v ≡ first-number (early-offer (h .link) b x len) → (v ≡ 0 → ⊥) → v ≡ verdict (offer c len tag st) offered
+  pub offer-early : (v : ℕ) → v ≡ first-number (early-offer u b (x .size) len) → (v ≡ 0 → ⊥) → v ≡ verdict (offer c len tag st) offered
   offer-early v e n =
       let f = e ∙ ap first-number front-is in
       f ∙ front-gives in-front rest (λ z. n (f ∙ z)) ∙ by-causes (offer c len tag st) offered (sound-view h t ok)
 
-  module _ (none : first-number (early-offer (h .link) b x len) ≡ 0) where
+  module _ (none : first-number (early-offer u b (x .size) len) ≡ 0) where
     unrefused : first-number in-front ≡ 0
     unrefused = ap first-number (sym front-is) ∙ none
 
@@ -218,21 +187,18 @@ module _ (h : Hub) (t : Tables) (ok : sound-hub h t ≡ true) (x : Connection) (
   same-front : early-admit (h .link) c x ≡ front
   same-front = ap (λ (k : ℕ). early-admit (h .link) k x) is
 
-  -- a verdict other than 8 says nothing of a level
-  ruled-as : (v : ℕ) (s : Short) → s ≡ no-short → verdict (admit x) asked ≡ v → (v ≡ 8 → ⊥) → record { verdict = v; short = s } ≡ ruling-of (admit x) asked
-  ruled-as v s q e n =
-      (λ i. record { verdict = v; short = q i })
-      ∙ (λ i. record { verdict = v; short = sym (cond-is (level-test (h .link) together) no-short (ne-eqb v 8 n)) i })
-      ∙ ap (λ (w : ℕ). record { verdict = w; short = refused-short (admit x) asked w }) (sym e)
+  ruled-as : (v : ℕ) (r : Ruling) → r ≡ nothing-short v → verdict (admit x) asked ≡ v → (v ≡ 8 → ⊥) → r ≡ ruling-of (admit x) asked
+  ruled-as v r q e n =
+      q ∙ says-nothing v (level-test (h .link) together) n ∙ ap (λ (w : ℕ). record { verdict = w; short = refused-short (admit x) asked w }) (sym e)
 
   -- none of the early numbers is 8
   not-eight : first-number front ≡ 8 → ⊥
   not-eight = never-number 8 front ((λ e. absurd (omega arith)), ((λ e. absurd (omega arith)), ((λ e. absurd (omega arith)), ((λ e. absurd (omega arith)), tt)))) (omega arith)
 
-  pub admit-early : (v : ℕ) (s : Short) → v ≡ first-number (early-admit (h .link) c x) → (v ≡ 0 → ⊥) → s ≡ no-short → record { verdict = v; short = s } ≡ ruling-of (admit x) asked
-  admit-early v s e z q =
+  pub admit-early : (v : ℕ) (r : Ruling) → v ≡ first-number (early-admit (h .link) c x) → (v ≡ 0 → ⊥) → r ≡ nothing-short v → r ≡ ruling-of (admit x) asked
+  admit-early v r e z q =
       let f = e ∙ ap first-number same-front in
-      ruled-as v s q (sym (f ∙ front-gives front behind (λ y. z (f ∙ y)) ∙ by-causes (admit x) asked (sound-view h t ok))) (λ y. not-eight (sym f ∙ y))
+      ruled-as v r q (sym (f ∙ front-gives front behind (λ y. z (f ∙ y)) ∙ by-causes (admit x) asked (sound-view h t ok))) (λ y. not-eight (sym f ∙ y))
 
   module _ (none : first-number (early-admit (h .link) c x) ≡ 0) where
     none-early : first-number front ≡ 0
@@ -288,7 +254,7 @@ module _ (h : Hub) (t : Tables) (ok : sound-hub h t ≡ true) (x : Connection) (
           let u = level-test-tells (h .link) together in
           let q : s .units ≡ 0 = ap (λ (u : Short). u .units) e ∙ u .1 .1 (u .0 .0 (ap (λ (u : Short). u .level) (sym e) ∙ z)) in
           let j = k ∙ ap (λ (b : ℕ). cond (ltb max-reserved b) 9 0) g in
-          ruled-as r s (λ i. record { level = z i; units = q i }) (sym (j ∙ sym (cond-is 8 (cond (ltb max-reserved (reserved (h .link) together)) 9 0) (ap not f)) ∙ by-sums)) (λ y. nine (ltb max-reserved (reserved (h .link) together)) (sym j ∙ y))
+          ruled-as r (record { verdict = r; short = s }) (λ i. record { verdict = r; short = record { level = z i; units = q i } }) (sym (j ∙ sym (cond-is 8 (cond (ltb max-reserved (reserved (h .link) together)) 9 0) (ap not f)) ∙ by-sums)) (λ y. nine (ltb max-reserved (reserved (h .link) together)) (sym j ∙ y))
         where
           nine : (b : Bool) → _≡_ {A = ℕ} (cond b 9 0) 8 → ⊥
           nine true e = omega arith

@@ -7,14 +7,13 @@ use lib.Dec.{leb, ltb, eqb}
 use lib.ListN.{getD}
 use Rattle.rules.specs.declared.Link.{Link}
 use Rattle.rules.specs.declared.Connection.{Connection}
-use Rattle.rules.specs.Words.{within}
 use Rattle.rules.specs.Limits.{max-connections}
 use Rattle.rules.specs.Model.{State, Call, nth, no-past}
 use Rattle.rules.specs.Admission.{level-within, figures-within, stand-by-on, distance}
 use Rattle.rules.specs.Service.{eligibility-by}
 use Rattle.rules.specs.Calls.{verdict, refused-short}
 use Rattle.connections.specs.Members.{connections-in, pasts-in}
-use Rattle.calls.specs.declared.verdicts.Ruling.{Ruling}
+use Rattle.causes.specs.declared.Ruling.{Ruling}
 
 -- the verdict of a call, and what the level test said where that is the cause
 abbrev pub ruling-of : Call → State → Ruling
@@ -24,11 +23,7 @@ ruling-of k s = record { verdict = verdict k s; short = refused-short k s (verdi
 abbrev pub early-admit : Link → ℕ → Connection → List (ℕ × Bool)
 early-admit l c x = (2, eqb (l .levels) 0) ∷ (5, not (level-within l x)) ∷ (6, not (figures-within l x)) ∷ (7, leb max-connections c) ∷ []
 
--- the rows of an offer's table that need no walk over the places, of a connection with figures x, and whether it hears the offer
-abbrev pub early-offer : Link → Bool → Connection → ℕ → List (ℕ × Bool)
-early-offer l heard x len = (2, eqb (l .levels) 0) ∷ (10, not heard) ∷ (11, not (within 1 (x .size) len)) ∷ []
-
--- .. and of a close's
+-- the rows of a close's table that need no walk over the places, and whether it stands
 abbrev pub early-close : Link → Bool → List (ℕ × Bool)
 early-close l stands = (2, eqb (l .levels) 0) ∷ (10, not stands) ∷ []
 

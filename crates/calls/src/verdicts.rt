@@ -1,12 +1,12 @@
 // The verdict of each call on a sound state: what the table of verdicts asks, each by a function of its own, and the first number of which the test holds.
 // Document 01, "Verdict numbers"; document 02, R-1, R-8, R-9 and R-11.
 ghost use mathlib.Core.Path.{_≡_};
-ghost use mathlib.Core.Bool.{true, cond, not};
+ghost use mathlib.Core.Bool.{true};
 ghost use Prim.Native.Nat.{ℕ, _+_, _<_, _≤_};
 ghost use lib.Dec.{leb, eqb};
 ghost use lib.ListN.{length, getD};
-ghost use Rattle.rules.specs.Words.{within, first-number};
-ghost use Rattle.rules.specs.Limits.{max-connections, clock-end, beyond-32-bits};
+ghost use Rattle.rules.specs.Words.{first-number};
+ghost use Rattle.rules.specs.Limits.{max-connections, beyond-32-bits};
 ghost use Rattle.rules.specs.Model.{link, admit, offer, notice, close, tick, nth, no-connection, no-past};
 ghost use Rattle.rules.specs.Admission.{bound, reservation, distance, free-number};
 ghost use Rattle.rules.specs.Service.{untimely-by, of};
@@ -16,34 +16,16 @@ ghost use Rattle.connections.specs.Members.{connection-of, connections-in, past
 ghost use Rattle.connections.specs.Stamps.{stamp-if};
 ghost use Rattle.connections.specs.Within.{Within};
 ghost use Rattle.state.specs.View.{given, before, view, sound-hub};
-ghost use Rattle.calls.specs.Rulings.{ruling-of, early-admit, early-offer, early-close, too-far-in};
+ghost use Rattle.calls.specs.Rulings.{ruling-of, early-admit, early-close, too-far-in};
+use causes::Ruling;
+use causes::first_of;
+use causes::one_if_same;
 use connections::Member;
-use limits::CLOCK_END;
 use limits::MAX_CONNECTIONS;
-use limits::MAX_NOTICES;
 use limits::MAX_RESERVED;
 use rules::Connection;
 use rules::Link;
-use rules::Short;
 use state::Hub;
-
-// The verdict of an admission, and what the level test said where it is 8.
-pub struct Ruling {
-    pub verdict: u32,
-    pub short: Short,
-}
-
-// ---- the decision
-
-// A row of the table: its number where its test holds, else what the rows behind it give.
-fn first_of(test: bool, number: u32, rest: u32) -> u32
-    ensures { λ r. ⌜ r ≡ cond test number rest ⌝ }
-{
-    if test {
-        return number;
-    }
-    rest
-}
 
 // ---- the tests
 
@@ -52,32 +34,6 @@ fn unset(h: Hub) -> bool
     ensures { λ r. ⌜ r ≡ eqb (h .link .levels) 0 ⌝ }
 {
     h.link.levels == 0
-}
-
-// The clock has ended.
-fn ended(h: Hub) -> bool
-    ensures { λ r. ⌜ r ≡ leb clock-end (h .clock) ⌝ }
-{
-    CLOCK_END <= h.clock
-}
-
-// A length that is not from 1 to the largest.
-fn misfits(largest: u32, len: u32) -> bool
-    ensures { λ r. ⌜ r ≡ not (within 1 largest len) ⌝ }
-{
-    if len < 1 {
-        return true;
-    }
-    largest < len
-}
-
-fn one_if_same(a: u32, b: u32) -> u64
-    ensures { λ r. ⌜ r ≡ cond (eqb a b) 1 0 ⌝ }
-{
-    if a == b {
-        return 1;
-    }
-    0
 }
 
 // How many packets connection c holds.
@@ -121,7 +77,7 @@ pub(crate) fn tick_verdict(h: Hub, members: &[u32], places: &[u32], notices: &[u
     requires { ⌜ sound-hub h (given members places notices) ≡ true ⌝ }
     ensures { λ r. ⌜ r ≡ verdict tick (view h (before members places notices)) ⌝ }
 {
-    first_of(unset(h), 2, first_of(ended(h), 13, 0))
+    causes::of_tick(unset(h), h.clock)
 }
 
 // What speaks against an admission before a sum is made; c is the lowest free number.
@@ -153,10 +109,7 @@ pub(crate) fn admit_verdict(
     let l = h.link;
     let early = admit_refusal(h, c, x);
     if early != 0 {
-        return Ruling {
-            verdict: early,
-            short: connections::no_short(),
-        };
+        return causes::ruled(early);
     }
     let short = connections::newcomer_test(l, members, n, x);
     if short.level != 0 {
@@ -170,17 +123,6 @@ pub(crate) fn admit_verdict(
         verdict: first_of(MAX_RESERVED < all, 9, 0),
         short: short,
     }
-}
-
-// What speaks against an offer to a connection with figures x before the rows are walked.
-fn offer_refusal(h: Hub, heard: bool, x: Connection, len: u32) -> u32
-    ensures { λ r. ⌜ r ≡ first-number (early-offer (h .link) heard x len) ⌝ }
-{
-    first_of(
-        unset(h),
-        2,
-        first_of(!heard, 10, first_of(misfits(x.size, len), 11, 0)),
-    )
 }
 
 // An offer, with a stamp or none, is out of time at number c.
@@ -234,13 +176,18 @@ pub(crate) fn offer_verdict(
     let l = h.link;
     let x = connections::figures_of(members, c);
     let suits = connections::stamps::suits(x, brings, stamp);
-    let early = offer_refusal(h, connections::stands(members, c) & suits, x, len);
+    let heard = connections::stands(members, c) & suits;
+    let early = causes::early_offer(unset(h), heard, x.size, len);
     if early != 0 {
         return early;
     }
     let far = first_of(too_far(l, members, c, h.clock, brings, stamp), 18, 0);
     let late = first_of(untimely(members, c, h.clock, brings, stamp), 17, far);
-    first_of(full(l, x, places, c), 12, first_of(ended(h), 13, late))
+    first_of(
+        full(l, x, places, c),
+        12,
+        first_of(causes::ended(h.clock), 13, late),
+    )
 }
 
 // What speaks against a close before the rows are walked.
@@ -272,10 +219,5 @@ pub(crate) fn notice_verdict(
     requires { ⌜ (sound-hub h (given members places notices) ≡ true) × (waiting ≡ length (rows (now notices))) ⌝ }
     ensures { λ r. ⌜ ((tag : ℕ) → r ≡ verdict (notice len tag) (view h (before members places notices))) ⌝ }
 {
-    let late = first_of(ended(h), 13, first_of(MAX_NOTICES <= waiting, 15, 0));
-    first_of(
-        unset(h),
-        2,
-        first_of(misfits(h.link.largest, len), 11, late),
-    )
+    causes::of_notice(unset(h), h.link.largest, h.clock, waiting, len)
 }

@@ -28,7 +28,7 @@ use types.Run.{OneOf, miss}
 use denote.Enum.Declared.{tagOf}
 use Rattle.traces.proofs.Record.{the-type}
 use Rattle.traces.specs.declared.Record.{Record}
-use Rattle.traces.specs.declared.Record.the-variants.{Link as LinkRecord, LinkStandBy, LinkWindows, Admit, AdmitStamped, Close, Offer, OfferStamped, Notice, Ticks, Malformed}
+use Rattle.traces.specs.declared.Record.the-variants.{Link as LinkRecord, LinkStandBy, LinkWindows, LinkFrames, Admit, AdmitStamped, AdmitShare, Close, Offer, OfferStamped, Notice, Ticks, Malformed}
 use Rattle.traces.specs.declared.Found.{Found}
 use Rattle.traces.specs.Trace.{read-trace}
 use Rattle.named.specs.Named.{connection-named}
@@ -48,14 +48,16 @@ next-is flag last gap now = refl
 
 -- a record of another kind names none, as the code tells it apart: by the number of its variant
 abbrev others : List ℕ
-others = 1 ∷ 3 ∷ 4 ∷ 5 ∷ 6 ∷ 7 ∷ 8 ∷ 9 ∷ 10 ∷ []
+others = 1 ∷ 3 ∷ 4 ∷ 5 ∷ 6 ∷ 7 ∷ 8 ∷ 9 ∷ 10 ∷ 11 ∷ 12 ∷ []
 
 pub of-no-link : (r : Record) → OneOf others (tagOf the-type r) → no-link ≡ link-of r
 of-no-link (LinkRecord n s silence d1 d2 d3 d4 d5 d6 d7 d8) h = absurd (miss others 0 tt h)
 of-no-link (LinkStandBy n s silence early d1 d2 d3 d4 d5 d6 d7 d8) h = refl
 of-no-link (LinkWindows n s silence early d1 d2 d3 d4 d5 d6 d7 d8 w1 w2 w3 w4 w5 w6 w7 w8) h = absurd (miss others 2 tt h)
+of-no-link (LinkFrames frame largest silence) h = refl
 of-no-link (Admit level gap size window average) h = refl
 of-no-link (AdmitStamped level gap size allowance) h = refl
+of-no-link (AdmitShare units places) h = refl
 of-no-link (Close c) h = refl
 of-no-link (Offer c len tag) h = refl
 of-no-link (OfferStamped c len tag stamp) h = refl

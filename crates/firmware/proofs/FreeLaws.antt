@@ -9,10 +9,10 @@ use lib.ListN.{length, replicate}
 use borrow.Author.Tests.{eqb-true, ne-eqb}
 use Rattle.rules.specs.declared.Link.{Link}
 use Rattle.rules.specs.declared.Connection.{Connection}
-use Rattle.rules.specs.Words.{All, sum}
+use Rattle.rules.specs.Words.{All, sum, total}
 use Rattle.rules.specs.Model.{no-connection, nth}
 use Rattle.rules.specs.Admission.{cost, span, level-sum, level-test, free-number, joining}
-use Rattle.rules.proofs.Lists.{total, total-snoc, all-at}
+use Rattle.rules.proofs.Lists.{total-snoc, all-at}
 use Rattle.rules.proofs.Sums.{cond-is}
 use Rattle.rules.proofs.Figures.{sum-is}
 use Rattle.rules.proofs.Standing.{free-is}

@@ -15,7 +15,7 @@ use Rattle.rules.specs.SoundTest.{connection-sound}
 use Rattle.rules.specs.Service.{next-eligibility}
 use Rattle.fields.specs.Numbers.{get-fields}
 use Rattle.traces.specs.declared.Record.{Record}
-use Rattle.traces.specs.declared.Record.the-variants.{Link as LinkRecord, LinkStandBy, LinkWindows, Admit, AdmitStamped, Close, Offer, OfferStamped, Notice, Ticks, Malformed}
+use Rattle.traces.specs.declared.Record.the-variants.{Link as LinkRecord, LinkStandBy, LinkWindows, LinkFrames, Admit, AdmitStamped, AdmitShare, Close, Offer, OfferStamped, Notice, Ticks, Malformed}
 use Rattle.traces.specs.Kinds.{CN}
 use Rattle.traces.specs.Trace.{read-trace}
 use Rattle.named.specs.Named.{link-named, windows-named, connection-named}
@@ -38,8 +38,10 @@ link-of (LinkRecord n s silence d1 d2 d3 d4 d5 d6 d7 d8) = link-named (n ∷ s �
 link-of (LinkStandBy n s silence early d1 d2 d3 d4 d5 d6 d7 d8) = no-link
 link-of (LinkWindows n s silence early d1 d2 d3 d4 d5 d6 d7 d8 w1 w2 w3 w4 w5 w6 w7 w8) =
     windows-named (n ∷ s ∷ silence ∷ early ∷ d1 ∷ d2 ∷ d3 ∷ d4 ∷ d5 ∷ d6 ∷ d7 ∷ d8 ∷ w1 ∷ w2 ∷ w3 ∷ w4 ∷ w5 ∷ w6 ∷ w7 ∷ w8 ∷ [])
+link-of (LinkFrames frame largest silence) = no-link
 link-of (Admit level gap size window average) = no-link
 link-of (AdmitStamped level gap size allowance) = no-link
+link-of (AdmitShare units places) = no-link
 link-of (Close c) = no-link
 link-of (Offer c len tag) = no-link
 link-of (OfferStamped c len tag stamp) = no-link

@@ -29,6 +29,7 @@ use Rattle.rules.proofs.Every.{fresh-invariant}
 use Rattle.rules.proofs.Alone.{asks}
 use Rattle.rules.proofs.Results.{answer-verdict, finer-test-says, windows-at-the-bounds, demand-1-refusals, verdict-1-exactly, runs-are-sound, conservation, conservation-by-owner, demand-3-first, demand-3-second, told-by-its-own, bed-nine-and-bed-ten, counted, close-is-refused, closed-gets-10, closed-or-freed, freed-by-the-tick, charge-lasts, lowest-number-is-given, ten-exactly, seventeen-exactly, no-finish-before, eighteen-exactly, stamps-never-18, never-far-ahead, demand-3-for-stamps, stamps-told-by-their-own, bed-nine-and-bed-ten-with-stamps}
 use Rattle.tables.specs.Places.{written-places, table-of}
+use Rattle.tables.proofs.CallLaws.{same-outcome}
 use Rattle.connections.specs.Members.{written-rows}
 use Rattle.state.specs.declared.Hub.{Hub}
 use Rattle.state.specs.declared.Told.{Told}
@@ -44,7 +45,7 @@ use Rattle.hub.specs.Promises.{One-outcome, Written-reads-back, Sound-is
 -- ---- one outcome
 
 pub one-outcome : One-outcome
-one-outcome k h t r r′ u u′ D E = (D .answers ∙ sym (E .answers), D .tables ∙ sym (E .tables))
+one-outcome = same-outcome tells leaves
 
 -- ---- reading and writing
 

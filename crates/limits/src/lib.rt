@@ -1,16 +1,22 @@
-// The limits of the code and the lengths of its tables, each once, and the tests of a link and of a connection against them. The limits of the rules stand in
-// `crates/rules/specs/Limits.antt`; the contracts of the code tie these to those.
+// The limits of the code and the lengths of its tables, each once, and the tests of a link and of a connection against them, of both disciplines. The limits of the rules stand in
+// `crates/rules/specs/Limits.antt` and `crates/frames/specs/Limits.antt`; the contracts of the code tie these to those.
+pub mod numbers; // numbers.rt: the smaller of two, and a difference
+
 ghost use mathlib.Core.Path.{_≡_};
 ghost use Prim.Native.Nat.{_+_, _≤_};
 ghost use lib.ListN.{length, take, drop};
+ghost use Rattle.rules.specs.Words.{within};
 ghost use Rattle.rules.specs.Limits.{max-levels};
 ghost use Rattle.rules.specs.Admission.{rising, windows-from, windows-within, link-within, level-within, average-within, kind-within, figures-within};
 ghost use Rattle.rules.specs.SoundTest.{connection-sound};
+ghost use Rattle.frames.specs.Admission.{framing-within, share-within};
 ghost use Rattle.limits.specs.Zeros.{zeros};
+use frames::Framing;
+use frames::Share;
 use rules::Connection;
 use rules::Link;
 
-// ---- the limits of document 01, "Link, connections, places", and of document 02, R-1, R-4, R-6 to R-9, R-11 and R-12
+// ---- the limits of document 01, "Link, connections, places", and of document 02, R-1, R-4, R-6 to R-9 and R-11 to R-13
 
 // Levels of a link.
 pub const MAX_LEVELS: u32 = 8;
@@ -42,6 +48,13 @@ pub const MAX_REMEMBERED: usize = 16;
 
 // Ticks of an allowance.
 const MAX_ALLOWANCE: u32 = 65535;
+
+// Ticks of a frame; units per frame of a connection, and its places.
+const MAX_FRAME: u32 = 32768;
+
+const MAX_UNITS: u32 = 2048;
+
+const MAX_PLACES: u32 = 2048;
 
 // Connections.
 pub const MAX_CONNECTIONS: usize = 200;
@@ -79,6 +92,11 @@ pub const PACKET_WIDTH: usize = 5;
 pub const PLACES: usize = PACKET_WIDTH * (MAX_RESERVED as usize);
 
 pub const NOTICES: usize = PACKET_WIDTH * MAX_NOTICES;
+
+// The numbers of a row of the table of shares, and of all its rows.
+pub const SHARE_WIDTH: usize = 2;
+
+pub const SHARES: usize = SHARE_WIDTH * MAX_CONNECTIONS;
 
 // The four numbers from i on are 0.
 fn four_zero(t: &[u32], i: usize) -> bool
@@ -292,4 +310,30 @@ pub fn connection_ok(l: Link, x: Connection) -> bool
         return false;
     }
     figures_ok(l, x)
+}
+
+// ---- a framing and a share within their limits
+
+// From `low` to `high`.
+fn is_within(low: u32, high: u32, x: u32) -> bool
+    ensures { λ r. ⌜ r ≡ within low high x ⌝ }
+{
+    (low <= x) & (x <= high)
+}
+
+// The limits of a framing: S with its silence is at most T.
+pub fn framing_ok(l: Framing) -> bool
+    ensures { λ r. ⌜ r ≡ framing-within l ⌝ }
+{
+    let cost = l.largest as u64 + l.silence as u64;
+    is_within(1, MAX_FRAME, l.frame)
+        & (is_within(1, MAX_LARGEST, l.largest)
+            & ((l.silence <= MAX_SILENCE) & (cost <= l.frame as u64)))
+}
+
+// The limits of a share.
+pub fn share_ok(x: Share) -> bool
+    ensures { λ r. ⌜ r ≡ share-within x ⌝ }
+{
+    is_within(1, MAX_UNITS, x.units) & is_within(1, MAX_PLACES, x.places)
 }

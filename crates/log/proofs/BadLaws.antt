@@ -4,9 +4,8 @@ use mathlib.Core.Path.{_≡_, refl, sym, ap, _∙_}
 use mathlib.Core.List.{List, [], _∷_, _++_, append-assoc}
 use mathlib.Core.Option.{Option, none, some}
 use lib.ListN.{length}
-use Rattle.rules.specs.Model.{State, fresh}
-use Rattle.rules.specs.Calls.{answer}
 use Rattle.rules.proofs.Tests.{never}
+use Rattle.either.specs.Line.{Line, respond, fresh-line}
 use Rattle.answers.specs.declared.Reply.the-variants.{Broken}
 use Rattle.answers.specs.Answers.{answer-bytes}
 use Rattle.log.specs.Log.{Asked, one-call, some-ticks, unread, call-log, ticks-log, ticks-end, asked-from, asked-log, log}
@@ -18,9 +17,9 @@ use Rattle.log.proofs.LogLaws.{counting, asked-behind, record-by-record
 ends-behind : (xs : List ℕ) {end l : List ℕ} → Ends-with end l → Ends-with end (xs ++ l)
 ends-behind xs {end} E = record { before = xs ++ E .before; all = ap (λ k. xs ++ k) (E .all) ∙ sym (append-assoc xs (E .before) end) }
 
-asked-ends : (s : State) (l : List (Asked × ℕ)) (b : ℕ) → first-bad l ≡ some b → Ends-with (answer-bytes (Broken b)) (asked-log s l)
+asked-ends : (s : Line) (l : List (Asked × ℕ)) (b : ℕ) → first-bad l ≡ some b → Ends-with (answer-bytes (Broken b)) (asked-log s l)
 asked-ends s [] b e = never cc
-asked-ends s ((one-call c, at) ∷ rest) b e = ends-behind (call-log c (answer c s)) (asked-ends (answer c s .next) rest b e)
+asked-ends s ((one-call c, at) ∷ rest) b e = ends-behind (call-log c (respond c s)) (asked-ends (respond c s .next) rest b e)
 asked-ends s ((some-ticks n, at) ∷ rest) b e = ends-behind (ticks-log n n s) (asked-ends (ticks-end n s) rest b e)
 asked-ends s ((unread, at) ∷ rest) b e =
     let d : at ≡ b = cc e in
@@ -28,7 +27,7 @@ asked-ends s ((unread, at) ∷ rest) b e =
 
 pub log-ends : (trace : List ℕ) (b : ℕ) → bad-at trace ≡ some b → Ends-with (answer-bytes (Broken b)) (log trace)
 unfolding bad-at log
-log-ends trace b e = asked-ends fresh (asked-from 0 trace) b e
+log-ends trace b e = asked-ends fresh-line (asked-from 0 trace) b e
 
 -- ---- record by record
 

@@ -7,8 +7,7 @@ use mathlib.Core.List.{List, [], _∷_, _++_}
 use lib.Dec.{eqb}
 use lib.ListN.{length, drop, length-drop}
 use borrow.Author.Tests.{eq-eqb, ne-eqb}
-use Rattle.rules.specs.Model.{State, tick}
-use Rattle.rules.specs.Calls.{answer}
+use Rattle.either.specs.Line.{Line, tick, respond}
 use Rattle.answers.specs.declared.Reply.the-variants.{Ticked}
 use Rattle.answers.specs.Answers.{answer-bytes}
 use Rattle.log.specs.Log.{Asked, one-call, some-ticks, unread, asks, call-log, asked-within, asked-from, asked-log, read-at, tick-log, ticks-log, ticks-end, log-from}
@@ -16,26 +15,26 @@ use Rattle.log.proofs.ReadLaws.{read-lies}
 
 -- ---- ticks
 
-module _ (left : ℕ) (s : State) where
+module _ (left : ℕ) (s : Line) where
   -- one that is done: its departure, and then the rest
-  module _ (e : answer tick s .verdict ≡ 0) where
-    pub done-log : (asked : ℕ) → ticks-log asked (suc left) s ≡ tick-log (answer tick s) ++ ticks-log asked left (answer tick s .next)
+  module _ (e : respond tick s .verdict ≡ 0) where
+    pub done-log : (asked : ℕ) → ticks-log asked (suc left) s ≡ tick-log (respond tick s) ++ ticks-log asked left (respond tick s .next)
     unfolding ticks-log
-    done-log asked = rw (eq-eqb (answer tick s .verdict) 0 e)
+    done-log asked = rw (eq-eqb (respond tick s .verdict) 0 e)
 
-    pub done-end : ticks-end (suc left) s ≡ ticks-end left (answer tick s .next)
+    pub done-end : ticks-end (suc left) s ≡ ticks-end left (respond tick s .next)
     unfolding ticks-end
-    done-end = rw (eq-eqb (answer tick s .verdict) 0 e)
+    done-end = rw (eq-eqb (respond tick s .verdict) 0 e)
 
   -- one that is refused: the `TA`
-  module _ (n : answer tick s .verdict ≡ 0 → ⊥) where
-    pub refused-log : (asked : ℕ) → ticks-log asked (suc left) s ≡ answer-bytes (Ticked (answer tick s .verdict) (asked - suc left))
+  module _ (n : respond tick s .verdict ≡ 0 → ⊥) where
+    pub refused-log : (asked : ℕ) → ticks-log asked (suc left) s ≡ answer-bytes (Ticked (respond tick s .verdict) (asked - suc left))
     unfolding ticks-log
-    refused-log asked = rw (ne-eqb (answer tick s .verdict) 0 n)
+    refused-log asked = rw (ne-eqb (respond tick s .verdict) 0 n)
 
-    pub refused-end : ticks-end (suc left) s ≡ answer tick s .next
+    pub refused-end : ticks-end (suc left) s ≡ respond tick s .next
     unfolding ticks-end
-    refused-end = rw (ne-eqb (answer tick s .verdict) 0 n)
+    refused-end = rw (ne-eqb (respond tick s .verdict) 0 n)
 
 -- ---- records
 
@@ -46,9 +45,9 @@ counting ((one-call c, at) ∷ rest) = (one-call c, at) ∷ counting rest
 counting ((some-ticks n, at) ∷ rest) = (some-ticks n, at) ∷ counting rest
 counting ((unread, at) ∷ rest) = (unread, at) ∷ []
 
-log-counting : (s : State) (l : List (Asked × ℕ)) → asked-log s l ≡ asked-log s (counting l)
+log-counting : (s : Line) (l : List (Asked × ℕ)) → asked-log s l ≡ asked-log s (counting l)
 log-counting s [] = refl
-log-counting s ((one-call c, at) ∷ rest) = ap (λ k. call-log c (answer c s) ++ k) (log-counting (answer c s .next) rest)
+log-counting s ((one-call c, at) ∷ rest) = ap (λ k. call-log c (respond c s) ++ k) (log-counting (respond c s .next) rest)
 log-counting s ((some-ticks n, at) ∷ rest) = ap (λ k. ticks-log n n s ++ k) (log-counting (ticks-end n s) rest)
 log-counting s ((unread, at) ∷ rest) = refl
 
@@ -93,8 +92,8 @@ pub none-asked : (at : ℕ) (bs : List ℕ) → length bs ≡ 0 → asked-from a
 unfolding asked-within
 none-asked at bs e = rw e
 
-pub log-of-none : (at : ℕ) (s : State) (bs : List ℕ) → length bs ≡ 0 → log-from at s bs ≡ []
+pub log-of-none : (at : ℕ) (s : Line) (bs : List ℕ) → length bs ≡ 0 → log-from at s bs ≡ []
 log-of-none at s bs e = ap (asked-log s) (none-asked at bs e)
 
-pub log-of-some : (at : ℕ) (s : State) (bs : List ℕ) → 0 < length bs → log-from at s bs ≡ asked-log s (asked-behind at bs)
+pub log-of-some : (at : ℕ) (s : Line) (bs : List ℕ) → 0 < length bs → log-from at s bs ≡ asked-log s (asked-behind at bs)
 log-of-some at s bs h = log-counting s (asked-from at bs) ∙ ap (asked-log s) (record-by-record at bs h) ∙ sym (log-counting s (asked-behind at bs))

@@ -1,23 +1,21 @@
 -- THE ANSWER LOG of a trace, from bytes to bytes, by the rules alone: no hub value, no table, no window. Document 01, "Trace and answer records" and
--- "One tick"; document 02, R-1, R-2, R-4, R-6, R-8, R-9, R-11 and R-12.
+-- "One tick"; document 02, R-1, R-2, R-4, R-6, R-8, R-9, R-11, R-12 and R-13.
 use Prim.Native.Nat.{ℕ, zero, suc, _+_, _-_}
-use mathlib.Core.Bool.{cond, not}
+use mathlib.Core.Bool.{cond, not, _||_}
 use mathlib.Core.List.{List, [], _∷_, _++_}
 use mathlib.Core.Option.{Option, none, some}
 use lib.Dec.{ltb, eqb}
 use lib.ListN.{length, drop}
 use Rattle.rules.specs.declared.Packet.{Packet}
 use Rattle.rules.specs.Words.{first-number}
-use Rattle.rules.specs.Model.{State, Call, link, admit, offer, notice, close, tick, Answer, fresh}
-use Rattle.rules.specs.SoundTest.{sound}
-use Rattle.rules.specs.Calls.{answer}
+use Rattle.either.specs.Line.{Line, Request, link-levels, link-frames, admit-level, admit-share, offer, notice, close, tick, Reply, levels-set, frames-set, sound-line, respond, clock-of, fresh-line}
 use Rattle.traces.specs.declared.Record.{Record}
-use Rattle.traces.specs.declared.Record.the-variants.{Link as LinkRecord, LinkStandBy, LinkWindows, Admit, AdmitStamped, Close, Offer, OfferStamped, Notice, Ticks, Malformed}
+use Rattle.traces.specs.declared.Record.the-variants.{Link as LinkRecord, LinkStandBy, LinkWindows, LinkFrames, Admit, AdmitStamped, AdmitShare, Close, Offer, OfferStamped, Notice, Ticks, Malformed}
 use Rattle.traces.specs.declared.Found.{Found}
 use Rattle.traces.specs.Trace.{found, read-trace}
 use Rattle.answers.specs.declared.Reply.the-variants.{Linked, Admitted, Closed, Offered, Noticed, Departed, Ticked, Broken}
 use Rattle.answers.specs.Answers.{answer-bytes}
-use Rattle.named.specs.Named.{link-named, stand-by-named, windows-named, connection-named, stamped-named}
+use Rattle.named.specs.Named.{link-named, stand-by-named, windows-named, framing-named, connection-named, stamped-named, share-named}
 
 -- "A trace of up to 16,777,216 bytes"
 abbrev pub trace-limit : ℕ
@@ -34,43 +32,45 @@ abbrev pub departure : Option Packet → ℕ → List ℕ
 departure none finish = []
 departure (some p) finish = answer-bytes (Departed (p .connection) (p .tag) (p .arrival) (p .eligibility) finish)
 
-abbrev pub tick-log : Answer → List ℕ
-tick-log a = departure (a .departed) (a .next .clock)
+abbrev pub tick-log : Reply → List ℕ
+tick-log a = departure (a .departed) (clock-of (a .next))
 
 -- all the asked ticks are done; "`TK` 0 changes nothing and answers 1 or 2 where they apply, else 0, even at the clock's end"
-abbrev pub all-done-verdict : ℕ → State → ℕ
-all-done-verdict asked s = cond (eqb asked 0) (first-number ((1, not (sound s)) ∷ (2, eqb (s .link .levels) 0) ∷ [])) 0
+abbrev pub all-done-verdict : ℕ → Line → ℕ
+all-done-verdict asked s = cond (eqb asked 0) (first-number ((1, not (sound-line s)) ∷ (2, not (levels-set s || frames-set s)) ∷ [])) 0
 
 -- "`TK` runs the asked ticks one by one, each a call of its own, .. and stops at the first refused one; `TA` gives that verdict and the ticks done":
--- what is written from the state s on, where `left` of `asked` are still to run
-unfoldable pub ticks-log : ℕ → ℕ → State → List ℕ
+-- what is written from the line s on, where `left` of `asked` are still to run
+unfoldable pub ticks-log : ℕ → ℕ → Line → List ℕ
 ticks-log asked zero s = answer-bytes (Ticked (all-done-verdict asked s) asked)
 ticks-log asked (suc left) s =
-    cond (eqb (answer tick s .verdict) 0)
-    (tick-log (answer tick s) ++ ticks-log asked left (answer tick s .next))
-    (answer-bytes (Ticked (answer tick s .verdict) (asked - suc left)))
+    cond (eqb (respond tick s .verdict) 0)
+    (tick-log (respond tick s) ++ ticks-log asked left (respond tick s .next))
+    (answer-bytes (Ticked (respond tick s .verdict) (asked - suc left)))
 
--- the state after them
-unfoldable pub ticks-end : ℕ → State → State
+-- the line after them
+unfoldable pub ticks-end : ℕ → Line → Line
 ticks-end zero s = s
-ticks-end (suc left) s = cond (eqb (answer tick s .verdict) 0) (ticks-end left (answer tick s .next)) (answer tick s .next)
+ticks-end (suc left) s = cond (eqb (respond tick s .verdict) 0) (ticks-end left (respond tick s .next)) (respond tick s .next)
 
 -- ---- a record, and a trace
 
 -- what a record asks: a call, ticks, or nothing that can be read
 pub data Asked : Type 0 where
-  one-call : Call → Asked
+  one-call : Request → Asked
   some-ticks : ℕ → Asked
   unread : Asked
 
 abbrev pub asks : Record → Asked
-asks (LinkRecord n m silence d1 d2 d3 d4 d5 d6 d7 d8) = one-call (link (link-named (n ∷ m ∷ silence ∷ d1 ∷ d2 ∷ d3 ∷ d4 ∷ d5 ∷ d6 ∷ d7 ∷ d8 ∷ [])))
+asks (LinkRecord n m silence d1 d2 d3 d4 d5 d6 d7 d8) = one-call (link-levels (link-named (n ∷ m ∷ silence ∷ d1 ∷ d2 ∷ d3 ∷ d4 ∷ d5 ∷ d6 ∷ d7 ∷ d8 ∷ [])))
 asks (LinkStandBy n m silence early d1 d2 d3 d4 d5 d6 d7 d8) =
-    one-call (link (stand-by-named (n ∷ m ∷ silence ∷ early ∷ d1 ∷ d2 ∷ d3 ∷ d4 ∷ d5 ∷ d6 ∷ d7 ∷ d8 ∷ [])))
+    one-call (link-levels (stand-by-named (n ∷ m ∷ silence ∷ early ∷ d1 ∷ d2 ∷ d3 ∷ d4 ∷ d5 ∷ d6 ∷ d7 ∷ d8 ∷ [])))
 asks (LinkWindows n m silence early d1 d2 d3 d4 d5 d6 d7 d8 w1 w2 w3 w4 w5 w6 w7 w8) =
-    one-call (link (windows-named (n ∷ m ∷ silence ∷ early ∷ d1 ∷ d2 ∷ d3 ∷ d4 ∷ d5 ∷ d6 ∷ d7 ∷ d8 ∷ w1 ∷ w2 ∷ w3 ∷ w4 ∷ w5 ∷ w6 ∷ w7 ∷ w8 ∷ [])))
-asks (Admit level gap size window average) = one-call (admit (connection-named (level ∷ gap ∷ size ∷ window ∷ average ∷ [])))
-asks (AdmitStamped level gap size allowance) = one-call (admit (stamped-named (level ∷ gap ∷ size ∷ allowance ∷ [])))
+    one-call (link-levels (windows-named (n ∷ m ∷ silence ∷ early ∷ d1 ∷ d2 ∷ d3 ∷ d4 ∷ d5 ∷ d6 ∷ d7 ∷ d8 ∷ w1 ∷ w2 ∷ w3 ∷ w4 ∷ w5 ∷ w6 ∷ w7 ∷ w8 ∷ [])))
+asks (LinkFrames frame m silence) = one-call (link-frames (framing-named (frame ∷ m ∷ silence ∷ [])))
+asks (Admit level gap size window average) = one-call (admit-level (connection-named (level ∷ gap ∷ size ∷ window ∷ average ∷ [])))
+asks (AdmitStamped level gap size allowance) = one-call (admit-level (stamped-named (level ∷ gap ∷ size ∷ allowance ∷ [])))
+asks (AdmitShare units places) = one-call (admit-share (share-named (units ∷ places ∷ [])))
 asks (Close c) = one-call (close c)
 asks (Offer c len tag) = one-call (offer c len tag none)
 asks (OfferStamped c len tag stamp) = one-call (offer c len tag (some stamp))
@@ -78,10 +78,12 @@ asks (Notice len tag) = one-call (notice len tag)
 asks (Ticks n) = some-ticks n
 asks Malformed = unread
 
--- what is written of the answer to a call: of a tick its departure, if there is one
-abbrev pub call-log : Call → Answer → List ℕ
-call-log (link l) a = answer-bytes (Linked (a .verdict))
-call-log (admit x) a = answer-bytes (Admitted (a .verdict) (a .number) (a .short .level) (a .short .units))
+-- what is written of the reply to a call: of a tick its departure, if there is one
+abbrev pub call-log : Request → Reply → List ℕ
+call-log (link-levels l) a = answer-bytes (Linked (a .verdict))
+call-log (link-frames l) a = answer-bytes (Linked (a .verdict))
+call-log (admit-level x) a = answer-bytes (Admitted (a .verdict) (a .number) (a .short .level) (a .short .units))
+call-log (admit-share x) a = answer-bytes (Admitted (a .verdict) (a .number) (a .short .level) (a .short .units))
 call-log (offer c len tag st) a = answer-bytes (Offered (a .verdict) (a .number))
 call-log (notice len tag) a = answer-bytes (Noticed (a .verdict) (a .number))
 call-log (close c) a = answer-bytes (Closed (a .verdict))
@@ -97,17 +99,17 @@ asked-within (suc f) at bs =
 abbrev pub asked-from : ℕ → List ℕ → List (Asked × ℕ)
 asked-from at bs = asked-within (length bs) at bs
 
--- what is written of them from the state s on: of a malformed one `ER` with its offset, and nothing more; "an empty trace gives no output"
-abbrev pub asked-log : State → List (Asked × ℕ) → List ℕ
+-- what is written of them from the line s on: of a malformed one `ER` with its offset, and nothing more; "an empty trace gives no output"
+abbrev pub asked-log : Line → List (Asked × ℕ) → List ℕ
 asked-log s [] = []
-asked-log s ((one-call c, at) ∷ rest) = call-log c (answer c s) ++ asked-log (answer c s .next) rest
+asked-log s ((one-call c, at) ∷ rest) = call-log c (respond c s) ++ asked-log (respond c s .next) rest
 asked-log s ((some-ticks n, at) ∷ rest) = ticks-log n n s ++ asked-log (ticks-end n s) rest
 asked-log s ((unread, at) ∷ rest) = answer-bytes (Broken at)
 
--- the log of bs, which starts at offset `at`, from the state s
-abbrev pub log-from : ℕ → State → List ℕ → List ℕ
+-- the log of bs, which starts at offset `at`, from the line s
+abbrev pub log-from : ℕ → Line → List ℕ → List ℕ
 log-from at s bs = asked-log s (asked-from at bs)
 
--- THE LOG of a trace: from the fresh hub
+-- THE LOG of a trace: from the fresh line
 unfoldable pub log : List ℕ → List ℕ
-log trace = log-from 0 fresh trace
+log trace = log-from 0 fresh-line trace

@@ -10,7 +10,8 @@ use lib.IntN.{ℤ, pos, negsuc}
 use lib.ListN.{length, take, drop}
 use lib.Signed.{nonNeg}
 use Rattle.rules.proofs.Tests.{never}
-use Rattle.state.specs.View.{Tables, zero-tables}
+use Rattle.tables.specs.Lent.{Tables}
+use Rattle.state.specs.View.{zero-tables}
 use Rattle.steps.specs.declared.Phase.the-variants.{Finished}
 use Rattle.steps.specs.declared.Cursor.{Cursor}
 use Rattle.steps.specs.declared.Status.{Status}

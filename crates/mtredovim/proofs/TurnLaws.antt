@@ -15,7 +15,7 @@ use mir.Val.{Fits, hbits}
 use borrow.Author.Tests.{le-ltb, eq-eqb, ne-eqb, eqb-true, eqb-false}
 use Rattle.rules.proofs.Tests.{never}
 use Rattle.libc.specs.Io.{Moved}
-use Rattle.state.specs.View.{Tables}
+use Rattle.tables.specs.Lent.{Tables}
 use Rattle.steps.specs.declared.Phase.the-variants.{Finished}
 use Rattle.steps.specs.declared.Cursor.{Cursor}
 use Rattle.steps.specs.declared.Stepped.{Stepped}

@@ -7,7 +7,7 @@ use mathlib.Core.List.{List, [], _++_}
 use mathlib.Core.Option.{none, some}
 use lib.ListN.{length, take, drop}
 use lib.Signed.{nonNeg}
-use Rattle.state.specs.View.{Tables}
+use Rattle.tables.specs.Lent.{Tables}
 use Rattle.steps.specs.declared.Cursor.{Cursor}
 use Rattle.log.specs.Log.{log}
 use Rattle.log.specs.Bad.{bad-at}

@@ -3,14 +3,15 @@ use Prim.Native.Nat.{ℕ, _≤_}
 use mathlib.Core.Path.{_≡_}
 use mathlib.Core.List.{List, [], _++_}
 use lib.ListN.{length, take}
-use Rattle.state.specs.View.{Tables, zero-tables}
+use Rattle.tables.specs.Lent.{Tables}
+use Rattle.state.specs.View.{zero-tables}
 use Rattle.answers.specs.Answers.{longest-answer}
 use Rattle.mtredovim.specs.declared.End.the-variants.{On}
 use Rattle.mtredovim.specs.declared.Turn.{Turn}
 use Rattle.mtredovim.specs.Turns.{first-turn, Turned}
 
 -- The turns made so far: all that the reads gave, one after the other, and all that was handed to `write`; the turn made last; the tables and the window after
--- it. They begin with the fresh hub, tables of zeros and an empty window; each goes on with what the one before it left, and has room for an answer.
+-- it. They begin with the fresh line, tables of zeros and an empty window; each goes on with what the one before it left, and has room for an answer.
 pub data Turns : List ℕ → List ℕ → Turn → Tables → List ℕ → Type 0 where
   none : Turns [] [] first-turn zero-tables []
   turn : {given wrote : List ℕ} {v : Turn} {t : Tables} {w : List ℕ} → Turns given wrote v t w → v .end ≡ On

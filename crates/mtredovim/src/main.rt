@@ -2,7 +2,8 @@
 ghost use mathlib.Core.Path.{_≡_};
 ghost use mathlib.Core.Bool.{true, false};
 ghost use Prim.Native.Nat.{_+_, _^_, _<_, _≤_};
-ghost use Rattle.state.specs.View.{zero-tables, given, before, after};
+ghost use Rattle.tables.specs.Lent.{given, before, after};
+ghost use Rattle.state.specs.View.{zero-tables};
 ghost use lib.ListN.{length};
 ghost use Rattle.traces.specs.Trace.{longest-record};
 ghost use Rattle.answers.specs.Answers.{longest-answer};
@@ -184,7 +185,7 @@ fn advance(
     }
 }
 
-// ALL TURNS, from the fresh hub and tables of zeros until one that is not followed by another: the last one.
+// ALL TURNS, from the fresh line and tables of zeros until one that is not followed by another: the last one.
 fn replay_all(
     members: &mut [u32],
     places: &mut [u32],

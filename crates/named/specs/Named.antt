@@ -1,10 +1,12 @@
--- What the numbers of a trace record name: the link of an `LK`, of an `LE` and of an `LW`, the connection of a `CN` and of a `CS`. Document 01,
--- "Trace and answer records".
+-- What the numbers of a trace record name: the link of an `LK`, of an `LE` and of an `LW`, the connection of a `CN` and of a `CS`; the framing
+-- of an `LF`, the share of a `CF`. Document 01, "Trace and answer records".
 use Prim.Native.Nat.{ℕ}
 use mathlib.Core.List.{List, _++_}
 use lib.ListN.{getD, take, drop, replicate}
 use Rattle.rules.specs.declared.Link.{Link}
 use Rattle.rules.specs.declared.Connection.{Connection}
+use Rattle.frames.specs.declared.Framing.{Framing}
+use Rattle.frames.specs.declared.Share.{Share}
 use Rattle.rules.specs.Limits.{max-levels}
 use Rattle.rules.specs.Model.{no-windows}
 
@@ -25,6 +27,10 @@ abbrev pub windows-named : List ℕ → Link
 windows-named xs =
     record { levels = getD xs 0 0; largest = getD xs 1 0; silence = getD xs 2 0; early = getD xs 3 0; bounds = eight (drop 4 xs); windows = eight (drop 12 xs) }
 
+-- T, S and the silence (document 02, R-13)
+abbrev pub framing-named : List ℕ → Framing
+framing-named xs = record { frame = getD xs 0 0; largest = getD xs 1 0; silence = getD xs 2 0 }
+
 -- level, gap, size, the window and the average gap (document 02, R-6): regulated by its gap, kind 0, with no allowance (R-9)
 abbrev pub connection-named : List ℕ → Connection
 connection-named xs = record { level = getD xs 0 0; gap = getD xs 1 0; size = getD xs 2 0; window = getD xs 3 0; average = getD xs 4 0; kind = 0; allowance = 0 }
@@ -32,3 +38,7 @@ connection-named xs = record { level = getD xs 0 0; gap = getD xs 1 0; size = ge
 -- level, gap, size and the allowance (document 02, R-9): regulated by stamps, kind 1, with no average
 abbrev pub stamped-named : List ℕ → Connection
 stamped-named xs = record { level = getD xs 0 0; gap = getD xs 1 0; size = getD xs 2 0; window = 0; average = 0; kind = 1; allowance = getD xs 3 0 }
+
+-- r and p (document 02, R-13)
+abbrev pub share-named : List ℕ → Share
+share-named xs = record { units = getD xs 0 0; places = getD xs 1 0 }

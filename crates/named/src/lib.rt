@@ -1,8 +1,11 @@
-// What the numbers of a trace record name: the link of an `LK`, of an `LE` and of an `LW`, the connection of a `CN` and of a `CS`. The replay and the firmware get them through these.
+// What the numbers of a trace record name: the link of an `LK`, of an `LE` and of an `LW`, the connection of a `CN` and of a `CS`; the framing of an `LF`, the share of a `CF`. The replay and the firmware
+// get them through these.
 ghost use mathlib.Core.Path.{_≡_};
 ghost use mathlib.Core.List.{[], _∷_};
 ghost use Rattle.rules.specs.Model.{no-link};
-ghost use Rattle.named.specs.Named.{link-named, stand-by-named, windows-named, connection-named, stamped-named};
+ghost use Rattle.named.specs.Named.{link-named, stand-by-named, windows-named, framing-named, connection-named, stamped-named, share-named};
+use frames::Framing;
+use frames::Share;
 use limits::MAX_LEVELS;
 use rules::Connection;
 use rules::Link;
@@ -116,6 +119,17 @@ pub fn windows_named(
     l
 }
 
+// The framing of an `LF`.
+pub fn framing_named(frame: u16, largest: u16, silence: u8) -> Framing
+    ensures { λ r. ⌜ r ≡ framing-named (frame ∷ largest ∷ silence ∷ []) ⌝ }
+{
+    Framing {
+        frame: frame as u32,
+        largest: largest as u32,
+        silence: silence as u32,
+    }
+}
+
 // The connection of a `CN`: of the first kind.
 pub fn connection_named(level: u8, gap: u16, size: u16, window: u16, average: u16) -> Connection
     ensures { λ r. ⌜ r ≡ connection-named (level ∷ gap ∷ size ∷ window ∷ average ∷ []) ⌝ }
@@ -139,6 +153,16 @@ pub fn stamped_named(level: u8, gap: u16, size: u16, allowance: u16) -> Connecti
     x.kind = 1;
     x.allowance = allowance as u32;
     x
+}
+
+// The share of a `CF`.
+pub fn share_named(units: u16, places: u16) -> Share
+    ensures { λ r. ⌜ r ≡ share-named (units ∷ places ∷ []) ⌝ }
+{
+    Share {
+        units: units as u32,
+        places: places as u32,
+    }
 }
 
 // No link.

@@ -10,9 +10,13 @@ const LE: u64 = 224;
 
 const LW: u64 = 242;
 
+const LF: u64 = 225;
+
 const CN: u64 = 143;
 
 const CS: u64 = 148;
+
+const CF: u64 = 135;
 
 const CL: u64 = 141;
 
@@ -194,6 +198,15 @@ fn trace_numbers(taken: u64, r: Record) -> [u64; 22] {
             w7 as u64,
             w8 as u64,
         ],
+        Record::LinkFrames {
+            frame,
+            largest,
+            silence,
+        } => few(
+            taken,
+            LF,
+            [frame as u64, largest as u64, silence as u64, 0, 0],
+        ),
         Record::Admit {
             level,
             gap,
@@ -221,6 +234,9 @@ fn trace_numbers(taken: u64, r: Record) -> [u64; 22] {
             CS,
             [level as u64, gap as u64, size as u64, allowance as u64, 0],
         ),
+        Record::AdmitShare { units, places } => {
+            few(taken, CF, [units as u64, places as u64, 0, 0, 0])
+        }
         Record::Close { connection } => few(taken, CL, [connection as u64, 0, 0, 0, 0]),
         Record::Offer {
             connection,

@@ -1,4 +1,4 @@
-// Runs the script on standard input against the records of document 01 and of document 02, R-1, R-2, R-4, R-6, R-8, R-9, R-11 and R-12: the script says how its lines are read.
+// Runs the script on standard input against the records of document 01 and of document 02, R-1, R-2, R-4, R-6, R-8, R-9 and R-11 to R-13: the script says how its lines are read.
 mod case;
 mod kinds;
 mod line;

@@ -9,13 +9,14 @@ use lib.Dec.{ltb}
 use lib.ListN.{length, take, drop}
 use lib.Seq.{take-append-seam}
 use borrow.Author.Tests.{ltb-true}
-use Rattle.rules.specs.Model.{fresh}
-use Rattle.rules.specs.SoundState.{Sound}
 use Rattle.rules.proofs.Tests.{never}
-use Rattle.rules.proofs.Every.{fresh-invariant}
+use Rattle.either.specs.Line.{Sound-line, fresh-line}
+use Rattle.either.proofs.Results.{fresh-is-sound}
 use Rattle.tables.specs.Places.{written-places, table-of}
 use Rattle.connections.specs.Members.{written-rows}
-use Rattle.state.specs.View.{Tables, tables, zero-tables, written, sound-hub}
+use Rattle.tables.specs.Lent.{Tables, tables}
+use Rattle.state.specs.View.{zero-tables}
+use Rattle.both.specs.View.{written, sound-kept}
 use Rattle.steps.specs.declared.Phase.{Phase}
 use Rattle.steps.specs.declared.Phase.the-variants.{Finished}
 use Rattle.steps.specs.declared.Cursor.{Cursor}
@@ -44,8 +45,8 @@ record Holds (trace wrote : List ℕ) (c : Cursor) (t : Tables) (w unread : List
   adds-up : wrote ++ to-come here (w ++ unread) ≡ log trace
   told : Malformed-in (bad-at trace) here w unread
 
--- the tables of the fresh state are zeros
-zeros-written : zero-tables ≡ written fresh
+-- the tables of the fresh line are zeros
+zeros-written : zero-tables ≡ written fresh-line
 unfolding written-rows written-places table-of
 zeros-written = refl
 
@@ -54,7 +55,7 @@ unfolding log bad-at
 start-holds trace =
     record {
       here = beginning;
-      stands = record { sound = fresh-invariant .sound; cursor = refl; tables = zeros-written };
+      stands = record { sound = fresh-is-sound; cursor = refl; tables = zeros-written };
       adds-up = refl;
       told = refl;
     }
@@ -68,7 +69,7 @@ record Tells (w o : List ℕ) (a : Stepped) : Type 0 where
 
 module _ (trace wrote : List ℕ) (c : Cursor) (t : Tables) (w unread : List ℕ) (H : Holds trace wrote c t w unread) where
   -- a step of the rules from here, made by the code
-  then-holds : (n : Next) (a : Stepped) (t′ : Tables) (o o′ : List ℕ) → Keeps (H .here) w unread n → Malformed-then (bad-at trace) w unread n → Sound (n .point .state)
+  then-holds : (n : Next) (a : Stepped) (t′ : Tables) (o o′ : List ℕ) → Keeps (H .here) w unread n → Malformed-then (bad-at trace) w unread n → Sound-line (n .point .line)
       → Makes n a t′ 0 o o′
       → Holds trace (wrote ++ take (a .wrote) o′) (a .cursor) t′ (drop (a .used) w) unread
   then-holds n a t′ o o′ K M S D =
@@ -82,7 +83,7 @@ module _ (trace wrote : List ℕ) (c : Cursor) (t : Tables) (w unread : List ℕ
 
   -- where the room is short nothing is done; else the step n
   abbrev Outcome : List ℕ → Next → Type 0
-  Outcome o n = Tells w o (stepped-of n) × Keeps (H .here) w unread n × Malformed-then (bad-at trace) w unread n × Sound (n .point .state)
+  Outcome o n = Tells w o (stepped-of n) × Keeps (H .here) w unread n × Malformed-then (bad-at trace) w unread n × Sound-line (n .point .line)
 
   outcome : (o : List ℕ) (n : Next) → Keeps (H .here) w unread n → Malformed-then (bad-at trace) w unread n → Ends-well w n → Outcome o (in-room (length o) (H .here) n)
   outcome o n K M E =
@@ -140,7 +141,7 @@ writes-the-log trace wrote c t w unread S e =
     let H = session-holds S in
     let f : H .here .phase ≡ Finished = sym (ap (λ (x : Cursor). x .phase) (H .stands .cursor)) ∙ e in
     sym (append-nil wrote)
-    ∙ (ap (λ l. wrote ++ l) (sym (ap (λ (p : Phase). phase-log p (H .here .at) (H .here .state) (w ++ unread)) f)) ∙ H .adds-up)
+    ∙ (ap (λ l. wrote ++ l) (sym (ap (λ (p : Phase). phase-log p (H .here .at) (H .here .line) (w ++ unread)) f)) ∙ H .adds-up)
 
 pub writes-nothing-else : Writes-nothing-else
 writes-nothing-else trace wrote c t w unread S =
@@ -171,9 +172,9 @@ pub asks-when-short : Asks-when-short
 asks-when-short trace wrote c t w unread S last g o a t′ o′ D = tells trace wrote c t w unread S last g o a t′ o′ D .short
 
 pub one-outcome : One-outcome
-one-outcome n c t o a a′ u u′ p p′ D E = go (sound-hub (c .hub) t) refl
+one-outcome n c t o a a′ u u′ p p′ D E = go (sound-kept (c .line) t) refl
   where
-    go : (b : Bool) → sound-hub (c .hub) t ≡ b → Same-outcome a a′ u u′ p p′
+    go : (b : Bool) → sound-kept (c .line) t ≡ b → Same-outcome a a′ u u′ p p′
     go true ok =
         let d = D .where-sound ok in
         let e = E .where-sound ok in

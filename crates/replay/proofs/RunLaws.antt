@@ -8,7 +8,8 @@ use mathlib.Core.List.{List, _++_, append-assoc}
 use lib.ListN.{length, take, drop, length-append, length-drop}
 use lib.Seq.{take-append-seam, drop-append-seam, drop-drop}
 use Rattle.rules.proofs.Tests.{never}
-use Rattle.state.specs.View.{Tables, tables, written, sound-hub}
+use Rattle.tables.specs.Lent.{Tables, tables}
+use Rattle.both.specs.View.{written, sound-kept}
 use Rattle.steps.specs.declared.Cursor.{Cursor}
 use Rattle.steps.specs.declared.Status.{Status}
 use Rattle.steps.specs.declared.Status.the-variants.{GoOn, MoreBytes, MoreRoom, NotSound, Done}
@@ -38,7 +39,7 @@ on-parts n w o used wrote c last a t o′ D F =
 pub record Made (c : Cursor) (t : Tables) (w : List ℕ) (last : Bool) (o : List ℕ) (i : ℕ) (k : Status) (cur : Cursor) (t2 : Tables) (o2 : List ℕ) (used wrote : ℕ) : Type 0 where
   pub status : steps i (point-of c t) w last .status ≡ k
   pub cursor : cur ≡ cursor-of (steps i (point-of c t) w last .point)
-  pub tables : t2 ≡ written (steps i (point-of c t) w last .point .state)
+  pub tables : t2 ≡ written (steps i (point-of c t) w last .point .line)
   pub taken : used ≡ steps i (point-of c t) w last .used
   pub count : wrote ≡ length (steps i (point-of c t) w last .bytes)
   pub bytes : o2 ≡ over (steps i (point-of c t) w last .bytes) o
@@ -72,7 +73,7 @@ stopped : (w : List ℕ) (last : Bool) (m : Next) → is-go (m .status) ≡ fals
 unfolding onward
 stopped w last m e = rw e
 
-module _ (c : Cursor) (t : Tables) (w : List ℕ) (last : Bool) (o : List ℕ) (ok : sound-hub (c .hub) t ≡ true) where
+module _ (c : Cursor) (t : Tables) (w : List ℕ) (last : Bool) (o : List ℕ) (ok : sound-kept (c .line) t ≡ true) where
   -- the place reached stands for the rules' point
   pub made-stands : (i : ℕ) (k : Status) (cur : Cursor) (t2 : Tables) (o2 : List ℕ) (used wrote : ℕ) → Made c t w last o i k cur t2 o2 used wrote
       → Stands (steps i (point-of c t) w last .point) cur t2
@@ -84,7 +85,7 @@ module _ (c : Cursor) (t : Tables) (w : List ℕ) (last : Bool) (o : List ℕ) (
       }
 
   pub made-sound : (i : ℕ) (k : Status) (cur : Cursor) (t2 : Tables) (o2 : List ℕ) (used wrote : ℕ) → Made c t w last o i k cur t2 o2 used wrote
-      → sound-hub (cur .hub) t2 ≡ true
+      → sound-kept (cur .line) t2 ≡ true
   made-sound i k cur t2 o2 used wrote R = stands-sound _ cur t2 (made-stands i k cur t2 o2 used wrote R)
 
   pub made-none : Made c t w last o 0 GoOn c t o 0 0
@@ -92,7 +93,7 @@ module _ (c : Cursor) (t : Tables) (w : List ℕ) (last : Bool) (o : List ℕ) (
   made-none =
       record {
         status = refl;
-        cursor = refl;
+        cursor = stands-of c t ok .cursor;
         tables = stands-of c t ok .tables;
         taken = refl;
         count = refl;

@@ -1,4 +1,4 @@
--- A cursor and three tables that stand for a point of the rules whose state is sound.
+-- A cursor and three tables that stand for a point of the rules whose line is sound.
 use Prim.Native.Nat.{ℕ, _≤_, _<_}
 use native.Mathlib.Omega.{arith}
 use mathlib.Core.Path.{_≡_, refl, sym, ap, _∙_}
@@ -7,68 +7,69 @@ use mathlib.Core.List.{List}
 use lib.Dec.{ltb}
 use lib.ListN.{length}
 use borrow.Author.Tests.{lt-ltb, le-ltb, ltb-false}
-use Rattle.rules.specs.Model.{State}
-use Rattle.rules.specs.SoundState.{Sound}
 use Rattle.rules.proofs.Tests.{never}
-use Rattle.state.proofs.SoundLaws.{is-sound, tables-kept}
-use Rattle.hub.proofs.Results.{written-reads-back}
-use Rattle.state.specs.View.{Tables, tables, written, sound-hub}
+use Rattle.either.specs.Line.{Line, Sound-line}
+use Rattle.tables.specs.Lent.{Tables, tables}
+use Rattle.both.specs.declared.Kept.{Kept}
+use Rattle.both.specs.View.{written, sound-kept}
+use Rattle.both.proofs.SoundLaws.{is-sound, tables-kept, kept-back}
+use Rattle.both.proofs.WrittenLaws.{written-reads-back}
 use Rattle.steps.specs.declared.Cursor.{Cursor}
 use Rattle.steps.specs.declared.Status.{Status}
 use Rattle.steps.specs.declared.Status.the-variants.{GoOn, MoreRoom, NotSound}
 use Rattle.steps.specs.declared.Stepped.{Stepped}
 use Rattle.answers.specs.Answers.{longest-answer}
 use Rattle.steps.specs.Steps.{Point, point, Next, still, is-go}
-use Rattle.steps.specs.Tie.{point-of, cursor-of, nothing-done, Makes, in-room, Makes-if-sound, Facts}
+use Rattle.steps.specs.Tie.{cursor-at, point-of, cursor-of, nothing-done, Makes, in-room, Makes-if-sound, Facts}
 use Rattle.steps.proofs.FactLaws.{waits-facts}
 use Rattle.replay.specs.Sessions.{readiness}
 
 pub record Stands (p : Point) (c : Cursor) (t : Tables) : Type 0 where
-  pub sound : Sound (p .state)
+  pub sound : Sound-line (p .line)
   pub cursor : c ≡ cursor-of p
-  pub tables : t ≡ written (p .state)
+  pub tables : t ≡ written (p .line)
 
 module _ (p : Point) (c : Cursor) (t : Tables) (S : Stands p c t) where
-  pub stands-sound : sound-hub (c .hub) t ≡ true
-  stands-sound = rw (S .cursor, S .tables) (written-reads-back (p .state) (S .sound) .1)
+  pub stands-sound : sound-kept (c .line) t ≡ true
+  stands-sound = rw (S .cursor, S .tables) (written-reads-back (p .line) (S .sound) .1)
 
   pub stands-there : point-of c t ≡ p
   stands-there =
-      rw (S .cursor, S .tables) (ap (λ (s : State). point (p .at) (p .phase) s) (written-reads-back (p .state) (S .sound) .0))
+      rw (S .cursor, S .tables) (ap (λ (s : Line). point (p .at) (p .phase) s) (written-reads-back (p .line) (S .sound) .0))
 
--- a sound hub and its tables stand for the point that they are read as
-pub stands-of : (c : Cursor) (t : Tables) → sound-hub (c .hub) t ≡ true → Stands (point-of c t) c t
+-- a sound line and its tables stand for the point that they are read as
+pub stands-of : (c : Cursor) (t : Tables) → sound-kept (c .line) t ≡ true → Stands (point-of c t) c t
 stands-of c t ok =
-    record { sound = is-sound (c .hub) t ok; cursor = refl; tables = tables-kept (c .hub) t ok }
+    record { sound = is-sound (c .line) t ok; cursor = ap (λ (h : Kept). cursor-at (c .at) (c .phase) h) (kept-back (c .line) t ok); tables = tables-kept (c .line) t ok }
 
 -- after a step
-pub stands-then : (n : Next) (a : Stepped) (t : Tables) (o o′ : List ℕ) → Sound (n .point .state) → Makes n a t 0 o o′ → Stands (n .point) (a .cursor) t
+pub stands-then : (n : Next) (a : Stepped) (t : Tables) (o o′ : List ℕ) → Sound-line (n .point .line) → Makes n a t 0 o o′ → Stands (n .point) (a .cursor) t
 stands-then n a t o o′ S D =
     record { sound = S; cursor = ap (λ (x : Stepped). x .cursor) (D .answers); tables = D .tables }
 
 -- ---- a call of `step` or `pump`, which tests first
 
 module _ (c : Cursor) (t : Tables) (r : ℕ) where
-  pub not-sound : (b : Bool) → b ≡ sound-hub (c .hub) t → b ≡ false → NotSound ≡ readiness c t r
+  pub not-sound : (b : Bool) → b ≡ sound-kept (c .line) t → b ≡ false → NotSound ≡ readiness c t r
   unfolding readiness
   not-sound b e f = rw (sym e ∙ f)
 
-  pub no-room : (b : Bool) → b ≡ sound-hub (c .hub) t → b ≡ true → r < longest-answer → MoreRoom ≡ readiness c t r
+  pub no-room : (b : Bool) → b ≡ sound-kept (c .line) t → b ≡ true → r < longest-answer → MoreRoom ≡ readiness c t r
   unfolding readiness
   no-room b e f l = rw (sym e ∙ f, lt-ltb r longest-answer l)
 
-  pub is-ready : (b : Bool) → b ≡ sound-hub (c .hub) t → b ≡ true → longest-answer ≤ r → GoOn ≡ readiness c t r
+  pub is-ready : (b : Bool) → b ≡ sound-kept (c .line) t → b ≡ true → longest-answer ≤ r → GoOn ≡ readiness c t r
   unfolding readiness
   is-ready b e f l = rw (sym e ∙ f, le-ltb r longest-answer l)
 
 -- what follows where `ready` has answered k, and `goes_on` b of it
 module _ (c : Cursor) (t : Tables) (o : List ℕ) {k : Status} {b : Bool} (asked : k ≡ readiness c t (length o)) (told : b ≡ is-go k) where
-  pub may-go : b ≡ true → (sound-hub (c .hub) t ≡ true) × (longest-answer ≤ length o)
+  pub may-go : b ≡ true → (sound-kept (c .line) t ≡ true) × (longest-answer ≤ length o)
   unfolding readiness
-  may-go g = go (sound-hub (c .hub) t) refl (ltb (length o) longest-answer) refl (ap is-go (sym asked) ∙ (sym told ∙ g))
+  may-go g = go (sound-kept (c .line) t) refl (ltb (length o) longest-answer) refl (ap is-go (sym asked) ∙ (sym told ∙ g))
     where
-      go : (s : Bool) → sound-hub (c .hub) t ≡ s → (d : Bool) → ltb (length o) longest-answer ≡ d → is-go (cond s (cond d MoreRoom GoOn) NotSound) ≡ true
-          → (sound-hub (c .hub) t ≡ true) × (longest-answer ≤ length o)
+      go : (s : Bool) → sound-kept (c .line) t ≡ s → (d : Bool) → ltb (length o) longest-answer ≡ d → is-go (cond s (cond d MoreRoom GoOn) NotSound) ≡ true
+          → (sound-kept (c .line) t ≡ true) × (longest-answer ≤ length o)
       go false e d f z = never z
       go true e true f z = never z
       go true e false f z = (e, ltb-false _ _ f)
@@ -77,22 +78,22 @@ module _ (c : Cursor) (t : Tables) (o : List ℕ) {k : Status} {b : Bool} (asked
   pub does-nothing : (w : List ℕ) {last : Bool} (n : Next) → b ≡ false
       → Makes-if-sound (in-room (length o) (point-of c t) n) c t o (nothing-done c k) t o × Facts c (length w) last (length o) (nothing-done c k)
   unfolding readiness
-  does-nothing w {last} n g = rw asked (go (sound-hub (c .hub) t) refl (ltb (length o) longest-answer) refl (ap is-go (sym asked) ∙ (sym told ∙ g)))
+  does-nothing w {last} n g = rw asked (go (sound-kept (c .line) t) refl (ltb (length o) longest-answer) refl (ap is-go (sym asked) ∙ (sym told ∙ g)))
     where
-      go : (s : Bool) → sound-hub (c .hub) t ≡ s → (d : Bool) → ltb (length o) longest-answer ≡ d → is-go (cond s (cond d MoreRoom GoOn) NotSound) ≡ false
+      go : (s : Bool) → sound-kept (c .line) t ≡ s → (d : Bool) → ltb (length o) longest-answer ≡ d → is-go (cond s (cond d MoreRoom GoOn) NotSound) ≡ false
           → Makes-if-sound (cond d (still (point-of c t) MoreRoom) n) c t o (nothing-done c (cond s (cond d MoreRoom GoOn) NotSound)) t o
           × Facts c (length w) last (length o) (nothing-done c (cond s (cond d MoreRoom GoOn) NotSound))
       go false e d f z = (
         record { where-sound = λ j. never (sym e ∙ j); where-not = λ _. (refl, refl, refl) },
-        waits-facts (c .at) (c .phase) (c .phase) (c .hub) (length w) last (length o) NotSound (omega arith) refl (λ j. cc),
+        waits-facts (c .at) (c .phase) (c .phase) (c .line) (length w) last (length o) NotSound (omega arith) refl (λ j. cc),
       )
       go true e true f z =
           let S = stands-of c t e in (
             record {
-              where-sound = λ _. record { answers = refl; tables = S .tables; room = refl };
+              where-sound = λ _. record { answers = ap (λ (x : Cursor). nothing-done x MoreRoom) (S .cursor); tables = S .tables; room = refl };
               where-not = λ j. never (sym j ∙ e);
             },
-            waits-facts (c .at) (c .phase) (c .phase) (c .hub) (length w) last (length o) MoreRoom (omega arith) refl (λ j. cc),
+            waits-facts (c .at) (c .phase) (c .phase) (c .line) (length w) last (length o) MoreRoom (omega arith) refl (λ j. cc),
           )
       go true e false f z = never (sym z)
 

@@ -12,7 +12,7 @@ use Rattle.steps.specs.declared.Phase.the-variants.{Finished}
 use Rattle.steps.specs.declared.Cursor.{Cursor}
 use Rattle.steps.specs.declared.Status.the-variants.{MoreBytes, MoreRoom, NotSound, Done}
 use Rattle.steps.specs.declared.Stepped.{Stepped}
-use Rattle.state.specs.View.{Tables}
+use Rattle.tables.specs.Lent.{Tables}
 use Rattle.log.specs.Log.{log}
 use Rattle.log.specs.Bad.{bad-at, Ends-with}
 use Rattle.traces.specs.Trace.{longest-record}
@@ -61,7 +61,7 @@ Of-every-call P =
 abbrev pub Done-is-finished : Type 0
 Done-is-finished = Of-every-call (λ w o a. a .status ≡ Done → a .cursor .phase ≡ Finished)
 
--- with room for one answer a call is never refused: the hub is sound at any time of a session
+-- with room for one answer a call is never refused: the line is sound at any time of a session
 abbrev pub Never-refused : Type 0
 Never-refused = Of-every-call (λ w o a. longest-answer ≤ length o → (a .status ≡ MoreRoom → ⊥) × (a .status ≡ NotSound → ⊥))
 

@@ -6,7 +6,9 @@ use mathlib.Core.Logic.{_⊎_}
 use mathlib.Core.List.{List, [], _++_}
 use lib.Dec.{ltb}
 use lib.ListN.{length, take, drop}
-use Rattle.state.specs.View.{Tables, zero-tables, sound-hub}
+use Rattle.tables.specs.Lent.{Tables}
+use Rattle.state.specs.View.{zero-tables}
+use Rattle.both.specs.View.{sound-kept}
 use Rattle.steps.specs.declared.Cursor.{Cursor}
 use Rattle.steps.specs.declared.Status.{Status}
 use Rattle.steps.specs.declared.Status.the-variants.{GoOn, MoreRoom, NotSound}
@@ -17,7 +19,7 @@ use Rattle.steps.specs.Tie.{point-of, cursor-of, in-room, Makes-if-sound}
 
 -- whether a step can be made, with a room of r bytes
 unfoldable pub readiness : Cursor → Tables → ℕ → Status
-readiness c t r = cond (sound-hub (c .hub) t) (cond (ltb r longest-answer) MoreRoom GoOn) NotSound
+readiness c t r = cond (sound-kept (c .line) t) (cond (ltb r longest-answer) MoreRoom GoOn) NotSound
 
 -- what the contract of `step` allows, and that of `pump`: the cursor c, the tables t, the window w, the room o; the answer a, the tables and the room then
 abbrev pub Steps : Cursor → Tables → List ℕ → Bool → List ℕ → Stepped → Tables → List ℕ → Type 0
@@ -32,7 +34,7 @@ abbrev pub Calls : Cursor → Tables → List ℕ → Bool → List ℕ → Step
 Calls c t w last o a t′ o′ = Steps c t w last o a t′ o′ ⊎ Pumps c t w last o a t′ o′
 
 -- A session on a trace: what was written, the cursor, the tables, the window of bytes in hand and not yet used, and what is still unread. It starts with
--- the fresh hub and tables of zeros. Bytes come in pieces of any length; `step` and `pump` may be called at any time, with any room, and are told `last`
+-- the fresh line and tables of zeros. Bytes come in pieces of any length; `step` and `pump` may be called at any time, with any room, and are told `last`
 -- only where nothing is unread.
 pub data Session (trace : List ℕ) : List ℕ → Cursor → Tables → List ℕ → List ℕ → Type 0 where
   start : Session trace [] (cursor-of beginning) zero-tables [] trace

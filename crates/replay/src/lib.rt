@@ -1,12 +1,13 @@
-// THE REPLAY: a trace in, its answer log out, one answer record a step, in a window of any size. The hub's soundness is tested once a call of `step` or
-// `pump`, not once a tick: each tick is still what the public call would answer, since a call on a sound state leaves a sound one.
+// THE REPLAY: a trace in, its answer log out, one answer record a step, in a window of any size. The line's soundness is tested once a call of `step` or
+// `pump`, not once a tick: each tick is still what the public call would answer, since a request on a sound line leaves a sound one.
 ghost use mathlib.Core.Path.{_≡_};
 ghost use mathlib.Core.Bool.{true};
 ghost use Prim.Native.Nat.{_+_, _-_, _/_, _≤_};
 ghost use lib.ListN.{length, drop};
 ghost use Rattle.answers.specs.Answers.{longest-answer};
 ghost use Rattle.steps.specs.Steps.{beginning, next, steps, is-go};
-ghost use Rattle.state.specs.View.{given, before, after, sound-hub};
+ghost use Rattle.tables.specs.Lent.{given, before, after};
+ghost use Rattle.both.specs.View.{sound-kept};
 ghost use Rattle.steps.specs.Tie.{point-of, cursor-of, Makes, Facts};
 ghost use Rattle.replay.specs.Slides.{slide-length, slid};
 ghost use Rattle.replay.specs.Sessions.{readiness, Steps, Pumps};
@@ -23,7 +24,7 @@ pub fn start() -> Cursor
     Cursor {
         at: 0,
         phase: Phase::Reading,
-        hub: hub::fresh_hub(),
+        line: both::fresh_line(),
     }
 }
 
@@ -52,7 +53,7 @@ fn step_at(
     out: &mut [u8],
     wrote: usize,
 ) -> Stepped
-    requires { ⌜ (sound-hub (c .hub) (given members places notices) ≡ true) × (used ≤ length (now window)) × (wrote + longest-answer ≤ length (now out)) ⌝ }
+    requires { ⌜ (sound-kept (c .line) (given members places notices) ≡ true) × (used ≤ length (now window)) × (wrote + longest-answer ≤ length (now out)) ⌝ }
     ensures { λ r. ⌜ Makes (next (point-of c (before members places notices)) (drop used (now (window .entry))) last) r (after members places notices) wrote (now (out .entry)) (now (out .exit)) ⌝ }
     ensures { λ r. ⌜ Facts c (length (now (window .entry)) - used) last (length (now (out .entry)) - wrote) r ⌝ }
 {
@@ -77,7 +78,7 @@ fn run(
     last: bool,
     out: &mut [u8],
 ) -> Stepped
-    requires { ⌜ (sound-hub (c .hub) (given members places notices) ≡ true) × (longest-answer ≤ length (now out)) ⌝ }
+    requires { ⌜ (sound-kept (c .line) (given members places notices) ≡ true) × (longest-answer ≤ length (now out)) ⌝ }
     ensures { λ r. ⌜ Makes (steps (length (now (out .entry)) / longest-answer) (point-of c (before members places notices)) (now (window .entry)) last) r (after members places notices) 0 (now (out .entry)) (now (out .exit)) ⌝ }
     ensures { λ r. ⌜ Facts c (length (now (window .entry))) last (length (now (out .entry))) r ⌝ }
 {
@@ -121,12 +122,12 @@ fn run(
     }
 }
 
-// Whether a step can be made at all: GoOn where the hub and its tables are sound and the room holds an answer.
+// Whether a step can be made at all: GoOn where the line and its tables are sound and the room holds an answer.
 fn ready(c: Cursor, members: &[u32], places: &[u32], notices: &[u32], room: usize) -> Status
     ensures { λ r. ⌜ r ≡ readiness c (before members places notices) room ⌝ }
 {
-    let h = c.hub;
-    if !sound::is_sound(h, members, places, notices) {
+    let h = c.line;
+    if !both::is_sound(h, members, places, notices) {
         return Status::NotSound;
     }
     if room < LONGEST_ANSWER {

@@ -1,80 +1,63 @@
 -- The three steps of a tick keep a busy stretch; the horizon of eligibility moves after the clock.
-use Prim.Native.Nat.{ℕ, zero, suc, _+_, _≤_, _<_}
+use Prim.Native.Nat.{ℕ, _+_, _≤_, _<_}
 use native.Mathlib.Omega.{arith}
-use mathlib.Core.Path.{_≡_, refl, sym, ap, subst}
+use mathlib.Core.Path.{_≡_, refl, ap, _∙_, subst}
 use mathlib.Core.Logic.{_⊎_, inl, inr, ⊎-elim}
-use mathlib.Core.List.{List, [], _∷_}
+use mathlib.Core.List.{List}
 use mathlib.Core.Option.{Option, none, some}
 use Rattle.rules.specs.Words.{upto}
-use Rattle.rules.specs.Limits.{notice-number}
-use Rattle.rules.specs.Model.{Link, Connection, Packet, Notice, State, Answer, nth, with-line}
+use Rattle.rules.specs.Model.{Link, Connection, Packet, State, nth}
 use Rattle.rules.specs.Admission.{window, cost}
-use Rattle.rules.specs.Service.{first, without, level-of, stand-by, takes, later, after-unit, line-left}
-use Rattle.rules.specs.SoundState.{Fits, Notice-fits, In-service}
-use Rattle.rules.proofs.Lists.{All, all-map, all-zip, all-sub, all-every, Sub, sub-refl, total-le, total-sub, total-add, total-zero, total-none}
+use Rattle.rules.specs.Service.{first, level-of, chosen, early-at, stand-by, Wire, wire, later, line-left}
+use Rattle.rules.specs.SoundState.{Fits, Orderly}
+use Rattle.rules.proofs.Lists.{All, all-map, all-zip, all-sub, all-every, Sub, total, total-le, total-sub, total-add, total-zero, total-none}
 use Rattle.rules.proofs.Sums.{split, upto-yes, upto-no, upto-le, upto-mono}
 use Rattle.rules.proofs.Keys.{Ahead, ahead-or-not, keyed-yes, keyed-no, keyed-mono, keyed-add, ahead-trans}
-use Rattle.rules.proofs.Rows.{first-all, total-without, sub-without}
-use Rattle.rules.proofs.Notices.{first-notice-is, first-none}
-use Rattle.rules.proofs.Line.{last-of-packet, last-of-notice, left-silent, left-some, left-taken, left-unit, left-last, left-in-silence}
+use Rattle.rules.proofs.Rows.{first-all}
+use Rattle.rules.proofs.WireLaws.{Picks, Row-fits, weigh, carried, sent-sound, begun-work, sent-work}
+use Rattle.rules.proofs.Line.{left-is, cost-is}
 use Rattle.rules.proofs.Choice.{Chosen}
-use Rattle.rules.proofs.SoundTick.{taken-serves, early-serves, notice-serves}
+use Rattle.rules.proofs.SoundTick.{choice-holds, rows-sized, picks, ready, ready-sound, after-tick}
 use Rattle.rules.proofs.Window.{between, weight}
-use Rattle.rules.proofs.Busy.{due, demand, due-of, served, Line, Regular, fit-held, Busy, due-full, due-none, due-off, served-idle, served-is, served-notice}
+use Rattle.rules.proofs.Busy.{due, demand, due-of, served, Busy, due-full, due-none, due-off}
 
--- ---- step 1: an idle line takes the chosen packet, the first notice, or the packet that stands by
+-- ---- steps 1 and 2: THE TICK LEMMA with the weight of a key (m, e); the horizon stays
 
-module _ (s : State) (acc : List Packet) (R : Regular s acc) where
-  pub taken-line : (o : Option Packet) → Chosen (level-of s) (s .clock) (s .held) o
-      → (ns : List Notice) → s .notices ≡ ns → All (Notice-fits (s .link) (s .clock)) ns → All (λ p. p .connection ≡ notice-number → ⊥) (s .held)
-      → s .silent ≤ s .link .silence
-      → (b : Option Packet) → stand-by s ≡ b
-      → Line (with-line s (takes o ns b .0) (takes o ns b .1) (s .silent))
-  unfolding notice-serves
-  taken-line (some p) k ns i f a q b j = inr (inl (taken-serves s (fit-held s acc R) p k))
-  taken-line none k [] i f a q none j = inl (refl, q)
-  taken-line none k [] i f a q (some p) j = inr (inl (early-serves s (fit-held s acc R) p j))
-  taken-line none k (n ∷ ns) i f a q b j =
-      inr (inr (record { in-service = notice-serves s n ns i f; short = f .0 .len-le; alone = first-none notice-number (s .held) a }))
+-- the packet in service weighs what it is served
+due-weighs : (l : Link) (cs : List Connection) (m e t : ℕ) (o : Option Packet) → due-of l cs m e t o ≡ weigh (due l cs m e t) o
+due-weighs l cs m e t none = refl
+due-weighs l cs m e t (some p) = refl
 
-  -- busy, with something on the line
-  abbrev Taken-busy : ℕ → ℕ → ℕ → ℕ → Type 0
-  Taken-busy w u m e = Busy (with-line s w u (s .silent)) acc m e (s .clock) × (0 < line-left (with-line s w u (s .silent)))
+served-carried : (s : State) (m e t : ℕ) → served s m e t ≡ carried (due (s .link) (s .connections) m e t) (wire s)
+served-carried s m e t = ap (upto 1 (s .to-go)) (due-weighs (s .link) (s .connections) m e t (first (s .serving) (s .held)))
 
-  pub taken-busy : (m e : ℕ) (o : Option Packet) (ns : List Notice) (b : Option Packet) → Chosen (level-of s) (s .clock) (s .held) o → s .to-go ≡ 0 → s .silent ≡ 0
-      → Busy s acc m e (s .clock) → 0 < demand s m e (s .clock)
-      → Taken-busy (takes o ns b .0) (takes o ns b .1) m e
-  unfolding taken-serves
-  taken-busy m e none ns b k z y B h =
-      absurd
-      (omega (arith, total-none (due (s .link) (s .connections) m e (s .clock)) (s .held) (all-map (λ q lt. due-off (s .link) (s .connections) m e (s .clock) q (λ le. absurd (omega arith))) (s .held) k)))
-  taken-busy m e (some p) ns b k z y B h = go (ahead-or-not m e (level-of s (p .connection)) (p .eligibility))
-    where
-      f : Fits (s .connections) p
-      f = first-all (p .connection) (Fits (s .connections)) (s .held) p (k .2) (fit-held s acc R)
+-- a tick later, with the line given anew
+abbrev pub wired : State → Wire → State
+wired s w = later s (w .held) (w .notices) (w .serving) (w .to-go) (w .silent)
 
-      go : Ahead m e (level-of s (p .connection)) (p .eligibility) ⊎ (Ahead m e (level-of s (p .connection)) (p .eligibility) → ⊥) → Taken-busy (p .connection) (p .len) m e
-      go (inl a) = (
-        record {
-          from = B .from;
-          started = B .started;
-          since = B .since;
-          work =
-              omega (
-                arith,
-                B .work,
-                served-idle s m e (s .clock) z,
-                left-silent s z,
-                left-taken s (p .connection) (p .len) (s .silent) (f .some-len),
-                served-is (with-line s (p .connection) (p .len) (s .silent)) m e (s .clock) (taken-serves s (fit-held s acc R) p k),
-                due-full (s .link) (s .connections) m e (s .clock) p a (k .0),
-              );
-          in-time = B .in-time;
-        },
-        left-some (with-line s (p .connection) (p .len) (s .silent)) (f .some-len),
+module _ (s : State) (S : Orderly s) (m e : ℕ) (some-due : 0 < demand s m e (s .clock)) where
+  abbrev d : Packet → ℕ
+  d = due (s .link) (s .connections) m e (s .clock)
+
+  abbrev w : Wire
+  w = after-tick s S .wire
+
+  picked : chosen s ≡ none → ⊥
+  picked i =
+      omega (
+        arith,
+        total-none d (s .held)
+            (all-map (λ q late. due-off (s .link) (s .connections) m e (s .clock) q (λ le. absurd (omega arith))) (s .held) (subst (Picks (s .clock) (s .held)) i (picks s S))),
       )
-      -- some packet that is due is ahead of (m, e), and the chosen one goes before it
-      go (inr n) =
+
+  -- some packet that is due is ahead of (m, e), and the chosen one goes before it
+  full : (p : Packet) → chosen s ≡ some p → d p ≡ p .len + s .link .silence
+  full p i = go (ahead-or-not m e (level-of s (p .connection)) (p .eligibility)) (subst (Chosen (level-of s) (s .clock) (s .held)) i (choice-holds s S))
+    where
+      go : Ahead m e (level-of s (p .connection)) (p .eligibility) ⊎ (Ahead m e (level-of s (p .connection)) (p .eligibility) → ⊥) → Chosen (level-of s) (s .clock) (s .held) (some p)
+          → due (s .link) (s .connections) m e (s .clock) p ≡ p .len + s .link .silence
+      go (inl a) k = due-full (s .link) (s .connections) m e (s .clock) p a (k .0) ∙ cost-is (s .link) (p .len)
+      go (inr n) k =
           absurd
           (omega (
             arith,
@@ -85,80 +68,34 @@ module _ (s : State) (acc : List Packet) (R : Regular s acc) where
                 (s .held) (k .1)),
           ))
 
--- ---- steps 2 and 3: a unit goes, and the clock moves on; the horizon stays
+  one-row : (p : Packet) → chosen s ≡ some p → (first (p .connection) (s .held) ≡ some p) × (1 ≤ p .len)
+  one-row p i =
+      let k : (p .eligibility ≤ s .clock) × (first (p .connection) (s .held) ≡ some p) = subst (Picks (s .clock) (s .held)) i (picks s S) in
+      (k .1, first-all (p .connection) (Row-fits (s .link .largest)) (s .held) p (k .1) (rows-sized s S) .1)
 
-module _ (s : State) (acc : List Packet) (m e : ℕ) where
-  going : ℕ
-  going = due-of (s .link) (s .connections) m e (s .clock) (first (s .serving) (s .held))
+  -- what is due and what the line owes, less what is in service, falls by one
+  tick-work : total d (w .held) + line-left (wired s w) + 1 + served s m e (s .clock) ≡ demand s m e (s .clock) + line-left s + served (wired s w) m e (s .clock)
+  tick-work =
+      let a = begun-work (early-at s) (s .link .largest) (s .link .silence) (s .clock) d (wire s) (chosen s) (stand-by s) full picked one-row in
+      omega (
+        arith,
+        a .1,
+        sent-work (early-at s) (s .link .largest) (s .link .silence) (s .clock) d (ready s S) (ready-sound s S) (rows-sized s S) (a .0),
+        left-is s,
+        left-is (wired s w),
+        served-carried s m e (s .clock),
+        served-carried (wired s w) m e (s .clock),
+      )
 
-  abbrev Left-busy : State → Type 0
-  Left-busy r = Busy r acc m e (s .clock)
-
-  packet-leaves : s .to-go ≡ 1 → In-service s → (B : Busy s acc m e (s .clock)) → s .clock + 2 ≤ B .from + window (s .link) m
-      → Left-busy (later s (without (s .serving) (s .held)) (s .notices) 0 0 (s .link .silence))
-  packet-leaves i r B h = record {
+  -- so the line stays busy, as long as the window has a tick to spare
+  pub tick-busy : (acc : List Packet) (B : Busy s acc m e (s .clock)) → s .clock + 2 ≤ B .from + window (s .link) m → Busy (wired s (after-tick s S .wire)) acc m e (s .clock)
+  tick-busy acc B h = record {
     from = B .from;
     started = omega (arith, B .started);
-    since = all-sub (λ p. Ahead m e (level-of s (p .connection)) (p .eligibility) → p .eligibility ≤ s .clock → B .from ≤ p .eligibility) (sub-without (s .serving) (sub-refl (s .held))) (B .since);
-    work =
-        omega (
-          arith,
-          B .work,
-          served-is s m e (s .clock) r,
-          left-last s (without (s .serving) (s .held)) (s .notices) (s .serving) (s .silent),
-          ap (λ (v : ℕ). line-left (with-line s (s .serving) v (s .silent))) i,
-          total-without (s .serving) (due (s .link) (s .connections) m e (s .clock)) (s .held) (r .it) (r .is-first),
-        );
-    in-time = omega arith;
-  }
-
-  notice-leaves : (ns : List Notice) → s .to-go ≡ 1 → first (s .serving) (s .held) ≡ none → (B : Busy s acc m e (s .clock)) → s .clock + 2 ≤ B .from + window (s .link) m
-      → Left-busy (later s (s .held) ns 0 0 (s .link .silence))
-  notice-leaves ns i a B h = record {
-    from = B .from;
-    started = omega (arith, B .started);
-    since = B .since;
-    work =
-        omega (
-          arith,
-          B .work,
-          served-notice s m e (s .clock) a,
-          left-last s (s .held) ns (s .serving) (s .silent),
-          ap (λ (v : ℕ). line-left (with-line s (s .serving) v (s .silent))) i,
-        );
-    in-time = omega arith;
-  }
-
-  -- `away`: a packet in service bears no notice's number
-  pub unit-busy : (u : ℕ) → s .to-go ≡ u → 0 < line-left s → Line s → (In-service s → s .serving ≡ notice-number → ⊥)
-      → (B : Busy s acc m e (s .clock)) → s .clock + 2 ≤ B .from + window (s .link) m
-      → Left-busy (after-unit s u .next)
-  unfolding going
-  unit-busy zero i pos l away B h = record {
-    from = B .from;
-    started = omega (arith, B .started);
-    since = B .since;
-    work = omega (arith, B .work, left-in-silence s (s .held) (s .notices) i pos, served-idle s m e (s .clock) i);
-    in-time = omega arith;
-  }
-  unit-busy (suc u) i pos (inl z) away B h = absurd (omega (arith, z .0))
-  unit-busy (suc zero) i pos (inr (inl r)) away B h = subst (λ (a : Answer). Left-busy (a .next)) (sym (last-of-packet s (away r))) (packet-leaves i r B h)
-  unit-busy (suc zero) i pos (inr (inr n)) away B h =
-      let k = first-notice-is (s .notices) (n .in-service .it) (n .in-service .is-first) in
-      subst (λ (a : Answer). Left-busy (a .next)) (sym (last-of-notice s (n .in-service .it) (k .0) (n .in-service .is-notice) (k .1))) (notice-leaves (k .0) i (n .alone) B h)
-  unit-busy (suc (suc u)) i pos (inr r) away B h = record {
-    from = B .from;
-    started = omega (arith, B .started);
-    since = B .since;
-    work =
-        omega (
-          arith,
-          B .work,
-          left-unit s (s .held) (s .notices) (s .serving) u (s .silent),
-          ap (λ (v : ℕ). line-left (with-line s (s .serving) v (s .silent))) i,
-          upto-yes 1 (suc u) going (omega arith),
-          upto-yes 1 (s .to-go) going (omega arith),
-        );
+    since =
+        all-sub (λ p. Ahead m e (level-of s (p .connection)) (p .eligibility) → p .eligibility ≤ s .clock → B .from ≤ p .eligibility)
+        (sent-sound (early-at s) (s .link .largest) (s .link .silence) (s .clock) (ready s S) (ready-sound s S) (rows-sized s S) .1) (B .since);
+    work = omega (arith, tick-work, B .work);
     in-time = omega arith;
   }
 

@@ -16,6 +16,8 @@ pub mod Verdicts
 pub mod Figures
 pub mod Shortage
 pub mod Finer
+pub mod WireLaws
+pub mod WireTest
 pub mod Line
 pub mod SoundTick
 pub mod SoundExact

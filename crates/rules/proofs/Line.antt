@@ -8,25 +8,16 @@ use mathlib.Core.Option.{none, some}
 use lib.Dec.{eqb}
 use borrow.Author.Tests.{eq-eqb, ne-eqb}
 use Rattle.rules.specs.Limits.{notice-number}
-use Rattle.rules.specs.Model.{Packet, Notice, State, Answer, notice-packet, with-line}
+use Rattle.rules.specs.Model.{Link, Packet, Notice, State, Answer, notice-packet, with-line}
 use Rattle.rules.specs.Admission.{cost}
-use Rattle.rules.specs.Service.{first, first-early, early-at, chosen, stand-by, takes, later, line-after-start, started, tick-answer, packet-departs, notice-departs, after-unit, ticked, line-left}
+use Rattle.rules.specs.Service.{first, first-early, early-at, chosen, stand-by, wire, takes, later, line-after-start, started, tick-answer, packet-departs, notice-departs, after-unit, ticked, line-left}
 use Rattle.rules.specs.SoundState.{In-service, Notice-in-service}
+use Rattle.rules.specs.SoundLine.{wire-left}
 use Rattle.rules.proofs.Sums.{cond-is}
 use Rattle.rules.proofs.Rows.{none-some, some-inj}
 use Rattle.rules.proofs.Figures.{cost-pos}
 
 -- ---- what the three steps do
-
--- an idle line takes the chosen packet, the first notice or the packet that stands by; in a silence nothing starts; what is in service is not interrupted
-pub start-idle : (s : State) → line-after-start s 0 0 ≡ takes (chosen s) (s .notices) (stand-by s)
-start-idle s = refl
-
-pub start-silent : (s : State) (q : ℕ) → line-after-start s 0 (suc q) ≡ (s .serving, 0)
-start-silent s q = refl
-
-pub start-busy : (s : State) (u q : ℕ) → line-after-start s (suc u) q ≡ (s .serving, suc u)
-start-busy s u q = refl
 
 -- with nothing in service a tick of the silence runs, if one is left; else a unit goes, and with the last one the packet or the notice departs and its row is removed
 pub nothing-goes : (s : State) → after-unit s 0 ≡ tick-answer none (later s (s .held) (s .notices) 0 0 (s .silent - 1))
@@ -90,6 +81,15 @@ tick-leaves s =
 
 -- ---- what is still on the line
 
+-- it is that of the line that both disciplines have
+pub left-is : (s : State) → line-left s ≡ wire-left (s .link .silence) (wire s)
+unfolding line-left cost wire-left
+left-is s = refl
+
+pub cost-is : (l : Link) (len : ℕ) → cost l len ≡ len + l .silence
+unfolding cost
+cost-is l len = refl
+
 -- the silence still to run, while nothing is in service
 pub left-silent : (s : State) → s .to-go ≡ 0 → line-left s ≡ s .silent
 unfolding line-left
@@ -103,10 +103,6 @@ left-busy s h = cond-is (s .silent) (cost (s .link) (s .to-go)) (ne-eqb (s .to-g
 pub left-some : (s : State) → 1 ≤ s .to-go → 1 ≤ line-left s
 left-some s h = omega (arith, left-busy s h, cost-pos (s .link) (s .to-go) h)
 
--- the cost of a packet that the line has just taken whole
-pub left-taken : (s : State) (w len q : ℕ) → 1 ≤ len → line-left (with-line s w len q) ≡ cost (s .link) len
-left-taken s w len q h = left-busy (with-line s w len q) h
-
 -- at most the cost of what is in service
 pub left-below : (s : State) (r : In-service s) → line-left s ≤ cost (s .link) (r .it .len)
 unfolding cost
@@ -115,21 +111,6 @@ left-below s r = omega (arith, left-busy s (r .some-to-go), r .to-go-le)
 pub left-below-notice : (s : State) (r : Notice-in-service s) → line-left s ≤ cost (s .link) (r .it .len)
 unfolding cost
 left-below-notice s r = omega (arith, left-busy s (r .some-to-go), r .to-go-le)
-
--- a tick takes one: with a unit that is not the last, with the last, and in the silence
-pub left-unit : (s : State) (held : List Packet) (ns : List Notice) (w u q : ℕ)
-    → line-left (later s held ns w (suc u) q) + 1 ≡ line-left (with-line s w (suc (suc u)) q)
-unfolding cost
-left-unit s held ns w u q = omega (arith, left-busy (later s held ns w (suc u) q) (omega arith), left-busy (with-line s w (suc (suc u)) q) (omega arith))
-
-pub left-last : (s : State) (held : List Packet) (ns : List Notice) (w q : ℕ)
-    → line-left (later s held ns 0 0 (s .link .silence)) + 1 ≡ line-left (with-line s w 1 q)
-unfolding cost
-left-last s held ns w q = omega (arith, left-silent (later s held ns 0 0 (s .link .silence)) refl, left-busy (with-line s w 1 q) (omega arith))
-
-pub left-in-silence : (s : State) (held : List Packet) (ns : List Notice) → s .to-go ≡ 0 → 0 < line-left s
-    → line-left (later s held ns 0 0 (s .silent - 1)) + 1 ≡ line-left s
-left-in-silence s held ns e h = omega (arith, left-silent (later s held ns 0 0 (s .silent - 1)) refl, left-silent s e)
 
 -- it hangs on the line and the link alone: other packets, connections or a later clock change nothing
 pub left-same : (s r : State) → r .to-go ≡ s .to-go → r .silent ≡ s .silent → r .link ≡ s .link → line-left r ≡ line-left s

@@ -6,7 +6,7 @@ use mathlib.Core.Bool.{Bool, true, false, cond, true≢false}
 use Rattle.rules.specs.Words.{filter}
 use mathlib.Core.List.{List, [], _∷_, _++_}
 use lib.ListN.{length, getD, set}
-pub use Rattle.rules.specs.Words.{All, Pairs}
+pub use Rattle.rules.specs.Words.{All, Pairs, total}
 
 module _ {A : Type 0} where
   pub all-map : {P Q : A → Type 0} → ((x : A) → P x → Q x) → (xs : List A) → All P xs → All Q xs
@@ -80,10 +80,6 @@ module _ {A : Type 0} where
   all-sub P (keep x s) h = (h .0, all-sub P s (h .1))
 
   -- ---- the sum of a weight over a list
-  abbrev pub total : (A → ℕ) → List A → ℕ
-  total w [] = 0
-  total w (x ∷ xs) = w x + total w xs
-
   pub total-snoc : (w : A → ℕ) (xs : List A) (y : A) → total w (xs ++ y ∷ []) ≡ total w xs + w y
   total-snoc w [] y = omega arith
   total-snoc w (x ∷ xs) y = omega (arith, total-snoc w xs y)

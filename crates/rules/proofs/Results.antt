@@ -19,7 +19,7 @@ use Rattle.rules.specs.SoundState.{Sound}
 use Rattle.rules.specs.SoundTest.{sound}
 use Rattle.rules.specs.Calls.{causes, heard, verdicts, verdict, eligibility-now, packet, done, refused-number, settle, answer}
 use Rattle.rules.specs.Runs.{Departure, History, logged, after, run-from, nothing-yet, run, departures, in-hub, bound-of, allowed, offer-ticks, Keeps-its-word, Exchange, exchanges, own-answer}
-use Rattle.rules.specs.Promises.{Demand-1-refusals, Test-is-exact, Verdict-1-exactly, No-link-means-zero, Sound-is-kept, Runs-are-sound, Rows-fit, Notices-fit, Notices-come-last, Fifteen-after-thirteen, Names-the-lowest, Level-test-tells, Short-is-told, Units-are-missing, Units-fit, Finer-test-says, At-the-bounds, Windows-at-the-bounds, Without-windows, Late-betas-never-decide, Flat-betas-never-decide, Quick-holds-exactly, Quick-excess-is-exact, Quick-test-is-exact, Sums-fit, Eligibilities-fit, Charges-fit, Distances-fit, Answers-fit, Conservation, Conservation-since, Conservation-by-owner, Left-by, Demand-3-first, Demand-3-in-the-log, Each-has-a-bound, Demand-3-second, Told-by-its-own, Bed-nine-and-bed-ten, Counted, Spacing-says, No-window-holds-more, The-count-is-reached, The-count-never-falls, Without-average, Without-silence, Close-is-refused, Closed-gets-10, Closed-or-freed, Freed-by-the-tick, Charge-lasts, Lowest-number-is-given, First-kind, Second-kind, Level-test-counts-alike, Ten-exactly, No-cause, Seventeen-exactly, No-finish-before, Demand-3-for-stamps, Stamps-told-by-their-own, Bed-nine-and-bed-ten-with-stamps, Early-comes-last, Early-never-idles, Eighteen-exactly, Stamps-never-18, Never-far-ahead, Without-stand-by, Quiet-ticks-pass}
+use Rattle.rules.specs.Promises.{Demand-1-refusals, Test-is-exact, Verdict-1-exactly, No-link-means-zero, Sound-is-kept, Runs-are-sound, Rows-fit, Notices-fit, Notices-come-last, The-same-line, Fifteen-after-thirteen, Names-the-lowest, Level-test-tells, Short-is-told, Units-are-missing, Units-fit, Finer-test-says, At-the-bounds, Windows-at-the-bounds, Without-windows, Late-betas-never-decide, Flat-betas-never-decide, Quick-holds-exactly, Quick-excess-is-exact, Quick-test-is-exact, Sums-fit, Eligibilities-fit, Charges-fit, Distances-fit, Answers-fit, Conservation, Conservation-since, Conservation-by-owner, Left-by, Demand-3-first, Demand-3-in-the-log, Each-has-a-bound, Demand-3-second, Told-by-its-own, Bed-nine-and-bed-ten, Counted, Spacing-says, No-window-holds-more, The-count-is-reached, The-count-never-falls, Without-average, Without-silence, Close-is-refused, Closed-gets-10, Closed-or-freed, Freed-by-the-tick, Charge-lasts, Lowest-number-is-given, First-kind, Second-kind, Level-test-counts-alike, Ten-exactly, No-cause, Seventeen-exactly, No-finish-before, Demand-3-for-stamps, Stamps-told-by-their-own, Bed-nine-and-bed-ten-with-stamps, Early-comes-last, Early-never-idles, Eighteen-exactly, Stamps-never-18, Never-far-ahead, Without-stand-by, Quiet-ticks-pass}
 use Rattle.rules.proofs.Sums.{same, cond-is}
 use Rattle.rules.proofs.Tests.{and-true, and-intro, not-true-false, never-number}
 use Rattle.rules.proofs.Lists.{All, all-map}
@@ -112,6 +112,9 @@ notices-fit s S = notices-fit-places s S
 
 pub notices-come-last : Notices-come-last
 notices-come-last s S idle e = none-eligible s S idle e
+
+pub the-same-line : The-same-line
+the-same-line s = refl
 
 pub fifteen-after-thirteen : Fifteen-after-thirteen
 unfolding verdicts

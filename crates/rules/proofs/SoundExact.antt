@@ -11,11 +11,11 @@ use lib.ListN.{length, getD, replicate, List·getD-eq-default}
 use borrow.Author.Tests.{not-true, not-false, leb-true, le-leb, eqb-true, eqb-false, eq-eqb, ne-eqb}
 use Rattle.rules.specs.Words.{within, every, each}
 use Rattle.rules.specs.Limits.{max-levels, max-connections, clock-end, max-notices, notice-number, max-remembered}
-use Rattle.rules.specs.Model.{Link, Connection, Past, Packet, Notice, State, no-link, no-connection, no-past, fresh, nth, past, figures, closed-at, first-notice}
+use Rattle.rules.specs.Model.{Link, Connection, Past, Packet, Notice, State, no-link, no-connection, no-past, fresh, nth, past, figures, closed-at}
 use Rattle.rules.specs.Admission.{link-within, level-within, figures-within, owned, charge-time, reservation, passes, ahead}
-use Rattle.rules.specs.Service.{earliest, remember-all, of, eligibilities, first, early-at, charge-over, expired}
-use Rattle.rules.specs.SoundState.{margin, Free-number, Orderly, departed-of, Fits, Dated, Notice-fits, Idle, In-service, Notice-in-service, Serves, Sound-with-link, Sound}
-use Rattle.rules.specs.SoundTest.{all-zero, blank, free-sound, one-each, number-sound, closed-sound, nothing-used, connection-sound, admissions-sound, row-sound, departed-by, paced, left-in-time, same-numbers, kept-sound, before-pass, behind-pass, queues-sound, rows-sound, notice-sound, notices-sound, serves, serves-notice, busy-sound, line-sound, sound}
+use Rattle.rules.specs.Service.{earliest, remember-all, of, eligibilities, early-at, wire, charge-over, expired}
+use Rattle.rules.specs.SoundState.{margin, Free-number, Orderly, departed-of, Fits, Dated, Notice-fits, Idle, In-service, Serves, Sound-with-link, Sound}
+use Rattle.rules.specs.SoundTest.{all-zero, blank, free-sound, one-each, number-sound, closed-sound, nothing-used, connection-sound, admissions-sound, row-sound, departed-by, paced, left-in-time, same-numbers, kept-sound, before-pass, behind-pass, queues-sound, rows-sound, notice-sound, notices-sound, line-sound, sound}
 use Rattle.rules.proofs.Lists.{All, all-map}
 use Rattle.rules.proofs.Sums.{split, cond-is}
 use Rattle.rules.proofs.Tests.{never, and-true, and-intro, or-true, or-intro, within-true, within-intro, every-true, every-intro, each-true, each-intro}
@@ -24,6 +24,7 @@ use Rattle.rules.proofs.Queue.{Chain, Kept-past, queue-chain, queue-kep
 use Rattle.rules.proofs.Spacing.{Back}
 use Rattle.rules.proofs.Figures.{connection-facts}
 use Rattle.rules.proofs.SoundTick.{no-notice, facts}
+use Rattle.rules.proofs.WireTest.{line-true as wire-line-true, line-intro as wire-line-intro}
 use Rattle.rules.proofs.Scan.{paced-chain, chain-paced}
 use Rattle.rules.proofs.Standing.{owned-below, charged-unexpired, open-unexpired, unexpired-charged}
 use Rattle.rules.proofs.Rows.{nil-of}
@@ -202,66 +203,16 @@ notice-intro : (l : Link) (t : ℕ) (n : Notice) → Notice-fits l t n → notic
 notice-intro l t n f =
     and-intro (within 1 (l .largest) (n .len)) (leb (n .arrival) t) (within-intro 1 (l .largest) (n .len) (f .some-len) (f .len-le)) (le-leb _ _ (f .arrived))
 
--- ---- the line
+-- ---- the line: the test of one that both disciplines have
 
 module _ (s : State) where
-  -- what the test says of the line: idle or serving, and silent only where nothing is in service
-  abbrev Line-holds : Type 0
-  Line-holds = (Idle s ⊎ Serves s) × (s .silent ≤ s .link .silence) × (1 ≤ s .to-go → s .silent ≡ 0)
-
-  line-true : line-sound s ≡ true → Line-holds
+  line-true : line-sound s ≡ true → (Idle s ⊎ Serves s) × (s .silent ≤ s .link .silence) × (1 ≤ s .to-go → s .silent ≡ 0)
   unfolding line-sound
-  line-true h = go (eqb (s .to-go) 0) refl h
-    where
-      serving : (o : Option Packet) → first (s .serving) (s .held) ≡ o → serves (early-at s (s .serving)) o (s .to-go) (s .clock) ≡ true → In-service s
-      serving none i e = never e
-      serving (some p) i e =
-          let k = and-true (within 1 (p .len) (s .to-go)) (early-at s (s .serving) || leb (p .eligibility) (s .clock)) e in
-          let w = within-true 1 (p .len) (s .to-go) (k .0) in
-          record { it = p; is-first = i; eligible = λ off. leb-true _ _ (or-true (early-at s (s .serving)) _ (k .1) off); some-to-go = w .0; to-go-le = omega arith }
+  line-true h = wire-line-true (early-at s) (s .link .silence) (s .clock) (wire s) h
 
-      noticed : (o : Option Notice) → first-notice (s .notices) ≡ o → s .serving ≡ notice-number → serves-notice o (s .to-go) ≡ true → Notice-in-service s
-      noticed none i w e = never e
-      noticed (some n) i w e =
-          let k = within-true 1 (n .len) (s .to-go) e in
-          record { it = n; is-first = i; is-notice = w; some-to-go = k .0; to-go-le = omega arith }
-
-      busy : (t : Bool) → eqb (s .serving) notice-number ≡ t
-          → cond t (serves-notice (first-notice (s .notices)) (s .to-go)) (serves (early-at s (s .serving)) (first (s .serving) (s .held)) (s .to-go) (s .clock)) ≡ true → Serves s
-      busy true i e = inr (noticed (first-notice (s .notices)) refl (eqb-true _ _ i) e)
-      busy false i e = inl (serving (first (s .serving) (s .held)) refl e)
-
-      go : (t : Bool) → eqb (s .to-go) 0 ≡ t → cond t (eqb (s .serving) 0 && leb (s .silent) (s .link .silence)) (eqb (s .silent) 0 && busy-sound s) ≡ true → Line-holds
-      go true i e =
-          let k = and-true (eqb (s .serving) 0) (leb (s .silent) (s .link .silence)) e in
-          (inl (eqb-true _ 0 i, eqb-true _ 0 (k .0)), leb-true _ _ (k .1), λ n. absurd (omega (arith, eqb-true (s .to-go) 0 i)))
-      go false i e =
-          let k = and-true (eqb (s .silent) 0) (busy-sound s) e in
-          (inr (busy (eqb (s .serving) notice-number) refl (k .1)), omega (arith, eqb-true (s .silent) 0 (k .0)), λ n. eqb-true (s .silent) 0 (k .0))
-
-  -- the test of a line that is not idle is the one of what is in service
-  busy-line : (1 ≤ s .to-go → s .silent ≡ 0) → 1 ≤ s .to-go → line-sound s ≡ busy-sound s
+  line-intro : (In-service s → s .serving ≡ notice-number → ⊥) → (Idle s ⊎ Serves s) × (s .silent ≤ s .link .silence) × (1 ≤ s .to-go → s .silent ≡ 0) → line-sound s ≡ true
   unfolding line-sound
-  busy-line alone l =
-      cond-is (eqb (s .serving) 0 && leb (s .silent) (s .link .silence)) (eqb (s .silent) 0 && busy-sound s) (ne-eqb (s .to-go) 0 (λ i. omega arith))
-      ∙ ap (λ (b : Bool). b && busy-sound s) (eq-eqb (s .silent) 0 (alone l))
-
-  line-intro : (In-service s → s .serving ≡ notice-number → ⊥) → Line-holds → line-sound s ≡ true
-  unfolding line-sound
-  line-intro away (inl z, quiet, alone) =
-      cond-is (eqb (s .serving) 0 && leb (s .silent) (s .link .silence)) (eqb (s .silent) 0 && busy-sound s) (eq-eqb (s .to-go) 0 (z .0))
-      ∙ and-intro (eqb (s .serving) 0) (leb (s .silent) (s .link .silence)) (eq-eqb (s .serving) 0 (z .1)) (le-leb _ _ quiet)
-  line-intro away (inr (inr r), quiet, alone) =
-      busy-line alone (r .some-to-go)
-      ∙ cond-is (serves-notice (first-notice (s .notices)) (s .to-go)) _ (eq-eqb (s .serving) notice-number (r .is-notice))
-      ∙ ap (λ (o : Option Notice). serves-notice o (s .to-go)) (r .is-first)
-      ∙ within-intro 1 (r .it .len) (s .to-go) (r .some-to-go) (omega (arith, r .to-go-le))
-  line-intro away (inr (inl r), quiet, alone) =
-      busy-line alone (r .some-to-go)
-      ∙ cond-is (serves-notice (first-notice (s .notices)) (s .to-go)) _ (ne-eqb (s .serving) notice-number (away r))
-      ∙ ap (λ (o : Option Packet). serves (early-at s (s .serving)) o (s .to-go) (s .clock)) (r .is-first)
-      ∙ and-intro (within 1 (r .it .len) (s .to-go)) (early-at s (s .serving) || leb (r .it .eligibility) (s .clock)) (within-intro 1 (r .it .len) (s .to-go) (r .some-to-go) (omega (arith, r .to-go-le)))
-      (or-intro (early-at s (s .serving)) _ (λ off. le-leb _ _ (r .eligible off)))
+  line-intro away h = wire-line-intro (early-at s) (s .link .silence) (s .clock) (wire s) away h
 
 -- ---- with a link set
 

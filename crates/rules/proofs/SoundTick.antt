@@ -1,5 +1,5 @@
 -- A tick on a sound state leaves a sound one.
-use Prim.Native.Nat.{ℕ, zero, suc, _+_, _-_, _≤_, _<_}
+use Prim.Native.Nat.{ℕ, suc, _+_, _-_, _≤_, _<_}
 use native.Mathlib.Omega.{arith}
 use mathlib.Core.Path.{_≡_, refl, sym, ap, _∙_, subst}
 use mathlib.Core.Bool.{Bool, true, false, true≢false}
@@ -8,34 +8,20 @@ use mathlib.Core.List.{List, [], _∷_, map}
 use mathlib.Core.Option.{Option, none, some}
 use lib.ListN.{length}
 use Rattle.rules.specs.Limits.{clock-end, max-notices, notice-number}
-use Rattle.rules.specs.Model.{Packet, Notice, State, Answer, past, figures, first-notice, with-line}
+use Rattle.rules.specs.Model.{Packet, Notice, State, Answer, past, figures, notice-packet, with-line}
 use Rattle.rules.specs.Admission.{owned, ahead}
-use Rattle.rules.specs.Service.{of, eligibilities, first, without, level-of, chosen, early-at, stand-by, later, takes, line-after-start, after-unit, ticked}
+use Rattle.rules.specs.Service.{of, eligibilities, first, without, level-of, chosen, early-at, stand-by, Wire, on-line, free-line, begun, sends, Sent, sent, wire, later, moves-on, ticked}
 use Rattle.rules.specs.SoundState.{Fits, Dated, Queue, Notice-fits, Idle, In-service-of, In-service, Notice-in-service, Serves, Orderly}
+use Rattle.rules.specs.SoundLine.{Packet-on, Notice-on, Wire-sound}
 use Rattle.rules.proofs.Lists.{All, all-map, all-sub, Pairs, Sub, sub-refl}
 use Rattle.rules.proofs.Sums.{same}
 use Rattle.rules.proofs.Rows.{nil-of, first-all, first-of, sub-without, of-first, of-other, pairs-by-connection}
-use Rattle.rules.proofs.Notices.{first-notice-is}
+use Rattle.rules.proofs.WireLaws.{told-by, Picks, By-now, Row-fits, begun-sound, sent-cases}
 use Rattle.rules.proofs.Standing.{owned-below}
 use Rattle.rules.proofs.Figures.{Connection-facts, connection-facts, off-ahead}
-use Rattle.rules.proofs.Line.{start-idle, start-silent, start-busy, last-of-packet, last-of-notice, stands-by}
+use Rattle.rules.proofs.Line.{stands-by}
 use Rattle.rules.proofs.Queue.{Regulated, regulated-of, queue-rises, queue-chained, chained-queue, chained-later, chained-tail}
 use Rattle.rules.proofs.Choice.{Rising, Chosen, chosen-law}
-
--- the packet that is chosen comes into service whole
-unfoldable pub taken-serves : (s : State) → All (Fits (s .connections)) (s .held) → (p : Packet) → Chosen (level-of s) (s .clock) (s .held) (some p)
-    → In-service (with-line s (p .connection) (p .len) (s .silent))
-taken-serves s F p k =
-    let f : Fits (s .connections) p = first-all (p .connection) (Fits (s .connections)) (s .held) p (k .2) F in
-    record { it = p; is-first = k .2; eligible = λ _. k .0; some-to-go = f .some-len; to-go-le = omega arith }
-
--- .. or the one that stands by
-unfoldable pub early-serves : (s : State) → All (Fits (s .connections)) (s .held) → (p : Packet) → stand-by s ≡ some p
-    → In-service (with-line s (p .connection) (p .len) (s .silent))
-early-serves s F p e =
-    let k = stands-by s p e in
-    let f : Fits (s .connections) p = first-all (p .connection) (Fits (s .connections)) (s .held) p (k .1) F in
-    record { it = p; is-first = k .1; eligible = λ off. absurd (true≢false (sym (k .0) ∙ off)); some-to-go = f .some-len; to-go-le = omega arith }
 
 -- a packet in service is so in another state where it may go early if it might before
 pub served-on : {a b : Bool} {held : List Packet} {w u t : ℕ} → (b ≡ false → a ≡ false) → In-service-of a held w u t → In-service-of b held w u t
@@ -46,11 +32,6 @@ pub serving-owned : (s : State) → All (Fits (s .connections)) (s .held) → In
 serving-owned s F r =
     subst (λ (c : ℕ). owned (s .connections) c ≡ true) (first-of (s .serving) (s .held) (r .it) (r .is-first))
     (first-all (s .serving) (Fits (s .connections)) (s .held) (r .it) (r .is-first) F .owner)
-
--- .. or the first notice does
-unfoldable pub notice-serves : (s : State) (n : Notice) (ns : List Notice) → s .notices ≡ n ∷ ns → All (Notice-fits (s .link) (s .clock)) (n ∷ ns)
-    → Notice-in-service (with-line s notice-number (n .len) (s .silent))
-notice-serves s n ns e f = record { it = n; is-first = ap first-notice e; is-notice = refl; some-to-go = f .0 .some-len; to-go-le = omega arith }
 
 module _ (s : State) (S : Orderly s) where
   -- a packet in service bears no notice's number
@@ -77,6 +58,61 @@ module _ (s : State) (S : Orderly s) where
 
   pub choice-holds : Chosen (level-of s) (s .clock) (s .held) (chosen s)
   choice-holds = chosen-law (level-of s) (s .clock) (s .held) rows-rise
+
+  -- ---- the hub's line, as both disciplines have it
+
+  pub rows-sized : All (Row-fits (s .link .largest)) (s .held)
+  rows-sized =
+      all-map
+      (λ p f. (λ e. omega (arith, S .numbers, owned-below (s .connections) (p .connection) (f .owner)), f .some-len, omega (arith, f .len-le, facts (p .connection) (f .owner) .size-le)))
+      (s .held) (S .fit)
+
+  pub own-line : Wire-sound (early-at s) (s .link .largest) (s .link .silence) (s .clock) (wire s)
+  own-line = record {
+    few-notices = S .few-notices;
+    notices-fit = all-map (λ n f. record { some-len = f .some-len; len-le = f .len-le; arrived = f .arrived }) (s .notices) (S .notices-fit);
+    line = S .line;
+    silent-le = S .silent-le;
+    silent-alone = S .silent-alone;
+  }
+
+  pub picks : Picks (s .clock) (s .held) (chosen s)
+  picks = go (chosen s) choice-holds
+    where
+      go : (o : Option Packet) → Chosen (level-of s) (s .clock) (s .held) o → Picks (s .clock) (s .held) o
+      go none k = k
+      go (some p) k = (k .0, k .2)
+
+  stands-ready : By-now (early-at s) (s .held) (stand-by s)
+  stands-ready = go (stand-by s) refl
+    where
+      go : (b : Option Packet) → stand-by s ≡ b → By-now (early-at s) (s .held) b
+      go none e = tt
+      go (some p) e = stands-by s p e
+
+  -- after step 1
+  abbrev pub ready : Wire
+  ready = begun (chosen s) (stand-by s) (wire s)
+
+  pub ready-sound : Wire-sound (early-at s) (s .link .largest) (s .link .silence) (s .clock) ready
+  ready-sound = begun-sound (early-at s) (s .link .largest) (s .link .silence) (s .clock) (wire s) own-line rows-sized (chosen s) (stand-by s) picks stands-ready
+
+  -- what a tick sends off, and the line it leaves
+  abbrev pub after-tick : Sent
+  after-tick = sends (s .link .silence) sent ready (ready .to-go)
+
+  pub tick-is : ticked s ≡ moves-on s (after-tick .departed) (after-tick .wire)
+  tick-is = told-by (s .link .silence) (moves-on s) ready (ready .to-go)
+
+  -- the four things that it can be
+  pub tick-cases : (Q : Sent → Type 0)
+      → Q (sent none (free-line (s .held) (s .notices) (s .silent - 1)))
+      → ((r : Packet-on (early-at s) (s .clock) ready) → Q (sent (some (r .it)) (free-line (without (ready .serving) (s .held)) (s .notices) (s .link .silence))))
+      → ((n : Notice) (ns : List Notice) → s .notices ≡ n ∷ ns → Q (sent (some (notice-packet n)) (free-line (s .held) ns (s .link .silence))))
+      → ((u : ℕ) → ready .to-go ≡ suc (suc u) → Packet-on (early-at s) (s .clock) ready ⊎ Notice-on ready → Q (sent none (on-line ready (ready .serving) (suc u))))
+      → Q after-tick
+  tick-cases Q idle packet notice unit =
+      sent-cases (early-at s) (s .link .largest) (s .link .silence) (s .clock) ready ready-sound rows-sized sent Q (λ _. idle) (λ r _. packet r) (λ r ns i _. notice (r .it) ns i) unit
 
   module _ (running : s .clock < clock-end) where
     -- some of the rows and of the notices, a tick later
@@ -116,8 +152,8 @@ module _ (s : State) (S : Orderly s) where
     }
 
     -- the packet in service has sent its last unit
-    sound-departed : (w : ℕ) → In-service (with-line s w 1 (s .silent)) → Orderly (later s (without w (s .held)) (s .notices) 0 0 (s .link .silence))
-    sound-departed w r =
+    sound-departed : (w u : ℕ) → In-service-of (early-at s w) (s .held) w u (s .clock) → Orderly (later s (without w (s .held)) (s .notices) 0 0 (s .link .silence))
+    sound-departed w u r =
         sound-later (without w (s .held)) (s .notices) 0 0 (s .link .silence) (sub-without w (sub-refl (s .held))) (λ c. fewer c (same w c)) (λ c l. shorter c l (same w c))
         (S .few-notices) (S .notices-fit) (inl (refl, refl)) (omega arith) (λ n. absurd (omega arith))
       where
@@ -152,53 +188,18 @@ module _ (s : State) (S : Orderly s) where
         → Orderly (later s (s .held) (s .notices) w u q)
     sound-on w u q line quiet alone = sound-later (s .held) (s .notices) w u q (sub-refl (s .held)) (λ c. omega arith) (S .queue) (S .few-notices) (S .notices-fit) line quiet alone
 
-    -- the line after step 1: idle or serving, and silent only where nothing is in service
-    abbrev Line-ready : ℕ → ℕ → Type 0
-    Line-ready w u = (Idle (with-line s w u (s .silent)) ⊎ Serves (with-line s w u (s .silent))) × (1 ≤ u → s .silent ≡ 0)
-
-    sound-unit : (w u : ℕ) → Line-ready w u → Orderly (after-unit (with-line s w u (s .silent)) u .next)
-    sound-unit w zero k = sound-on 0 0 (s .silent - 1) (inl (refl, refl)) (omega (arith, S .silent-le)) (λ n. absurd (omega arith))
-    sound-unit w (suc zero) (inl z, a) = absurd (omega (arith, z .0))
-    sound-unit w (suc zero) (inr (inl r), a) =
-        subst (λ (a : Answer). Orderly (a .next)) (sym (last-of-packet (with-line s w 1 (s .silent)) (no-notice w 1 (s .silent) r))) (sound-departed w r)
-    sound-unit w (suc zero) (inr (inr r), a) =
-        let k = first-notice-is (s .notices) (r .it) (r .is-first) in
-        subst (λ (a : Answer). Orderly (a .next)) (sym (last-of-notice (with-line s w 1 (s .silent)) (r .it) (k .0) (r .is-notice) (k .1)))
-        (sound-notice-gone (r .it) (k .0) (k .1))
-    sound-unit w (suc (suc u)) (inl z, a) = absurd (omega (arith, z .0))
-    sound-unit w (suc (suc u)) (inr (inl r), a) =
-        sound-on w (suc u) (s .silent)
-        (inr (inl (record { it = r .it; is-first = r .is-first; eligible = λ off. omega (arith, r .eligible off); some-to-go = omega arith; to-go-le = omega (arith, r .to-go-le) })))
-        (S .silent-le) (λ n. a (omega arith))
-    sound-unit w (suc (suc u)) (inr (inr r), a) =
-        sound-on w (suc u) (s .silent)
-        (inr (inr (record { it = r .it; is-first = r .is-first; is-notice = r .is-notice; some-to-go = omega arith; to-go-le = omega (arith, r .to-go-le) })))
-        (S .silent-le) (λ n. a (omega arith))
-
-    sound-start : (u q : ℕ) → s .to-go ≡ u → s .silent ≡ q → Line-ready (line-after-start s u q .0) (line-after-start s u q .1)
-    sound-start zero zero e f = subst (λ (l : ℕ × ℕ). Line-ready (l .0) (l .1)) (sym (start-idle s)) (go (chosen s) choice-holds (s .notices) refl (stand-by s) refl, λ _. f)
-      where
-        go : (o : Option Packet) → Chosen (level-of s) (s .clock) (s .held) o → (ns : List Notice) → s .notices ≡ ns → (b : Option Packet) → stand-by s ≡ b
-            → Idle (with-line s (takes o ns b .0) (takes o ns b .1) (s .silent)) ⊎ Serves (with-line s (takes o ns b .0) (takes o ns b .1) (s .silent))
-        go (some p) k ns i b j = inr (inl (taken-serves s (S .fit) p k))
-        go none k [] i none j = inl (refl, refl)
-        go none k [] i (some p) j = inr (inl (early-serves s (S .fit) p j))
-        go none k (n ∷ ns) i b j = inr (inr (notice-serves s n ns i (subst (All (Notice-fits (s .link) (s .clock))) i (S .notices-fit))))
-    sound-start zero (suc q) e f =
-        subst (λ (l : ℕ × ℕ). Line-ready (l .0) (l .1)) (sym (start-silent s q))
-        (inl (refl, ⊎-elim (λ z. z .1) (λ k. ⊎-elim (λ r. absurd (omega (arith, r .some-to-go))) (λ r. absurd (omega (arith, r .some-to-go))) k) (S .line)), λ n. absurd (omega arith))
-    sound-start (suc u) q e f =
-        subst (λ (l : ℕ × ℕ). Line-ready (l .0) (l .1)) (sym (start-busy s u q)) (
-          ⊎-elim (λ z. absurd (omega (arith, z .0)))
-              (λ k.
-              inr
-              (⊎-elim
-              (λ r. inl (record { it = r .it; is-first = r .is-first; eligible = r .eligible; some-to-go = omega arith; to-go-le = omega (arith, r .to-go-le) }))
-              (λ r. inr (record { it = r .it; is-first = r .is-first; is-notice = r .is-notice; some-to-go = omega arith; to-go-le = omega (arith, r .to-go-le) }))
-              k))
-              (S .line),
-          λ _. S .silent-alone (omega arith),
-        )
-
     pub sound-ticked : Orderly (ticked s .next)
-    sound-ticked = sound-unit (line-after-start s (s .to-go) (s .silent) .0) (line-after-start s (s .to-go) (s .silent) .1) (sound-start (s .to-go) (s .silent) refl refl)
+    sound-ticked =
+        subst (λ (a : Answer). Orderly (a .next)) (sym tick-is)
+        (tick-cases (λ x. Orderly (moves-on s (x .departed) (x .wire) .next))
+        (sound-on 0 0 (s .silent - 1) (inl (refl, refl)) (omega (arith, S .silent-le)) (λ n. absurd (omega arith)))
+        (λ r. sound-departed (ready .serving) (ready .to-go) r)
+        sound-notice-gone
+        (λ u e k.
+        sound-on (ready .serving) (suc u) (s .silent)
+        (inr
+        (⊎-elim
+        (λ r. inl (record { it = r .it; is-first = r .is-first; eligible = λ off. omega (arith, r .eligible off); some-to-go = omega arith; to-go-le = omega (arith, r .to-go-le) }))
+        (λ r. inr (record { it = r .it; is-first = r .is-first; is-notice = r .is-notice; some-to-go = omega arith; to-go-le = omega (arith, r .to-go-le) }))
+        k))
+        (S .silent-le) (λ n. ready-sound .silent-alone (omega arith))))

@@ -1,4 +1,4 @@
--- Read in this order: Words, Limits, Model, Admission, QuickTest, Service, SoundState, SoundTest, Calls, Runs, WithoutAverage, WithoutStandBy, WithoutWindows, Promises, TwoHubs, Examples, WorkedLimits, WorkedWindows.
+-- Read in this order: Words, Limits, Model, Admission, QuickTest, Service, SoundState, SoundTest, SoundLine, Calls, Runs, WithoutAverage, WithoutStandBy, WithoutWindows, Promises, TwoHubs, Examples, WorkedLimits, WorkedWindows.
 pub mod Words
 pub mod Limits
 pub mod Model
@@ -7,6 +7,7 @@ pub mod QuickTest
 pub mod Service
 pub mod SoundState
 pub mod SoundTest
+pub mod SoundLine
 pub mod Calls
 pub mod Runs
 pub mod WithoutAverage

@@ -12,7 +12,7 @@ use Rattle.rules.specs.Limits.{max-levels, max-largest, max-silence, max
 use Rattle.rules.specs.Model.{Link, Connection, Past, Packet, State, Call, link, admit, offer, notice, close, tick, Short, no-short, Answer, no-windows, fresh, no-past, nth, past, figures, closed-at, with-clock, with-line}
 use Rattle.rules.specs.Admission.{rising, cost, link-within, level-within, burst, stamped, average-within, figures-within, owned, stands, joining, windowed, windows-within, window, bound, largest-bound, charge-time, rounded-up, count, reservation, reserved, stand-by-on, distance, ahead, conditions, span, limit-at, level-sum, Level-holds, excess-from, excess, level-test}
 use Rattle.rules.specs.QuickTest.{quick-holds, quick-excess, quick-test}
-use Rattle.rules.specs.Service.{nth-before, next-eligibility, suits, untimely-by, Spaced, of, eligibilities, first, stand-by, line-after-start, started, tick-answer, ticked, charge-over}
+use Rattle.rules.specs.Service.{nth-before, next-eligibility, suits, untimely-by, Spaced, of, eligibilities, first, chosen, stand-by, wire, wire-tick, line-after-start, started, tick-answer, moves-on, ticked, charge-over}
 use Rattle.rules.specs.SoundState.{Queue, In-service, Sound}
 use Rattle.rules.specs.SoundTest.{latest-by-gap, latest, sound}
 use Rattle.rules.specs.Calls.{heard, answer, refused-number, eligibility-now, packet}
@@ -62,6 +62,10 @@ Notices-fit = (s : State) → Sound s → length (s .notices) ≤ max-notices
 -- a notice comes into service only where no held packet is eligible (document 02, R-1)
 abbrev pub Notices-come-last : Type 0
 Notices-come-last = (s : State) → Sound s → s .to-go ≡ 0 → started s .serving ≡ notice-number → All (λ p. s .clock < p .eligibility) (s .held)
+
+-- the tick is one tick of the line that both disciplines share (document 02, R-13), with the hub's own choice and the packet that stands by
+abbrev pub The-same-line : Type 0
+The-same-line = (s : State) → ticked s ≡ wire-tick (s .link .silence) (moves-on s) (chosen s) (stand-by s) (wire s)
 
 -- verdict 15 comes after 13: it is given only while the clock runs
 abbrev pub Fifteen-after-thirteen : Type 0

@@ -1,4 +1,4 @@
--- When a packet may go, which goes next, and one tick of the line. Document 01, "Eligibility" and "One tick"; document 02, R-1, R-4, R-6, R-8, R-9 and R-11.
+-- When a packet may go, which goes next, and one tick of the line. Document 01, "Eligibility" and "One tick"; document 02, R-1, R-4, R-6, R-8, R-9, R-11 and R-13.
 use Prim.Native.Nat.{ℕ, zero, suc, _+_, _-_, _≤_, max}
 use mathlib.Core.Bool.{Bool, true, false, cond, not, _&&_, _||_}
 use mathlib.Core.List.{List, [], _∷_, map}
@@ -125,11 +125,23 @@ early-at s c = goes-early (s .link) (figures s c)
 abbrev pub stand-by : State → Option Packet
 stand-by s = first-early (early-at s) (s .held)
 
--- ---- "One tick", the three steps
+-- ---- the line and what waits for it, whatever the discipline: what is next, and what is made of a tick, is left open (document 02, R-13)
 
--- the state one tick later, with the packets held, the notices and the line given anew
-abbrev pub later : State → List Packet → List Notice → ℕ → ℕ → ℕ → State
-later s held notices serving to-go silent = with-line (with-notices (with-held (with-clock s (s .clock + 1)) held) notices) serving to-go silent
+-- `held` and `notices` in the order offered; the packet in service is the first held one of connection `serving`, or the first notice where that is their number; `to-go`
+-- its units to go, 0 while nothing is in service; `silent` the silence still to run, in ticks
+pub record Wire : Type 0 where
+  pub held : List Packet
+  pub notices : List Notice
+  pub serving : ℕ
+  pub to-go : ℕ
+  pub silent : ℕ
+
+-- with something in service, and with nothing
+abbrev pub on-line : Wire → ℕ → ℕ → Wire
+on-line w serving to-go = record { held = w .held; notices = w .notices; serving = serving; to-go = to-go; silent = w .silent }
+
+abbrev pub free-line : List Packet → List Notice → ℕ → Wire
+free-line held notices silent = record { held = held; notices = notices; serving = 0; to-go = 0; silent = silent }
 
 -- the line takes a packet whole: the chosen one; where no held one is eligible the first notice, "in the order offered"; where none waits the packet that stands
 -- by (document 02, R-11); where there is none it stays idle
@@ -139,12 +151,59 @@ takes none (n ∷ ns) o = (notice-number, n .len)
 takes none [] (some p) = (p .connection, p .len)
 takes none [] none = (0, 0)
 
--- 1. an idle line takes the chosen packet; nothing interrupts one that is in service, and none starts before the silence has run. Given the units to go
--- and the silence: the line then
+-- "One tick", 1. an idle line takes what is next, o chosen and b standing by; nothing interrupts what is in service, and nothing starts before the silence has run.
+-- Given the units to go and the silence: the line then
+abbrev pub begins : Option Packet → Option Packet → Wire → ℕ → ℕ → ℕ × ℕ
+begins o b w zero zero = takes o (w .notices) b
+begins o b w zero (suc q) = (w .serving, 0)
+begins o b w (suc u) q = (w .serving, suc u)
+
+abbrev pub begun : Option Packet → Option Packet → Wire → Wire
+begun o b w = let l = begins o b w (w .to-go) (w .silent) in on-line w (l .0) (l .1)
+
+-- 2. a unit of what is in service goes; with its last unit it departs, its row is removed, and the link's silence q is still to run. Where nothing is in
+-- service a tick of the silence runs, if one is left. `tell`: what is made of it, given the packet that departs, if one does, and the line then
+module _ {A : Type 0} (q : ℕ) (tell : Option Packet → Wire → A) where
+  abbrev pub packet-leaves : Wire → A
+  packet-leaves w = tell (first (w .serving) (w .held)) (free-line (without (w .serving) (w .held)) (w .notices) q)
+
+  abbrev pub notice-leaves : Wire → List Notice → A
+  notice-leaves w [] = tell none (free-line (w .held) [] q)
+  notice-leaves w (n ∷ ns) = tell (some (notice-packet n)) (free-line (w .held) ns q)
+
+  abbrev pub sends : Wire → ℕ → A
+  sends w zero = tell none (free-line (w .held) (w .notices) (w .silent - 1))
+  sends w (suc zero) = cond (eqb (w .serving) notice-number) (notice-leaves w (w .notices)) (packet-leaves w)
+  sends w (suc (suc u)) = tell none (on-line w (w .serving) (suc u))
+
+  -- both
+  abbrev pub wire-tick : Option Packet → Option Packet → Wire → A
+  wire-tick o b w = sends (begun o b w) (begun o b w .to-go)
+
+-- the line k ticks on, where nothing starts and nothing departs in them: what is in service, if anything is, has k units fewer to go, and a silence k ticks
+abbrev pub passed-wire : Wire → ℕ → Wire
+passed-wire w k = record { held = w .held; notices = w .notices; serving = w .serving; to-go = w .to-go - k; silent = w .silent - k }
+
+-- what step 2 gives, by itself
+pub record Sent : Type 0 where
+  pub departed : Option Packet
+  pub wire : Wire
+
+abbrev pub sent : Option Packet → Wire → Sent
+sent o w = record { departed = o; wire = w }
+
+-- ---- "One tick" of the hub, the three steps (`The-same-line`, Promises: it is `wire-tick` with the hub's choice)
+
+abbrev pub wire : State → Wire
+wire s = record { held = s .held; notices = s .notices; serving = s .serving; to-go = s .to-go; silent = s .silent }
+
+-- the state one tick later, with the packets held, the notices and the line given anew
+abbrev pub later : State → List Packet → List Notice → ℕ → ℕ → ℕ → State
+later s held notices serving to-go silent = with-line (with-notices (with-held (with-clock s (s .clock + 1)) held) notices) serving to-go silent
+
+-- 1. given the units to go and the silence: the line then
 abbrev pub line-after-start : State → ℕ → ℕ → ℕ × ℕ
-line-after-start s zero zero = takes (chosen s) (s .notices) (stand-by s)
-line-after-start s zero (suc q) = (s .serving, 0)
-line-after-start s (suc u) q = (s .serving, suc u)
+line-after-start s u q = begins (chosen s) (stand-by s) (wire s) u q
 
 abbrev pub started : State → State
 started s = let l = line-after-start s (s .to-go) (s .silent) in with-line s (l .0) (l .1) (s .silent)
@@ -153,19 +212,19 @@ started s = let l = line-after-start s (s .to-go) (s .silent) in with-line s (l 
 abbrev pub tick-answer : Option Packet → State → Answer
 tick-answer o s = record { verdict = 0; number = 0; short = no-short; departed = o; next = s }
 
--- 2. a unit of what is in service goes; with its last unit it departs, its row is removed, and the link's silence is still to run. Where nothing is in
--- service a tick of the silence runs, if one is left. 3. the clock moves on
+-- 3. the clock moves on
+abbrev pub moves-on : State → Option Packet → Wire → Answer
+moves-on s o w = tick-answer o (later s (w .held) (w .notices) (w .serving) (w .to-go) (w .silent))
+
+-- 2. and 3.
 abbrev pub packet-departs : State → Answer
-packet-departs s = tick-answer (first (s .serving) (s .held)) (later s (without (s .serving) (s .held)) (s .notices) 0 0 (s .link .silence))
+packet-departs s = packet-leaves (s .link .silence) (moves-on s) (wire s)
 
 abbrev pub notice-departs : State → List Notice → Answer
-notice-departs s [] = tick-answer none (later s (s .held) [] 0 0 (s .link .silence))
-notice-departs s (n ∷ ns) = tick-answer (some (notice-packet n)) (later s (s .held) ns 0 0 (s .link .silence))
+notice-departs s ns = notice-leaves (s .link .silence) (moves-on s) (wire s) ns
 
 abbrev pub after-unit : State → ℕ → Answer
-after-unit s zero = tick-answer none (later s (s .held) (s .notices) 0 0 (s .silent - 1))
-after-unit s (suc zero) = cond (eqb (s .serving) notice-number) (notice-departs s (s .notices)) (packet-departs s)
-after-unit s (suc (suc u)) = tick-answer none (later s (s .held) (s .notices) (s .serving) (suc u) (s .silent))
+after-unit s u = sends (s .link .silence) (moves-on s) (wire s) u
 
 abbrev pub ticked : State → Answer
 ticked s = after-unit (started s) (started s .to-go)

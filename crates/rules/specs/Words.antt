@@ -39,6 +39,11 @@ module _ {A : Type 0} where
   Pairs R [] = Unit {0}
   Pairs R (x ∷ xs) = All (R x) xs × Pairs R xs
 
+  -- w of each element, added up
+  abbrev pub total : (A → ℕ) → List A → ℕ
+  total w [] = 0
+  total w (x ∷ xs) = w x + total w xs
+
   -- the test f of each element
   abbrev pub each : (A → Bool) → List A → Bool
   each f [] = true

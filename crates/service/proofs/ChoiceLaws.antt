@@ -15,8 +15,9 @@ use Rattle.rules.specs.Service.{goes-first, better, choice}
 use Rattle.rules.proofs.Tests.{and-true, and-cases, or-cases, or-false, not-true-false, not-false-true}
 use Rattle.tables.specs.Places.{rows, row-at, no-packet}
 use Rattle.tables.proofs.PlacesLaws.{rows-from}
-use Rattle.service.specs.declared.Best.{Best}
-use Rattle.service.specs.Candidates.{option, best-of, candidate, leader, Not-eligible}
+use Rattle.line.specs.declared.Best.{Best}
+use Rattle.line.specs.Wires.{option}
+use Rattle.service.specs.Candidates.{best-of, candidate, leader, Not-eligible}
 
 -- what was given is read back
 pub option-back : (o : Option Packet) → option (best-of o) ≡ o

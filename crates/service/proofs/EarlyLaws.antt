@@ -17,7 +17,7 @@ use Rattle.rules.proofs.Figures.{never-off}
 use Rattle.tables.specs.Places.{rows, row-at, no-packet}
 use Rattle.tables.proofs.PlacesLaws.{rows-from}
 use Rattle.connections.specs.Members.{connections-in}
-use Rattle.service.specs.declared.Best.{Best}
+use Rattle.line.specs.declared.Best.{Best}
 use Rattle.service.specs.Candidates.{best-of, early-in}
 
 module _ (may : ℕ → Bool) (t : List ℕ) where

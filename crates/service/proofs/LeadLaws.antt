@@ -11,9 +11,10 @@ use borrow.Author.Tests.{ltb-true, ltb-false}
 use Rattle.rules.specs.declared.Packet.{Packet}
 use Rattle.rules.proofs.Tests.{never}
 use Rattle.tables.specs.Places.{row-at}
-use Rattle.service.specs.declared.Best.{Best}
+use Rattle.line.specs.declared.Best.{Best}
 use Rattle.service.specs.declared.Lead.{Lead}
-use Rattle.service.specs.Candidates.{option, best-of, candidate, leader, level-in, named, Leads, Leads-with, Not-eligible}
+use Rattle.line.specs.Wires.{option}
+use Rattle.service.specs.Candidates.{best-of, candidate, leader, level-in, named, Leads, Leads-with, Not-eligible}
 use Rattle.service.proofs.ChoiceLaws as L
 
 module _ (t : List ℕ) (l : Lead) where

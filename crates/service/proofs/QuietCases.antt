@@ -11,7 +11,6 @@ use lib.Seq.{drop-length}
 use borrow.Author.Tests.{leb-true, eq-eqb, ne-eqb}
 use Rattle.rules.specs.Limits.{clock-end, beyond-32-bits}
 use Rattle.rules.specs.declared.Packet.{Packet}
-use Rattle.rules.specs.declared.Notice.{Notice}
 use Rattle.rules.specs.Model.{State}
 use Rattle.rules.specs.Admission.{charge-time}
 use Rattle.rules.specs.Service.{stand-by}
@@ -20,17 +19,14 @@ use Rattle.rules.proofs.Tests.{never}
 use Rattle.rules.proofs.Figures.{charge-le}
 use Rattle.rules.proofs.SoundExact.{exact}
 use Rattle.connections.specs.Members.{first-closed}
-use Rattle.tables.specs.Places.{rows, row-at}
+use Rattle.tables.specs.Places.{rows, row-at, is-some}
 use Rattle.tables.proofs.PlacesLaws.{rows-stop, rows-more, rows-from}
-use Rattle.state.specs.Told.{is-some}
-use Rattle.service.specs.Quiet.{first-eligible, least-of-four, Waits, first-starts, quiet-for, charged-for, quiet-ticks}
+use Rattle.line.specs.Quiet.{eligible-from, quiet-for}
+use Rattle.line.proofs.QuietLaws.{eligible-from-le}
+use Rattle.service.specs.Quiet.{least-of-four, Waits, first-starts, charged-for, quiet-ticks}
 use Rattle.service.proofs.QuietLaws.{Quiets, quiets}
 
 -- ---- the first eligibility, row by row
-
-pub first-eligible-le : (ps : List Packet) → first-eligible ps ≤ clock-end
-first-eligible-le [] = omega arith
-first-eligible-le (p ∷ ps) = omega (arith, first-eligible-le ps)
 
 -- four eligibilities, as the code reads them
 pub least-read : (t : List ℕ) (i : ℕ) {a b r : ℕ} → a ≡ min (getD t (5 * i + 4) 0) (getD t (5 * i + 9) 0) → b ≡ min (getD t (5 * i + 14) 0) (getD t (5 * i + 19) 0) → r ≡ min a b → r ≡ least-of-four t i
@@ -47,28 +43,28 @@ least-of-five : (a b c d r : ℕ) → min a (min b (min c (min d r))) ≡ min (m
 least-of-five a b c d r = sym (least-of-three (min a b) (min c d) r ∙ least-of-three a b (min (min c d) r) ∙ ap (λ (k : ℕ). min a (min b k)) (least-of-three c d r))
 
 module _ (t : List ℕ) where
-  next-row : (i j : ℕ) → i < length (rows t) → j ≡ i + 1 → first-eligible (drop i (rows t)) ≡ min (row-at t i .eligibility) (first-eligible (drop j (rows t)))
-  next-row i j h e = let k : j ≡ suc i = omega arith in rw k (ap first-eligible (rows-from t i h))
+  next-row : (i j : ℕ) → i < length (rows t) → j ≡ i + 1 → eligible-from (drop i (rows t)) ≡ min (row-at t i .eligibility) (eligible-from (drop j (rows t)))
+  next-row i j h e = let k : j ≡ suc i = omega arith in rw k (ap eligible-from (rows-from t i h))
 
   abbrev e : ℕ → ℕ
   e j = row-at t j .eligibility
 
   -- .. and the next four
-  next-four : (i : ℕ) → i + 4 ≤ length (rows t) → first-eligible (drop i (rows t)) ≡ min (least-of-four t i) (first-eligible (drop (i + 4) (rows t)))
+  next-four : (i : ℕ) → i + 4 ≤ length (rows t) → eligible-from (drop i (rows t)) ≡ min (least-of-four t i) (eligible-from (drop (i + 4) (rows t)))
   next-four i h =
       next-row i (i + 1) (omega arith) refl
       ∙ ap (min (e i)) (next-row (i + 1) (i + 2) (omega arith) (omega arith))
       ∙ ap (λ (k : ℕ). min (e i) (min (e (i + 1)) k)) (next-row (i + 2) (i + 3) (omega arith) (omega arith))
       ∙ ap (λ (k : ℕ). min (e i) (min (e (i + 1)) (min (e (i + 2)) k))) (next-row (i + 3) (i + 4) (omega arith) (omega arith))
-      ∙ least-of-five (e i) (e (i + 1)) (e (i + 2)) (e (i + 3)) (first-eligible (drop (i + 4) (rows t)))
+      ∙ least-of-five (e i) (e (i + 1)) (e (i + 2)) (e (i + 3)) (eligible-from (drop (i + 4) (rows t)))
 
   module _ (clock : ℕ) where
     pub waits-none : Waits t clock clock-end 0
-    waits-none = omega (arith, first-eligible-le (rows t))
+    waits-none = omega (arith, eligible-from-le (rows t))
 
     -- rows are taken in of which x is the least eligibility
-    taken-in : (i j first x : ℕ) → first-eligible (drop i (rows t)) ≡ min x (first-eligible (drop j (rows t))) → Waits t clock first i → Waits t clock (min first x) j
-    taken-in i j first x e w = ap (λ (k : ℕ). k - clock) (least-of-three first x (first-eligible (drop j (rows t))) ∙ ap (min first) (sym e)) ∙ w
+    taken-in : (i j first x : ℕ) → eligible-from (drop i (rows t)) ≡ min x (eligible-from (drop j (rows t))) → Waits t clock first i → Waits t clock (min first x) j
+    taken-in i j first x e w = ap (λ (k : ℕ). k - clock) (least-of-three first x (eligible-from (drop j (rows t))) ∙ ap (min first) (sym e)) ∙ w
 
     pub waits-more : (i first : ℕ) → i < length (rows t) → Waits t clock first i → Waits t clock (min first (row-at t i .eligibility)) (i + 1)
     waits-more i first h = taken-in i (i + 1) first (row-at t i .eligibility) (next-row i (i + 1) h refl)
@@ -87,9 +83,9 @@ module _ (t : List ℕ) where
     waits-now first i k l w = omega arith
 
     -- at the end
-    pub waits-all : (first i : ℕ) → first ≤ clock-end → i ≡ length (rows t) → Waits t clock first i → first - clock ≡ first-eligible (rows t) - clock
+    pub waits-all : (first i : ℕ) → first ≤ clock-end → i ≡ length (rows t) → Waits t clock first i → first - clock ≡ eligible-from (rows t) - clock
     waits-all first i l e w =
-        let k : first-eligible (drop i (rows t)) ≡ clock-end = rw e (ap first-eligible (drop-length (rows t))) in
+        let k : eligible-from (drop i (rows t)) ≡ clock-end = rw e (ap eligible-from (drop-length (rows t))) in
         omega arith
 
 -- ---- the first row by itself
@@ -106,62 +102,26 @@ module _ (t : List ℕ) (clock : ℕ) where
   first-is l n = ap (λ (ps : List Packet). first-starts ps clock) (rows-from t 0 (rows-more t 0 l n (omega arith)))
 
 -- where it is eligible, there is nothing to wait for
-first-now : (ps : List Packet) (clock : ℕ) → first-starts ps clock ≡ true → 0 ≡ first-eligible ps - clock
+first-now : (ps : List Packet) (clock : ℕ) → first-starts ps clock ≡ true → 0 ≡ eligible-from ps - clock
 first-now [] clock e = never e
 first-now (p ∷ ps) clock e = omega (arith, leb-true (p .eligibility) clock e)
 
--- ---- the line
+-- ---- an idle line without notices
 
-module _ (u silent : ℕ) (held : List Packet) (ns : List Notice) (o : Option Packet) (clock : ℕ) where
-  pub in-service-for : (u ≡ 0 → ⊥) → u - 1 ≡ quiet-for u silent held ns o clock
-  in-service-for n = go u n
-    where
-      go : (v : ℕ) → (v ≡ 0 → ⊥) → v - 1 ≡ quiet-for v silent held ns o clock
-      go zero n = absurd (n refl)
-      go (suc v) n = omega arith
+module _ (held : List Packet) (clock : ℕ) where
+  -- the first packet starts at once, where it is eligible
+  pub packet-waits : (o : Option Packet) → first-starts held clock ≡ true → 0 ≡ quiet-for 0 0 held [] o clock
+  packet-waits none e = first-now held clock e
+  packet-waits (some p) e = refl
 
-  -- the rest of a silence
-  pub silent-for : u ≡ 0 → (silent ≡ 0 → ⊥) → silent ≡ quiet-for u silent held ns o clock
-  silent-for z n = rw z (go silent n)
-    where
-      go : (q : ℕ) → (q ≡ 0 → ⊥) → q ≡ quiet-for 0 q held ns o clock
-      go zero n = absurd (n refl)
-      go (suc q) n = refl
+  -- .. and so does one that stands by
+  pub stands-by-now : (o : Option Packet) → is-some o ≡ true → 0 ≡ quiet-for 0 0 held [] o clock
+  stands-by-now none e = never e
+  stands-by-now (some p) e = refl
 
-  -- a notice that waits starts at once
-  pub notice-waits : u ≡ 0 → silent ≡ 0 → (length ns ≡ 0 → ⊥) → 0 ≡ quiet-for u silent held ns o clock
-  notice-waits z y n = rw (z, y) (go ns n)
-    where
-      go : (ms : List Notice) → (length ms ≡ 0 → ⊥) → 0 ≡ quiet-for 0 0 held ms o clock
-      go [] n = absurd (n refl)
-      go (m ∷ ms) n = refl
-
-  module _ (z : u ≡ 0) (y : silent ≡ 0) (n : length ns ≡ 0) where
-    -- so does the first packet, where it is eligible
-    pub packet-waits : first-starts held clock ≡ true → 0 ≡ quiet-for u silent held ns o clock
-    packet-waits e = rw (z, y) (go ns n o)
-      where
-        go : (ms : List Notice) → length ms ≡ 0 → (b : Option Packet) → 0 ≡ quiet-for 0 0 held ms b clock
-        go [] l none = first-now held clock e
-        go [] l (some p) = refl
-        go (m ∷ ms) l b = absurd (omega arith)
-
-    -- .. and one that stands by
-    pub stands-by-now : is-some o ≡ true → 0 ≡ quiet-for u silent held ns o clock
-    stands-by-now e = rw (z, y) (go ns n o e)
-      where
-        go : (ms : List Notice) → length ms ≡ 0 → (b : Option Packet) → is-some b ≡ true → 0 ≡ quiet-for 0 0 held ms b clock
-        go [] l none e = never e
-        go [] l (some p) e = refl
-        go (m ∷ ms) l b e = absurd (omega arith)
-
-    pub idle-for : is-some o ≡ false → first-eligible held - clock ≡ quiet-for u silent held ns o clock
-    idle-for e = rw (z, y) (go ns n o e)
-      where
-        go : (ms : List Notice) → length ms ≡ 0 → (b : Option Packet) → is-some b ≡ false → first-eligible held - clock ≡ quiet-for 0 0 held ms b clock
-        go [] l none e = refl
-        go [] l (some p) e = never (sym e)
-        go (m ∷ ms) l b e = absurd (omega arith)
+  pub idle-for : (o : Option Packet) → is-some o ≡ false → eligible-from held - clock ≡ quiet-for 0 0 held [] o clock
+  idle-for none e = refl
+  idle-for (some p) e = never (sym e)
 
 -- ---- those that are passed over
 

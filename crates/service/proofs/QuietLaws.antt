@@ -4,20 +4,17 @@ use native.Mathlib.Omega.{arith}
 use mathlib.Core.Path.{_≡_, refl, sym, subst}
 use mathlib.Core.Bool.{Bool, true, false, not, cond, _&&_}
 use mathlib.Core.List.{List, [], _∷_}
-use mathlib.Core.Logic.{_⊎_, inl, inr}
-use mathlib.Core.Option.{Option, none, some}
+use mathlib.Core.Logic.{inl, inr}
+use mathlib.Core.Option.{none}
 use lib.Dec.{eqb}
 use lib.ListN.{length, getD}
 use borrow.Author.Tests.{lt-leb, eqb-false, not-true}
-use Rattle.rules.specs.Words.{All}
 use Rattle.rules.specs.Limits.{clock-end}
-use Rattle.rules.specs.declared.Packet.{Packet}
-use Rattle.rules.specs.declared.Notice.{Notice}
 use Rattle.rules.specs.Model.{Past, State, tick, Answer, past, closed-at}
 use Rattle.rules.specs.Admission.{charge-time}
 use Rattle.rules.specs.SoundState.{Sound-with-link, Sound}
 use Rattle.rules.specs.SoundTest.{sound}
-use Rattle.rules.specs.Service.{stand-by, tick-answer, charge-over}
+use Rattle.rules.specs.Service.{stand-by, wire, tick-answer, charge-over}
 use Rattle.rules.specs.Calls.{answer}
 use Rattle.rules.specs.Promises.{Quiet-line, Nobody-freed}
 use Rattle.rules.proofs.Tests.{never, and-true}
@@ -28,16 +25,9 @@ use Rattle.rules.proofs.SoundKept.{kept}
 use Rattle.rules.proofs.Quiet.{quiet-passes}
 use Rattle.connections.specs.Members.{last-of, first-closed}
 use Rattle.connections.proofs.ClosingLaws.{first-before}
-use Rattle.service.specs.Quiet.{passed, first-eligible, quiet-for, charged-for, quiet-ticks}
-
--- none of some packets is eligible before the tick t
-abbrev None-before : ℕ → List Packet → Type 0
-None-before t ps = All (λ p. t ≤ p .eligibility) ps
-
--- for k ticks the line is idle, no packet is eligible, no notice waits and no packet stands by, or the line is silent, or something is in service and keeps a unit
--- to go
-abbrev Still : State → ℕ → Type 0
-Still s k = ((s .to-go ≡ 0) × (s .silent ≡ 0) × None-before (s .clock + k) (s .held) × (s .notices ≡ []) × (stand-by s ≡ none)) ⊎ (((s .to-go ≡ 0) × (k ≤ s .silent)) ⊎ (k < s .to-go))
+use Rattle.line.specs.Quiet.{quiet-for}
+use Rattle.line.proofs.QuietLaws.{Still, still-for, still-then}
+use Rattle.service.specs.Quiet.{passed, charged-for, quiet-ticks}
 
 -- for k ticks no charge ends: each that is closed has sent, and its time lies behind them
 abbrev Charged : State → ℕ → Type 0
@@ -48,7 +38,7 @@ pub record Quiet (s : State) (k : ℕ) : Type 0 where
   pub sound-state : Sound s
   pub set : s .link .levels ≡ 0 → ⊥
   pub in-time : s .clock + k ≤ clock-end
-  pub still : Still s k
+  pub still : Still (s .clock) (stand-by s) (wire s) k
   pub charged : Charged s k
 
 -- ---- one tick
@@ -59,7 +49,7 @@ quiet-answer s = tick-answer none (passed s 1)
 
 module _ (s : State) (k : ℕ) (Q : Quiet s (suc k)) where
   -- the first of them is a quiet tick of the rules
-  line-quiet : Still s (suc k) → Quiet-line s
+  line-quiet : Still (s .clock) (stand-by s) (wire s) (suc k) → Quiet-line s
   line-quiet (inl (z, y, h, n, o)) = inr (inr (z, y, n, all-map (λ p b. omega arith) (s .held) h, o))
   line-quiet (inr (inl (z, l))) = inr (inl (z, omega arith))
   line-quiet (inr (inr l)) = inl (omega arith)
@@ -74,17 +64,12 @@ module _ (s : State) (k : ℕ) (Q : Quiet s (suc k)) where
   pub one-quiet-tick : answer tick s ≡ quiet-answer s
   one-quiet-tick = quiet-passes s (Q .sound-state) (Q .set) (omega (arith, Q .in-time)) (line-quiet (Q .still)) nobody-freed
 
-  still-then : Still s (suc k) → Still (passed s 1) k
-  still-then (inl (z, y, h, n, o)) = inl (omega arith, omega arith, all-map (λ p b. omega arith) (s .held) h, n, o)
-  still-then (inr (inl (z, l))) = inr (inl (omega arith, omega arith))
-  still-then (inr (inr l)) = inr (inr (omega arith))
-
   pub quiet-then : Quiet (passed s 1) k
   quiet-then = record {
     sound-state = subst (λ (a : Answer). Sound (a .next)) one-quiet-tick (kept tick s (Q .sound-state));
     set = Q .set;
     in-time = omega (arith, Q .in-time);
-    still = still-then (Q .still);
+    still = still-then (s .clock) (stand-by s) (wire s) k (Q .still);
     charged = λ c e. let q = Q .charged c e in (q .0, omega (arith, q .1));
   }
 
@@ -106,23 +91,7 @@ pass-one-more s k =
 
 -- ---- those that are passed over at once
 
--- the first eligibility is no later than any
-all-later : (t : ℕ) (ps : List Packet) → t ≤ first-eligible ps → None-before t ps
-all-later t [] h = tt
-all-later t (p ∷ ps) h = (omega arith, all-later t ps (omega arith))
-
-still-for : (s : State) (k : ℕ) → 0 < k → k ≤ quiet-for (s .to-go) (s .silent) (s .held) (s .notices) (stand-by s) (s .clock) → Still s k
-still-for s k p h = go (s .to-go) refl (s .silent) refl (s .notices) refl (stand-by s) refl h
-  where
-    go : (u : ℕ) → s .to-go ≡ u → (q : ℕ) → s .silent ≡ q → (ns : List Notice) → s .notices ≡ ns → (o : Option Packet) → stand-by s ≡ o
-        → k ≤ quiet-for u q (s .held) ns o (s .clock) → Still s k
-    go zero e zero f [] i none j l = inl (e, f, all-later (s .clock + k) (s .held) (omega arith), i, j)
-    go zero e zero f [] i (some r) j l = absurd (omega arith)
-    go zero e zero f (n ∷ ns) i o j l = absurd (omega arith)
-    go zero e (suc q) f ns i o j l = inr (inl (e, omega arith))
-    go (suc u) e q f ns i o j l = inr (inr (omega arith))
-
--- .. and no charge ends in them
+-- no charge ends in them
 charged-still : (s : State) (k : ℕ) → Sound-with-link s → 0 < k → k ≤ charged-for (first-closed (s .pasts) (s .closed)) (charge-time (s .link)) (s .clock) → Charged s k
 charged-still s k S p h c e =
     let l : c < length (s .closed) = marked-below (s .closed) c e in
@@ -164,7 +133,7 @@ quiets left s n = go (sound s && not (eqb (s .link .levels) 0)) refl n
             sound-state = exact s .0 (a .0);
             set = set;
             in-time = omega arith;
-            still = still-for s k (omega arith) (omega arith);
+            still = still-for (s .clock) (stand-by s) (wire s) k (omega arith) (omega arith);
             charged = charged-still s k (exact s .0 (a .0) .with-one set) (omega arith) (omega arith);
           };
         }

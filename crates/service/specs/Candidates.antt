@@ -10,11 +10,13 @@ use Rattle.rules.specs.declared.Link.{Link}
 use Rattle.rules.specs.declared.Packet.{Packet}
 use Rattle.rules.specs.Model.{nth}
 use Rattle.rules.specs.Admission.{goes-early}
-use Rattle.rules.specs.Service.{better}
+use Rattle.rules.specs.Service.{better, takes}
 use Rattle.tables.specs.Places.{row-at}
+use Rattle.tables.specs.Notices.{notices-in}
 use Rattle.connections.specs.Members.{connections-in}
 use Rattle.state.specs.Told.{is-some, packet-or-unused}
-use Rattle.service.specs.declared.Best.{Best}
+use Rattle.line.specs.declared.Best.{Best}
+use Rattle.line.specs.Wires.{option}
 use Rattle.service.specs.declared.Lead.{Lead}
 
 -- the level of connection c, by the table of connections
@@ -29,9 +31,9 @@ early-in l cs c = goes-early l (nth (connections-in cs) c)
 abbrev pub best-of : Option Packet → Best
 best-of o = record { found = is-some o; packet = packet-or-unused o }
 
--- .. and as it is read
-abbrev pub option : Best → Option Packet
-option b = cond (b .found) (some (b .packet)) none
+-- with d in the place of o, the packet that stands by, the line takes the same
+abbrev pub Stands-in : Best → List ℕ → Option Packet → Best → Type 0
+Stands-in chosen q o d = _≡_ {A = ℕ × ℕ} (takes (option chosen) (notices-in q) (option d)) (takes (option chosen) (notices-in q) o)
 
 -- p among "held packets with eligibility at most t"
 abbrev pub candidate : ℕ → Packet → Option Packet

@@ -4,27 +4,21 @@ use Prim.Native.Nat.{ℕ, zero, suc, _+_, _-_, min}
 use mathlib.Core.Path.{_≡_}
 use mathlib.Core.Bool.{Bool, false, not, cond, _&&_}
 use mathlib.Core.List.{List, [], _∷_}
-use mathlib.Core.Option.{Option, none, some}
 use lib.Dec.{eqb, leb}
 use lib.ListN.{drop}
 use Rattle.rules.specs.declared.Packet.{Packet}
-use Rattle.rules.specs.declared.Notice.{Notice}
 use Rattle.rules.specs.Limits.{clock-end}
 use Rattle.rules.specs.Model.{State, with-clock, with-line}
 use Rattle.rules.specs.Admission.{charge-time}
 use Rattle.rules.specs.Service.{stand-by}
 use Rattle.rules.specs.SoundTest.{sound}
 use Rattle.tables.specs.Places.{rows, row-at}
+use Rattle.line.specs.Quiet.{eligible-from, quiet-for}
 use Rattle.connections.specs.Members.{first-closed}
 
 -- the state k ticks on, where nothing starts and nothing departs in them: what is in service, if anything is, has k units fewer to go, and a silence k ticks
 abbrev pub passed : State → ℕ → State
 passed s k = with-line (with-clock s (s .clock + k)) (s .serving) (s .to-go - k) (s .silent - k)
-
--- the first tick at which one of some packets is eligible; the clock's end where that is earlier
-abbrev pub first-eligible : List Packet → ℕ
-first-eligible [] = clock-end
-first-eligible (p ∷ ps) = min (p .eligibility) (first-eligible ps)
 
 -- the least eligibility of four rows from row i on
 abbrev pub least-of-four : List ℕ → ℕ → ℕ
@@ -32,21 +26,12 @@ least-of-four t i = min (min (row-at t i .eligibility) (row-at t (i + 1) .eligib
 
 -- with `first` for the rows before row i, the wait is that of all rows
 abbrev pub Waits : List ℕ → ℕ → ℕ → ℕ → Type 0
-Waits t clock first i = min first (first-eligible (drop i (rows t))) - clock ≡ first-eligible (rows t) - clock
+Waits t clock first i = min first (eligible-from (drop i (rows t))) - clock ≡ eligible-from (rows t) - clock
 
 -- the first of some packets is eligible
 abbrev pub first-starts : List Packet → ℕ → Bool
 first-starts [] clock = false
 first-starts (p ∷ ps) clock = leb (p .eligibility) clock
-
--- the ticks in which nothing starts and nothing departs: until a packet is eligible, if no notice waits and no packet stands by, or the rest of a silence, or all
--- but the last unit of what is in service
-abbrev pub quiet-for : ℕ → ℕ → List Packet → List Notice → Option Packet → ℕ → ℕ
-quiet-for zero zero held [] none clock = first-eligible held - clock
-quiet-for zero zero held [] (some p) clock = 0
-quiet-for zero zero held (n ∷ ns) o clock = 0
-quiet-for zero (suc silent) held ns o clock = suc silent
-quiet-for (suc to-go) silent held ns o clock = to-go
 
 -- the ticks in which no charge ends: up to the one before the earliest end, which is the earliest last eligibility of those that are closed plus the time of a
 -- charge; `first` is one more than that eligibility, and 0 where none is closed

@@ -4,31 +4,25 @@ pub mod quiet; // quiet.rt: ticks in which nothing starts, nothing departs and n
 
 ghost use mathlib.Core.Path.{_≡_};
 ghost use mathlib.Core.Bool.{true};
-ghost use mathlib.Core.List.{List};
-ghost use Prim.Native.Nat.{ℕ, _+_, _*_, _-_, _<_, _≤_};
-ghost use Rattle.rules.specs.Limits.{clock-end, notice-number};
-ghost use Rattle.rules.specs.Model.{with-line};
-ghost use Rattle.rules.specs.Service.{choice, first-early, started, after-unit, ticked};
+ghost use Prim.Native.Nat.{ℕ, _+_, _*_, _<_, _≤_};
+ghost use Rattle.rules.specs.Limits.{clock-end};
+ghost use Rattle.rules.specs.Service.{choice, first-early, ticked};
 ghost use lib.ListN.{length};
 ghost use Rattle.tables.specs.Places.{rows, written-places, places-length};
 ghost use Rattle.connections.specs.Members.{members-length};
-ghost use Rattle.service.specs.Candidates.{best-of, level-in, early-in, Leads, Leads-with, Not-eligible};
-ghost use Rattle.state.specs.View.{Tables, tables, before, view, hub-of};
-ghost use Rattle.service.specs.Gives.{passed-on, Gives};
-ghost use Rattle.service.specs.Ready.{In-place, Ready};
+ghost use Rattle.service.specs.Candidates.{best-of, level-in, early-in, Stands-in, Leads, Leads-with, Not-eligible};
+ghost use Rattle.state.specs.View.{before, view};
+ghost use Rattle.service.specs.Gives.{begun-wire, passed-on, Gives};
+ghost use Rattle.service.specs.Ready.{wire-in, Ready};
 ghost use Rattle.tables.specs.Notices.{notices-formed};
-use limits::NOTICE_NUMBER;
 use limits::PACKET_WIDTH;
+use line::Best;
+use line::Sent;
+use line::Wire;
 use rules::Link;
 use rules::Packet;
 use state::Hub;
 use state::Told;
-
-// The packet that the line takes next, where one is found; else an unused row.
-pub struct Best {
-    pub found: bool,
-    pub packet: Packet,
-}
 
 // The best row of those walked so far, once one is found: its place, its connection's level and its eligibility, so that no row is read twice.
 pub struct Lead {
@@ -152,111 +146,66 @@ fn stand_by(l: Link, members: &[u32], places: &[u32]) -> Best
     }
 }
 
-// The hub with the line given anew.
-fn with_line(h: Hub, serving: u32, to_go: u32, silent: u32) -> Hub
-    ensures { λ r. ⌜ ((t : Tables) → r ≡ hub-of (with-line (view h t) serving «to_go» silent)) ⌝ }
+// The packet that stands by, looked for only where the line would take it: no packet is chosen and no notice waits.
+fn early_next(chosen: Best, l: Link, members: &[u32], places: &[u32], notices: &[u32]) -> Best
+    requires { ⌜ (now places ≡ written-places (rows (now places))) × (length (now places) ≡ places-length) × (length (now members) ≡ members-length) ⌝ }
+    ensures { λ r. ⌜ Stands-in chosen (now (notices .entry)) (first-early (early-in l (now (members .entry))) (rows (now (places .entry)))) r ⌝ }
 {
-    let mut g = h;
-    g.serving = serving;
-    g.to_go = to_go;
-    g.silent = silent;
-    g
-}
-
-// a less b, or 0 where b is more.
-pub fn without(a: u32, b: u32) -> u32
-    ensures { λ r. ⌜ r ≡ a - b ⌝ }
-{
-    if a < b {
-        return 0;
-    }
-    a - b
-}
-
-// Step 1: an idle line takes the chosen packet, else the first notice, else the packet that stands by. Nothing interrupts what is in service, and nothing
-// starts before the silence has run, so no row is looked at then.
-fn start(h: Hub, members: &[u32], places: &[u32], notices: &[u32]) -> Hub
-    requires { ⌜ (now places ≡ written-places (rows (now places))) × (length (now places) ≡ places-length) × (notices-formed (now notices) ≡ true) × (length (now members) ≡ members-length) ⌝ }
-    ensures { λ r. ⌜ r ≡ hub-of (started (view h (before members places notices))) ⌝ }
-{
-    if h.to_go != 0 {
-        return h;
-    }
-    if h.silent != 0 {
-        return h;
-    }
-    let best = choose(members, places, h.clock);
-    if best.found {
-        return with_line(h, best.packet.connection, best.packet.len, 0);
+    if chosen.found {
+        return chosen;
     }
     if !tables::none(notices) {
-        let first = tables::row(notices, 0);
-        return with_line(h, first.connection, first.len, 0);
+        return chosen;
     }
-    // where none stands by the packet is an unused row, and its zeros leave the line idle
-    let early = stand_by(h.link, members, places);
-    with_line(h, early.packet.connection, early.packet.len, 0)
+    stand_by(l, members, places)
+}
+
+// The hub's line.
+fn wire_in(h: Hub) -> Wire
+    ensures { λ r. ⌜ r ≡ wire-in h ⌝ }
+{
+    Wire {
+        serving: h.serving,
+        to_go: h.to_go,
+        silent: h.silent,
+    }
+}
+
+// Step 1: an idle line takes the chosen packet, else the first notice, else the packet that stands by. While something is in service or the silence runs no
+// row is looked at.
+fn start(h: Hub, members: &[u32], places: &[u32], notices: &[u32]) -> Wire
+    requires { ⌜ (now places ≡ written-places (rows (now places))) × (length (now places) ≡ places-length) × (notices-formed (now notices) ≡ true) × (length (now members) ≡ members-length) ⌝ }
+    ensures { λ r. ⌜ r ≡ begun-wire (view h (before members places notices)) ⌝ }
+{
+    let w = wire_in(h);
+    if !line::is_idle(w) {
+        return w;
+    }
+    let chosen = choose(members, places, h.clock);
+    let early = early_next(chosen, h.link, members, places, notices);
+    line::begin(w, chosen, early, notices)
 }
 
 // Step 3: the clock moves on. The answer is the departed packet or nothing.
-fn pass(g: Hub, gone: bool, packet: Packet) -> Told
-    requires { ⌜ g .clock < clock-end ⌝ }
-    ensures { λ r. ⌜ ((t : Tables) → r ≡ passed-on (view g t) gone packet) ⌝ }
+fn pass(h: Hub, x: Sent) -> Told
+    requires { ⌜ h .clock < clock-end ⌝ }
+    ensures { λ r. ⌜ r ≡ passed-on h x ⌝ }
 {
-    let mut later = g;
-    later.clock = g.clock + 1;
+    let w = x.wire;
+    let packet = x.packet;
+    let mut later = h;
+    later.clock = h.clock + 1;
+    later.serving = w.serving;
+    later.to_go = w.to_go;
+    later.silent = w.silent;
     Told {
         verdict: 0,
         number: 0,
         short: connections::no_short(),
-        gone: gone,
+        gone: x.gone,
         packet: packet,
         hub: later,
     }
-}
-
-// Step 2 at a last unit of a notice: it departs, its row is removed, and the link's silence is still to run.
-fn depart_notice(g: Hub, places: &[u32], notices: &mut [u32]) -> Told
-    requires { ⌜ In-place g (now places) (now notices) × (g .«to_go» ≡ 1) × (g .serving ≡ notice-number) ⌝ }
-    ensures { λ r. ⌜ ((m : List ℕ) → Gives (after-unit (view g (tables m (now (places .entry)) (now (notices .entry)))) 1) r (now (places .entry)) (now (notices .exit))) ⌝ }
-{
-    let waiting = tables::count(notices);
-    let p = tables::row(notices, 0);
-    tables::remove(notices, waiting, 0);
-    let idle = with_line(g, 0, 0, g.link.silence);
-    pass(idle, true, p)
-}
-
-// Step 2 at a last unit of a packet: the same.
-fn depart(g: Hub, places: &mut [u32], notices: &[u32]) -> Told
-    requires { ⌜ In-place g (now places) (now notices) × (g .«to_go» ≡ 1) × (g .serving ≡ notice-number → ⊥) ⌝ }
-    ensures { λ r. ⌜ ((m : List ℕ) → Gives (after-unit (view g (tables m (now (places .entry)) (now (notices .entry)))) 1) r (now (places .exit)) (now (notices .entry))) ⌝ }
-{
-    let held = tables::count(places);
-    let i = tables::find(places, held, g.serving);
-    let p = tables::row(places, i);
-    tables::remove(places, held, i);
-    let freed = with_line(g, 0, 0, g.link.silence);
-    pass(freed, true, p)
-}
-
-// Steps 2 and 3: a unit of what is in service goes, else a tick of the silence, and the clock moves on.
-fn send(g: Hub, places: &mut [u32], notices: &mut [u32]) -> Told
-    requires { ⌜ In-place g (now places) (now notices) ⌝ }
-    ensures { λ r. ⌜ ((m : List ℕ) → Gives (after-unit (view g (tables m (now (places .entry)) (now (notices .entry)))) (g .«to_go»)) r (now (places .exit)) (now (notices .exit))) ⌝ }
-{
-    if g.to_go == 0 {
-        let idle = with_line(g, 0, 0, without(g.silent, 1));
-        return pass(idle, false, tables::no_packet());
-    }
-    if g.to_go == 1 {
-        if g.serving == NOTICE_NUMBER {
-            return depart_notice(g, places, notices);
-        }
-        return depart(g, places, notices);
-    }
-    let sent = with_line(g, g.serving, g.to_go - 1, g.silent);
-    pass(sent, false, tables::no_packet())
 }
 
 // The three steps of a tick, on a hub that is ready for them.
@@ -264,6 +213,7 @@ pub fn run_tick(h: Hub, members: &[u32], places: &mut [u32], notices: &mut [u32]
     requires { ⌜ Ready h (now places) (now notices) × (length (now members) ≡ members-length) ⌝ }
     ensures { λ r. ⌜ Gives (ticked (view h (before members places notices))) r (now (places .exit)) (now (notices .exit)) ⌝ }
 {
-    let g = start(h, members, places, notices);
-    send(g, places, notices)
+    let w = start(h, members, places, notices);
+    let x = line::send(w, h.link.silence, places, notices);
+    pass(h, x)
 }

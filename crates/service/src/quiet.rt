@@ -12,22 +12,16 @@ ghost use Rattle.tables.specs.Notices.{notices-in};
 ghost use Rattle.connections.specs.Members.{members-length, first-in, members-formed};
 ghost use Rattle.state.specs.View.{Tables, given, before, view, hub-of};
 ghost use Rattle.service.specs.Candidates.{early-in};
-ghost use Rattle.service.specs.Quiet.{passed, first-eligible, least-of-four, Waits, first-starts, quiet-for, charged-for, quiet-ticks};
+ghost use Rattle.line.specs.Quiet.{eligible-from, quiet-for};
+ghost use Rattle.service.specs.Quiet.{passed, least-of-four, Waits, first-starts, charged-for, quiet-ticks};
 use super::stand_by;
-use super::without;
+use super::wire_in;
 use limits::CLOCK_END;
 use limits::PACKET_WIDTH;
+use limits::numbers::least;
+use limits::numbers::least_short;
+use limits::numbers::without;
 use state::Hub;
-
-// The smaller of two.
-fn least(a: u32, b: u32) -> u32
-    ensures { λ r. ⌜ r ≡ min a b ⌝ }
-{
-    if a < b {
-        return a;
-    }
-    b
-}
 
 // The least eligibility of four rows from row i on.
 fn least_of_four(places: &[u32], i: usize) -> u32
@@ -61,7 +55,7 @@ fn first_of_fours(places: &[u32], q: usize, clock: u32) -> u32
 // How long no packet becomes eligible: up to the clock's end, and not at all where one is. Four rows a turn, then the last three at most one by one.
 fn wait(places: &[u32], clock: u32) -> u32
     requires { ⌜ (now places ≡ written-places (rows (now places))) × (length (now places) ≡ places-length) ⌝ }
-    ensures { λ r. ⌜ r ≡ first-eligible (rows (now (places .entry))) - clock ⌝ }
+    ensures { λ r. ⌜ r ≡ eligible-from (rows (now (places .entry))) - clock ⌝ }
 {
     let n = tables::count(places);
     let q = n / 4;
@@ -90,18 +84,11 @@ fn quiet_for(h: Hub, members: &[u32], places: &[u32], notices: &[u32]) -> u32
     requires { ⌜ (now places ≡ written-places (rows (now places))) × (length (now places) ≡ places-length) × (length (now members) ≡ members-length) ⌝ }
     ensures { λ r. ⌜ r ≡ quiet-for (h .«to_go») (h .silent) (rows (now (places .entry))) (notices-in (now (notices .entry))) (first-early (early-in (h .link) (now (members .entry))) (rows (now (places .entry)))) (h .clock) ⌝ }
 {
-    if h.to_go != 0 {
-        return h.to_go - 1;
+    let w = wire_in(h);
+    if !line::quiet::awaits(w, notices) {
+        return line::quiet::taken_for(w);
     }
-    // nothing starts before the silence has run
-    if h.silent != 0 {
-        return h.silent;
-    }
-    // a notice that waits starts at once
-    if !tables::none(notices) {
-        return 0;
-    }
-    // so does the first packet, where it is eligible
+    // the first packet starts at once, where it is eligible
     if first_starts(places, h.clock) {
         return 0;
     }
@@ -150,10 +137,7 @@ pub fn quiet_ticks(h: Hub, members: &[u32], places: &[u32], notices: &[u32], lef
     }
     let still = least(quiet_for(h, members, places, notices), CLOCK_END - h.clock);
     let rest = least_wide(still, charged_for(h, members));
-    if rest < left as u32 {
-        return rest as u16;
-    }
-    left
+    least_short(rest, left)
 }
 
 // The hub k ticks on, where nothing starts and nothing departs in them.

@@ -1,4 +1,4 @@
--- Laws of the pass over the rows: their counts, a table that remembers them, and what is asked before the pass, in it and behind it.
+-- Laws of the pass over the rows: a table that remembers them, and what is asked before the pass, in it and behind it.
 use Prim.Native.Nat.{ℕ, zero, suc, _+_, _*_, _-_, _≤_, _<_, max, min}
 use native.Mathlib.Omega.{arith}
 use native.Mathlib.Nat.{mul-le-mul-right, mul-le-mul-left}
@@ -9,14 +9,14 @@ use mathlib.Core.Logic.{_⊎_, inl, inr}
 use mathlib.Core.List.{List, [], _∷_, _++_, map}
 use mathlib.Core.Option.{Option, none, some}
 use lib.Dec.{leb, ltb, eqb}
-use lib.ListN.{length, getD, set, take, drop, replicate, length-set, length-map, length-append, length-take, length-drop, getD-replicate, drop-of-length-le}
-use lib.Seq.{sets, getD-set-same, getD-set-other, take-suc, take-length, drop-cons, ext-getD}
+use lib.ListN.{length, getD, set, take, drop, replicate, length-set, length-map, length-take, length-drop, drop-of-length-le}
+use lib.Seq.{sets, getD-set-same, getD-set-other, take-length, drop-cons, ext-getD}
 use borrow.Author.Tests.{le-leb, lt-leb, eq-eqb, ne-eqb, lt-ltb, le-ltb}
 use Rattle.rules.specs.declared.Link.{Link}
 use Rattle.rules.specs.declared.Connection.{Connection}
 use Rattle.rules.specs.declared.Packet.{Packet}
 use Rattle.rules.specs.Words.{All, every}
-use Rattle.rules.specs.Limits.{max-connections, max-reserved, max-remembered, beyond-32-bits}
+use Rattle.rules.specs.Limits.{max-connections, max-remembered, beyond-32-bits}
 use Rattle.rules.specs.Model.{Past, nth, no-past}
 use Rattle.rules.specs.Admission.{bound, burst, stamped, owned, charge-time, reservation, goes-early, distance, ahead}
 use Rattle.rules.specs.Service.{earliest, nth-before, ticks-after, remember, remember-all, of, eligibilities, charge-over}
@@ -26,7 +26,7 @@ use Rattle.rules.proofs.Count.{count-le}
 use Rattle.rules.proofs.Figures.{reservation-is, ahead-on, ahead-off}
 use Rattle.rules.proofs.Lists.{all-at, all-from, all-set}
 use Rattle.rules.proofs.Memory.{remember-few, remember-all-snoc}
-use Rattle.rules.proofs.Rows.{of-snoc-same, of-snoc-other, eligibilities-snoc-same, eligibilities-snoc-other}
+use Rattle.rules.proofs.Rows.{eligibilities-snoc-same, eligibilities-snoc-other}
 use Rattle.rules.proofs.SoundExact.{same-true, same-intro}
 use Rattle.rules.proofs.Standing.{owned-below, level-owned, level-free}
 use Rattle.rules.proofs.Sums.{split, same, cond-is}
@@ -43,65 +43,12 @@ use Rattle.connections.proofs.FigureLaws.{reservation-free, entry-limits}
 use Rattle.connections.proofs.MemberLaws.{copied-over, closed-is, connections-length, pasts-length, closed-length}
 use Rattle.connections.proofs.RegulatorLaws.{at-some, at-none}
 use Rattle.connections.proofs.WrittenLaws.{Few, formed-parts, pasts-few, rows-length, table-written, connections-back, pasts-back, closed-back, used-back, first-back, table-formed}
+use Rattle.line_tests.specs.Counts.{Counts}
+use Rattle.line_tests.proofs.CountLaws.{rows-next}
 use Rattle.state.specs.declared.Hub.{Hub}
 use Rattle.state.specs.View.{Tables, view}
-use Rattle.sound.specs.Pace.{Counts, counted, Countable, past-in, with-past, Remembers, past-with, Names, left-with, closed-with, Reserves}
+use Rattle.sound.specs.Pace.{past-in, with-past, Remembers, past-with, Names, left-with, closed-with, Reserves}
 use Rattle.sound.proofs.PartLaws.{both-ways}
-
--- ---- the rows of each connection, counted
-
-pub counts-none : Counts (replicate max-connections 0) []
-counts-none = record { size = refl; counts = λ c l. getD-replicate max-connections c 0 0 l }
-
-counts-more : (seen : List ℕ) (passed : List Packet) (p : Packet) → p .connection < max-connections → Counts seen passed → Counts (counted seen (p .connection)) (passed ++ p ∷ [])
-counts-more seen passed p l T = record { size = length-set seen (p .connection) _ ∙ T .size; counts = one }
-  where
-    one : (c : ℕ) → c < max-connections → getD (counted seen (p .connection)) c 0 ≡ length (of c (passed ++ p ∷ []))
-    one c m = go (same (p .connection) c)
-      where
-        go : (p .connection ≡ c) ⊎ (p .connection ≡ c → ⊥) → getD (counted seen (p .connection)) c 0 ≡ length (of c (passed ++ p ∷ []))
-        go (inl e) =
-            ap (λ (k : ℕ). getD (counted seen k) c 0) e
-            ∙ getD-set-same seen c (getD seen c 0 + 1) 0 (omega (arith, T .size))
-            ∙ omega (arith, T .counts c m, ap length (of-snoc-same c passed p e), length-append (of c passed) (p ∷ []))
-        go (inr n) =
-            getD-set-other seen (p .connection) c (getD seen (p .connection) 0 + 1) 0 (λ i. n (sym i))
-            ∙ T .counts c m
-            ∙ ap length (sym (of-snoc-other c passed p n))
-
--- no more rows of a connection than rows
-of-le : (c : ℕ) (ps : List Packet) → length (of c ps) ≤ length ps
-of-le c [] = omega arith
-of-le c (p ∷ ps) = go (eqb (p .connection) c) (of-le c ps)
-  where
-    go : (b : Bool) → length (of c ps) ≤ length ps → length (cond b (p ∷ of c ps) (of c ps)) ≤ length (p ∷ ps)
-    go true l = omega arith
-    go false l = omega arith
-
-module _ (places : List ℕ) (i : ℕ) (h : i < length (rows places)) where
-  pub rows-next : take (i + 1) (rows places) ≡ take i (rows places) ++ row-at places i ∷ []
-  rows-next =
-      ap (λ (k : ℕ). take k (rows places)) (add-one i)
-      ∙ take-suc (rows places) i no-packet h
-      ∙ ap (λ (p : Packet). take i (rows places) ++ p ∷ []) (row-is places i h)
-
-  pub countable : (seen : List ℕ) → Countable places → Counts seen (take i (rows places)) → (p : Packet) → p ≡ row-at places i → (p .connection < length seen) × (getD seen (p .connection) 0 < max-reserved)
-  countable seen K T p e =
-      let l : p .connection < max-connections = subst (λ (q : Packet). q .connection < max-connections) (sym e) (K .known i h) in
-      (omega (arith, T .size), omega (arith, T .counts (p .connection) l, of-le (p .connection) (take i (rows places)), length-taken, K .few-rows))
-    where
-      length-taken : length (take i (rows places)) ≤ i
-      length-taken = omega (arith, length-take i (rows places))
-
-  pub counts-next : (seen after : List ℕ) → Countable places → Counts seen (take i (rows places)) → (p : Packet) → p ≡ row-at places i → after ≡ counted seen (p .connection) → Counts after (take (i + 1) (rows places))
-  counts-next seen after K T p e f =
-      subst (λ (ps : List Packet). Counts after ps) (sym rows-next)
-      (subst (λ (q : Packet). Counts after (take i (rows places) ++ q ∷ [])) e
-      (subst (λ (s : List ℕ). Counts s (take i (rows places) ++ p ∷ [])) (sym f)
-      (counts-more seen (take i (rows places)) p (subst (λ (q : Packet). q .connection < max-connections) (sym e) (K .known i h)) T)))
-
-pub counts-all : (seen : List ℕ) (places : List ℕ) (i : ℕ) → i ≡ length (rows places) → Counts seen (take i (rows places)) → Counts seen (rows places)
-counts-all seen places i e T = subst (λ (ps : List Packet). Counts seen ps) (ap (λ (k : ℕ). take k (rows places)) e ∙ take-length (rows places)) T
 
 -- ---- a table that remembers
 
@@ -444,7 +391,7 @@ free-rows cs (p ∷ ps) c N o = cond-is (p ∷ of c ps) (of c ps) (ne-eqb (p .co
     other : p .connection ≡ c → ⊥
     other e = let z : false ≡ true = sym o ∙ ap (owned cs) (sym e) ∙ N .0 in never z
 
-module _ (h : Hub) (t : Tables) (names : Names (t .members) (t .places)) (seen : List ℕ) (T : Counts seen (rows (t .places))) where
+module _ (h : Hub) (t : Tables) (names : Names (t .members) (t .places)) (seen : List ℕ) (T : Counts length seen (rows (t .places))) where
   abbrev held : List Packet
   held = rows (t .places)
 

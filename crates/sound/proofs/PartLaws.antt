@@ -1,27 +1,24 @@
 -- Laws of the parts of the test, in the order of the code.
 use Prim.Native.Nat.{ℕ, zero, suc, _+_, _*_, _/_, _%_, _≤_, _<_}
 use native.Mathlib.Omega.{arith}
-use native.Mathlib.Numerals.{add-one}
-use mathlib.Core.Path.{_≡_, refl, sym, ap, _∙_, subst}
-use mathlib.Core.Bool.{Bool, true, false, cond, not, _&&_, _||_}
+use mathlib.Core.Path.{_≡_, refl, sym, ap, _∙_}
+use mathlib.Core.Bool.{Bool, true, false, cond, not, _&&_}
 use mathlib.Core.Logic.{_⊎_, inl, inr, ⊎-elim}
-use mathlib.Core.List.{List, [], _∷_, map}
-use mathlib.Core.Option.{Option, some}
+use mathlib.Core.List.{List, _∷_}
 use lib.Dec.{leb, eqb}
 use lib.ListN.{length, getD, take, drop, length-map, length-take, length-drop, drop-of-length-le}
-use lib.Seq.{drop-cons, drop-length, getD-drop}
-use borrow.Author.Tests.{not-true, not-false, le-leb, lt-leb, eqb-true, eq-eqb, ne-eqb}
-use Rattle.rules.specs.declared.Link.{Link}
+use lib.Seq.{drop-cons, getD-drop}
+use borrow.Author.Tests.{not-true, not-false, eqb-true, eq-eqb, ne-eqb}
 use Rattle.rules.specs.declared.Connection.{Connection}
 use Rattle.rules.specs.declared.Packet.{Packet}
-use Rattle.rules.specs.declared.Notice.{Notice}
 use Rattle.rules.specs.Words.{within, every, each}
-use Rattle.rules.specs.Limits.{max-connections, max-reserved, max-notices, max-remembered, notice-number}
-use Rattle.rules.specs.Model.{State, Past, no-connection, nth, first-notice}
+use Rattle.rules.specs.Limits.{max-connections, max-reserved, max-remembered}
+use Rattle.rules.specs.Model.{State, Past, no-connection, nth}
 use Rattle.rules.specs.Admission.{link-within, level-within, figures-within, owned, reserved, passes, goes-early}
-use Rattle.rules.specs.Service.{first}
+use Rattle.rules.specs.Service.{wire}
 use Rattle.rules.specs.SoundTest.{all-zero, blank, free-sound, one-each, nothing-used, connection-sound, number-sound, admissions-sound, row-sound}
-use Rattle.rules.specs.SoundTest.{notice-sound, notices-sound, serves, serves-notice, busy-sound, sound}
+use Rattle.rules.specs.SoundTest.{notices-sound, line-sound, sound}
+use Rattle.rules.specs.SoundLine.{wire-sound}
 use Rattle.rules.proofs.Lists.{all-from}
 use Rattle.rules.proofs.Standing.{owned-below, level-owned, level-free}
 use Rattle.rules.proofs.Sums.{split, same, cond-is}
@@ -30,11 +27,9 @@ use Rattle.limits.specs.Zeros.{zeros}
 use Rattle.limits.proofs.ChainLaws.{fails, goes-on}
 use Rattle.limits.proofs.ZeroLaws.{zero-at, zeros-parts}
 use Rattle.tables.specs.Table.{row-in}
-use Rattle.tables.specs.Places.{places-length, packet-width, rows, row-at, place, no-packet}
-use Rattle.tables.specs.Notices.{notice-of, notices-in}
-use Rattle.tables.proofs.TableLaws.{formed-length, numbers-all, length-row, number-in}
-use Rattle.tables.proofs.PlacesLaws.{row-is, rows-end, rows-from, first-place, first-none}
-use Rattle.tables.proofs.NoticeLaws.{notices-few, first-row, no-rows}
+use Rattle.tables.specs.Places.{rows, row-at}
+use Rattle.tables.specs.Notices.{notice-of}
+use Rattle.tables.proofs.TableLaws.{numbers-all, length-row, number-in}
 use Rattle.connections.specs.declared.Member.{Member}
 use Rattle.connections.specs.Members.{member-width, member-head, member-of, no-member, member-in, members-in, connection-of, past-of, closed-of, connections-in, pasts-in, closed-in, used-by, used-in, earlier, first-in, member-formed, rows-formed, members-formed}
 use Rattle.connections.specs.Members.{rows-end as rows-stop}
@@ -43,53 +38,12 @@ use Rattle.connections.proofs.MemberLaws.{length-members, member-is, connection
 use Rattle.connections.proofs.WrittenLaws.{formed-parts, member-formed-at, rows-length, members-rows, members-long, used-is, first-is}
 use Rattle.connections.proofs.OwnerLaws.{used-le}
 use Rattle.connections.proofs.ClosingLaws.{earlier-some, used-least, first-among, first-none as none-charged}
+pub use Rattle.line_tests.proofs.LineLaws.{holds, falls, stops, passes-on, each-stop, each-pass, each-end, row-stops, row-passes, rows-done, row-holds, counted}
 use Rattle.state.specs.declared.Hub.{Hub}
 use Rattle.state.specs.View.{Tables, view, tables-formed}
 use Rattle.state.proofs.SoundLaws.{shapes}
-use Rattle.sound.specs.Parts.{Held, Waiting, unused, linked-sound}
+use Rattle.sound.specs.Parts.{unused, linked-sound}
 use Rattle.sound.specs.Pace.{past-in, Names}
-
--- ---- a test that another function has made, with the answer r
-
-pub holds : {r a : Bool} → r ≡ a → not r ≡ false → a ≡ true
-holds {r} e n = sym e ∙ not-false r n
-
-pub falls : {r a : Bool} → r ≡ a → not r ≡ true → a ≡ false
-falls {r} e n = sym e ∙ not-true r n
-
--- first of several: it fails, or it holds and the rest decides
-pub stops : {r a : Bool} (b : Bool) → r ≡ a → not r ≡ true → false ≡ (a && b)
-stops {r} {a} b e n = fails a b (falls e n)
-
-pub passes-on : {r a s b : Bool} → r ≡ a → not r ≡ false → s ≡ b → s ≡ (a && b)
-passes-on {r} {a} {s} {b} e n k = goes-on a b s (holds e n) k
-
--- ---- a test of each element, one by one
-
-module _ {A : Type 0} (f : A → Bool) (l : List A) (x : A) (xs : List A) (e : l ≡ x ∷ xs) where
-  pub each-stop : f x ≡ false → false ≡ each f l
-  each-stop h = rw e (fails (f x) (each f xs) h)
-
-  pub each-pass : f x ≡ true → each f xs ≡ each f l
-  each-pass h = rw e (goes-on (f x) (each f xs) (each f xs) h refl)
-
-pub each-end : {A : Type 0} (f : A → Bool) (l : List A) → true ≡ each f (drop (length l) l)
-each-end f l = rw (drop-length l)
-
--- .. of the rows of a table, where the rows before row i passed
-module _ (f : Packet → Bool) (t : List ℕ) (i : ℕ) (l : i < length (rows t)) (p : Packet) (is : p ≡ row-at t i)
-    (all : each f (drop i (rows t)) ≡ each f (rows t)) where
-  pub row-stops : f p ≡ false → false ≡ each f (rows t)
-  row-stops h = each-stop f (drop i (rows t)) (row-at t i) (drop (suc i) (rows t)) (rows-from t i l) (ap f (sym is) ∙ h) ∙ all
-
-  pub row-passes : f p ≡ true → each f (drop (i + 1) (rows t)) ≡ each f (rows t)
-  row-passes h =
-      ap (λ (j : ℕ). each f (drop j (rows t))) (add-one i)
-      ∙ each-pass f (drop i (rows t)) (row-at t i) (drop (suc i) (rows t)) (rows-from t i l) (ap f (sym is) ∙ h)
-      ∙ all
-
-pub rows-done : (f : Packet → Bool) (t : List ℕ) (i : ℕ) → i ≡ length (rows t) → each f (drop i (rows t)) ≡ each f (rows t) → true ≡ each f (rows t)
-rows-done f t i e all = each-end f (rows t) ∙ ap (λ (j : ℕ). each f (drop j (rows t))) (sym e) ∙ all
 
 -- ---- the rows of the table of connections, and the two numbers behind them
 
@@ -120,17 +74,6 @@ first-end t = ap first-among (sym (drop-of-length-le (members-in t) {i = max-con
 -- how many rows there are up to the last owner's
 pub used-facts : (t : List ℕ) → members-formed t ≡ true → {n : ℕ} → n ≡ used-in t → (used-by (connections-in t) ≤ n) × (n ≤ max-connections)
 used-facts t f e = (omega (arith, used-is t f), omega (arith, used-is t f, used-le (connections-in t), connections-length t))
-
--- ---- formed tables have no more rows than they have room for
-
-pub counted : (t : Tables) → tables-formed t ≡ true → {held waiting : ℕ} → held ≡ length (rows (t .places)) → waiting ≡ length (rows (t .notices))
-    → Held (t .places) held × Waiting (t .notices) waiting
-counted t f {held} {waiting} b c =
-    let s = shapes t f in
-    let l = formed-length packet-width places-length (t .places) (s .places-shape) in (
-      record { count = b; few = omega (arith, rows-end (t .places)) },
-      record { count = c; few = omega (arith, notices-few (t .notices) (s .notices-shape), length-map (rows (t .notices)) notice-of) },
-    )
 
 -- ---- a free number: its row is all zero
 
@@ -363,94 +306,14 @@ module _ (cs : List Connection) (clock : ℕ) (p : Packet) {x : Connection} (e :
 -- each row is of a number that has an owner
 pub rows-owned : (members places : List ℕ) (clock : ℕ) → each (row-sound (connections-in members) clock) (rows places) ≡ true → Names members places
 rows-owned members places clock h k i =
-    let p : Packet = row-at places k in
-    let r = each-at (row-sound (connections-in members) clock) (rows places) no-packet h k i in
-    let s = subst (λ (q : Packet). row-sound (connections-in members) clock q ≡ true) (row-is places k i) r in
-    and-true (owned (connections-in members) (p .connection)) _ s .0
-  where
-    each-at : (f : Packet → Bool) (ps : List Packet) (d : Packet) → each f ps ≡ true → (k : ℕ) → k < length ps → f (getD ps k d) ≡ true
-    each-at f [] d e k i = absurd (omega arith)
-    each-at f (q ∷ ps) d e zero i = and-true (f q) (each f ps) e .0
-    each-at f (q ∷ ps) d e (suc k) i = each-at f ps d (and-true (f q) (each f ps) e .1) k (omega arith)
+    and-true (owned (connections-in members) (row-at places k .connection)) _ (row-holds (row-sound (connections-in members) clock) places h k i) .0
 
--- ---- the notices
+-- ---- the notices and the line
 
--- the test of a row of their table
-abbrev pub row-notice : Hub → Packet → Bool
-row-notice h p = notice-sound (h .link) (h .clock) (notice-of p)
-
--- with few enough of them, the test of all is the test of each row
-pub notices-read : (h : Hub) (t : Tables) {n : ℕ} → Waiting (t .notices) n → each (row-notice h) (rows (t .notices)) ≡ notices-sound (view h t)
-unfolding notices-sound
-notices-read h t k =
-    goes-on (leb (length (notices-in (t .notices))) max-notices) _ _
-    (le-leb (length (notices-in (t .notices))) max-notices (omega (arith, length-map (rows (t .notices)) notice-of, k .count, k .few)))
-    (each-map (rows (t .notices)))
-  where
-    each-map : (ps : List Packet) → each (row-notice h) ps ≡ each (notice-sound (h .link) (h .clock)) (map notice-of ps)
-    each-map [] = refl
-    each-map (p ∷ ps) = ap (λ (b : Bool). row-notice h p && b) (each-map ps)
-
--- ---- what is in service
-
-module _ (h : Hub) (t : Tables) where
-  -- a notice
-  module _ (e : h .serving ≡ notice-number) where
-    noticed : busy-sound (view h t) ≡ serves-notice (first-notice (notices-in (t .notices))) (h .«to_go»)
-    noticed = cond-is _ _ (eq-eqb (h .serving) notice-number e)
-
-    pub no-notice : length (rows (t .notices)) ≡ 0 → false ≡ busy-sound (view h t)
-    no-notice z = sym (noticed ∙ ap (λ (ns : List Notice). serves-notice (first-notice ns) (h .«to_go»)) (no-rows (t .notices) z))
-
-    pub notice-units : 0 < length (rows (t .notices)) → {n : Packet} → n ≡ row-at (t .notices) 0 → within 1 (n .len) (h .«to_go») ≡ busy-sound (view h t)
-    notice-units l is =
-        ap (λ (p : Packet). within 1 (p .len) (h .«to_go»)) is
-        ∙ sym (noticed ∙ ap (λ (ns : List Notice). serves-notice (first-notice ns) (h .«to_go»)) (first-row (t .notices) l))
-
-  -- a packet of a level
-  module _ (ne : h .serving ≡ notice-number → ⊥) where
-    abbrev early : Bool
-    early = goes-early (h .link) (nth (connections-in (t .members)) (h .serving))
-
-    serving : busy-sound (view h t) ≡ serves early (first (h .serving) (rows (t .places))) (h .«to_go») (h .clock)
-    serving = cond-is _ _ (ne-eqb (h .serving) notice-number ne)
-
-    pub no-row : length (rows (t .places)) ≤ place (h .serving) (rows (t .places)) → false ≡ busy-sound (view h t)
-    no-row l = sym (serving ∙ ap (λ (o : Option Packet). serves early o (h .«to_go») (h .clock)) (first-none (h .serving) (rows (t .places)) l))
-
-    pub row-served : {i : ℕ} → i ≡ place (h .serving) (rows (t .places)) → i < length (rows (t .places)) → {p : Packet} → p ≡ row-at (t .places) i
-        → {r : Bool} → r ≡ serves early (some p) (h .«to_go») (h .clock) → r ≡ busy-sound (view h t)
-    row-served {i} at l {p} is {r} f =
-        let found : first (h .serving) (rows (t .places)) ≡ some p =
-        first-place (h .serving) (rows (t .places)) (omega arith)
-        ∙ ap (λ (j : ℕ). some (getD (rows (t .places)) j no-packet)) (sym at)
-        ∙ ap some (row-is (t .places) i l ∙ sym is) in
-        f ∙ sym (serving ∙ ap (λ (o : Option Packet). serves early o (h .«to_go») (h .clock)) found)
-
--- the packet p of a level: it is eligible, or what else lets it go decides
-units-alone : (units early : Bool) → units ≡ (units && (early || true))
-units-alone true true = refl
-units-alone true false = refl
-units-alone false early = refl
-
-units-early : (units early : Bool) → (units && early) ≡ (units && (early || false))
-units-early true true = refl
-units-early true false = refl
-units-early false early = refl
-
-module _ (l : Link) (cs : List Connection) (serving to-go clock : ℕ) (p : Packet) where
-  abbrev goes : Bool
-  goes = goes-early l (nth cs serving)
-
-  pub served-eligible : p .eligibility ≤ clock → within 1 (p .len) to-go ≡ serves goes (some p) to-go clock
-  served-eligible k = units-alone (within 1 (p .len) to-go) goes ∙ ap (λ (b : Bool). within 1 (p .len) to-go && (goes || b)) (sym (le-leb (p .eligibility) clock k))
-
-  pub served-early : clock < p .eligibility → {x : Connection} → x ≡ nth cs serving → {r : Bool} → r ≡ goes-early l x
-      → (within 1 (p .len) to-go && r) ≡ serves goes (some p) to-go clock
-  served-early k e f =
-      ap (λ (b : Bool). within 1 (p .len) to-go && b) (f ∙ ap (goes-early l) e)
-      ∙ units-early (within 1 (p .len) to-go) goes
-      ∙ ap (λ (b : Bool). within 1 (p .len) to-go && (goes || b)) (sym (lt-leb (p .eligibility) clock k))
+pub line-read : (h : Hub) (t : Tables) {early : Bool} → early ≡ goes-early (h .link) (nth (connections-in (t .members)) (h .serving))
+    → wire-sound (λ _. early) (h .link .largest) (h .link .silence) (h .clock) (wire (view h t)) ≡ (notices-sound (view h t) && line-sound (view h t))
+unfolding wire-sound notices-sound line-sound
+line-read h t e = ap (λ (b : Bool). wire-sound (λ _. b) (h .link .largest) (h .link .silence) (h .clock) (wire (view h t))) e
 
 -- ---- the whole
 

@@ -1,5 +1,5 @@
--- What the pass over the rows keeps of each connection: how many rows it has, and a table of connections that remembers them one by one. Document 01, "A sound
--- state"; docs/RULES-AFTER-BASE.md, R-6, R-8, R-11 and R-12.
+-- What the pass over the rows keeps of each connection: a table of connections that remembers them one by one. Document 01, "A sound state";
+-- docs/RULES-AFTER-BASE.md, R-6, R-8, R-11 and R-12.
 use Prim.Native.Nat.{ℕ, _+_, _≤_, _<_}
 use mathlib.Core.Path.{_≡_}
 use mathlib.Core.Bool.{Bool, true, false, not, _&&_, _||_}
@@ -9,7 +9,7 @@ use lib.ListN.{length, getD, set}
 use Rattle.rules.specs.declared.Link.{Link}
 use Rattle.rules.specs.declared.Connection.{Connection}
 use Rattle.rules.specs.declared.Packet.{Packet}
-use Rattle.rules.specs.Limits.{max-connections, max-reserved, beyond-32-bits}
+use Rattle.rules.specs.Limits.{max-connections, beyond-32-bits}
 use Rattle.rules.specs.Model.{Past, nth, no-connection, no-past}
 use Rattle.rules.specs.Admission.{owned, bound, charge-time}
 use Rattle.rules.specs.Service.{of, remember-all, eligibilities, charge-over}
@@ -17,21 +17,6 @@ use Rattle.rules.specs.SoundTest.{left-sound}
 use Rattle.tables.specs.Places.{rows, row-at}
 use Rattle.connections.specs.Members.{connections-in, pasts-in, closed-in, used-in, first-in, written-table, rows-formed}
 use Rattle.state.specs.declared.Hub.{Hub}
-
--- ---- the rows of each connection, counted
-
-pub record Counts (seen : List ℕ) (passed : List Packet) : Type 0 where
-  pub size : length seen ≡ max-connections
-  pub counts : (c : ℕ) → c < max-connections → getD seen c 0 ≡ length (of c passed)
-
--- .. with one more of connection c
-abbrev pub counted : List ℕ → ℕ → List ℕ
-counted seen c = set seen c (getD seen c 0 + 1)
-
--- each row names a connection that can be counted, and there are not too many
-pub record Countable (places : List ℕ) : Type 0 where
-  pub few-rows : length (rows places) ≤ max-reserved
-  pub known : (k : ℕ) → k < length (rows places) → row-at places k .connection < max-connections
 
 -- ---- a table of connections
 

@@ -5,30 +5,26 @@ mod sums; // sums.rt: the two numbers behind the rows of the table of connection
 ghost use mathlib.Core.Path.{_≡_};
 ghost use mathlib.Core.Bool.{true};
 ghost use mathlib.Core.List.{List};
-ghost use mathlib.Core.Option.{some};
 ghost use Prim.Native.Nat.{ℕ, _<_};
 ghost use lib.ListN.{length};
 ghost use Rattle.rules.specs.Words.{every, each};
 ghost use Rattle.rules.specs.Limits.{max-connections};
-ghost use Rattle.rules.specs.Model.{nth};
-ghost use Rattle.rules.specs.Admission.{passes, goes-early};
-ghost use Rattle.rules.specs.SoundTest.{all-zero, number-sound, admissions-sound, row-sound, rows-sound, notice-sound, notices-sound, serves, busy-sound, line-sound};
-ghost use Rattle.tables.specs.Table.{formed};
-ghost use Rattle.tables.specs.Places.{packet-width, places-length, rows};
-ghost use Rattle.tables.specs.Notices.{notice-of, marked, notices-formed};
+ghost use Rattle.rules.specs.Admission.{passes};
+ghost use Rattle.rules.specs.SoundTest.{all-zero, number-sound, admissions-sound, row-sound, rows-sound};
+ghost use Rattle.tables.specs.Places.{rows};
+ghost use Rattle.line_tests.specs.Lines.{Held, Waiting};
 ghost use Rattle.connections.specs.Members.{members-length, members-in, connections-in, member-formed, rows-formed, members-formed};
 ghost use Rattle.connections.specs.Within.{Within};
 ghost use Rattle.state.specs.View.{tables, before, view, tables-formed, sound-hub};
-ghost use Rattle.sound.specs.Parts.{Held, Waiting, unused, linked-sound};
+ghost use Rattle.sound.specs.Parts.{unused, linked-sound};
 use connections::Member;
 use connections::stand_by::goes_early;
 use limits::CLOCK_END;
 use limits::MAX_CONNECTIONS;
 use limits::MAX_REMEMBERED;
 use limits::MAX_RESERVED;
-use limits::NOTICE_NUMBER;
-use limits::PACKET_WIDTH;
 use limits::zero_from;
+use line_tests::Service;
 use rules::Link;
 use rules::Packet;
 use state::Hub;
@@ -81,54 +77,6 @@ fn members_formed(members: &[u32]) -> bool
     sums::sums_ok(members)
 }
 
-// The places table has its length, and zeros behind its rows.
-fn places_formed(places: &[u32], held: usize) -> bool
-    requires { ⌜ held ≡ length (rows (now places)) ⌝ }
-    ensures { λ r. ⌜ r ≡ formed packet-width places-length (now (places .entry)) ⌝ }
-{
-    if places.len() != limits::PLACES {
-        return false;
-    }
-    zero_from(places, PACKET_WIDTH * held)
-}
-
-// A row of the table of notices bears their number, and an eligibility that is its arrival.
-fn marked_ok(p: Packet) -> bool
-    ensures { λ r. ⌜ r ≡ marked p ⌝ }
-{
-    (p.connection == NOTICE_NUMBER) & (p.eligibility == p.arrival)
-}
-
-// All rows of the table of notices.
-fn all_marked(notices: &[u32], waiting: usize) -> bool
-    requires { ⌜ waiting ≡ length (rows (now notices)) ⌝ }
-    ensures { λ r. ⌜ r ≡ each marked (rows (now (notices .entry))) ⌝ }
-{
-    let mut i: usize = 0;
-    while i < waiting {
-        let p = tables::row(notices, i);
-        if !marked_ok(p) {
-            return false;
-        }
-        i += 1;
-    }
-    true
-}
-
-// The table of notices has its length, zeros behind its rows, and marks as they must be.
-fn notices_formed(notices: &[u32], waiting: usize) -> bool
-    requires { ⌜ waiting ≡ length (rows (now notices)) ⌝ }
-    ensures { λ r. ⌜ r ≡ notices-formed (now (notices .entry)) ⌝ }
-{
-    if notices.len() != limits::NOTICES {
-        return false;
-    }
-    if !zero_from(notices, PACKET_WIDTH * waiting) {
-        return false;
-    }
-    all_marked(notices, waiting)
-}
-
 // All three tables.
 fn tables_formed(
     members: &[u32],
@@ -140,19 +88,19 @@ fn tables_formed(
     requires { ⌜ (held ≡ length (rows (now places))) × (waiting ≡ length (rows (now notices))) ⌝ }
     ensures { λ r. ⌜ r ≡ tables-formed (before members places notices) ⌝ }
 {
-    if !places_formed(places, held) {
+    if !line_tests::places_formed(places, held) {
         return false;
     }
     if !members_formed(members) {
         return false;
     }
-    notices_formed(notices, waiting)
+    line_tests::notices_formed(notices, waiting)
 }
 
 // ---- with no link set
 
 // The rest of the link is zero.
-fn blank_ok(l: Link) -> bool
+pub fn blank_ok(l: Link) -> bool
     ensures { λ r. ⌜ r ≡ all-zero l ⌝ }
 {
     let bounds = l.bounds;
@@ -269,93 +217,6 @@ fn held_ok(h: Hub, members: &[u32], places: &[u32], held: usize) -> bool
     pace::paced_ok(h, members, places, held)
 }
 
-// ---- the notices
-
-// A notice by itself: a length from 1 to S, and its arrival.
-fn notice_ok(h: Hub, p: Packet) -> bool
-    ensures { λ r. ⌜ r ≡ notice-sound (h .link) (h .clock) (notice-of p) ⌝ }
-{
-    (1 <= p.len) & (p.len <= h.link.largest) & (p.arrival <= h.clock)
-}
-
-// All notices, each by itself.
-fn notices_ok(h: Hub, notices: &[u32], waiting: usize) -> bool
-    requires { ⌜ Waiting (now notices) waiting ⌝ }
-    ensures { λ r. ⌜ ((m p : List ℕ) → r ≡ notices-sound (view h (tables m p (now (notices .entry))))) ⌝ }
-{
-    let mut i: usize = 0;
-    while i < waiting {
-        let p = tables::row(notices, i);
-        if !notice_ok(h, p) {
-            return false;
-        }
-        i += 1;
-    }
-    true
-}
-
-// ---- the line
-
-// The row p in service has one unit to go or more and no more than its length, and is eligible, unless its connection's packets may go before they are.
-fn serves_row(h: Hub, members: &[u32], p: Packet) -> bool
-    requires { ⌜ length (now members) ≡ members-length ⌝ }
-    ensures { λ r. ⌜ r ≡ serves (goes-early (h .link) (nth (connections-in (now (members .entry))) (h .serving))) (some p) (h .«to_go») (h .clock) ⌝ }
-{
-    let units = (1 <= h.to_go) & (h.to_go <= p.len);
-    if p.eligibility <= h.clock {
-        return units;
-    }
-    units & goes_early(h.link, connections::figures_of(members, h.serving))
-}
-
-// What is in service has one unit to go or more: the first row of its connection has so many, or the first notice.
-fn service_ok(
-    h: Hub,
-    members: &[u32],
-    places: &[u32],
-    held: usize,
-    notices: &[u32],
-    waiting: usize,
-) -> bool
-    requires { ⌜ Held (now places) held × Waiting (now notices) waiting × (length (now members) ≡ members-length) ⌝ }
-    ensures { λ r. ⌜ r ≡ busy-sound (view h (before members places notices)) ⌝ }
-{
-    if h.serving == NOTICE_NUMBER {
-        if waiting == 0 {
-            return false;
-        }
-        let n = tables::row(notices, 0);
-        return (1 <= h.to_go) & (h.to_go <= n.len);
-    }
-    let i = tables::find(places, held, h.serving);
-    if held <= i {
-        return false;
-    }
-    let p = tables::row(places, i);
-    serves_row(h, members, p)
-}
-
-// An idle line serves nobody, and has no more silence to run than the link's; a line that serves has none.
-fn line_ok(
-    h: Hub,
-    members: &[u32],
-    places: &[u32],
-    held: usize,
-    notices: &[u32],
-    waiting: usize,
-) -> bool
-    requires { ⌜ Held (now places) held × Waiting (now notices) waiting × (length (now members) ≡ members-length) ⌝ }
-    ensures { λ r. ⌜ r ≡ line-sound (view h (before members places notices)) ⌝ }
-{
-    if h.to_go == 0 {
-        return (h.serving == 0) & (h.silent <= h.link.silence);
-    }
-    if h.silent != 0 {
-        return false;
-    }
-    service_ok(h, members, places, held, notices, waiting)
-}
-
 // ---- the whole
 
 // With a link set: the clauses of the rules.
@@ -376,10 +237,23 @@ fn linked_ok(
     if !held_ok(h, members, places, held) {
         return false;
     }
-    if !notices_ok(h, notices, waiting) {
-        return false;
-    }
-    line_ok(h, members, places, held, notices, waiting)
+    let line = Service {
+        clock: h.clock,
+        serving: h.serving,
+        to_go: h.to_go,
+        silent: h.silent,
+    };
+    let early = goes_early(h.link, connections::figures_of(members, h.serving));
+    line_tests::wire_ok(
+        line,
+        early,
+        h.link.largest,
+        h.link.silence,
+        places,
+        held,
+        notices,
+        waiting,
+    )
 }
 
 // Whether a hub with its tables of connections, of places and of notices is sound.

@@ -15,7 +15,8 @@ ghost use Rattle.tables.specs.Places.{rows};
 ghost use Rattle.connections.specs.Members.{connection-of, past-of, connections-in, member-formed, rows-formed};
 ghost use Rattle.connections.specs.Within.{Within};
 ghost use Rattle.state.specs.View.{tables, view};
-ghost use Rattle.sound.specs.Pace.{Counts, counted, Countable, past-in, with-past, Remembers, past-with, Names, left-with, closed-with, Reserves};
+ghost use Rattle.line_tests.specs.Counts.{Counts};
+ghost use Rattle.sound.specs.Pace.{past-in, with-past, Remembers, past-with, Names, left-with, closed-with, Reserves};
 use super::wide;
 use connections::Member;
 use connections::closing::charge_over;
@@ -32,27 +33,6 @@ use rules::Connection;
 use rules::Link;
 use rules::Packet;
 use state::Hub;
-
-// ---- the rows of each connection, counted
-
-fn count_row(seen: &mut [u32], c: usize)
-    requires { ⌜ (c < length (now seen)) × (getD (now seen) c 0 < max-reserved) ⌝ }
-    ensures { λ r. ⌜ now (seen .exit) ≡ counted (now (seen .entry)) c ⌝ }
-{
-    seen[c] += 1;
-}
-
-fn count_rows(places: &[u32], held: usize, seen: &mut [u32])
-    requires { ⌜ (held ≡ length (rows (now places))) × Countable (now places) × Counts (now seen) [] ⌝ }
-    ensures { λ r. ⌜ Counts (now (seen .exit)) (rows (now (places .entry))) ⌝ }
-{
-    let mut i: usize = 0;
-    while i < held {
-        let p = tables::row(places, i);
-        count_row(seen, p.connection as usize);
-        i += 1;
-    }
-}
 
 // ---- before the pass: what has left
 
@@ -240,7 +220,7 @@ fn scan(h: Hub, table: &mut [u32], places: &[u32], held: usize) -> bool
 
 // Whether what has left of each connection and its rows keep their pace, none holds more than its reservation, and what is remembered are these.
 fn queues_ok(h: Hub, members: &[u32], places: &[u32], held: usize, seen: &[u32]) -> bool
-    requires { ⌜ (held ≡ length (rows (now places))) × Counts (now seen) (rows (now places)) ⌝ }
+    requires { ⌜ (held ≡ length (rows (now places))) × Counts length (now seen) (rows (now places)) ⌝ }
     requires { ⌜ (rows-formed (now members) ≡ true) × Names (now members) (now places) × Within (h .link) (connections-in (now members)) ⌝ }
     ensures { λ r. ⌜ ((q : List ℕ) → r ≡ queues-sound (view h (tables (now (members .entry)) (now (places .entry)) q))) ⌝ }
 {
@@ -297,7 +277,7 @@ pub(crate) fn paced_ok(h: Hub, members: &[u32], places: &[u32], held: usize) -> 
     ensures { λ r. ⌜ ((q : List ℕ) → r ≡ (queues-sound (view h (tables (now (members .entry)) (now (places .entry)) q)) && every max-connections (closed-sound (view h (tables (now (members .entry)) (now (places .entry)) q))))) ⌝ }
 {
     let mut seen = [0u32; MAX_CONNECTIONS];
-    count_rows(places, held, &mut seen);
+    line_tests::count_rows(places, held, &mut seen);
     if !queues_ok(h, members, places, held, &seen) {
         return false;
     }

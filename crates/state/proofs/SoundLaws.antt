@@ -1,10 +1,9 @@
 -- What a sound hub and its tables give: a sound state, and tables that are what is written of it.
 use Prim.Native.Nat.{ℕ, _<_}
 use native.Mathlib.Omega.{arith}
-use mathlib.Core.Path.{_≡_, sym, ap, _∙_}
-use mathlib.Core.Bool.{true, false, _&&_}
+use mathlib.Core.Path.{_≡_}
+use mathlib.Core.Bool.{true, false}
 use mathlib.Core.Logic.{⊎-elim}
-use borrow.Author.Tests.{ne-eqb}
 use lib.ListN.{length}
 use Rattle.rules.specs.Words.{All}
 use Rattle.rules.specs.Limits.{max-connections, notice-number}
@@ -12,10 +11,10 @@ use Rattle.rules.specs.Model.{no-connection, nth}
 use Rattle.rules.specs.Admission.{owned}
 use Rattle.rules.specs.Service.{expired}
 use Rattle.rules.specs.SoundState.{Orderly, Sound}
-use Rattle.rules.specs.SoundTest.{nothing-used, admissions-sound, rows-sound, notices-sound, line-sound, sound}
+use Rattle.rules.specs.SoundTest.{sound}
 use Rattle.rules.proofs.Lists.{all-map}
 use Rattle.rules.proofs.Tests.{and-true}
-use Rattle.rules.proofs.Sums.{split, cond-is}
+use Rattle.rules.proofs.Sums.{split}
 use Rattle.rules.proofs.Standing.{owned-below}
 use Rattle.rules.proofs.SoundExact.{exact}
 use Rattle.tables.specs.Table.{formed}
@@ -100,15 +99,6 @@ module _ (h : Hub) (t : Tables) (ok : sound-hub h t ≡ true) where
     pub others : All (λ p. p .connection ≡ notice-number → ⊥) (rows (t .places))
     others =
         all-map (λ p f e. omega (arith, linked .numbers, owned-below (connections-in (t .members)) (p .connection) (f .owner))) (rows (t .places)) (linked .fit)
-
-    -- the line's clause of the test
-    pub line-holds : line-sound (view h t) ≡ true
-    unfolding sound
-    line-holds =
-        let s = view h t in
-        let a = and-true (admissions-sound s) _ (sym (cond-is (nothing-used s) _ (ne-eqb (h .link .levels) 0 n)) ∙ sound-view) in
-        let b = and-true (rows-sound s) (notices-sound s && line-sound s) (a .1) in
-        and-true (notices-sound s) (line-sound s) (b .1) .1
 
     pub figures-in-limits : Within (h .link) (connections-in (t .members))
     figures-in-limits = record { link-in = linked .link-in; figures-in = linked .figures-in; blank-in = blank }

@@ -1,5 +1,5 @@
 -- Of a sound state: reading what is written gives it back, and its tables are formed, with nothing but zeros behind their rows.
-use Prim.Native.Nat.{ℕ, _*_, _-_, _≤_, _<_}
+use Prim.Native.Nat.{ℕ, _≤_, _<_}
 use native.Mathlib.Omega.{arith}
 use mathlib.Core.Path.{_≡_, refl, sym, ap, _∙_, subst}
 use mathlib.Core.Bool.{Bool, true, false}
@@ -17,9 +17,9 @@ use Rattle.rules.proofs.Tests.{and-intro}
 use Rattle.rules.proofs.Bounds.{rows-fit-places}
 use Rattle.rules.proofs.SoundExact.{exact}
 use Rattle.tables.specs.Table.{formed}
-use Rattle.tables.specs.Places.{packet-width, rows, written-places, places-length, packet-in, numbers-of}
+use Rattle.tables.specs.Places.{packet-width, places-length}
 use Rattle.tables.specs.Notices.{notices-formed}
-use Rattle.tables.proofs.TableLaws.{read-back, formed-back}
+use Rattle.tables.proofs.PlacesLaws.{places-again, places-formed-again}
 use Rattle.tables.proofs.NoticeLaws.{notices-again, written-formed}
 use Rattle.connections.specs.Members.{used-by, first-closed, members-formed}
 use Rattle.connections.proofs.WrittenLaws.{Few, connections-back, pasts-back, closed-back, members-formed-back}
@@ -75,24 +75,16 @@ writable s S =
     (same (s .link .levels) 0)
 
 module _ (s : State) (W : Writable s) where
-  pub rows-back : rows (written-places (s .held)) ≡ s .held
-  unfolding rows written-places
-  rows-back = read-back packet-width numbers-of (λ p. refl) (omega arith) packet-in (λ p. refl) (s .held) (places-length - packet-width * length (s .held)) (W .sent)
-
-  pub places-formed-back : formed packet-width places-length (written-places (s .held)) ≡ true
-  unfolding written-places
-  places-formed-back = formed-back packet-width numbers-of (λ p. refl) (omega arith) packet-in (λ p. refl) (s .held) places-length (W .sent) (omega (arith, W .fit))
-
   -- READING WHAT IS WRITTEN gives the state back
   pub read-written : view (hub-of s) (written s) ≡ s
   read-written =
       rw
-      (connections-back (s .connections) (s .pasts) (s .closed) (used-by (s .connections)) (first-closed (s .pasts) (s .closed)) (W .numbers) (W .each-past) (W .each-mark) (W .short), pasts-back (s .connections) (s .pasts) (s .closed) (used-by (s .connections)) (first-closed (s .pasts) (s .closed)) (W .numbers) (W .each-past) (W .each-mark) (W .short), closed-back (s .connections) (s .pasts) (s .closed) (used-by (s .connections)) (first-closed (s .pasts) (s .closed)) (W .numbers) (W .each-past) (W .each-mark) (W .short), rows-back, notices-again (s .notices) (W .said) (W .few-said))
+      (connections-back (s .connections) (s .pasts) (s .closed) (used-by (s .connections)) (first-closed (s .pasts) (s .closed)) (W .numbers) (W .each-past) (W .each-mark) (W .short), pasts-back (s .connections) (s .pasts) (s .closed) (used-by (s .connections)) (first-closed (s .pasts) (s .closed)) (W .numbers) (W .each-past) (W .each-mark) (W .short), closed-back (s .connections) (s .pasts) (s .closed) (used-by (s .connections)) (first-closed (s .pasts) (s .closed)) (W .numbers) (W .each-past) (W .each-mark) (W .short), places-again (s .held) (W .sent), notices-again (s .notices) (W .said) (W .few-said))
 
   written-tables-formed : tables-formed (written s) ≡ true
   unfolding tables-formed
   written-tables-formed =
-      and-intro (formed packet-width places-length (written s .places)) _ places-formed-back
+      and-intro (formed packet-width places-length (written s .places)) _ (places-formed-again (s .held) (W .sent) (W .fit))
       (and-intro (members-formed (written s .members)) (notices-formed (written s .notices)) (members-formed-back (s .connections) (s .pasts) (s .closed) (W .numbers) (W .each-past) (W .each-mark) (W .short)) (written-formed (s .notices) (W .said) (W .few-said)))
 
 -- and what is written is sound

@@ -1,8 +1,8 @@
 -- THE CONTRACT of a call on any hub and any tables: verdict 1 where they are not sound, else nothing but the rules.
-use mathlib.Core.Path.{_≡_}
 use mathlib.Core.Bool.{cond}
 use Rattle.rules.specs.Model.{Call}
 use Rattle.rules.specs.Calls.{refused-number, answer}
+use Rattle.tables.specs.Calls.{Does-by}
 use Rattle.state.specs.declared.Hub.{Hub}
 use Rattle.state.specs.declared.Told.{Told}
 use Rattle.state.specs.View.{Tables, view, written, sound-hub}
@@ -16,6 +16,5 @@ unfoldable pub leaves : Call → Hub → Tables → Tables
 leaves k h t = cond (sound-hub h t) (written (answer k (view h t) .next)) t
 
 -- handed the hub h and the tables `before`, the call k answers `told` and leaves the tables `after`
-pub record Does (k : Call) (h : Hub) (before : Tables) (told : Told) (after : Tables) : Type 0 where
-  pub answers : told ≡ tells k h before
-  pub tables : after ≡ leaves k h before
+abbrev pub Does : Call → Hub → Tables → Told → Tables → Type 0
+Does k h before told after = Does-by tells leaves k h before told after

@@ -9,21 +9,20 @@ use lib.Dec.{ltb, eqb}
 use lib.ListN.{length}
 use borrow.Author.Tests.{eqb-false}
 use Rattle.rules.specs.declared.Packet.{Packet}
-use Rattle.rules.specs.Model.{State, tick}
-use Rattle.rules.specs.Calls.{answer}
 use Rattle.rules.proofs.Tests.{never}
-use Rattle.state.specs.declared.Hub.{Hub}
-use Rattle.service.specs.Quiet.{passed, quiet-ticks}
-use Rattle.service.proofs.QuietLaws.{quiets}
+use Rattle.either.specs.Line.{Line, tick, clock-of, respond}
+use Rattle.both.specs.declared.Kept.{Kept}
+use Rattle.both.specs.Quiet.{passed, quiet-ticks}
+use Rattle.both.proofs.QuietLaws.{quiets}
 use Rattle.fields.proofs.NumberLaws.{cond-by}
 use Rattle.traces.specs.declared.Record.{Record}
-use Rattle.traces.specs.declared.Record.the-variants.{Link as LinkRecord, LinkStandBy, LinkWindows, Admit, AdmitStamped, Close, Offer, OfferStamped, Notice, Ticks, Malformed}
+use Rattle.traces.specs.declared.Record.the-variants.{Link as LinkRecord, LinkStandBy, LinkWindows, LinkFrames, Admit, AdmitStamped, AdmitShare, Close, Offer, OfferStamped, Notice, Ticks, Malformed}
 use Rattle.traces.specs.Trace.{longest-record}
 use Rattle.answers.specs.declared.Reply.the-variants.{Linked, Admitted, Closed, Offered, Noticed, Departed, Ticked, Broken}
 use Rattle.answers.specs.Answers.{answer-bytes, longest-answer}
 use Rattle.answers.proofs.WriteLaws.{answer-short}
 use Rattle.log.specs.Log.{trace-limit, departure, tick-log, read-at, all-done-verdict}
-use Rattle.state.specs.View.{Tables}
+use Rattle.tables.specs.Lent.{Tables}
 use Rattle.steps.specs.declared.Phase.{Phase}
 use Rattle.steps.specs.declared.Phase.the-variants.{Reading, Ticking, Finished}
 use Rattle.steps.specs.declared.Cursor.{Cursor}
@@ -34,7 +33,7 @@ use Rattle.steps.specs.Steps.{Point, point, Next, still, goes, record-ne
 use Rattle.steps.specs.Tie.{cursor-at, point-of, stepped-of, nothing-done, Facts}
 
 -- nothing is done
-pub waits-facts : (at : ℕ) (q q′ : Phase) (h : Hub) (len : ℕ) (last : Bool) (r : ℕ) (k : Status) → weight q′ ≤ weight q
+pub waits-facts : (at : ℕ) (q q′ : Phase) (h : Kept) (len : ℕ) (last : Bool) (r : ℕ) (k : Status) → weight q′ ≤ weight q
     → is-go k ≡ false → (k ≡ MoreBytes → last ≡ false) → Facts (cursor-at at q h) len last r (nothing-done (cursor-at at q′ h) k)
 waits-facts at q q′ h len last r k w g m =
     record {
@@ -49,12 +48,14 @@ waits-facts at q q′ h len last r k w g m =
 
 -- ---- a record
 
-record-short : (r : Record) (k at : ℕ) (s : State) → length (record-next r k at s .bytes) ≤ longest-answer
+record-short : (r : Record) (k at : ℕ) (s : Line) → length (record-next r k at s .bytes) ≤ longest-answer
 record-short (LinkRecord n m silence d1 d2 d3 d4 d5 d6 d7 d8) k at s = answer-short (Linked _)
 record-short (LinkStandBy n m silence early d1 d2 d3 d4 d5 d6 d7 d8) k at s = answer-short (Linked _)
 record-short (LinkWindows n m silence early d1 d2 d3 d4 d5 d6 d7 d8 w1 w2 w3 w4 w5 w6 w7 w8) k at s = answer-short (Linked _)
+record-short (LinkFrames n m silence) k at s = answer-short (Linked _)
 record-short (Admit a b d e f) k at s = answer-short (Admitted _ _ _ _)
 record-short (AdmitStamped a b d e) k at s = answer-short (Admitted _ _ _ _)
+record-short (AdmitShare a b) k at s = answer-short (Admitted _ _ _ _)
 record-short (Close a) k at s = answer-short (Closed _)
 record-short (Offer a b d) k at s = answer-short (Offered _ _)
 record-short (OfferStamped a b d e) k at s = answer-short (Offered _ _)
@@ -63,7 +64,7 @@ record-short (Ticks n) k at s = omega arith
 record-short Malformed k at s = answer-short (Broken at)
 
 -- a record that takes k bytes, and is not malformed
-pub taken-facts : (at k : ℕ) (h : Hub) (len : ℕ) (last : Bool) (r : ℕ) (a : Stepped) → 0 < k → k ≤ len → k ≤ trace-limit - at → a .wrote ≤ r
+pub taken-facts : (at k : ℕ) (h : Kept) (len : ℕ) (last : Bool) (r : ℕ) (a : Stepped) → 0 < k → k ≤ len → k ≤ trace-limit - at → a .wrote ≤ r
     → a .used ≡ k → a .cursor .at ≡ at + k → weight (a .cursor .phase) ≤ 65536 → (a .status ≡ MoreBytes → last ≡ false)
     → Facts (cursor-at at Reading h) len last r a
 taken-facts at k h len last r a p l e b u f w m =
@@ -77,7 +78,7 @@ taken-facts at k h len last r a p l e b u f w m =
       wants = m;
     }
 
-pub record-facts : (w : Record) (k at : ℕ) (s : State) (h : Hub) (len : ℕ) (last : Bool) (r : ℕ) (a : Stepped) → a ≡ stepped-of (record-next w k at s)
+pub record-facts : (w : Record) (k at : ℕ) (s : Line) (h : Kept) (len : ℕ) (last : Bool) (r : ℕ) (a : Stepped) → a ≡ stepped-of (record-next w k at s)
     → (k ≡ 0 → w ≡ Malformed) → k ≤ len → k ≤ trace-limit - at → longest-answer ≤ r → weight (a .cursor .phase) ≤ 65536
     → Facts (cursor-at at Reading h) len last r a
 record-facts w k at s h len last r a e z l f m b = go w k e z l f
@@ -90,8 +91,10 @@ record-facts w k at s h len last r a e z l f m b = go w k e z l f
     go (LinkRecord n q silence d1 d2 d3 d4 d5 d6 d7 d8) zero d z i g = never (cc (z refl))
     go (LinkStandBy n q silence early d1 d2 d3 d4 d5 d6 d7 d8) zero d z i g = never (cc (z refl))
     go (LinkWindows n q silence early d1 d2 d3 d4 d5 d6 d7 d8 w1 w2 w3 w4 w5 w6 w7 w8) zero d z i g = never (cc (z refl))
+    go (LinkFrames n q silence) zero d z i g = never (cc (z refl))
     go (Admit x y c p q) zero d z i g = never (cc (z refl))
     go (AdmitStamped x y c p) zero d z i g = never (cc (z refl))
+    go (AdmitShare x y) zero d z i g = never (cc (z refl))
     go (Close x) zero d z i g = never (cc (z refl))
     go (Offer x y c) zero d z i g = never (cc (z refl))
     go (OfferStamped x y c p) zero d z i g = never (cc (z refl))
@@ -103,8 +106,10 @@ record-facts w k at s h len last r a e z l f m b = go w k e z l f
         taken-facts at (suc j) h len last r a (omega arith) i g (short (LinkStandBy n q silence early d1 d2 d3 d4 d5 d6 d7 d8) (suc j) d) (rw d) (rw d) b (rw d (λ e. cc))
     go (LinkWindows n q silence early d1 d2 d3 d4 d5 d6 d7 d8 w1 w2 w3 w4 w5 w6 w7 w8) (suc j) d z i g =
         taken-facts at (suc j) h len last r a (omega arith) i g (short (LinkWindows n q silence early d1 d2 d3 d4 d5 d6 d7 d8 w1 w2 w3 w4 w5 w6 w7 w8) (suc j) d) (rw d) (rw d) b (rw d (λ e. cc))
+    go (LinkFrames n q silence) (suc j) d z i g = taken-facts at (suc j) h len last r a (omega arith) i g (short (LinkFrames n q silence) (suc j) d) (rw d) (rw d) b (rw d (λ e. cc))
     go (Admit x y c p q) (suc j) d z i g = taken-facts at (suc j) h len last r a (omega arith) i g (short (Admit x y c p q) (suc j) d) (rw d) (rw d) b (rw d (λ e. cc))
     go (AdmitStamped x y c p) (suc j) d z i g = taken-facts at (suc j) h len last r a (omega arith) i g (short (AdmitStamped x y c p) (suc j) d) (rw d) (rw d) b (rw d (λ e. cc))
+    go (AdmitShare x y) (suc j) d z i g = taken-facts at (suc j) h len last r a (omega arith) i g (short (AdmitShare x y) (suc j) d) (rw d) (rw d) b (rw d (λ e. cc))
     go (Close x) (suc j) d z i g = taken-facts at (suc j) h len last r a (omega arith) i g (short (Close x) (suc j) d) (rw d) (rw d) b (rw d (λ e. cc))
     go (Offer x y c) (suc j) d z i g = taken-facts at (suc j) h len last r a (omega arith) i g (short (Offer x y c) (suc j) d) (rw d) (rw d) b (rw d (λ e. cc))
     go (OfferStamped x y c p) (suc j) d z i g = taken-facts at (suc j) h len last r a (omega arith) i g (short (OfferStamped x y c p) (suc j) d) (rw d) (rw d) b (rw d (λ e. cc))
@@ -128,30 +133,30 @@ departure-short : (o : Option Packet) (finish : ℕ) → length (departure o fin
 departure-short none finish = omega arith
 departure-short (some p) finish = answer-short (Departed (p .connection) (p .tag) (p .arrival) (p .eligibility) finish)
 
-goes-facts : (at asked left : ℕ) (h : Hub) (p : Phase) (s : State) (bs : List ℕ) (len : ℕ) (last : Bool) (r : ℕ) → weight p ≤ left → length bs ≤ longest-answer
+goes-facts : (at asked left : ℕ) (h : Kept) (p : Phase) (s : Line) (bs : List ℕ) (len : ℕ) (last : Bool) (r : ℕ) → weight p ≤ left → length bs ≤ longest-answer
     → longest-answer ≤ r → Facts (cursor-at at (Ticking asked left) h) len last r (stepped-of (goes at p s 0 bs))
 goes-facts at asked left h p s bs len last r w b m =
     record { used = omega arith; wrote = omega arith; place = omega arith; within = λ l. l; never-more = omega arith; less = λ _. omega arith; wants = λ e. cc }
 
-module _ (at asked left : ℕ) (s : State) (h : Hub) (len : ℕ) (last : Bool) (r : ℕ) (m : longest-answer ≤ r) where
-  abbrev Kept : Next → Type 0
-  Kept n = Facts (cursor-at at (Ticking asked left) h) len last r (stepped-of n)
+module _ (at asked left : ℕ) (s : Line) (h : Kept) (len : ℕ) (last : Bool) (r : ℕ) (m : longest-answer ≤ r) where
+  abbrev Has-facts : Next → Type 0
+  Has-facts n = Facts (cursor-at at (Ticking asked left) h) len last r (stepped-of n)
 
-  one-tick-facts : (left ≡ 0 → ⊥) → Kept (one-tick at asked left s)
+  one-tick-facts : (left ≡ 0 → ⊥) → Has-facts (one-tick at asked left s)
   unfolding one-tick
   one-tick-facts z =
-      cond-by Kept (eqb (answer tick s .verdict) 0) _ _
-      (λ _. goes-facts at asked left h (Ticking asked (left - 1)) (answer tick s .next) (tick-log (answer tick s)) len last r
-      (omega arith) (departure-short (answer tick s .departed) (answer tick s .next .clock)) m)
-      (λ _. goes-facts at asked left h Reading (answer tick s .next) (answer-bytes (Ticked (answer tick s .verdict) (asked - left))) len last r (omega arith) (answer-short (Ticked (answer tick s .verdict) (asked - left))) m)
+      cond-by Has-facts (eqb (respond tick s .verdict) 0) _ _
+      (λ _. goes-facts at asked left h (Ticking asked (left - 1)) (respond tick s .next) (tick-log (respond tick s)) len last r
+      (omega arith) (departure-short (respond tick s .departed) (clock-of (respond tick s .next))) m)
+      (λ _. goes-facts at asked left h Reading (respond tick s .next) (answer-bytes (Ticked (respond tick s .verdict) (asked - left))) len last r (omega arith) (answer-short (Ticked (respond tick s .verdict) (asked - left))) m)
 
-  next-tick-facts : Kept (tick-next at asked left s)
+  next-tick-facts : Has-facts (tick-next at asked left s)
   unfolding tick-next
   next-tick-facts =
-      cond-by Kept (eqb left 0) _ _
+      cond-by Has-facts (eqb left 0) _ _
       (λ _. goes-facts at asked left h Reading s (answer-bytes (Ticked (all-done-verdict asked s) asked)) len last r (omega arith) (answer-short (Ticked (all-done-verdict asked s) asked)) m)
       (λ z. let n : left ≡ 0 → ⊥ = eqb-false _ _ z in
-      cond-by Kept (eqb (quiet-ticks left s) 0) _ _ (λ _. one-tick-facts n)
+      cond-by Has-facts (eqb (quiet-ticks left s) 0) _ _ (λ _. one-tick-facts n)
       (λ y. let k : quiet-ticks left s ≡ 0 → ⊥ = eqb-false _ _ y in
       goes-facts at asked left h (Ticking asked (left - quiet-ticks left s)) (passed s (quiet-ticks left s)) [] len last r (omega (arith, quiets left s k .few)) (omega arith) m))
 
@@ -160,7 +165,7 @@ module _ (at asked left : ℕ) (s : State) (h : Hub) (len : ℕ) (last : Bool) (
 
 -- ---- which case a step is
 
-module _ (at : ℕ) (s : State) (w : List ℕ) (last : Bool) where
+module _ (at : ℕ) (s : Line) (w : List ℕ) (last : Bool) where
   pub next-end : cond last (eqb (length w) 0) false ≡ true → read-next at s w last ≡ still (point at Finished s) Done
   unfolding read-next
   next-end e = go last e
@@ -196,17 +201,17 @@ module _ (at : ℕ) (s : State) (w : List ℕ) (last : Bool) where
       go false d k = rw k
 
 pub next-phase : (c : Cursor) (t : Tables) (w : List ℕ) (last : Bool) {f : Phase} → c .phase ≡ f
-    → next (point-of c t) w last ≡ phase-next f (c .at) (point-of c t .state) w last
+    → next (point-of c t) w last ≡ phase-next f (c .at) (point-of c t .line) w last
 unfolding next
-next-phase c t w last e = ap (λ p. phase-next p (c .at) (point-of c t .state) w last) e
+next-phase c t w last e = ap (λ p. phase-next p (c .at) (point-of c t .line) w last) e
 
-pub facts-phase : (c : Cursor) {q : Phase} → c .phase ≡ q → (len : ℕ) (last : Bool) (r : ℕ) (a : Stepped) → Facts (cursor-at (c .at) q (c .hub)) len last r a
+pub facts-phase : (c : Cursor) {q : Phase} → c .phase ≡ q → (len : ℕ) (last : Bool) (r : ℕ) (a : Stepped) → Facts (cursor-at (c .at) q (c .line)) len last r a
     → Facts c len last r a
-facts-phase c e len last r a f = subst (λ p. Facts (cursor-at (c .at) p (c .hub)) len last r a) (sym e) f
+facts-phase c e len last r a f = subst (λ p. Facts (cursor-at (c .at) p (c .line)) len last r a) (sym e) f
 
 -- ---- a step writes one answer at most
 
-phase-short : (q : Phase) (at : ℕ) (s : State) (w : List ℕ) (last : Bool) → length (phase-next q at s w last .bytes) ≤ longest-answer
+phase-short : (q : Phase) (at : ℕ) (s : Line) (w : List ℕ) (last : Bool) → length (phase-next q at s w last .bytes) ≤ longest-answer
 unfolding read-next tick-next one-tick
 phase-short Reading at s w last =
     cond-by Short last _ _
@@ -218,8 +223,8 @@ phase-short Reading at s w last =
 phase-short (Ticking asked left) at s w last =
     cond-by Short (eqb left 0) _ _ (λ _. answer-short (Ticked (all-done-verdict asked s) asked))
     (λ _. cond-by Short (eqb (quiet-ticks left s) 0) _ _
-    (λ _. cond-by Short (eqb (answer tick s .verdict) 0) _ _
-    (λ _. departure-short (answer tick s .departed) (answer tick s .next .clock)) (λ _. answer-short (Ticked (answer tick s .verdict) (asked - left))))
+    (λ _. cond-by Short (eqb (respond tick s .verdict) 0) _ _
+    (λ _. departure-short (respond tick s .departed) (clock-of (respond tick s .next))) (λ _. answer-short (Ticked (respond tick s .verdict) (asked - left))))
     (λ _. omega arith))
   where
     Short : Next → Type 0
@@ -228,4 +233,4 @@ phase-short Finished at s w last = omega arith
 
 pub next-short : (p : Point) (w : List ℕ) (last : Bool) → length (next p w last .bytes) ≤ longest-answer
 unfolding next
-next-short p w last = phase-short (p .phase) (p .at) (p .state) w last
+next-short p w last = phase-short (p .phase) (p .at) (p .line) w last

@@ -9,9 +9,8 @@ use lib.Dec.{ltb, eqb}
 use lib.ListN.{length, drop, length-append}
 use lib.Seq.{drop-append-le, drop-drop}
 use borrow.Author.Tests.{ne-eqb, ltb-false, eqb-true, eqb-false}
-use Rattle.rules.specs.Model.{State, tick}
-use Rattle.rules.specs.Calls.{answer}
-use Rattle.service.specs.Quiet.{quiet-ticks}
+use Rattle.either.specs.Line.{Line, tick, respond}
+use Rattle.both.specs.Quiet.{quiet-ticks}
 use Rattle.fields.proofs.NumberLaws.{cond-by}
 use Rattle.traces.specs.Trace.{longest-record}
 use Rattle.log.specs.Log.{Asked, one-call, some-ticks, unread, asks, asked-from, read-at}
@@ -53,7 +52,7 @@ tells-more b Finished at (x ∷ w) got u T = (
   λ z. absurd (omega arith),
 )
 
-module _ (b : Option ℕ) (s : State) where
+module _ (b : Option ℕ) (s : Line) where
   asked-tells : (q : Asked) (k at : ℕ) (w u : List ℕ) → 0 < length w → k ≤ length w → b ≡ first-bad ((q, at) ∷ asked-from (at + k) (drop k (w ++ u))) → Tells-then b w u (asked-next q k at s)
   asked-tells (one-call c) k at w u h l e = e ∙ ap (bad-from (at + k)) (drop-append-le k w u l)
   asked-tells (some-ticks x) k at w u h l e = e ∙ ap (bad-from (at + k)) (drop-append-le k w u l)
@@ -79,7 +78,7 @@ module _ (b : Option ℕ) (s : State) where
   unfolding tick-next one-tick
   tick-tells at asked left w u T =
       cond-by (Tells-then b w u) (eqb left 0) _ _ (λ _. T)
-      (λ _. cond-by (Tells-then b w u) (eqb (quiet-ticks left s) 0) _ _ (λ _. cond-by (Tells-then b w u) (eqb (answer tick s .verdict) 0) _ _ (λ _. T) (λ _. T)) (λ _. T))
+      (λ _. cond-by (Tells-then b w u) (eqb (quiet-ticks left s) 0) _ _ (λ _. cond-by (Tells-then b w u) (eqb (respond tick s .verdict) 0) _ _ (λ _. T) (λ _. T)) (λ _. T))
 
   phase-tells-then : (q : Phase) (at : ℕ) (w u : List ℕ) (last : Bool) → (last ≡ true → u ≡ []) → phase-tells b q at w u → Tells-then b w u (phase-next q at s w last)
   phase-tells-then Reading at w u last g T = read-tells at w u last g T
@@ -88,7 +87,7 @@ module _ (b : Option ℕ) (s : State) where
 
 pub step-tells : (b : Option ℕ) (p : Point) (w u : List ℕ) (last : Bool) → (last ≡ true → u ≡ []) → Tells b p w u → Tells-then b w u (next p w last)
 unfolding next
-step-tells b p w u last g T = phase-tells-then b (p .state) (p .phase) (p .at) w u last g T
+step-tells b p w u last g T = phase-tells-then b (p .line) (p .phase) (p .at) w u last g T
 
 onward-tells : (b : Option ℕ) (w u : List ℕ) (last : Bool) (m : Next) → (last ≡ true → u ≡ []) → Tells-then b w u m → Tells-then b w u (onward w last m)
 unfolding onward

@@ -1,4 +1,4 @@
--- What a status says of a step: where it is done nothing is to come, and where it wants bytes the window is short; a step keeps the state sound, and is refused nowhere.
+-- What a status says of a step: where it is done nothing is to come, and where it wants bytes the window is short; a step keeps the line sound, and is refused nowhere.
 --
 use Prim.Native.Nat.{ℕ, zero, suc, _<_}
 use mathlib.Core.Path.{_≡_, refl}
@@ -8,12 +8,10 @@ use lib.Dec.{ltb, eqb}
 use lib.ListN.{length, drop}
 use lib.Seq.{drop-drop}
 use borrow.Author.Tests.{eqb-false, ltb-true}
-use Rattle.rules.specs.Model.{State, tick}
-use Rattle.rules.specs.SoundState.{Sound}
-use Rattle.rules.specs.Calls.{answer}
 use Rattle.rules.proofs.Tests.{never}
-use Rattle.rules.proofs.SoundKept.{kept}
-use Rattle.service.specs.Quiet.{quiet-ticks}
+use Rattle.either.specs.Line.{Line, tick, Sound-line, respond}
+use Rattle.either.proofs.Results.{sound-is-kept}
+use Rattle.both.specs.Quiet.{quiet-ticks}
 use Rattle.fields.proofs.NumberLaws.{cond-by}
 use Rattle.traces.specs.declared.Record.{Record}
 use Rattle.traces.specs.Trace.{longest-record}
@@ -24,15 +22,15 @@ use Rattle.steps.specs.declared.Status.the-variants.{GoOn, MoreBytes, Mo
 use Rattle.steps.specs.Steps.{Point, point, Next, asked-next, record-next, read-next, one-tick, tick-next, phase-next, next, is-go, onward, steps}
 use Rattle.steps.proofs.PassLaws.{quiet-passes}
 
--- of a step on the window w: where it is done the replay is finished; where it wants bytes fewer than the longest record are left; and the state after it is sound
+-- of a step on the window w: where it is done the replay is finished; where it wants bytes fewer than the longest record are left; and the line after it is sound
 pub record Ends-well (w : List ℕ) (n : Next) : Type 0 where
   pub finished : n .status ≡ Done → n .point .phase ≡ Finished
   pub short : n .status ≡ MoreBytes → length (drop (n .used) w) < longest-record
   pub room-enough : n .status ≡ MoreRoom → ⊥
   pub never-unsound : n .status ≡ NotSound → ⊥
-  pub sound : Sound (n .point .state)
+  pub sound : Sound-line (n .point .line)
 
-module _ (w : List ℕ) (n : Next) (S : Sound (n .point .state)) where
+module _ (w : List ℕ) (n : Next) (S : Sound-line (n .point .line)) where
   goes-well : n .status ≡ GoOn → Ends-well w n
   goes-well g = record { finished = λ e. cc; short = λ e. never cc; room-enough = λ e. never cc; never-unsound = λ e. never cc; sound = S }
 
@@ -42,9 +40,9 @@ module _ (w : List ℕ) (n : Next) (S : Sound (n .point .state)) where
   wants-well : n .status ≡ MoreBytes → length (drop (n .used) w) < longest-record → Ends-well w n
   wants-well m l = record { finished = λ e. cc; short = λ e. l; room-enough = λ e. never cc; never-unsound = λ e. never cc; sound = S }
 
-module _ (s : State) (S : Sound s) where
+module _ (s : Line) (S : Sound-line s) where
   asked-ends : (w : List ℕ) (q : Asked) (k at : ℕ) → Ends-well w (asked-next q k at s)
-  asked-ends w (one-call c) k at = goes-well w _ (kept c s S) refl
+  asked-ends w (one-call c) k at = goes-well w _ (sound-is-kept c s S) refl
   asked-ends w (some-ticks a) k at = goes-well w _ S refl
   asked-ends w unread k at = done-well w _ S refl refl
 
@@ -62,7 +60,7 @@ module _ (s : State) (S : Sound s) where
   one-tick-ends-well : (w : List ℕ) (at asked left : ℕ) → Ends-well w (one-tick at asked left s)
   unfolding one-tick
   one-tick-ends-well w at asked left =
-      cond-by (Ends-well w) (eqb (answer tick s .verdict) 0) _ _ (λ _. goes-well w _ (kept tick s S) refl) (λ _. goes-well w _ (kept tick s S) refl)
+      cond-by (Ends-well w) (eqb (respond tick s .verdict) 0) _ _ (λ _. goes-well w _ (sound-is-kept tick s S) refl) (λ _. goes-well w _ (sound-is-kept tick s S) refl)
 
   tick-ends-well : (w : List ℕ) (at asked left : ℕ) → Ends-well w (tick-next at asked left s)
   unfolding tick-next
@@ -76,9 +74,9 @@ module _ (s : State) (S : Sound s) where
   phase-ends-well (Ticking asked left) at w last = tick-ends-well w at asked left
   phase-ends-well Finished at w last = done-well w _ S refl refl
 
-pub step-ends-well : (p : Point) (w : List ℕ) (last : Bool) → Sound (p .state) → Ends-well w (next p w last)
+pub step-ends-well : (p : Point) (w : List ℕ) (last : Bool) → Sound-line (p .line) → Ends-well w (next p w last)
 unfolding next
-step-ends-well p w last S = phase-ends-well (p .state) S (p .phase) (p .at) w last
+step-ends-well p w last S = phase-ends-well (p .line) S (p .phase) (p .at) w last
 
 onward-ends-well : (w : List ℕ) (last : Bool) (m : Next) → Ends-well w m → Ends-well w (onward w last m)
 unfolding onward
@@ -88,7 +86,7 @@ onward-ends-well w last m E =
     record { finished = N .finished; short = λ e. rw (← drop-drop (next (m .point) (drop (m .used) w) last .used) (m .used) w) (N .short e); room-enough = N .room-enough; never-unsound = N .never-unsound; sound = N .sound })
     (λ _. E)
 
-pub steps-end-well : (k : ℕ) (p : Point) (w : List ℕ) (last : Bool) → Sound (p .state) → Ends-well w (steps k p w last)
+pub steps-end-well : (k : ℕ) (p : Point) (w : List ℕ) (last : Bool) → Sound-line (p .line) → Ends-well w (steps k p w last)
 unfolding steps
 steps-end-well zero p w last S = goes-well w _ S refl
 steps-end-well (suc k) p w last S = onward-ends-well w last (steps k p w last) (steps-end-well k p w last S)

@@ -8,9 +8,8 @@ use lib.Dec.{ltb, eqb}
 use lib.ListN.{length, drop, length-append}
 use lib.Seq.{drop-append-le, drop-drop}
 use borrow.Author.Tests.{ltb-false, eqb-true, eqb-false}
-use Rattle.rules.specs.Model.{State, tick}
-use Rattle.rules.specs.Calls.{answer}
-use Rattle.service.specs.Quiet.{quiet-ticks}
+use Rattle.either.specs.Line.{Line, tick, respond}
+use Rattle.both.specs.Quiet.{quiet-ticks}
 use Rattle.fields.proofs.NumberLaws.{cond-by}
 use Rattle.traces.specs.declared.Record.{Record}
 use Rattle.traces.specs.Trace.{longest-record}
@@ -28,26 +27,26 @@ use Rattle.steps.proofs.PassLaws.{quiet-passes}
 abbrev pub Keeps : Point → List ℕ → List ℕ → Next → Type 0
 Keeps p w u n = to-come p (w ++ u) ≡ n .bytes ++ to-come (n .point) (drop (n .used) w ++ u)
 
-asked-keeps : (q : Asked) (k at : ℕ) (s : State) (w u : List ℕ) → k ≤ length w
+asked-keeps : (q : Asked) (k at : ℕ) (s : Line) (w u : List ℕ) → k ≤ length w
     → asked-log s ((q, at) ∷ asked-from (at + k) (drop k (w ++ u)))
     ≡ asked-next q k at s .bytes ++ to-come (asked-next q k at s .point) (drop (asked-next q k at s .used) w ++ u)
 asked-keeps (one-call c) k at s w u e = rw (drop-append-le k w u e)
 asked-keeps (some-ticks a) k at s w u e = rw (drop-append-le k w u e)
 asked-keeps unread k at s w u e = sym (append-nil (answer-bytes (Broken at)))
 
-record-keeps : (r : Record) (k at : ℕ) (s : State) (w u : List ℕ) → k ≤ length w
+record-keeps : (r : Record) (k at : ℕ) (s : Line) (w u : List ℕ) → k ≤ length w
     → asked-log s ((asks r, at) ∷ asked-from (at + k) (drop k (w ++ u)))
     ≡ record-next r k at s .bytes ++ to-come (record-next r k at s .point) (drop (record-next r k at s .used) w ++ u)
 record-keeps r k at s w u e = asked-keeps (asks r) k at s w u e
 
 -- the record at the start of the window is that at the start of what is left of the trace
-found-keeps : (at : ℕ) (s : State) (w u : List ℕ) → 0 < length w → read-at at (w ++ u) ≡ read-at at w
+found-keeps : (at : ℕ) (s : Line) (w u : List ℕ) → 0 < length w → read-at at (w ++ u) ≡ read-at at w
     → Keeps (point at Reading s) w u (found-next (read-at at w) at s)
 found-keeps at s w u p e =
     log-of-some at s (w ++ u) (simp length-append (omega arith))
     ∙ rw e (record-keeps (read-at at w .what) (read-at at w .taken) at s w u (read-lies at w .fits))
 
-read-keeps : (at : ℕ) (s : State) (w u : List ℕ) (last : Bool) → (last ≡ true → u ≡ []) → Keeps (point at Reading s) w u (read-next at s w last)
+read-keeps : (at : ℕ) (s : Line) (w u : List ℕ) (last : Bool) → (last ≡ true → u ≡ []) → Keeps (point at Reading s) w u (read-next at s w last)
 unfolding read-next
 read-keeps at s w u true g =
     rw (g refl)
@@ -60,22 +59,22 @@ read-keeps at s w u false g =
     (λ e. let n : longest-record ≤ length w = ltb-false _ _ e in found-keeps at s w u (omega arith) (read-onward at w u n))
 
 -- a tick that is done, and one that is refused
-one-tick-keeps : (at asked left : ℕ) (s : State) (w u : List ℕ) → (left ≡ 0 → ⊥) → Keeps (point at (Ticking asked left) s) w u (one-tick at asked left s)
+one-tick-keeps : (at asked left : ℕ) (s : Line) (w u : List ℕ) → (left ≡ 0 → ⊥) → Keeps (point at (Ticking asked left) s) w u (one-tick at asked left s)
 unfolding one-tick
 one-tick-keeps at asked zero s w u n = absurd (n refl)
 one-tick-keeps at asked (suc left) s w u n =
     let l : suc left - 1 ≡ left = omega arith in
-    cond-by (Keeps (point at (Ticking asked (suc left)) s) w u) (eqb (answer tick s .verdict) 0) _ _
-    (λ b. let e = eqb-true _ _ b in rw (l, done-log left s e asked, done-end left s e) (append-assoc (tick-log (answer tick s)) _ _))
+    cond-by (Keeps (point at (Ticking asked (suc left)) s) w u) (eqb (respond tick s .verdict) 0) _ _
+    (λ b. let e = eqb-true _ _ b in rw (l, done-log left s e asked, done-end left s e) (append-assoc (tick-log (respond tick s)) _ _))
     (λ b. let e = eqb-false _ _ b in rw (refused-log left s e asked, refused-end left s e))
 
-all-done-keeps : (at asked left : ℕ) (s : State) (w u : List ℕ) → left ≡ 0
+all-done-keeps : (at asked left : ℕ) (s : Line) (w u : List ℕ) → left ≡ 0
     → Keeps (point at (Ticking asked left) s) w u (goes at Reading s 0 (answer-bytes (Ticked (all-done-verdict asked s) asked)))
 unfolding ticks-log ticks-end
 all-done-keeps at asked zero s w u e = refl
 all-done-keeps at asked (suc left) s w u e = absurd (omega arith)
 
-tick-keeps : (at asked left : ℕ) (s : State) (w u : List ℕ) → Keeps (point at (Ticking asked left) s) w u (tick-next at asked left s)
+tick-keeps : (at asked left : ℕ) (s : Line) (w u : List ℕ) → Keeps (point at (Ticking asked left) s) w u (tick-next at asked left s)
 unfolding tick-next
 tick-keeps at asked left s w u =
     cond-by (Keeps (point at (Ticking asked left) s) w u) (eqb left 0) _ _
@@ -84,14 +83,14 @@ tick-keeps at asked left s w u =
     (λ _. one-tick-keeps at asked left s w u (eqb-false _ _ e))
     (λ z. let p = quiet-passes asked left s (eqb-false _ _ z) in rw (p .same-log, p .same-end)))
 
-phase-keeps : (q : Phase) (at : ℕ) (s : State) (w u : List ℕ) (last : Bool) → (last ≡ true → u ≡ []) → Keeps (point at q s) w u (phase-next q at s w last)
+phase-keeps : (q : Phase) (at : ℕ) (s : Line) (w u : List ℕ) (last : Bool) → (last ≡ true → u ≡ []) → Keeps (point at q s) w u (phase-next q at s w last)
 phase-keeps Reading at s w u last g = read-keeps at s w u last g
 phase-keeps (Ticking asked left) at s w u last g = tick-keeps at asked left s w u
 phase-keeps Finished at s w u last g = refl
 
 pub step-keeps : (p : Point) (w u : List ℕ) (last : Bool) → (last ≡ true → u ≡ []) → Keeps p w u (next p w last)
 unfolding next
-step-keeps p w u last g = phase-keeps (p .phase) (p .at) (p .state) w u last g
+step-keeps p w u last g = phase-keeps (p .phase) (p .at) (p .line) w u last g
 
 -- ---- many steps
 

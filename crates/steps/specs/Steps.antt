@@ -4,9 +4,8 @@ use mathlib.Core.Bool.{Bool, true, false, cond}
 use mathlib.Core.List.{List, [], _++_}
 use lib.Dec.{ltb, eqb}
 use lib.ListN.{length, drop}
-use Rattle.rules.specs.Model.{State, Call, tick, fresh}
-use Rattle.rules.specs.Calls.{answer}
-use Rattle.service.specs.Quiet.{passed, quiet-ticks}
+use Rattle.either.specs.Line.{Line, Request, tick, respond, fresh-line}
+use Rattle.both.specs.Quiet.{passed, quiet-ticks}
 use Rattle.traces.specs.declared.Record.{Record}
 use Rattle.traces.specs.declared.Found.{Found}
 use Rattle.traces.specs.Trace.{longest-record}
@@ -18,18 +17,18 @@ use Rattle.steps.specs.declared.Phase.the-variants.{Reading, Ticking, Fi
 use Rattle.steps.specs.declared.Status.{Status}
 use Rattle.steps.specs.declared.Status.the-variants.{GoOn, MoreBytes, MoreRoom, NotSound, Done}
 
--- a place in the trace: its offset, what comes next, and the state of the rules there
+-- a place in the trace: its offset, what comes next, and the line of the rules there
 pub record Point : Type 0 where
   pub at : ℕ
   pub phase : Phase
-  pub state : State
+  pub line : Line
 
-abbrev pub point : ℕ → Phase → State → Point
-point at p s = record { at = at; phase = p; state = s }
+abbrev pub point : ℕ → Phase → Line → Point
+point at p s = record { at = at; phase = p; line = s }
 
 -- where every replay begins
 abbrev pub beginning : Point
-beginning = point 0 Reading fresh
+beginning = point 0 Reading fresh-line
 
 -- what a step does: the place after it, the bytes of the window that it took, those that it wrote
 pub record Next : Type 0 where
@@ -43,27 +42,27 @@ abbrev pub still : Point → Status → Next
 still p k = record { point = p; used = 0; bytes = []; status = k }
 
 -- a step is made
-abbrev pub goes : ℕ → Phase → State → ℕ → List ℕ → Next
+abbrev pub goes : ℕ → Phase → Line → ℕ → List ℕ → Next
 goes at p s used bytes = record { point = point at p s; used = used; bytes = bytes; status = GoOn }
 
 -- a step with a record of k bytes that ends at offset `to`: a call is made and answered
-abbrev pub call-next : Call → ℕ → ℕ → State → Next
-call-next c k to s = goes to Reading (answer c s .next) k (call-log c (answer c s))
+abbrev pub call-next : Request → ℕ → ℕ → Line → Next
+call-next c k to s = goes to Reading (respond c s .next) k (call-log c (respond c s))
 
 -- a step with what a record of k bytes at offset `at` asks: a `TK` begins, a malformed record ends the log
-abbrev pub asked-next : Asked → ℕ → ℕ → State → Next
+abbrev pub asked-next : Asked → ℕ → ℕ → Line → Next
 asked-next (one-call c) k at s = call-next c k (at + k) s
 asked-next (some-ticks n) k at s = goes (at + k) (Ticking n n) s k []
 asked-next unread k at s = record { point = point at Finished s; used = 0; bytes = answer-bytes (Broken at); status = Done }
 
-abbrev pub record-next : Record → ℕ → ℕ → State → Next
+abbrev pub record-next : Record → ℕ → ℕ → Line → Next
 record-next r k at s = asked-next (asks r) k at s
 
-abbrev pub found-next : Found → ℕ → State → Next
+abbrev pub found-next : Found → ℕ → Line → Next
 found-next f at s = record-next (f .what) (f .taken) at s
 
 -- a step where a record is to be read: the window w must hold the longest one, or be the last
-unfoldable pub read-next : ℕ → State → List ℕ → Bool → Next
+unfoldable pub read-next : ℕ → Line → List ℕ → Bool → Next
 read-next at s w last =
     cond last
     (cond (eqb (length w) 0) (still (point at Finished s) Done) (found-next (read-at at w) at s))
@@ -72,14 +71,14 @@ read-next at s w last =
 -- ---- a step of a `TK`
 
 -- one tick, where `left` of `asked` are still to run
-unfoldable pub one-tick : ℕ → ℕ → ℕ → State → Next
+unfoldable pub one-tick : ℕ → ℕ → ℕ → Line → Next
 one-tick at asked left s =
-    cond (eqb (answer tick s .verdict) 0)
-    (goes at (Ticking asked (left - 1)) (answer tick s .next) 0 (tick-log (answer tick s)))
-    (goes at Reading (answer tick s .next) 0 (answer-bytes (Ticked (answer tick s .verdict) (asked - left))))
+    cond (eqb (respond tick s .verdict) 0)
+    (goes at (Ticking asked (left - 1)) (respond tick s .next) 0 (tick-log (respond tick s)))
+    (goes at Reading (respond tick s .next) 0 (answer-bytes (Ticked (respond tick s .verdict) (asked - left))))
 
 -- quiet ticks, or one tick, or the `TA`
-unfoldable pub tick-next : ℕ → ℕ → ℕ → State → Next
+unfoldable pub tick-next : ℕ → ℕ → ℕ → Line → Next
 tick-next at asked left s =
     cond (eqb left 0)
     (goes at Reading s 0 (answer-bytes (Ticked (all-done-verdict asked s) asked)))
@@ -87,14 +86,14 @@ tick-next at asked left s =
     (one-tick at asked left s)
     (goes at (Ticking asked (left - quiet-ticks left s)) (passed s (quiet-ticks left s)) 0 []))
 
-abbrev pub phase-next : Phase → ℕ → State → List ℕ → Bool → Next
+abbrev pub phase-next : Phase → ℕ → Line → List ℕ → Bool → Next
 phase-next Reading at s w last = read-next at s w last
 phase-next (Ticking asked left) at s w last = tick-next at asked left s
 phase-next Finished at s w last = still (point at Finished s) Done
 
 -- ONE STEP on the window w, which starts at the point's offset; `last`: nothing comes behind it
 unfoldable pub next : Point → List ℕ → Bool → Next
-next p w last = phase-next (p .phase) (p .at) (p .state) w last
+next p w last = phase-next (p .phase) (p .at) (p .line) w last
 
 -- ---- many steps
 
@@ -119,13 +118,13 @@ steps (suc k) p w last = onward w last (steps k p w last)
 
 -- ---- what is still to come, where rest is the trace from the point on
 
-abbrev pub phase-log : Phase → ℕ → State → List ℕ → List ℕ
+abbrev pub phase-log : Phase → ℕ → Line → List ℕ → List ℕ
 phase-log Reading at s rest = log-from at s rest
 phase-log (Ticking asked left) at s rest = ticks-log asked left s ++ log-from at (ticks-end left s) rest
 phase-log Finished at s rest = []
 
 abbrev pub to-come : Point → List ℕ → List ℕ
-to-come p rest = phase-log (p .phase) (p .at) (p .state) rest
+to-come p rest = phase-log (p .phase) (p .at) (p .line) rest
 
 -- ---- a bound on the steps that are left
 

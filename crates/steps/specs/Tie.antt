@@ -5,9 +5,10 @@ use mathlib.Core.Bool.{Bool, true, false, cond}
 use mathlib.Core.List.{List, [], _++_}
 use lib.Dec.{ltb}
 use lib.ListN.{length, take, drop}
-use Rattle.state.specs.declared.Hub.{Hub}
-use Rattle.state.specs.declared.Told.{Told}
-use Rattle.state.specs.View.{Tables, view, hub-of, written, sound-hub}
+use Rattle.tables.specs.Lent.{Tables}
+use Rattle.both.specs.declared.Kept.{Kept}
+use Rattle.both.specs.declared.Replied.{Replied}
+use Rattle.both.specs.View.{view, kept-of, written, sound-kept, kept-clock}
 use Rattle.fields.specs.Formats.{over}
 use Rattle.answers.specs.declared.Reply.the-variants.{Departed}
 use Rattle.answers.specs.Answers.{answer-bytes, longest-answer}
@@ -19,15 +20,15 @@ use Rattle.steps.specs.declared.Status.the-variants.{GoOn, MoreBytes, Mo
 use Rattle.steps.specs.declared.Stepped.{Stepped}
 use Rattle.steps.specs.Steps.{Point, point, Next, still, work}
 
-abbrev pub cursor-at : ℕ → Phase → Hub → Cursor
-cursor-at at p h = record { at = at; phase = p; hub = h }
+abbrev pub cursor-at : ℕ → Phase → Kept → Cursor
+cursor-at at p h = record { at = at; phase = p; line = h }
 
 -- the point that a cursor and the three tables stand for, and the part of a point that no table holds
 abbrev pub point-of : Cursor → Tables → Point
-point-of c t = point (c .at) (c .phase) (view (c .hub) t)
+point-of c t = point (c .at) (c .phase) (view (c .line) t)
 
 abbrev pub cursor-of : Point → Cursor
-cursor-of p = cursor-at (p .at) (p .phase) (hub-of (p .state))
+cursor-of p = cursor-at (p .at) (p .phase) (kept-of (p .line))
 
 -- what is answered of a step
 abbrev pub stepped-of : Next → Stepped
@@ -38,24 +39,24 @@ abbrev pub nothing-done : Cursor → Status → Stepped
 nothing-done c k = record { cursor = c; used = 0; wrote = 0; status = k }
 
 -- the departure that an answer tells, as it is written; its finish is the clock then
-abbrev pub told-log : Told → List ℕ
+abbrev pub told-log : Replied → List ℕ
 told-log r =
-    cond (r .gone) (answer-bytes (Departed (r .packet .connection) (r .packet .tag) (r .packet .arrival) (r .packet .eligibility) (r .hub .clock))) []
+    cond (r .gone) (answer-bytes (Departed (r .packet .connection) (r .packet .tag) (r .packet .arrival) (r .packet .eligibility) (kept-clock (r .kept)))) []
 
 -- a function answered a and left the tables t and the room o′, which was o before: what the step n does, written back, to the room from its k-th byte on
 pub record Makes (n : Next) (a : Stepped) (t : Tables) (k : ℕ) (o o′ : List ℕ) : Type 0 where
   pub answers : a ≡ stepped-of n
-  pub tables : t ≡ written (n .point .state)
+  pub tables : t ≡ written (n .point .line)
   pub room : o′ ≡ take k o ++ over (n .bytes) (drop k o)
 
 -- a room of r bytes must hold the longest answer
 abbrev pub in-room : ℕ → Point → Next → Next
 in-room r p n = cond (ltb r longest-answer) (still p MoreRoom) n
 
--- ON ANY HUB AND ANY TABLES: the step n where they are sound, else nothing, and nothing is changed
+-- ON ANY LINE AND ANY TABLES: the step n where they are sound, else nothing, and nothing is changed
 pub record Makes-if-sound (n : Next) (c : Cursor) (before : Tables) (o : List ℕ) (a : Stepped) (after : Tables) (o′ : List ℕ) : Type 0 where
-  pub where-sound : sound-hub (c .hub) before ≡ true → Makes n a after 0 o o′
-  pub where-not : sound-hub (c .hub) before ≡ false → (a ≡ nothing-done c NotSound) × (after ≡ before) × (o′ ≡ o)
+  pub where-sound : sound-kept (c .line) before ≡ true → Makes n a after 0 o o′
+  pub where-not : sound-kept (c .line) before ≡ false → (a ≡ nothing-done c NotSound) × (after ≡ before) × (o′ ≡ o)
 
 -- what a caller's loop needs of an answer, with len bytes in the window and r bytes of room
 pub record Facts (c : Cursor) (len : ℕ) (last : Bool) (r : ℕ) (a : Stepped) : Type 0 where

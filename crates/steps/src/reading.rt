@@ -4,9 +4,10 @@ ghost use mathlib.Core.Bool.{true, false, cond};
 ghost use Prim.Native.Nat.{_-_, _≤_};
 ghost use lib.Dec.{eqb, ltb};
 ghost use lib.ListN.{length};
-ghost use Rattle.rules.specs.Model.{link, admit, offer, notice, close};
+ghost use Rattle.either.specs.Line.{link-levels, link-frames, admit-level, admit-share, offer, notice, close};
 ghost use Rattle.connections.specs.Stamps.{stamp-if};
-ghost use Rattle.state.specs.View.{given, before, after, sound-hub, view};
+ghost use Rattle.tables.specs.Lent.{given, before, after};
+ghost use Rattle.both.specs.View.{view, sound-kept};
 ghost use Rattle.fields.specs.Formats.{over};
 ghost use Rattle.traces.specs.Trace.{longest-record};
 ghost use Rattle.answers.specs.declared.Reply.the-variants.{Broken};
@@ -25,10 +26,12 @@ use super::answered;
 use super::waits;
 use answers::Reply;
 use answers::low;
+use both::Kept;
+use frames::Framing;
+use frames::Share;
 use log::TRACE_LIMIT;
 use rules::Connection;
 use rules::Link;
-use state::Hub;
 use traces::Found;
 use traces::LONGEST_RECORD;
 use traces::Record;
@@ -66,8 +69,14 @@ enum Wanted {
         w7: u16,
         w8: u16,
     },
+    ToFrame {
+        l: Framing,
+    },
     ToAdmit {
         x: Connection,
+    },
+    ToShare {
+        x: Share,
     },
     ToClose {
         c: u32,
@@ -108,7 +117,7 @@ fn read_at(s: &[u8], at: u32) -> Found
 
 // `LK`, `LE` and `LW`: the record took `used` bytes and ends at offset `at`.
 fn link_step(
-    h: Hub,
+    h: Kept,
     members: &[u32],
     places: &[u32],
     notices: &[u32],
@@ -117,19 +126,40 @@ fn link_step(
     used: usize,
     out: &mut [u8],
 ) -> Stepped
-    requires { ⌜ (sound-hub h (given members places notices) ≡ true) × (longest-answer ≤ length (now out)) ⌝ }
-    ensures { λ r. ⌜ Makes (call-next (link l) used at (view h (before members places notices))) r (after members places notices) 0 (now (out .entry)) (now (out .exit)) ⌝ }
+    requires { ⌜ (sound-kept h (given members places notices) ≡ true) × (longest-answer ≤ length (now out)) ⌝ }
+    ensures { λ r. ⌜ Makes (call-next (link-levels l) used at (view h (before members places notices))) r (after members places notices) 0 (now (out .entry)) (now (out .exit)) ⌝ }
 {
-    let told = calls::link_tested(h, members, places, notices, l);
+    let told = both::link_levels(h, members, places, notices, l);
     let reply = Reply::Linked {
         verdict: low(told.verdict),
     };
-    answered(at, told.hub, used, reply, out)
+    answered(at, told.kept, used, reply, out)
+}
+
+// `LF`, the same.
+fn frame_step(
+    h: Kept,
+    members: &[u32],
+    places: &[u32],
+    notices: &[u32],
+    l: Framing,
+    at: u32,
+    used: usize,
+    out: &mut [u8],
+) -> Stepped
+    requires { ⌜ (sound-kept h (given members places notices) ≡ true) × (longest-answer ≤ length (now out)) ⌝ }
+    ensures { λ r. ⌜ Makes (call-next (link-frames l) used at (view h (before members places notices))) r (after members places notices) 0 (now (out .entry)) (now (out .exit)) ⌝ }
+{
+    let told = both::link_frames(h, members, places, notices, l);
+    let reply = Reply::Linked {
+        verdict: low(told.verdict),
+    };
+    answered(at, told.kept, used, reply, out)
 }
 
 // `CN` and `CS`, the same.
 fn admit_step(
-    h: Hub,
+    h: Kept,
     members: &mut [u32],
     places: &[u32],
     notices: &[u32],
@@ -138,10 +168,10 @@ fn admit_step(
     used: usize,
     out: &mut [u8],
 ) -> Stepped
-    requires { ⌜ (sound-hub h (given members places notices) ≡ true) × (longest-answer ≤ length (now out)) ⌝ }
-    ensures { λ r. ⌜ Makes (call-next (admit x) used at (view h (before members places notices))) r (after members places notices) 0 (now (out .entry)) (now (out .exit)) ⌝ }
+    requires { ⌜ (sound-kept h (given members places notices) ≡ true) × (longest-answer ≤ length (now out)) ⌝ }
+    ensures { λ r. ⌜ Makes (call-next (admit-level x) used at (view h (before members places notices))) r (after members places notices) 0 (now (out .entry)) (now (out .exit)) ⌝ }
 {
-    let told = calls::admit_tested(h, members, places, notices, x);
+    let told = both::admit_level(h, members, places, notices, x);
     let short = told.short;
     let reply = Reply::Admitted {
         verdict: low(told.verdict),
@@ -149,12 +179,37 @@ fn admit_step(
         level: low(short.level),
         units: short.units as u32,
     };
-    answered(at, told.hub, used, reply, out)
+    answered(at, told.kept, used, reply, out)
+}
+
+// `CF`, the same.
+fn share_step(
+    h: Kept,
+    members: &mut [u32],
+    places: &[u32],
+    notices: &[u32],
+    x: Share,
+    at: u32,
+    used: usize,
+    out: &mut [u8],
+) -> Stepped
+    requires { ⌜ (sound-kept h (given members places notices) ≡ true) × (longest-answer ≤ length (now out)) ⌝ }
+    ensures { λ r. ⌜ Makes (call-next (admit-share x) used at (view h (before members places notices))) r (after members places notices) 0 (now (out .entry)) (now (out .exit)) ⌝ }
+{
+    let told = both::admit_share(h, members, places, notices, x);
+    let short = told.short;
+    let reply = Reply::Admitted {
+        verdict: low(told.verdict),
+        connection: low(told.number),
+        level: low(short.level),
+        units: short.units as u32,
+    };
+    answered(at, told.kept, used, reply, out)
 }
 
 // `CL`, the same.
 fn close_step(
-    h: Hub,
+    h: Kept,
     members: &mut [u32],
     places: &[u32],
     notices: &[u32],
@@ -163,14 +218,14 @@ fn close_step(
     used: usize,
     out: &mut [u8],
 ) -> Stepped
-    requires { ⌜ (sound-hub h (given members places notices) ≡ true) × (longest-answer ≤ length (now out)) ⌝ }
+    requires { ⌜ (sound-kept h (given members places notices) ≡ true) × (longest-answer ≤ length (now out)) ⌝ }
     ensures { λ r. ⌜ Makes (call-next (close c) used at (view h (before members places notices))) r (after members places notices) 0 (now (out .entry)) (now (out .exit)) ⌝ }
 {
-    let told = calls::close_tested(h, members, places, notices, c);
+    let told = both::close(h, members, places, notices, c);
     let reply = Reply::Closed {
         verdict: low(told.verdict),
     };
-    answered(at, told.hub, used, reply, out)
+    answered(at, told.kept, used, reply, out)
 }
 
 // The offer of a `PK`, which brings no stamp.
@@ -201,7 +256,7 @@ fn stamped_offer(connection: u8, len: u16, tag: u32, stamp: u32) -> Offering
 
 // `PK` and `PS`, the same.
 fn offer_step(
-    h: Hub,
+    h: Kept,
     members: &mut [u32],
     places: &mut [u32],
     notices: &[u32],
@@ -210,10 +265,10 @@ fn offer_step(
     used: usize,
     out: &mut [u8],
 ) -> Stepped
-    requires { ⌜ (sound-hub h (given members places notices) ≡ true) × (longest-answer ≤ length (now out)) ⌝ }
+    requires { ⌜ (sound-kept h (given members places notices) ≡ true) × (longest-answer ≤ length (now out)) ⌝ }
     ensures { λ r. ⌜ Makes (call-next (offer (p .connection) (p .len) (p .tag) (stamp-if (p .brings) (p .stamp))) used at (view h (before members places notices))) r (after members places notices) 0 (now (out .entry)) (now (out .exit)) ⌝ }
 {
-    let told = calls::offer_tested(
+    let told = both::offer(
         h,
         members,
         places,
@@ -228,12 +283,12 @@ fn offer_step(
         verdict: low(told.verdict),
         eligibility: told.number,
     };
-    answered(at, told.hub, used, reply, out)
+    answered(at, told.kept, used, reply, out)
 }
 
 // `NQ`, the same.
 fn notice_step(
-    h: Hub,
+    h: Kept,
     members: &[u32],
     places: &[u32],
     notices: &mut [u32],
@@ -243,19 +298,19 @@ fn notice_step(
     used: usize,
     out: &mut [u8],
 ) -> Stepped
-    requires { ⌜ (sound-hub h (given members places notices) ≡ true) × (longest-answer ≤ length (now out)) ⌝ }
+    requires { ⌜ (sound-kept h (given members places notices) ≡ true) × (longest-answer ≤ length (now out)) ⌝ }
     ensures { λ r. ⌜ Makes (call-next (notice len tag) used at (view h (before members places notices))) r (after members places notices) 0 (now (out .entry)) (now (out .exit)) ⌝ }
 {
-    let told = calls::notice_tested(h, members, places, notices, len, tag);
+    let told = both::notice(h, members, places, notices, len, tag);
     let reply = Reply::Noticed {
         verdict: low(told.verdict),
         eligibility: told.number,
     };
-    answered(at, told.hub, used, reply, out)
+    answered(at, told.kept, used, reply, out)
 }
 
 // A malformed record: `ER` with its offset, and nothing more.
-fn broken_step(at: u32, h: Hub, out: &mut [u8]) -> Stepped
+fn broken_step(at: u32, h: Kept, out: &mut [u8]) -> Stepped
     requires { ⌜ longest-answer ≤ length (now out) ⌝ }
     ensures { λ r. ⌜ (r ≡ record { cursor = cursor-at at Finished h; used = 0; wrote = length (answer-bytes (Broken at)); status = Done }) × (now (out .exit) ≡ over (answer-bytes (Broken at)) (now (out .entry))) ⌝ }
 {
@@ -264,7 +319,7 @@ fn broken_step(at: u32, h: Hub, out: &mut [u8]) -> Stepped
         cursor: Cursor {
             at: at,
             phase: Phase::Finished,
-            hub: h,
+            line: h,
         },
         used: 0,
         wrote: wrote,
@@ -273,7 +328,7 @@ fn broken_step(at: u32, h: Hub, out: &mut [u8]) -> Stepped
 }
 
 // `TK`: its ticks begin.
-fn begin_ticks(h: Hub, ticks: u16, at: u32, used: usize) -> Stepped
+fn begin_ticks(h: Kept, ticks: u16, at: u32, used: usize) -> Stepped
     ensures { λ r. ⌜ r ≡ record { cursor = cursor-at at (Ticking ticks ticks) h; used = used; wrote = 0; status = GoOn } ⌝ }
 {
     Stepped {
@@ -283,7 +338,7 @@ fn begin_ticks(h: Hub, ticks: u16, at: u32, used: usize) -> Stepped
                 asked: ticks,
                 left: ticks,
             },
-            hub: h,
+            line: h,
         },
         used: used,
         wrote: 0,
@@ -291,7 +346,7 @@ fn begin_ticks(h: Hub, ticks: u16, at: u32, used: usize) -> Stepped
     }
 }
 
-// What a record asks. Three kinds of record set a link, two ask for an admission, and two make an offer, so that each step stands in one place of the text and is compiled into the loop of steps.
+// What a record asks. Three kinds of record set a link of levels, two ask for an admission to a level, and two make an offer, so that each step stands in one place of the text and is compiled into the loop of steps.
 fn asked_by(what: Record) -> Wanted
     ensures { λ r. ⌜ asks-as r ≡ asks what ⌝ }
 {
@@ -408,6 +463,13 @@ fn asked_by(what: Record) -> Wanted
             w7: w7,
             w8: w8,
         },
+        Record::LinkFrames {
+            frame,
+            largest,
+            silence,
+        } => Wanted::ToFrame {
+            l: named::framing_named(frame, largest, silence),
+        },
         Record::Admit {
             level,
             gap,
@@ -424,6 +486,9 @@ fn asked_by(what: Record) -> Wanted
             allowance,
         } => Wanted::ToAdmit {
             x: named::stamped_named(level, gap, size, allowance),
+        },
+        Record::AdmitShare { units, places } => Wanted::ToShare {
+            x: named::share_named(units, places),
         },
         Record::Close { connection } => Wanted::ToClose {
             c: connection as u32,
@@ -456,13 +521,13 @@ fn asked_by(what: Record) -> Wanted
 fn record_step(
     f: Found,
     at: u32,
-    h: Hub,
+    h: Kept,
     members: &mut [u32],
     places: &mut [u32],
     notices: &mut [u32],
     out: &mut [u8],
 ) -> Stepped
-    requires { ⌜ (sound-hub h (given members places notices) ≡ true) × (longest-answer ≤ length (now out)) × (f .taken ≤ trace-limit - at) ⌝ }
+    requires { ⌜ (sound-kept h (given members places notices) ≡ true) × (longest-answer ≤ length (now out)) × (f .taken ≤ trace-limit - at) ⌝ }
     ensures { λ r. ⌜ Makes (found-next f at (view h (before members places notices))) r (after members places notices) 0 (now (out .entry)) (now (out .exit)) ⌝ }
     ensures { λ r. ⌜ weight (r .cursor .phase) ≤ 65536 ⌝ }
 {
@@ -517,7 +582,9 @@ fn record_step(
             );
             link_step(h, members, places, notices, l, to, used, out)
         }
+        Wanted::ToFrame { l } => frame_step(h, members, places, notices, l, to, used, out),
         Wanted::ToAdmit { x } => admit_step(h, members, places, notices, x, to, used, out),
+        Wanted::ToShare { x } => share_step(h, members, places, notices, x, to, used, out),
         Wanted::ToClose { c } => close_step(h, members, places, notices, c, to, used, out),
         Wanted::ToOffer { p } => offer_step(h, members, places, notices, p, to, used, out),
         Wanted::ToNotice { len, tag } => notice_step(
@@ -559,7 +626,7 @@ fn lacks(n: usize, last: bool) -> bool
 // A step where a record is to be read, at offset `at`. The record is read and its step made in one place of the text, so that both are compiled into the loop of steps.
 pub(crate) fn read_step(
     at: u32,
-    h: Hub,
+    h: Kept,
     members: &mut [u32],
     places: &mut [u32],
     notices: &mut [u32],
@@ -567,7 +634,7 @@ pub(crate) fn read_step(
     last: bool,
     out: &mut [u8],
 ) -> Stepped
-    requires { ⌜ (sound-hub h (given members places notices) ≡ true) × (longest-answer ≤ length (now out)) ⌝ }
+    requires { ⌜ (sound-kept h (given members places notices) ≡ true) × (longest-answer ≤ length (now out)) ⌝ }
     ensures { λ r. ⌜ Makes (read-next at (view h (before members places notices)) (now (window .entry)) last) r (after members places notices) 0 (now (out .entry)) (now (out .exit)) ⌝ }
     ensures { λ r. ⌜ Facts (cursor-at at Reading h) (length (now (window .entry))) last (length (now (out .entry))) r ⌝ }
 {

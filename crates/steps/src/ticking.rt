@@ -4,8 +4,9 @@ ghost use mathlib.Core.Bool.{true};
 ghost use Prim.Native.Nat.{_+_, _-_, _≤_};
 ghost use lib.ListN.{length};
 ghost use Rattle.rules.specs.Limits.{clock-end};
-ghost use Rattle.state.specs.View.{Tables, given, before, after, sound-hub, view, hub-of};
-ghost use Rattle.service.specs.Quiet.{passed};
+ghost use Rattle.tables.specs.Lent.{Tables, given, before, after};
+ghost use Rattle.both.specs.View.{view, kept-of, sound-kept, kept-clock};
+ghost use Rattle.both.specs.Quiet.{passed};
 ghost use Rattle.fields.specs.Formats.{over};
 ghost use Rattle.answers.specs.Answers.{longest-answer};
 ghost use Rattle.log.specs.Log.{all-done-verdict};
@@ -20,25 +21,25 @@ use super::Stepped;
 use super::answered;
 use answers::Reply;
 use answers::low;
-use state::Hub;
-use state::Told;
+use both::Kept;
+use both::Replied;
 
 // The verdict of a `TK` whose ticks are all done: 2 if none was asked and no link is set.
-fn all_done_verdict(h: Hub, members: &[u32], places: &[u32], notices: &[u32], asked: u16) -> u8
-    requires { ⌜ sound-hub h (given members places notices) ≡ true ⌝ }
+fn all_done_verdict(h: Kept, members: &[u32], places: &[u32], notices: &[u32], asked: u16) -> u8
+    requires { ⌜ sound-kept h (given members places notices) ≡ true ⌝ }
     ensures { λ r. ⌜ r ≡ all-done-verdict asked (view h (before members places notices)) ⌝ }
 {
     if asked != 0 {
         return 0;
     }
-    if h.link.levels == 0 {
+    if !both::is_set(h) {
         return 2;
     }
     0
 }
 
 // A departure is written, if there is one.
-fn put_departure(told: Told, out: &mut [u8]) -> usize
+fn put_departure(told: Replied, out: &mut [u8]) -> usize
     requires { ⌜ longest-answer ≤ length (now out) ⌝ }
     ensures { λ r. ⌜ (r ≡ length (told-log told)) × (now (out .exit) ≡ over (told-log told) (now (out .entry))) ⌝ }
 {
@@ -51,17 +52,17 @@ fn put_departure(told: Told, out: &mut [u8]) -> usize
         tag: p.tag,
         arrival: p.arrival,
         eligibility: p.eligibility,
-        finish: told.hub.clock,
+        finish: both::clock_of(told.kept),
     };
     answers::write(reply, out)
 }
 
 // k ticks of those left are passed over.
-fn pass_over(at: u32, h: Hub, asked: u16, left: u16, k: u16) -> Stepped
-    requires { ⌜ (k ≤ left) × (h .clock + k ≤ clock-end) ⌝ }
-    ensures { λ r. ⌜ ((t : Tables) → r ≡ record { cursor = cursor-at at (Ticking asked (left - k)) (hub-of (passed (view h t) k)); used = 0; wrote = 0; status = GoOn }) ⌝ }
+fn pass_over(at: u32, h: Kept, asked: u16, left: u16, k: u16) -> Stepped
+    requires { ⌜ (k ≤ left) × (kept-clock h + k ≤ clock-end) ⌝ }
+    ensures { λ r. ⌜ ((t : Tables) → r ≡ record { cursor = cursor-at at (Ticking asked (left - k)) (kept-of (passed (view h t) k)); used = 0; wrote = 0; status = GoOn }) ⌝ }
 {
-    let later = service::quiet::pass_over(h, k);
+    let later = both::quiet::pass_over(h, k);
     let rest = left - k;
     Stepped {
         cursor: Cursor {
@@ -70,7 +71,7 @@ fn pass_over(at: u32, h: Hub, asked: u16, left: u16, k: u16) -> Stepped
                 asked: asked,
                 left: rest,
             },
-            hub: later,
+            line: later,
         },
         used: 0,
         wrote: 0,
@@ -81,7 +82,7 @@ fn pass_over(at: u32, h: Hub, asked: u16, left: u16, k: u16) -> Stepped
 // One tick of those left: done, or refused.
 fn one_tick(
     at: u32,
-    h: Hub,
+    h: Kept,
     asked: u16,
     left: u16,
     members: &mut [u32],
@@ -89,13 +90,13 @@ fn one_tick(
     notices: &mut [u32],
     out: &mut [u8],
 ) -> Stepped
-    requires { ⌜ (sound-hub h (given members places notices) ≡ true) × (longest-answer ≤ length (now out)) × (left ≡ 0 → ⊥) ⌝ }
+    requires { ⌜ (sound-kept h (given members places notices) ≡ true) × (longest-answer ≤ length (now out)) × (left ≡ 0 → ⊥) ⌝ }
     ensures { λ r. ⌜ Makes (one-tick at asked left (view h (before members places notices))) r (after members places notices) 0 (now (out .entry)) (now (out .exit)) ⌝ }
 {
-    let told = calls::tick_tested(h, members, places, notices);
-    let then = told.hub;
+    let told = both::tick(h, members, places, notices);
+    let then = told.kept;
     if told.verdict != 0 {
-        let done = service::without(asked as u32, left as u32) as u16;
+        let done = limits::numbers::without(asked as u32, left as u32) as u16;
         let reply = Reply::Ticked {
             verdict: low(told.verdict),
             ticks: done,
@@ -111,7 +112,7 @@ fn one_tick(
                 asked: asked,
                 left: rest,
             },
-            hub: then,
+            line: then,
         },
         used: 0,
         wrote: wrote,
@@ -122,7 +123,7 @@ fn one_tick(
 // A step of a `TK` of which `left` of `asked` ticks are still to run.
 pub(crate) fn tick_step(
     at: u32,
-    h: Hub,
+    h: Kept,
     asked: u16,
     left: u16,
     members: &mut [u32],
@@ -130,7 +131,7 @@ pub(crate) fn tick_step(
     notices: &mut [u32],
     out: &mut [u8],
 ) -> Stepped
-    requires { ⌜ (sound-hub h (given members places notices) ≡ true) × (longest-answer ≤ length (now out)) ⌝ }
+    requires { ⌜ (sound-kept h (given members places notices) ≡ true) × (longest-answer ≤ length (now out)) ⌝ }
     ensures { λ r. ⌜ Makes (tick-next at asked left (view h (before members places notices))) r (after members places notices) 0 (now (out .entry)) (now (out .exit)) ⌝ }
 {
     if left == 0 {
@@ -140,7 +141,7 @@ pub(crate) fn tick_step(
         };
         return answered(at, h, 0, reply, out);
     }
-    let k = service::quiet::quiet_ticks(h, members, places, notices, left);
+    let k = both::quiet::quiet_ticks(h, members, places, notices, left);
     if k != 0 {
         return pass_over(at, h, asked, left, k);
     }

@@ -1,3 +1,4 @@
 pub mod TableLaws
 pub mod PlacesLaws
 pub mod NoticeLaws
+pub mod CallLaws

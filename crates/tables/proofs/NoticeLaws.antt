@@ -1,8 +1,8 @@
--- Laws of the table of notices: it is what is written of what is read, and the other way round; its first row.
+-- Laws of the table of notices: it is what is written of what is read, and the other way round; one more behind the others; its first row.
 use mathlib.Core.Path.{_≡_, refl, sym, ap, _∙_}
 use mathlib.Core.Bool.{true}
-use mathlib.Core.List.{List, [], _∷_, map}
-use Prim.Native.Nat.{ℕ, _*_, _-_, _≤_, _<_}
+use mathlib.Core.List.{List, [], _∷_, _++_, map}
+use Prim.Native.Nat.{ℕ, _+_, _*_, _-_, _≤_, _<_}
 use native.Mathlib.Omega.{arith}
 use lib.Dec.{eqb}
 use lib.ListN.{length, drop, length-map}
@@ -13,11 +13,12 @@ use Rattle.rules.specs.Words.{All, each}
 use Rattle.rules.specs.Limits.{max-notices, notice-number}
 use Rattle.rules.specs.Model.{notice-packet}
 use Rattle.rules.proofs.Tests.{and-true, and-intro}
+use Rattle.rules.proofs.Rows.{map-append}
 use Rattle.tables.specs.Table.{formed}
 use Rattle.tables.specs.Places.{packet-width, packet-of, packet-in, numbers-of, rows, table-of, row-at}
 use Rattle.tables.specs.Notices.{notices-length, notice-of, notices-in, written-notices, marked, notices-formed}
-use Rattle.tables.proofs.TableLaws.{formed-length, formed-written, read-back, formed-back}
-use Rattle.tables.proofs.PlacesLaws.{numbers-back, rows-from, rows-end}
+use Rattle.tables.proofs.TableLaws.{formed-length, formed-written}
+use Rattle.tables.proofs.PlacesLaws.{numbers-back, rows-from, rows-end, rows-again, formed-again}
 
 -- ---- a marked row is its notice's packet
 
@@ -76,21 +77,30 @@ module _ (q : List ℕ) (f : notices-formed q ≡ true) where
   pub notices-few : length (notices-in q) ≤ max-notices
   notices-few = omega (arith, rows-end q, notices-length-is, length-map (rows q) notice-of)
 
+  -- one more behind those that wait: its room, and what is written with it
+  pub note-room : length (notices-in q) < max-notices → 5 * length (rows q) + 5 ≤ length q
+  note-room h = omega (arith, notices-length-is, length-map (rows q) notice-of)
+
+  pub note-behind : (n : Notice) → table-of (length q) (rows q ++ notice-packet n ∷ []) ≡ written-notices (notices-in q ++ n ∷ [])
+  note-behind n =
+      ap (λ (k : ℕ). table-of k (rows q ++ notice-packet n ∷ [])) notices-length-is
+      ∙ ap (λ (ps : List Packet). table-of notices-length (ps ++ notice-packet n ∷ [])) (sym notice-rows)
+      ∙ ap (table-of notices-length) (sym (map-append notice-packet (notices-in q) (n ∷ [])))
+
 -- ---- what is written is read back
 
 module _ (ns : List Notice) (pos : All (λ n. 0 < n .len) ns) (few : length ns ≤ max-notices) where
   rows-back : rows (written-notices ns) ≡ map notice-packet ns
-  unfolding rows table-of
-  rows-back = read-back packet-width numbers-of (λ p. refl) (omega arith) packet-in (λ p. refl) (map notice-packet ns) (notices-length - 5 * length (map notice-packet ns)) (all-len ns pos)
+  rows-back = rows-again (map notice-packet ns) (all-len ns pos) notices-length
 
   pub notices-again : notices-in (written-notices ns) ≡ ns
   notices-again = ap (map notice-of) rows-back ∙ same-notices ns
 
   pub written-formed : notices-formed (written-notices ns) ≡ true
-  unfolding notices-formed rows table-of
+  unfolding notices-formed
   written-formed =
       and-intro (formed packet-width notices-length (written-notices ns)) (each marked (rows (written-notices ns)))
-      (formed-back packet-width numbers-of (λ p. refl) (omega arith) packet-in (λ p. refl) (map notice-packet ns) notices-length (all-len ns pos) (omega (arith, length-map ns notice-packet)))
+      (formed-again (map notice-packet ns) (all-len ns pos) notices-length (omega (arith, length-map ns notice-packet)))
       (ap (each marked) rows-back ∙ all-marked ns)
 
 -- ---- the first row

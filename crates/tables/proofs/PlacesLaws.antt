@@ -13,13 +13,15 @@ use borrow.Author.Tests.{ltb-true, ltb-false, eq-eqb, ne-eqb}
 use lib.ListN.{length, getD, set, take, drop, replicate, length-drop, length-map}
 use lib.Seq.{sets-eq, drop-cons, drop-length, getD-drop, paste-zero, paste-suc, take-paste, drop-paste, length-paste, drop-drop, take-at, drop-at}
 use Rattle.rules.specs.declared.Packet.{Packet}
+use Rattle.rules.specs.Words.{All}
+use Rattle.rules.specs.Limits.{max-reserved}
 use Rattle.rules.specs.Service.{first, without}
 use Rattle.rules.proofs.Sums.{same}
 use Rattle.limits.specs.Zeros.{zeros}
 use Rattle.limits.proofs.ZeroLaws.{zeros-rep, zero-at, zeros-more}
 use Rattle.tables.specs.Table.{row-in, used, write, padded, formed}
 use Rattle.tables.specs.Places.{packet-width, put, shifted, cut, place, rows, written-places, table-of, places-length, numbers-of, packet-in, no-packet, row-at}
-use Rattle.tables.proofs.TableLaws.{listed-row, number-in, drop-write, formed-written, read-at, used-end, held-stop, held-more, length-write, write-append, take-rows, drop-rows, length-padded, put-last}
+use Rattle.tables.proofs.TableLaws.{listed-row, number-in, drop-write, formed-written, read-at, used-end, held-stop, held-more, length-write, write-append, take-rows, drop-rows, length-padded, put-last, read-back, formed-back}
 
 -- ---- a row
 
@@ -242,3 +244,23 @@ unused-above t i e n = go (ltb i (length (rows t))) refl
         let l : length (rows t) ≤ i = ltb-false _ _ q in
         let k : 5 * length (rows t) + (5 * i + 1 - 5 * length (rows t)) ≡ 5 * i + 1 = omega arith in
         absurd (n (rw (← k) (sym (getD-drop (5 * length (rows t)) t (5 * i + 1 - 5 * length (rows t)) 0) ∙ zero-at (drop (5 * length (rows t)) t) (5 * i + 1 - 5 * length (rows t)) (unused-behind t e))))
+
+-- ---- what is written is read back, and is formed
+
+module _ (ps : List Packet) (sent : All (λ p. 0 < p .len) ps) where
+  pub rows-again : (n : ℕ) → rows (table-of n ps) ≡ ps
+  unfolding rows table-of
+  rows-again n = read-back packet-width numbers-of (λ p. refl) (omega arith) packet-in (λ p. refl) ps (n - packet-width * length ps) sent
+
+  pub formed-again : (n : ℕ) → packet-width * length ps ≤ n → formed packet-width n (table-of n ps) ≡ true
+  unfolding table-of
+  formed-again n fit = formed-back packet-width numbers-of (λ p. refl) (omega arith) packet-in (λ p. refl) ps n sent fit
+
+  -- of the places table
+  pub places-again : rows (written-places ps) ≡ ps
+  unfolding table-of written-places
+  places-again = rows-again places-length
+
+  pub places-formed-again : length ps ≤ max-reserved → formed packet-width places-length (written-places ps) ≡ true
+  unfolding table-of written-places
+  places-formed-again fit = formed-again places-length (omega arith)

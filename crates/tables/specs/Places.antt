@@ -1,8 +1,9 @@
 -- The places table: held packets, five numbers to a row (connection, length, tag, arrival, eligibility), in the order offered.
 -- Document 01, "Link, connections, places".
 use Prim.Native.Nat.{ℕ, suc, _+_, _*_}
-use mathlib.Core.Bool.{cond}
+use mathlib.Core.Bool.{Bool, true, false, cond}
 use mathlib.Core.List.{List, [], _∷_, _++_}
+use mathlib.Core.Option.{Option, none, some}
 use lib.Dec.{eqb}
 use lib.ListN.{getD, take, drop}
 use lib.Seq.{paste, sets}
@@ -30,6 +31,15 @@ numbers-of p = p .connection ∷ p .len ∷ p .tag ∷ p .arrival ∷ p .eligibi
 
 abbrev pub no-packet : Packet
 no-packet = packet-of 0 0 0 0 0
+
+-- a packet or nothing: whether there is one, and it or an unused row
+abbrev pub is-some : Option Packet → Bool
+is-some none = false
+is-some (some p) = true
+
+abbrev pub packet-or-unused : Option Packet → Packet
+packet-or-unused none = no-packet
+packet-or-unused (some p) = p
 
 -- row i of a table, used or not
 abbrev pub row-at : List ℕ → ℕ → Packet

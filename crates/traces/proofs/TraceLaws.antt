@@ -9,12 +9,12 @@ use lib.ListN.{length, getD, take, drop, replicate}
 use lib.Seq.{length-take-le}
 use Rattle.fields.specs.Numbers.{little, number, put-fields, get-fields, sum}
 use Rattle.fields.specs.Kinds.{Kind, bytes}
-use Rattle.traces.specs.Kinds.{levels-allowed, windowed, LK, LE, LW, CN, CS, CL, PK, PS, NQ, TK}
+use Rattle.traces.specs.Kinds.{levels-allowed, windowed, LK, LE, LW, LF, CN, CS, CF, CL, PK, PS, NQ, TK}
 use Rattle.fields.specs.Formats.{starts, read-kind, read-kinds, laid}
 use Rattle.traces.specs.Trace.{trace, trace-table, longest-record, link-layout, trace-layout}
 use Rattle.fields.specs.Laws.{Written, Reads-back-what-is-written, Has-the-length-of}
 use Rattle.traces.specs.declared.Record.{Record}
-use Rattle.traces.specs.declared.Record.the-variants.{Link, LinkStandBy, LinkWindows, Admit, AdmitStamped, Close, Offer, OfferStamped, Notice, Ticks, Malformed}
+use Rattle.traces.specs.declared.Record.the-variants.{Link, LinkStandBy, LinkWindows, LinkFrames, Admit, AdmitStamped, AdmitShare, Close, Offer, OfferStamped, Notice, Ticks, Malformed}
 use Rattle.fields.proofs.NumberLaws.{one-byte}
 use Rattle.fields.proofs.FormatLaws.{made-of, Fair, All-fair, two-letters, plain-fair, kind-back, length-bytes}
 use Rattle.fields.proofs.WindowLaws.{All-within}
@@ -74,8 +74,10 @@ trace-back (LinkWindows n s silence early d1 d2 d3 d4 d5 d6 d7 d8 w1 w2 w3 w4 w5
     let ws = w1 ∷ w2 ∷ w3 ∷ w4 ∷ w5 ∷ w6 ∷ w7 ∷ w8 ∷ [] in
     link-told LW n (s ∷ silence ∷ early ∷ take n ds ++ take n ws) (drop n ds ++ drop n ws) rest _ refl (λ a. a) (λ xs. refl)
     (windows-of-all n s silence early ds ws refl refl) w
+trace-back (LinkFrames frame largest silence) rest w = kind-back LF (frame ∷ largest ∷ silence ∷ []) rest _ refl w refl refl
 trace-back (Admit level gap size window average) rest w = kind-back CN (level ∷ gap ∷ size ∷ window ∷ average ∷ []) rest _ refl w refl refl
 trace-back (AdmitStamped level gap size allowance) rest w = kind-back CS (level ∷ gap ∷ size ∷ allowance ∷ []) rest _ refl w refl refl
+trace-back (AdmitShare units places) rest w = kind-back CF (units ∷ places ∷ []) rest _ refl w refl refl
 trace-back (Close connection) rest w = kind-back CL (connection ∷ []) rest _ refl w refl refl
 trace-back (Offer connection len tag) rest w = kind-back PK (connection ∷ len ∷ tag ∷ []) rest _ refl w refl refl
 trace-back (OfferStamped connection len tag stamp) rest w = kind-back PS (connection ∷ len ∷ tag ∷ stamp ∷ []) rest _ refl w refl refl
@@ -126,18 +128,24 @@ trace-fair = (
     (
       windows-fair,
       (
-        plain-fair CN (two-letters 0x43 0x4E (omega arith) (omega arith)) (λ b c. refl) (λ bs a. refl),
+        plain-fair LF (two-letters 0x4C 0x46 (omega arith) (omega arith)) (λ b c. refl) (λ bs a. refl),
         (
-          plain-fair CS (two-letters 0x43 0x53 (omega arith) (omega arith)) (λ b c. refl) (λ bs a. refl),
+          plain-fair CN (two-letters 0x43 0x4E (omega arith) (omega arith)) (λ b c. refl) (λ bs a. refl),
           (
-            plain-fair CL (two-letters 0x43 0x4C (omega arith) (omega arith)) (λ b c. refl) (λ bs a. refl),
+            plain-fair CS (two-letters 0x43 0x53 (omega arith) (omega arith)) (λ b c. refl) (λ bs a. refl),
             (
-              plain-fair PK (two-letters 0x50 0x4B (omega arith) (omega arith)) (λ b c. refl) (λ bs a. refl),
+              plain-fair CF (two-letters 0x43 0x46 (omega arith) (omega arith)) (λ b c. refl) (λ bs a. refl),
               (
-                plain-fair PS (two-letters 0x50 0x53 (omega arith) (omega arith)) (λ b c. refl) (λ bs a. refl),
+                plain-fair CL (two-letters 0x43 0x4C (omega arith) (omega arith)) (λ b c. refl) (λ bs a. refl),
                 (
-                  plain-fair NQ (two-letters 0x4E 0x51 (omega arith) (omega arith)) (λ b c. refl) (λ bs a. refl),
-                  (plain-fair TK (two-letters 0x54 0x4B (omega arith) (omega arith)) (λ b c. refl) (λ bs a. refl), tt),
+                  plain-fair PK (two-letters 0x50 0x4B (omega arith) (omega arith)) (λ b c. refl) (λ bs a. refl),
+                  (
+                    plain-fair PS (two-letters 0x50 0x53 (omega arith) (omega arith)) (λ b c. refl) (λ bs a. refl),
+                    (
+                      plain-fair NQ (two-letters 0x4E 0x51 (omega arith) (omega arith)) (λ b c. refl) (λ bs a. refl),
+                      (plain-fair TK (two-letters 0x54 0x4B (omega arith) (omega arith)) (λ b c. refl) (λ bs a. refl), tt),
+                    ),
+                  ),
                 ),
               ),
             ),
@@ -167,8 +175,10 @@ trace-length (LinkWindows n s silence early d1 d2 d3 d4 d5 d6 d7 d8 w1 w2 w3 w4 
     let ds = d1 ∷ d2 ∷ d3 ∷ d4 ∷ d5 ∷ d6 ∷ d7 ∷ d8 ∷ [] in
     let ws = w1 ∷ w2 ∷ w3 ∷ w4 ∷ w5 ∷ w6 ∷ w7 ∷ w8 ∷ [] in
     link-length LW n (s ∷ silence ∷ early ∷ take n ds ++ take n ws) (drop n ds ++ drop n ws) h ∙ sum-windows n
+trace-length (LinkFrames frame largest silence) h = length-bytes LF (frame ∷ largest ∷ silence ∷ [])
 trace-length (Admit level gap size window average) h = length-bytes CN (level ∷ gap ∷ size ∷ window ∷ average ∷ [])
 trace-length (AdmitStamped level gap size allowance) h = length-bytes CS (level ∷ gap ∷ size ∷ allowance ∷ [])
+trace-length (AdmitShare units places) h = length-bytes CF (units ∷ places ∷ [])
 trace-length (Close connection) h = length-bytes CL (connection ∷ [])
 trace-length (Offer connection len tag) h = length-bytes PK (connection ∷ len ∷ tag ∷ [])
 trace-length (OfferStamped connection len tag stamp) h = length-bytes PS (connection ∷ len ∷ tag ∷ stamp ∷ [])
@@ -197,7 +207,13 @@ trace-within = (
                 λ b a. omega arith,
                 (
                   λ b a. omega arith,
-                  (λ b a. omega arith, tt),
+                  (
+                    λ b a. omega arith,
+                    (
+                      λ b a. omega arith,
+                      (λ b a. omega arith, tt),
+                    ),
+                  ),
                 ),
               ),
             ),

@@ -1,5 +1,5 @@
--- Document 01, "Trace and answer records": the trace kinds of its table, in its order; and those of document 02, R-11 and R-12 behind `LK`, R-9 and R-8 behind
--- `CN`, R-9 and R-1 behind `PK`. `LK` as R-4 has it, `CN` as R-6. Each with the record that its numbers make.
+-- Document 01, "Trace and answer records": the trace kinds of its table, in its order; and those of document 02, R-11, R-12 and R-13 behind `LK`, R-9, R-13 and R-8
+-- behind `CN`, R-9 and R-1 behind `PK`. `LK` as R-4 has it, `CN` as R-6. Each with the record that its numbers make.
 use mathlib.Core.Bool.{Bool, cond, _&&_}
 use mathlib.Core.List.{List, [], _∷_, _++_}
 use Prim.Native.Nat.{ℕ, _+_}
@@ -7,7 +7,7 @@ use lib.ListN.{replicate}
 use lib.Dec.{leb, ltb}
 use Rattle.fields.specs.Kinds.{Kind, plain}
 use Rattle.traces.specs.declared.Record.{Record}
-use Rattle.traces.specs.declared.Record.the-variants.{Link, LinkStandBy, LinkWindows, Admit, AdmitStamped, Close, Offer, OfferStamped, Notice, Ticks}
+use Rattle.traces.specs.declared.Record.the-variants.{Link, LinkStandBy, LinkWindows, LinkFrames, Admit, AdmitStamped, AdmitShare, Close, Offer, OfferStamped, Notice, Ticks}
 
 -- document 01: "malformed means: .. an `LK` with n outside 1 to 8"; and so is an `LE`, and an `LW`
 abbrev pub levels-allowed : ℕ → Bool
@@ -44,6 +44,10 @@ LW =
     link-kind (0x4C ∷ 0x57 ∷ []) (2 ∷ 1 ∷ 1 ∷ []) (λ n. pairs n ++ pairs n)
     (λ x. windowed (x 0) (x 1) (x 2) (x 3) (among x 4 (x 0)) (among x (4 + x 0) (x 0)))
 
+-- document 02, R-13, as docs/RULES-AFTER-BASE.md lays it out: "T (2), S (2), silence (1)"
+abbrev pub LF : Kind Record
+LF = plain (0x4C ∷ 0x46 ∷ []) (2 ∷ 2 ∷ 1 ∷ []) (λ x. LinkFrames (x 0) (x 1) (x 2))
+
 -- document 02, R-6, as docs/RULES-AFTER-BASE.md lays it out: "level (1), gap (2), size (2), window (2), average gap (2)"
 abbrev pub CN : Kind Record
 CN = plain (0x43 ∷ 0x4E ∷ []) (1 ∷ 2 ∷ 2 ∷ 2 ∷ 2 ∷ []) (λ x. Admit (x 0) (x 1) (x 2) (x 3) (x 4))
@@ -51,6 +55,10 @@ CN = plain (0x43 ∷ 0x4E ∷ []) (1 ∷ 2 ∷ 2 ∷ 2 ∷ 2 ∷ []) (λ x. Admi
 -- document 02, R-9, as docs/RULES-AFTER-BASE.md lays it out: "level (1), gap (2), size (2), allowance (2)"
 abbrev pub CS : Kind Record
 CS = plain (0x43 ∷ 0x53 ∷ []) (1 ∷ 2 ∷ 2 ∷ 2 ∷ []) (λ x. AdmitStamped (x 0) (x 1) (x 2) (x 3))
+
+-- document 02, R-13, as docs/RULES-AFTER-BASE.md lays it out: "r (2), p (2)"
+abbrev pub CF : Kind Record
+CF = plain (0x43 ∷ 0x46 ∷ []) (2 ∷ 2 ∷ []) (λ x. AdmitShare (x 0) (x 1))
 
 -- document 02, R-8, as docs/RULES-AFTER-BASE.md lays it out: "connection (1)"
 abbrev pub CL : Kind Record

@@ -1,4 +1,4 @@
-// The trace records of document 01, "Trace and answer records", and of document 02, R-1, R-4, R-6, R-8, R-9, R-11 and R-12: their kinds as values, read and written.
+// The trace records of document 01, "Trace and answer records", and of document 02, R-1, R-4, R-6, R-8, R-9, R-11, R-12 and R-13: their kinds as values, read and written.
 mod link; // link.rt: links, of which one number says how many follow
 
 ghost use mathlib.Core.Path.{_≡_};
@@ -7,7 +7,7 @@ ghost use lib.ListN.{length, drop};
 ghost use Rattle.fields.specs.Numbers.{number};
 ghost use Rattle.fields.specs.Formats.{whole, mark-among, fitting, over};
 ghost use Rattle.fields.specs.Drafts.{Holds};
-ghost use Rattle.traces.specs.declared.Record.the-variants.{AdmitStamped, OfferStamped};
+ghost use Rattle.traces.specs.declared.Record.the-variants.{LinkFrames, AdmitStamped, AdmitShare, OfferStamped};
 ghost use Rattle.traces.specs.Trace.{trace, found, read-trace, trace-bytes};
 use fields::Draft;
 use fields::read::four;
@@ -21,9 +21,13 @@ const LE: [u8; 2] = *b"LE";
 
 const LW: [u8; 2] = *b"LW";
 
+const LF: [u8; 2] = *b"LF";
+
 const CN: [u8; 2] = *b"CN";
 
 const CS: [u8; 2] = *b"CS";
+
+const CF: [u8; 2] = *b"CF";
 
 const CL: [u8; 2] = *b"CL";
 
@@ -89,6 +93,11 @@ pub enum Record {
         w7: u16,
         w8: u16,
     },
+    LinkFrames {
+        frame: u16,
+        largest: u16,
+        silence: u8,
+    },
     Admit {
         level: u8,
         gap: u16,
@@ -101,6 +110,10 @@ pub enum Record {
         gap: u16,
         size: u16,
         allowance: u16,
+    },
+    AdmitShare {
+        units: u16,
+        places: u16,
     },
     Close {
         connection: u8,
@@ -155,16 +168,37 @@ pub(crate) fn whole_of(s: &[u8], size: usize, what: Record) -> Found
     }
 }
 
-// The mark that the bytes start with, as a number, its first letter low; 0 where it is none of LK, LE, LW, CN, CS, CL, PK, PS, NQ
-// and TK.
+// The mark that the bytes start with, as a number, its first letter low; 0 where it is none of LK, LE, LW, LF, CN, CS, CF, CL, PK, PS,
+// NQ and TK.
 fn mark_of(s: &[u8]) -> u16
     ensures { λ r. ⌜ r ≡ mark-among (trace .kinds) (now (s .entry)) ⌝ }
 {
     let mark = two(s, 0);
     match mark {
-        0x4B4C | 0x454C | 0x574C | 0x4E43 | 0x5343 | 0x4C43 | 0x4B50 | 0x5350 | 0x514E | 0x4B54 =>
-            mark,
+        0x4B4C
+        | 0x454C
+        | 0x574C
+        | 0x464C
+        | 0x4E43
+        | 0x5343
+        | 0x4643
+        | 0x4C43
+        | 0x4B50
+        | 0x5350
+        | 0x514E
+        | 0x4B54 => mark,
         _ => 0,
+    }
+}
+
+// The numbers of an `LF`.
+fn link_frames(s: &[u8]) -> Record
+    ensures { λ r. ⌜ r ≡ LinkFrames (number 2 (now (s .entry)) 2) (number 2 (now (s .entry)) 4) (number 1 (now (s .entry)) 6) ⌝ }
+{
+    Record::LinkFrames {
+        frame: two(s, 2),
+        largest: two(s, 4),
+        silence: one(s, 6),
     }
 }
 
@@ -180,6 +214,16 @@ fn admit_stamped(s: &[u8]) -> Record
     }
 }
 
+// The numbers of a `CF`.
+fn admit_share(s: &[u8]) -> Record
+    ensures { λ r. ⌜ r ≡ AdmitShare (number 2 (now (s .entry)) 2) (number 2 (now (s .entry)) 4) ⌝ }
+{
+    Record::AdmitShare {
+        units: two(s, 2),
+        places: two(s, 4),
+    }
+}
+
 // The numbers of a `PS`.
 fn offer_stamped(s: &[u8]) -> Record
     ensures { λ r. ⌜ r ≡ OfferStamped (number 1 (now (s .entry)) 2) (number 2 (now (s .entry)) 3) (number 4 (now (s .entry)) 5) (number 4 (now (s .entry)) 9) ⌝ }
@@ -192,7 +236,7 @@ fn offer_stamped(s: &[u8]) -> Record
     }
 }
 
-// The record that the bytes start with: the marks are LK, LE, LW, CN, CS, CL, PK, PS, NQ and TK as numbers.
+// The record that the bytes start with: the marks are LK, LE, LW, LF, CN, CS, CF, CL, PK, PS, NQ and TK as numbers.
 pub fn read(s: &[u8]) -> Found
     ensures { λ r. ⌜ r ≡ read-trace (now (s .entry)) ⌝ }
 {
@@ -202,6 +246,7 @@ pub fn read(s: &[u8]) -> Found
         0x4B4C => link::read(s),
         0x454C => link::read_stand_by(s),
         0x574C => link::read_windows(s),
+        0x464C => whole_of(s, 7, link_frames(s)),
         0x4E43 => {
             let admit = Record::Admit {
                 level: first,
@@ -213,6 +258,7 @@ pub fn read(s: &[u8]) -> Found
             whole_of(s, 11, admit)
         }
         0x5343 => whole_of(s, 9, admit_stamped(s)),
+        0x4643 => whole_of(s, 6, admit_share(s)),
         0x4C43 => whole_of(s, 3, Record::Close { connection: first }),
         0x4B50 => {
             let offer = Record::Offer {
@@ -313,6 +359,11 @@ fn draft(r: Record) -> Draft
             [d1, d2, d3, d4, d5, d6, d7, d8],
             [w1, w2, w3, w4, w5, w6, w7, w8],
         ),
+        Record::LinkFrames {
+            frame,
+            largest,
+            silence,
+        } => Draft::marked(LF).two(frame).two(largest).one(silence),
         Record::Admit {
             level,
             gap,
@@ -330,6 +381,7 @@ fn draft(r: Record) -> Draft
             size,
             allowance,
         } => Draft::headed(CS, level).two(gap).two(size).two(allowance),
+        Record::AdmitShare { units, places } => Draft::marked(CF).two(units).two(places),
         Record::Close { connection } => Draft::headed(CL, connection),
         Record::Offer {
             connection,

@@ -1,7 +1,7 @@
 //! Damaged traces: changed, cut, spliced and made-up bytes.
 
 use super::script::Script;
-use super::{closing, early, edges, notices, stamps, traffic, windows};
+use super::{closing, early, edges, frames, notices, stamps, traffic, windows};
 use crate::random::Random;
 
 /// A mark and how many bytes follow it.
@@ -38,6 +38,7 @@ enum Of {
     Stamps,
     Early,
     Windows,
+    Frames,
 }
 
 /// A record that came later, and its answer.
@@ -88,6 +89,19 @@ const WINDOWS: [Later; 1] = [Later {
     answer: (b"LA", 1),
 }];
 
+const FRAMES: [Later; 2] = [
+    Later {
+        record: b"LF\x0A\x00\x04\x00\x01",
+        marked: (b"LF", 5),
+        answer: (b"LA", 1),
+    },
+    Later {
+        record: b"CF\x03\x00\x02\x00",
+        marked: (b"CF", 4),
+        answer: (b"CA", 7),
+    },
+];
+
 /// An `LK`, an `LE` and an `LW` up to their bounds, with any n.
 const LINK: [u8; 6] = *b"LK\0\x01\0\0";
 const LINK_BY_SETTING: [u8; 7] = *b"LE\0\x01\0\0\x01";
@@ -102,6 +116,7 @@ impl Of {
             Of::Stamps => &STAMPS,
             Of::Early => &EARLY,
             Of::Windows => &WINDOWS,
+            Of::Frames => &FRAMES,
         }
     }
 
@@ -204,6 +219,11 @@ pub fn bad_window(seed: u64, random: &mut Random, size: usize) -> Vec<u8> {
     bad_later(seed, random, size, Of::Windows)
 }
 
+/// The same for `LF` and `CF`, in traces with frames.
+pub fn bad_frame(seed: u64, random: &mut Random, size: usize) -> Vec<u8> {
+    bad_later(seed, random, size, Of::Frames)
+}
+
 /// The cuts come at the end and, in other turns, between records, where the next bytes are read as
 /// the missing fields.
 fn bad_later(seed: u64, random: &mut Random, size: usize, of: Of) -> Vec<u8> {
@@ -254,6 +274,10 @@ pub fn damaged_windows(_seed: u64, random: &mut Random, size: usize) -> Vec<u8> 
     damaged(random, size, Of::Windows)
 }
 
+pub fn damaged_frames(_seed: u64, random: &mut Random, size: usize) -> Vec<u8> {
+    damaged(random, size, Of::Frames)
+}
+
 fn damaged(random: &mut Random, size: usize, of: Of) -> Vec<u8> {
     let mut trace = good_trace(random, size, of);
     for _ in 0..random.between(1, 2) {
@@ -272,6 +296,7 @@ fn good_trace(random: &mut Random, size: usize, of: Of) -> Trace {
         Of::Stamps => good_stamps(&mut script, random, size),
         Of::Early => good_early(&mut script, random, size),
         Of::Windows => good_windows(&mut script, random, size),
+        Of::Frames => good_frames(&mut script, random, size),
     }
     let (bytes, starts) = script.finish();
     Trace { bytes, starts, of }
@@ -327,6 +352,15 @@ fn good_windows(script: &mut Script, random: &mut Random, size: usize) {
         0 | 1 => windows::links(script, size),
         2 => windows::edges(script, size / 2),
         _ => windows::small(script, 2 * size),
+    }
+}
+
+fn good_frames(script: &mut Script, random: &mut Random, size: usize) {
+    match random.between(0, 3) {
+        0 => frames::either(script, size),
+        1 => frames::mixed(script, 2 * size),
+        2 => frames::edges(script, size / 2),
+        _ => frames::small(script, 2 * size),
     }
 }
 

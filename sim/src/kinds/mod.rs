@@ -6,6 +6,7 @@ mod closing;
 mod damage;
 mod early;
 mod edges;
+mod frames;
 mod notices;
 mod script;
 mod short;
@@ -94,7 +95,7 @@ pub struct Kind {
 }
 
 #[rustfmt::skip] // One line for each kind.
-pub const KINDS: [Kind; 85] = [
+pub const KINDS: [Kind; 99] = [
     Kind { name: "quiet", size: 60, maker: Maker::Scripted(traffic::quiet) },
     Kind { name: "flooded", size: 60, maker: Maker::Scripted(traffic::flooded) },
     Kind { name: "wild", size: 60, maker: Maker::Scripted(traffic::wild) },
@@ -180,11 +181,35 @@ pub const KINDS: [Kind; 85] = [
     Kind { name: "badwindow", size: 20, maker: Maker::Bytes(damage::bad_window) },
     Kind { name: "windowend", size: 40, maker: Maker::Scripted(windows::end) },
     Kind { name: "windowlimit", size: 40, maker: Maker::Scripted(windows::limit) },
+    Kind { name: "frames", size: 250, maker: Maker::Scripted(frames::mixed) },
+    Kind { name: "framesmall", size: 400, maker: Maker::Scripted(frames::small) },
+    Kind { name: "frameflood", size: 50, maker: Maker::Scripted(frames::flooded) },
+    Kind { name: "framelast", size: 40, maker: Maker::Scripted(frames::last_ticks) },
+    Kind { name: "frameworst", size: 12, maker: Maker::Scripted(frames::worst) },
+    Kind { name: "frameedges", size: 60, maker: Maker::Scripted(frames::edges) },
+    Kind { name: "framerefusals", size: 90, maker: Maker::Scripted(frames::refusals) },
+    Kind { name: "framebeds", size: 3, maker: Maker::Scripted(frames::beds) },
+    Kind { name: "framehalves", size: 20, maker: Maker::Scripted(frames::halves) },
+    Kind { name: "frameeither", size: 40, maker: Maker::Scripted(frames::either) },
+    Kind { name: "framedamage", size: 30, maker: Maker::Bytes(damage::damaged_frames) },
+    Kind { name: "badframe", size: 20, maker: Maker::Bytes(damage::bad_frame) },
+    Kind { name: "frameend", size: 40, maker: Maker::Scripted(frames::end) },
+    Kind { name: "framelimit", size: 40, maker: Maker::Scripted(frames::limit) },
 ];
 
 impl Kind {
     pub fn named(name: &str) -> Option<&'static Kind> {
         KINDS.iter().find(|kind| kind.name == name)
+    }
+
+    /// Those of the discipline of levels alone.
+    pub fn of_levels() -> impl Iterator<Item = &'static Kind> {
+        KINDS.iter().filter(|kind| !kind.has_frames())
+    }
+
+    /// Whether its traces have records of the discipline of frames.
+    pub fn has_frames(&self) -> bool {
+        self.name.contains("frame")
     }
 
     /// The trace of a seed, of the usual size if none is asked for; of kinds in turn, the usual size of

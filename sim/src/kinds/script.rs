@@ -4,6 +4,7 @@
 use std::convert::Infallible;
 
 use crate::departure::Tick;
+use crate::frames::{Frames, Framing, Share};
 use crate::hub::Hub;
 use crate::link::{
     Connection, Figures, Link, LinkFigures, LONGEST_WINDOW, MOST_LEVELS, MOST_PER_WINDOW,
@@ -69,8 +70,14 @@ impl Script {
         self.job.hub()
     }
 
+    /// The line by the discipline of frames.
+    pub fn frames(&self) -> &Frames {
+        self.job.frames()
+    }
+
+    /// The clock of the discipline that is set.
     pub fn clock(&self) -> Tick {
-        self.hub().clock()
+        self.job.clock()
     }
 
     pub fn length(&self) -> usize {
@@ -152,6 +159,20 @@ impl Script {
             bounds: of_all_levels(used),
             windows: windows.map(of_all_levels),
         })))
+    }
+
+    /// A link of frames.
+    pub fn framing(&mut self, frame: u16, largest: u16, silence: u8) -> u8 {
+        self.put(Record::Framing(Framing {
+            frame,
+            largest,
+            silence,
+        }))
+    }
+
+    /// An admission with r units per frame and p places.
+    pub fn share(&mut self, units: u16, places: u16) -> u8 {
+        self.put(Record::Share(Share { units, places }))
     }
 
     /// Windows for these bounds: at them, little longer, some times as long, falling, any, or the
@@ -309,14 +330,22 @@ impl Script {
         self.hub().link().ok().copied()
     }
 
-    /// S of the link that was set; 1 without one.
+    /// The link of frames that was set.
+    pub fn framing_set(&self) -> Option<Framing> {
+        self.frames().link().ok()
+    }
+
+    /// S of the link that was set, of either discipline; 1 without one.
     pub fn largest(&self) -> u16 {
-        self.link_set().map_or(1, |link| link.largest())
+        let framed = self.framing_set().map_or(1, |link| link.largest);
+        self.link_set().map_or(framed, |link| link.largest())
     }
 
     /// The ticks that a packet of S occupies the line; 1 without a link.
     pub fn largest_cost(&self) -> Tick {
-        self.link_set().map_or(1, |link| link.cost(link.largest()))
+        let framed = self.framing_set().map_or(1, |link| link.cost(link.largest));
+        self.link_set()
+            .map_or(framed, |link| link.cost(link.largest()))
     }
 
     /// Some standing connection, with its number.
@@ -363,9 +392,17 @@ impl Script {
     pub fn drain(&mut self) {
         self.mix_in_nothing();
         self.drain_places();
-        while self.hub().notices_waiting() > 0 {
+        self.drain_frames();
+        while self.hub().notices_waiting() + self.frames().notices_waiting() > 0 {
             let cost = self.largest_cost();
             let some = self.random.between(1, 3 * cost);
+            self.ticks(some);
+        }
+    }
+
+    fn drain_frames(&mut self) {
+        while let (Some(link), 1..) = (self.framing_set(), self.frames().held()) {
+            let some = self.random.between(1, 2 * Tick::from(link.frame));
             self.ticks(some);
         }
     }

@@ -1,10 +1,11 @@
-use Rattle.calls.specs.declared.verdicts.Ruling.{Ruling}
+use Rattle.causes.specs.declared.Ruling.{Ruling}
 use native.Mathlib.Omega.{arith}
 use mathlib.Core.Path.{ap, _∙_}
 use Rattle.state.specs.View.{tables}
 use Rattle.state.proofs.SoundLaws as S
 use Rattle.connections.proofs.WrittenLaws.{used-is}
 use Rattle.calls.proofs.ActLaws as A
+use Rattle.causes.proofs.CauseLaws.{zero-then}
 use Rattle.calls.proofs.VerdictLaws as W
 use borrow.Author.Needs.{needs}
 use Rattle.calls.proofs.admit_tested.Statement.{statement}
@@ -46,7 +47,7 @@ add-member-requires c κs =
     let z = c .before .before .before .before .before .before .before .before .before .before .before .before .before in
     let t = tables (z .args .members .now) (z .args .places .now) (z .args .notices .now) in
     let k = c .before .before .before .before .before .before .free-number in
-    let g = W.zero-then _ _ (ap (λ (y : Ruling). y .verdict) (c .before .before .before .before .admit-verdict .ensures)) (omega (arith, c .before .if1 .left)) in
+    let g = zero-then _ _ (ap (λ (y : Ruling). y .verdict) (c .before .before .before .before .admit-verdict .ensures)) (omega (arith, c .before .if1 .left)) in
     let b = A.admit-blank (z .args .h) t (z .pre) (z .args .x) g (k .result) (k .ensures) in
     ((S.shapes t (S.formed-tables (z .args .h) t (z .pre)) .members-shape, k .ensures, A.admit-room (z .args .h) t (z .args .x) (k .result) g (k .ensures), A.admit-level (z .args .h) t (z .pre) (z .args .x) g), (b .no-memory, b .not-closed))
 
@@ -55,7 +56,7 @@ cast-say c =
     let z = c .before .before .before .before .before .before .before .before .before .before .before .before .before .before .before .before in
     let t = tables (z .args .members .now) (z .args .places .now) (z .args .notices .now) in
     let k = c .before .before .before .before .before .before .before .before .before .free-number in
-    omega (arith, A.admit-room (z .args .h) t (z .args .x) (k .result) (W.zero-then _ _ (ap (λ (y : Ruling). y .verdict) (c .before .before .before .before .before .before .before .admit-verdict .ensures)) (omega (arith, c .before .before .before .before .if1 .left))) (k .ensures))
+    omega (arith, A.admit-room (z .args .h) t (z .args .x) (k .result) (zero-then _ _ (ap (λ (y : Ruling). y .verdict) (c .before .before .before .before .before .before .before .admit-verdict .ensures)) (omega (arith, c .before .before .before .before .if1 .left))) (k .ensures))
 
 say-requires : tie.Need-say-requires
 say-requires c κs = search needs
@@ -68,7 +69,7 @@ returns-2 c =
     let z = c .before .before .before .before .before .before .before .before .before .before .before .before .before .before .before .before .before in
     let t = tables (z .args .members .now) (z .args .places .now) (z .args .notices .now) in
     let k = c .before .before .before .before .before .before .before .before .before .before .free-number in
-    A.admit-acts (z .args .h) t (z .pre) (z .args .x) _ (k .result) _ (W.zero-then _ _ (ap (λ (y : Ruling). y .verdict) (c .before .before .before .before .before .before .before .before .admit-verdict .ensures)) (omega (arith, c .before .before .before .before .before .if1 .left))) (k .ensures) (c .say .ensures) (c .before .before .before .add-member .ensures)
+    A.admit-acts (z .args .h) t (z .pre) (z .args .x) _ (k .result) _ (zero-then _ _ (ap (λ (y : Ruling). y .verdict) (c .before .before .before .before .before .before .before .before .admit-verdict .ensures)) (omega (arith, c .before .before .before .before .before .if1 .left))) (k .ensures) (c .say .ensures) (c .before .before .before .add-member .ensures)
 
 pub admit-tested-spec : {M : Type 1} → statement M
 admit-tested-spec = tie.close (tie.spec used-requires free-number-requires admit-verdict-requires no-packet-requires same-length returns add-member-requires cast-say say-requires same-length-2 returns-2)

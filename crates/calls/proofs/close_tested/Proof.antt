@@ -3,6 +3,7 @@ use native.Mathlib.Omega.{arith}
 use Rattle.state.specs.View.{tables}
 use mathlib.Core.Path.{refl}
 use Rattle.calls.proofs.ActLaws as A
+use Rattle.causes.proofs.CauseLaws.{zero-then}
 use Rattle.calls.proofs.VerdictLaws as W
 use borrow.Author.Needs.{needs}
 use Rattle.calls.proofs.close_tested.Statement.{statement}
@@ -27,7 +28,7 @@ close-now-requires : tie.Need-close-now-requires
 close-now-requires c κs =
     let z = c .before .before .before .before .before .before .before in
     let t = tables (z .args .members .now) (z .args .places .now) (z .args .notices .now) in
-    (z .pre, W.zero-then _ _ (c .before .before .close-verdict .ensures) (omega (arith, c .before .if1 .left)))
+    (z .pre, zero-then _ _ (c .before .before .close-verdict .ensures) (omega (arith, c .before .if1 .left)))
 
 same-length-2 : tie.Need-same-length-2
 same-length-2 c = search needs

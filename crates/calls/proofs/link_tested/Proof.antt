@@ -4,6 +4,7 @@ use Rattle.state.specs.View.{tables}
 use mathlib.Core.Path.{refl}
 use Rattle.state.proofs.SoundLaws as S
 use Rattle.calls.proofs.ActLaws as A
+use Rattle.causes.proofs.CauseLaws.{zero-then}
 use Rattle.calls.proofs.VerdictLaws as W
 use borrow.Author.Needs.{needs}
 use Rattle.calls.proofs.link_tested.Statement.{statement}
@@ -37,7 +38,7 @@ returns-2 : tie.Need-returns-2
 returns-2 c =
     let z = c .before .before .before .before .before .before in
     let t = tables (z .args .members .now) (z .args .places .now) (z .args .notices .now) in
-    A.linked (z .args .h) t (z .pre) (z .args .l) _ _ (W.zero-then _ _ (c .before .before .link-verdict .ensures) (omega (arith, c .before .if1 .left))) refl (c .say2 .ensures)
+    A.linked (z .args .h) t (z .pre) (z .args .l) _ _ (zero-then _ _ (c .before .before .link-verdict .ensures) (omega (arith, c .before .if1 .left))) refl (c .say2 .ensures)
 
 pub link-tested-spec : {M : Type 1} → statement M
 link-tested-spec =

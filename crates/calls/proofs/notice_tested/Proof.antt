@@ -4,6 +4,7 @@ use Rattle.state.specs.View.{tables}
 use mathlib.Core.Path.{refl}
 use Rattle.state.proofs.SoundLaws as S
 use Rattle.calls.proofs.ActLaws as A
+use Rattle.causes.proofs.CauseLaws.{zero-then}
 use Rattle.calls.proofs.VerdictLaws as W
 use borrow.Author.Needs.{needs}
 use Rattle.calls.proofs.notice_tested.Statement.{statement}
@@ -43,7 +44,7 @@ append-requires : tie.Need-append-requires
 append-requires c κs =
     let z = c .before .before .before .before .before .before .before .before .before in
     let t = tables (z .args .members .now) (z .args .places .now) (z .args .notices .now) in
-    let good = W.zero-then _ _ (c .before .before .notice-verdict .ensures (z .args .tag)) (omega (arith, c .before .if1 .left)) in
+    let good = zero-then _ _ (c .before .before .notice-verdict .ensures (z .args .tag)) (omega (arith, c .before .if1 .left)) in
     (S.notices-as-table (z .args .h) t (z .pre), c .before .before .before .before .count .ensures, omega (arith, c .before .before .before .before .count .ensures, A.notice-room (z .args .h) t (z .pre) (z .args .len) (z .args .tag) good))
 
 -- src/lib.rt:132:5
@@ -59,7 +60,7 @@ returns-2 : tie.Need-returns-2
 returns-2 c =
     let z = c .before .before .before .before .before .before .before .before .before .before .before .before .before in
     let t = tables (z .args .members .now) (z .args .places .now) (z .args .notices .now) in
-    let good = W.zero-then _ _ (c .before .before .before .before .before .before .notice-verdict .ensures (z .args .tag)) (omega (arith, c .before .before .before .before .before .if1 .left)) in
+    let good = zero-then _ _ (c .before .before .before .before .before .before .notice-verdict .ensures (z .args .tag)) (omega (arith, c .before .before .before .before .before .if1 .left)) in
     A.notice-acts (z .args .h) t (z .pre) (z .args .len) (z .args .tag) good _ _ (c .say2 .ensures) (c .before .before .before .append .ensures)
 
 pub notice-tested-spec : {M : Type 1} → statement M

@@ -4,6 +4,7 @@ use Rattle.state.specs.View.{tables}
 use mathlib.Core.Path.{refl}
 use Rattle.connections.specs.Stamps.{stamp-if}
 use Rattle.calls.proofs.ActLaws as A
+use Rattle.causes.proofs.CauseLaws.{zero-then}
 use Rattle.calls.proofs.VerdictLaws as W
 use borrow.Author.Needs.{needs}
 use Rattle.calls.proofs.offer_tested.Statement.{statement}
@@ -31,7 +32,7 @@ accept-requires : tie.Need-accept-requires
 accept-requires c κs =
     let z = c .before .before .before .before .before .before .before .before .before in
     let t = tables (z .args .members .now) (z .args .places .now) (z .args .notices .now) in
-    (z .pre, W.zero-then _ _ (c .before .before .before .offer-verdict .ensures (z .args .tag)) (omega (arith, c .before .before .if1 .left)))
+    (z .pre, zero-then _ _ (c .before .before .before .offer-verdict .ensures (z .args .tag)) (omega (arith, c .before .before .if1 .left)))
 
 same-length-3 : tie.Need-same-length-3
 same-length-3 c = search needs

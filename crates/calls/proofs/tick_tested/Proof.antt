@@ -3,6 +3,7 @@ use native.Mathlib.Omega.{arith}
 use Rattle.state.specs.View.{tables}
 use mathlib.Core.Path.{refl}
 use Rattle.calls.proofs.ActLaws as A
+use Rattle.causes.proofs.CauseLaws.{zero-then}
 use Rattle.calls.proofs.VerdictLaws as W
 use borrow.Author.Needs.{needs}
 use Rattle.calls.proofs.tick_tested.Statement.{statement}
@@ -33,7 +34,7 @@ run-on-requires : tie.Need-run-on-requires
 run-on-requires c κs =
     let z = c .before .before .before .before .before .before .before .before .before .before .before in
     let t = tables (z .args .members .now) (z .args .places .now) (z .args .notices .now) in
-    (z .pre, W.zero-then _ _ (c .before .before .before .before .tick-verdict .ensures) (omega (arith, c .before .before .before .if1 .left)))
+    (z .pre, zero-then _ _ (c .before .before .before .before .tick-verdict .ensures) (omega (arith, c .before .before .before .if1 .left)))
 
 same-length-4 : tie.Need-same-length-4
 same-length-4 c = search needs

@@ -1,4 +1,4 @@
-use Rattle.state.specs.View.{tables}
+use Rattle.tables.specs.Lent.{tables}
 use native.Mathlib.Omega.{arith}
 use mathlib.Core.Path.{sym, _∙_}
 use lib.ListN.{length, length-take}

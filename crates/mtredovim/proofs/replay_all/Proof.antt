@@ -1,4 +1,4 @@
-use Rattle.state.specs.View.{tables}
+use Rattle.tables.specs.Lent.{tables}
 use mathlib.Core.Path.{_≡_, sym, _∙_}
 use Prim.Native.Nat.{_≤_}
 use lib.ListN.{length}

@@ -1,4 +1,4 @@
-use Rattle.state.specs.View.{tables}
+use Rattle.tables.specs.Lent.{tables}
 use borrow.Author.Tests.{not-true, not-false}
 use Rattle.replay.proofs.Standing.{not-sound, no-room, is-ready}
 use borrow.Author.Needs.{needs}

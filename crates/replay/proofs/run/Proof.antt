@@ -5,7 +5,8 @@ use mathlib.Core.Path.{_≡_, refl, sym, _∙_}
 use mathlib.Core.Bool.{true, false}
 use Prim.Native.Nat.{ℕ, _+_, _*_, _-_, _/_, _≤_, _<_}
 use lib.ListN.{length}
-use Rattle.state.specs.View.{tables, sound-hub}
+use Rattle.tables.specs.Lent.{tables}
+use Rattle.both.specs.View.{sound-kept}
 use Rattle.steps.specs.declared.Status.the-variants.{GoOn}
 use Rattle.steps.specs.Steps.{is-go}
 use Rattle.replay.proofs.RunLaws.{Made, made-none, made-sound, made-more, made-on, run-stopped, run-ended}
@@ -28,7 +29,7 @@ sub-less : (n i : ℕ) → i < n → n - (i + 1) < n - i
 sub-less n i h = omega arith
 
 abbrev Inv-loop : tie.InvT-loop
-Inv-loop cs₀ t₀ q₀ window last out₀ n cur₀ used₀ wrote₀ i₀ cs t q out cur used wrote i = (n ≡ length out₀ / 19) × (19 ≤ length out₀) × (i ≤ n) × Made cur₀ (tables cs₀ t₀ q₀) window last out₀ i GoOn cur (tables cs t q) out used wrote × (length out₀ < 18446744073709551616) × (sound-hub (cur₀ .hub) (tables cs₀ t₀ q₀) ≡ true)
+Inv-loop cs₀ t₀ q₀ window last out₀ n cur₀ used₀ wrote₀ i₀ cs t q out cur used wrote i = (n ≡ length out₀ / 19) × (19 ≤ length out₀) × (i ≤ n) × Made cur₀ (tables cs₀ t₀ q₀) window last out₀ i GoOn cur (tables cs t q) out used wrote × (length out₀ < 18446744073709551616) × (sound-kept (cur₀ .line) (tables cs₀ t₀ q₀) ≡ true)
 
 abbrev μ-loop : tie.MeasureT-loop
 μ-loop cs₀ t₀ q₀ window last out₀ n cur₀ used₀ wrote₀ i₀ cs t q out cur used wrote i = n - i

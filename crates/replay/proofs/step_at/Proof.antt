@@ -1,6 +1,6 @@
 use Prim.Native.Nat.{ℕ}
 use mathlib.Core.List.{List}
-use Rattle.state.specs.View.{tables}
+use Rattle.tables.specs.Lent.{tables}
 use Rattle.steps.specs.Steps.{next}
 use Rattle.steps.specs.Tie.{point-of}
 use Rattle.replay.proofs.RunLaws.{on-parts}

@@ -10,7 +10,7 @@ no-short-requires : tie.Need-no-short-requires
 no-short-requires c κs = search needs
 
 returns : tie.Need-returns
-returns c t = rw (c .no-short .ensures)
+returns c = rw (c .no-short .ensures)
 
 pub pass-spec : {M : Type 1} → statement M
 pass-spec = tie.close (tie.spec add-later no-short-requires returns)

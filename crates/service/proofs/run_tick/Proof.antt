@@ -11,7 +11,10 @@ send-requires : tie.Need-send-requires
 send-requires c κs =
     let s = c .before .before .before .before .before .before .before .before in
     let a = s .args in
-    L.in-place-then (a .h) (a .members .now) (a .places .now) (a .notices .now) (s .pre .0 .others) (s .pre .0 .in-place) (c .before .before .start .result) (c .before .before .start .ensures)
+    L.ready-then (a .h) (a .members .now) (a .places .now) (a .notices .now) (s .pre .0) (c .before .before .start .result) (c .before .before .start .ensures)
+
+pass-requires : tie.Need-pass-requires
+pass-requires c κs = search needs
 
 same-length : tie.Need-same-length
 same-length c = search needs
@@ -21,9 +24,10 @@ same-length-2 c = search needs
 
 returns : tie.Need-returns
 returns c =
-    let a = c .before .before .before .before .before .before .before .before .before .before .before .before .before .args in
-    let g = c .before .before .before .before .before .before .before .start in
-    L.ticks (a .h) (a .members .now) (a .places .now) (a .notices .now) (g .result) _ _ _ (g .ensures) (c .before .before .before .before .send .ensures (a .members .now))
+    let a = c .before .before .before .before .before .before .before .before .before .before .before .before .before .before .args in
+    let g = c .before .before .before .before .before .before .before .before .start in
+    let x = c .before .before .before .before .before .send in
+    L.ticks (a .h) (a .members .now) (a .places .now) (a .notices .now) (g .result) (x .result) _ _ _ (g .ensures) (x .ensures) (c .pass .ensures)
 
 pub run-tick-spec : {M : Type 1} → statement M
-run-tick-spec = tie.close (tie.spec start-requires send-requires same-length same-length-2 returns)
+run-tick-spec = tie.close (tie.spec start-requires send-requires pass-requires same-length same-length-2 returns)

@@ -37,8 +37,9 @@ linked-ok-requires c κs =
     let a = c .before .before .before .before .before .before .before .before .before .args in
     let t = tables (a .members .now) (a .places .now) (a .notices .now) in
     let shape = S.holds (c .before .before .before .tables-formed .ensures) (c .before .before .if1 .left) in
-    let k = S.counted t shape (c .before .before .before .before .before .held .ensures) (c .before .before .before .before .held2 .ensures) in
-    (k .0, k .1, shapes t shape .members-shape)
+    let f = shapes t shape in
+    let k = S.counted (a .places .now) (a .notices .now) (f .places-shape) (f .notices-shape) (c .before .before .before .before .before .held .ensures) (c .before .before .before .before .held2 .ensures) in
+    (k .0, k .1, f .members-shape)
 
 returns-3 : tie.Need-returns-3
 unfolding sound-hub

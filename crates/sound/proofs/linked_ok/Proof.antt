@@ -1,3 +1,5 @@
+use mathlib.Core.Path.{ap, _∙_}
+use Rattle.rules.specs.Admission.{goes-early}
 use Rattle.state.specs.View.{tables}
 use Rattle.connections.proofs.WrittenLaws as W
 use Rattle.sound.proofs.PartLaws as S
@@ -26,25 +28,22 @@ returns-2 c =
     S.passes-on (c .before .before .before .admissions-ok .ensures (a .places .now) (a .notices .now)) (c .before .before .if1 .left)
     (S.stops _ (c .before .held-ok .ensures (a .notices .now)) (c .if2 .taken))
 
-notices-ok-requires : tie.Need-notices-ok-requires
-notices-ok-requires c κs = search needs
+figures-of-requires : tie.Need-figures-of-requires
+figures-of-requires c κs = let s = c .before .before .before .before .before .before .before in W.members-long (s .args .members .now) (s .pre .2)
+
+goes-early-requires : tie.Need-goes-early-requires
+goes-early-requires c κs = search needs
+
+wire-ok-requires : tie.Need-wire-ok-requires
+wire-ok-requires c κs = search needs
 
 returns-3 : tie.Need-returns-3
 returns-3 c =
-    let a = c .before .before .before .before .before .before .before .before .before .args in
-    S.passes-on (c .before .before .before .before .before .admissions-ok .ensures (a .places .now) (a .notices .now)) (c .before .before .before .before .if1 .left)
-    (S.passes-on (c .before .before .before .held-ok .ensures (a .notices .now)) (c .before .before .if2 .left)
-    (S.stops _ (c .before .notices-ok .ensures (a .members .now) (a .places .now)) (c .if3 .taken)))
-
-line-ok-requires : tie.Need-line-ok-requires
-line-ok-requires c κs = let s = c .before .before .before .before .before .before .before .before .before in (s .pre .0, s .pre .1, W.members-long (s .args .members .now) (s .pre .2))
-
-returns-4 : tie.Need-returns-4
-returns-4 c =
     let a = c .before .before .before .before .before .before .before .before .before .before .args in
+    let early = c .before .goes-early .ensures ∙ ap (goes-early (a .h .link)) (c .before .before .figures-of .ensures) in
+    let line = S.line-read (a .h) (tables (a .members .now) (a .places .now) (a .notices .now)) early in
     S.passes-on (c .before .before .before .before .before .before .admissions-ok .ensures (a .places .now) (a .notices .now)) (c .before .before .before .before .before .if1 .left)
-    (S.passes-on (c .before .before .before .before .held-ok .ensures (a .notices .now)) (c .before .before .before .if2 .left)
-    (S.passes-on (c .before .before .notices-ok .ensures (a .members .now) (a .places .now)) (c .before .if3 .left) (c .line-ok .ensures)))
+    (S.passes-on (c .before .before .before .before .held-ok .ensures (a .notices .now)) (c .before .before .before .if2 .left) (c .wire-ok .ensures ∙ line))
 
 pub linked-ok-spec : {M : Type 1} → statement M
-linked-ok-spec = tie.close (tie.spec admissions-ok-requires returns held-ok-requires returns-2 notices-ok-requires returns-3 line-ok-requires returns-4)
+linked-ok-spec = tie.close (tie.spec admissions-ok-requires returns held-ok-requires returns-2 figures-of-requires goes-early-requires wire-ok-requires returns-3)

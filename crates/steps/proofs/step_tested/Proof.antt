@@ -1,4 +1,5 @@
-use Rattle.state.specs.View.{Tables, tables, given, before, after, written, sound-hub, view}
+use Rattle.tables.specs.Lent.{tables}
+use Rattle.both.specs.View.{view}
 use Rattle.steps.specs.declared.Phase.the-variants.{Finished}
 use Rattle.steps.specs.declared.Status.the-variants.{Done}
 use Rattle.steps.proofs.CallLaws.{did-kept}
@@ -70,7 +71,7 @@ returns-2 c =
     let k = c .before .before .before .before .before .before .before .before .tick-step in (
       rw (next-phase (a .c) (tables (a .members .now) (a .places .now) (a .notices .now)) (a .window .now) (a .last) e) (k .ensures),
       facts-phase (a .c) e (length (a .window .now)) (a .last) (length (a .out .now)) (k .result)
-          (tick-facts _ _ _ (view (a .c .hub) (tables (a .members .now) (a .places .now) (a .notices .now))) _ _ _ _ (s .pre .1) _ (k .ensures .answers)),
+          (tick-facts _ _ _ (view (a .c .line) (tables (a .members .now) (a .places .now) (a .notices .now))) _ _ _ _ (s .pre .1) _ (k .ensures .answers)),
     )
 
 returns-3 : tie.Need-returns-3
@@ -80,9 +81,9 @@ returns-3 c =
     let e = c .before .enum-told2 .given .1 in
     let w = c .waits in (
       rw (next-phase (a .c) (tables (a .members .now) (a .places .now) (a .notices .now)) (a .window .now) (a .last) e)
-          (did-kept (a .c .hub) (tables (a .members .now) (a .places .now) (a .notices .now)) (s .pre .0) (a .c .at) Finished 0 [] Done (w .result) _ _ (w .ensures) refl),
+          (did-kept (a .c .line) (tables (a .members .now) (a .places .now) (a .notices .now)) (s .pre .0) (a .c .at) Finished 0 [] Done (w .result) _ _ (w .ensures) refl),
       facts-phase (a .c) e (length (a .window .now)) (a .last) (length (a .out .now)) (w .result)
-          (rw (w .ensures) (waits-facts (a .c .at) Finished Finished (a .c .hub) (length (a .window .now)) (a .last) (length (a .out .now)) Done (omega arith) refl (λ z. cc))),
+          (rw (w .ensures) (waits-facts (a .c .at) Finished Finished (a .c .line) (length (a .window .now)) (a .last) (length (a .out .now)) Done (omega arith) refl (λ z. cc))),
     )
 
 pub step-tested-spec : {M : Type 1} → statement M

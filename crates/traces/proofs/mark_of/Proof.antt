@@ -11,9 +11,9 @@ use borrow.Author.Needs.{needs}
 use Rattle.traces.proofs.mark_of.Statement.{statement}
 use Rattle.traces.proofs.mark_of.Tie as tie
 
--- The numbers of that arm, from the least on: LE, LK, PK, TK, CL, CN, NQ, CS, PS, LW.
+-- The numbers of that arm, from the least on: LE, CF, LF, LK, PK, TK, CL, CN, NQ, CS, PS, LW.
 abbrev numbers : List ℕ
-numbers = 0x454C ∷ 0x4B4C ∷ 0x4B50 ∷ 0x4B54 ∷ 0x4C43 ∷ 0x4E43 ∷ 0x514E ∷ 0x5343 ∷ 0x5350 ∷ 0x574C ∷ []
+numbers = 0x454C ∷ 0x4643 ∷ 0x464C ∷ 0x4B4C ∷ 0x4B50 ∷ 0x4B54 ∷ 0x4C43 ∷ 0x4E43 ∷ 0x514E ∷ 0x5343 ∷ 0x5350 ∷ 0x574C ∷ []
 
 two-requires : tie.Need-two-requires
 two-requires c κs = search needs

@@ -25,6 +25,12 @@ read-stand-by-requires c κs = search needs
 read-windows-requires : tie.Need-read-windows-requires
 read-windows-requires c κs = search needs
 
+link-frames-requires : tie.Need-link-frames-requires
+link-frames-requires c κs = search needs
+
+whole-of-requires : tie.Need-whole-of-requires
+whole-of-requires c κs = search needs
+
 two-requires : tie.Need-two-requires
 two-requires c κs = search needs
 
@@ -37,17 +43,23 @@ two-requires-3 c κs = search needs
 two-requires-4 : tie.Need-two-requires-4
 two-requires-4 c κs = search needs
 
-whole-of-requires : tie.Need-whole-of-requires
-whole-of-requires c κs = search needs
+whole-of-requires-2 : tie.Need-whole-of-requires-2
+whole-of-requires-2 c κs = search needs
 
 admit-stamped-requires : tie.Need-admit-stamped-requires
 admit-stamped-requires c κs = search needs
 
-whole-of-requires-2 : tie.Need-whole-of-requires-2
-whole-of-requires-2 c κs = search needs
-
 whole-of-requires-3 : tie.Need-whole-of-requires-3
 whole-of-requires-3 c κs = search needs
+
+admit-share-requires : tie.Need-admit-share-requires
+admit-share-requires c κs = search needs
+
+whole-of-requires-4 : tie.Need-whole-of-requires-4
+whole-of-requires-4 c κs = search needs
+
+whole-of-requires-5 : tie.Need-whole-of-requires-5
+whole-of-requires-5 c κs = search needs
 
 two-requires-5 : tie.Need-two-requires-5
 two-requires-5 c κs = search needs
@@ -55,14 +67,14 @@ two-requires-5 c κs = search needs
 four-requires : tie.Need-four-requires
 four-requires c κs = search needs
 
-whole-of-requires-4 : tie.Need-whole-of-requires-4
-whole-of-requires-4 c κs = search needs
+whole-of-requires-6 : tie.Need-whole-of-requires-6
+whole-of-requires-6 c κs = search needs
 
 offer-stamped-requires : tie.Need-offer-stamped-requires
 offer-stamped-requires c κs = search needs
 
-whole-of-requires-5 : tie.Need-whole-of-requires-5
-whole-of-requires-5 c κs = search needs
+whole-of-requires-7 : tie.Need-whole-of-requires-7
+whole-of-requires-7 c κs = search needs
 
 two-requires-6 : tie.Need-two-requires-6
 two-requires-6 c κs = search needs
@@ -70,14 +82,14 @@ two-requires-6 c κs = search needs
 four-requires-2 : tie.Need-four-requires-2
 four-requires-2 c κs = search needs
 
-whole-of-requires-6 : tie.Need-whole-of-requires-6
-whole-of-requires-6 c κs = search needs
+whole-of-requires-8 : tie.Need-whole-of-requires-8
+whole-of-requires-8 c κs = search needs
 
 two-requires-7 : tie.Need-two-requires-7
 two-requires-7 c κs = search needs
 
-whole-of-requires-7 : tie.Need-whole-of-requires-7
-whole-of-requires-7 c κs = search needs
+whole-of-requires-9 : tie.Need-whole-of-requires-9
+whole-of-requires-9 c κs = search needs
 
 nothing-requires : tie.Need-nothing-requires
 nothing-requires c κs = search needs
@@ -106,10 +118,17 @@ returns-3 c =
 returns-4 : tie.Need-returns-4
 unfolding read-numbered number read-kind get-fields sum
 returns-4 c =
+    let m = c .before .before .before .before .mark-of in
+    rw (numbered (trace .kinds) (c .before .before .before .before .before .before .args .s .now) (m .result) 0x464C trace-marks (m .ensures) (search needs))
+    (rw (c .whole-of .ensures, c .before .link-frames .ensures))
+
+returns-5 : tie.Need-returns-5
+unfolding read-numbered number read-kind get-fields sum
+returns-5 c =
     let m = c .before .before .before .before .before .before .before .mark-of in
     rw (numbered (trace .kinds) (c .before .before .before .before .before .before .before .before .before .args .s .now) (m .result) 0x4E43 trace-marks (m .ensures) (search needs))
     (rw (
-      c .whole-of .ensures,
+      c .whole-of2 .ensures,
       c .before .before .before .before .before .before .one .ensures,
       c .before .before .before .before .two .ensures,
       c .before .before .before .two2 .ensures,
@@ -117,59 +136,68 @@ returns-4 c =
       c .before .two4 .ensures,
     ))
 
-returns-5 : tie.Need-returns-5
-unfolding read-numbered number read-kind get-fields sum
-returns-5 c =
-    let m = c .before .before .before .before .mark-of in
-    rw (numbered (trace .kinds) (c .before .before .before .before .before .before .args .s .now) (m .result) 0x5343 trace-marks (m .ensures) (search needs))
-    (rw (c .whole-of2 .ensures, c .before .admit-stamped .ensures))
-
 returns-6 : tie.Need-returns-6
 unfolding read-numbered number read-kind get-fields sum
 returns-6 c =
-    let m = c .before .before .before .mark-of in
-    rw (numbered (trace .kinds) (c .before .before .before .before .before .args .s .now) (m .result) 0x4C43 trace-marks (m .ensures) (search needs))
-    (rw (c .whole-of3 .ensures, c .before .before .one .ensures))
+    let m = c .before .before .before .before .mark-of in
+    rw (numbered (trace .kinds) (c .before .before .before .before .before .before .args .s .now) (m .result) 0x5343 trace-marks (m .ensures) (search needs))
+    (rw (c .whole-of3 .ensures, c .before .admit-stamped .ensures))
 
 returns-7 : tie.Need-returns-7
 unfolding read-numbered number read-kind get-fields sum
 returns-7 c =
-    let m = c .before .before .before .before .before .mark-of in
-    rw (numbered (trace .kinds) (c .before .before .before .before .before .before .before .args .s .now) (m .result) 0x4B50 trace-marks (m .ensures) (search needs))
-    (rw (c .whole-of4 .ensures, c .before .before .before .before .one .ensures, c .before .before .two5 .ensures, c .before .four .ensures))
+    let m = c .before .before .before .before .mark-of in
+    rw (numbered (trace .kinds) (c .before .before .before .before .before .before .args .s .now) (m .result) 0x4643 trace-marks (m .ensures) (search needs))
+    (rw (c .whole-of4 .ensures, c .before .admit-share .ensures))
 
 returns-8 : tie.Need-returns-8
 unfolding read-numbered number read-kind get-fields sum
 returns-8 c =
-    let m = c .before .before .before .before .mark-of in
-    rw (numbered (trace .kinds) (c .before .before .before .before .before .before .args .s .now) (m .result) 0x5350 trace-marks (m .ensures) (search needs))
-    (rw (c .whole-of5 .ensures, c .before .offer-stamped .ensures))
+    let m = c .before .before .before .mark-of in
+    rw (numbered (trace .kinds) (c .before .before .before .before .before .args .s .now) (m .result) 0x4C43 trace-marks (m .ensures) (search needs))
+    (rw (c .whole-of5 .ensures, c .before .before .one .ensures))
 
 returns-9 : tie.Need-returns-9
 unfolding read-numbered number read-kind get-fields sum
 returns-9 c =
     let m = c .before .before .before .before .before .mark-of in
-    rw (numbered (trace .kinds) (c .before .before .before .before .before .before .before .args .s .now) (m .result) 0x514E trace-marks (m .ensures) (search needs))
-    (rw (c .whole-of6 .ensures, c .before .before .two6 .ensures, c .before .four2 .ensures))
+    rw (numbered (trace .kinds) (c .before .before .before .before .before .before .before .args .s .now) (m .result) 0x4B50 trace-marks (m .ensures) (search needs))
+    (rw (c .whole-of6 .ensures, c .before .before .before .before .one .ensures, c .before .before .two5 .ensures, c .before .four .ensures))
 
 returns-10 : tie.Need-returns-10
 unfolding read-numbered number read-kind get-fields sum
 returns-10 c =
     let m = c .before .before .before .before .mark-of in
-    rw (numbered (trace .kinds) (c .before .before .before .before .before .before .args .s .now) (m .result) 0x4B54 trace-marks (m .ensures) (search needs))
-    (rw (c .whole-of7 .ensures, c .before .two7 .ensures))
+    rw (numbered (trace .kinds) (c .before .before .before .before .before .before .args .s .now) (m .result) 0x5350 trace-marks (m .ensures) (search needs))
+    (rw (c .whole-of7 .ensures, c .before .offer-stamped .ensures))
 
 returns-11 : tie.Need-returns-11
-unfolding read-numbered number
+unfolding read-numbered number read-kind get-fields sum
 returns-11 c =
+    let m = c .before .before .before .before .before .mark-of in
+    rw (numbered (trace .kinds) (c .before .before .before .before .before .before .before .args .s .now) (m .result) 0x514E trace-marks (m .ensures) (search needs))
+    (rw (c .whole-of8 .ensures, c .before .before .two6 .ensures, c .before .four2 .ensures))
+
+returns-12 : tie.Need-returns-12
+unfolding read-numbered number read-kind get-fields sum
+returns-12 c =
+    let m = c .before .before .before .before .mark-of in
+    rw (numbered (trace .kinds) (c .before .before .before .before .before .before .args .s .now) (m .result) 0x4B54 trace-marks (m .ensures) (search needs))
+    (rw (c .whole-of9 .ensures, c .before .two7 .ensures))
+
+returns-13 : tie.Need-returns-13
+unfolding read-numbered number
+returns-13 c =
     let m = c .before .before .before .mark-of in
     rw (
       numbered (trace .kinds) (c .before .before .before .before .before .args .s .now) (m .result) (m .result) trace-marks (m .ensures) refl,
       ne-eqb (m .result) 0x4B4C (search needs),
       ne-eqb (m .result) 0x454C (search needs),
       ne-eqb (m .result) 0x574C (search needs),
+      ne-eqb (m .result) 0x464C (search needs),
       ne-eqb (m .result) 0x4E43 (search needs),
       ne-eqb (m .result) 0x5343 (search needs),
+      ne-eqb (m .result) 0x4643 (search needs),
       ne-eqb (m .result) 0x4C43 (search needs),
       ne-eqb (m .result) 0x4B50 (search needs),
       ne-eqb (m .result) 0x5350 (search needs),
@@ -187,24 +215,28 @@ read-spec =
     read-requires
     read-stand-by-requires
     read-windows-requires
+    link-frames-requires
+    whole-of-requires
     two-requires
     two-requires-2
     two-requires-3
     two-requires-4
-    whole-of-requires
-    admit-stamped-requires
     whole-of-requires-2
+    admit-stamped-requires
     whole-of-requires-3
+    admit-share-requires
+    whole-of-requires-4
+    whole-of-requires-5
     two-requires-5
     four-requires
-    whole-of-requires-4
+    whole-of-requires-6
     offer-stamped-requires
-    whole-of-requires-5
+    whole-of-requires-7
     two-requires-6
     four-requires-2
-    whole-of-requires-6
+    whole-of-requires-8
     two-requires-7
-    whole-of-requires-7
+    whole-of-requires-9
     nothing-requires
     returns
     returns-2
@@ -216,4 +248,6 @@ read-spec =
     returns-8
     returns-9
     returns-10
-    returns-11)
+    returns-11
+    returns-12
+    returns-13)

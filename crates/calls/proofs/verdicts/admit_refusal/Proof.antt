@@ -3,12 +3,6 @@ use mathlib.Core.Path.{_∙_}
 use borrow.Author.Needs.{needs}
 use Rattle.calls.proofs.verdicts.admit_refusal.Statement.{statement}
 use Rattle.calls.proofs.verdicts.admit_refusal.Tie as tie
-use Rattle.calls.proofs.verdicts.admit_refusal.Reads as reads
-use Rattle.calls.proofs.verdicts.admit_refusal.Lts as lts
-use Rattle.calls.proofs.verdicts.first_of.Reads as first-of-reads
-use Rattle.calls.proofs.verdicts.unset.Reads as unset-reads
-use Rattle.limits.proofs.figures_ok.Reads as figures-ok-reads
-use Rattle.limits.proofs.level_ok.Reads as level-ok-reads
 
 -- src/verdicts.rt:126:29
 figures-ok-requires : tie.Need-figures-ok-requires

@@ -5,6 +5,7 @@ use mathlib.Core.Bool.{cond}
 use mathlib.Core.Path.{sym, _∙_}
 use Rattle.state.proofs.SoundLaws as S
 use Rattle.rules.proofs.Standing.{stands-is}
+use Rattle.causes.proofs.CauseLaws.{zero-then}
 use Rattle.calls.proofs.VerdictLaws as W
 use borrow.Author.Needs.{needs}
 use Rattle.calls.proofs.verdicts.close_verdict.Statement.{statement}
@@ -40,7 +41,7 @@ returns-2 c =
     let z = c .before .before .before .before .before .before .before .before in
     let t = tables (z .args .members .now) (z .args .places .now) (z .args .notices .now) in
     let b = c .before .before .before .before .stands in
-    W.close-late (z .args .h) t (z .pre) (z .args .c) (b .result) (b .ensures ∙ sym (stands-is (view (z .args .h) t) (z .args .c))) (W.zero-then _ _ (c .before .before .before .close-refusal .ensures) (omega (arith, c .before .before .if1 .left))) _ (c .first-of .ensures ∙ (λ i. cond (leb 1 (c .before .held-by .ensures i)) 16 0))
+    W.close-late (z .args .h) t (z .pre) (z .args .c) (b .result) (b .ensures ∙ sym (stands-is (view (z .args .h) t) (z .args .c))) (zero-then _ _ (c .before .before .before .close-refusal .ensures) (omega (arith, c .before .before .if1 .left))) _ (c .first-of .ensures ∙ (λ i. cond (leb 1 (c .before .held-by .ensures i)) 16 0))
 
 pub close-verdict-spec : {M : Type 1} → statement M
 close-verdict-spec = tie.close (tie.spec stands-requires close-refusal-requires returns held-by-requires first-of-requires returns-2)

@@ -1,5 +1,5 @@
 use borrow.Author.Needs.{needs}
-use Rattle.calls.proofs.ActLaws as A
+use Rattle.causes.proofs.CauseLaws as A
 use Rattle.tables.proofs.PlacesLaws as P
 use Prim.Native.Nat.{suc, _+_, _-_, _≤_}
 use native.Mathlib.Omega.{arith}

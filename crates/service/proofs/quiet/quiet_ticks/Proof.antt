@@ -1,4 +1,3 @@
-use native.Mathlib.Omega.{arith}
 use Rattle.state.specs.View.{tables, view}
 use Prim.Native.Nat.{ℕ}
 use mathlib.Core.Path.{ap, _∙_}
@@ -37,8 +36,8 @@ charged-for-requires c κs =
 least-wide-requires : tie.Need-least-wide-requires
 least-wide-requires c κs = search needs
 
-cast-result : tie.Need-cast-result
-cast-result c = search needs
+least-short-requires : tie.Need-least-short-requires
+least-short-requires c κs = search needs
 
 returns-2 : tie.Need-returns-2
 returns-2 c =
@@ -47,27 +46,8 @@ returns-2 c =
     let a = s .args in
     some-quiet (view (a .h) (tables (a .members .now) (a .places .now) (a .notices .now))) (s .pre .0) (a .left) (i .if1 .left) _
     (quiet-parts _ _ _ _ _ _ _ (a .left) _ (c .before .before .before .before .before .quiet-for .ensures) (c .before .before .before .least .ensures)
-    (c .before .before .charged-for .ensures ∙ ap (λ (f : ℕ). charged-for f (charge-time (a .h .link)) (a .h .clock)) (first-is (a .members .now) (s .pre .3))) (c .before .least-wide .ensures) (omega arith))
-
-returns-3 : tie.Need-returns-3
-returns-3 c =
-    let i = c .before .before .before .before .before .before in
-    let s = i .before .before .before .before .before in
-    let a = s .args in
-    some-quiet (view (a .h) (tables (a .members .now) (a .places .now) (a .notices .now))) (s .pre .0) (a .left) (i .if1 .left) _
-    (quiet-parts _ _ _ _ _ _ _ (a .left) _ (c .before .before .before .before .before .quiet-for .ensures) (c .before .before .before .least .ensures)
-    (c .before .before .charged-for .ensures ∙ ap (λ (f : ℕ). charged-for f (charge-time (a .h .link)) (a .h .clock)) (first-is (a .members .now) (s .pre .3))) (c .before .least-wide .ensures) (omega arith))
+    (c .before .before .charged-for .ensures ∙ ap (λ (f : ℕ). charged-for f (charge-time (a .h .link)) (a .h .clock)) (first-is (a .members .now) (s .pre .3))) (c .before .least-wide .ensures) (c .least-short .ensures))
 
 pub quiet-ticks-spec : {M : Type 1} → statement M
 quiet-ticks-spec =
-    tie.close
-    (tie.spec
-    returns
-    quiet-for-requires
-    sub-least
-    least-requires
-    charged-for-requires
-    least-wide-requires
-    cast-result
-    returns-2
-    returns-3)
+    tie.close (tie.spec returns quiet-for-requires sub-least least-requires charged-for-requires least-wide-requires least-short-requires returns-2)

@@ -1,8 +1,10 @@
 use Rattle.sound.proofs.PaceLaws as L
 use Rattle.sound.proofs.PartLaws as S
+use Rattle.line_tests.proofs.CountLaws as K
 use Rattle.rules.proofs.Figures as F
 use native.Mathlib.Omega.{arith}
-use mathlib.Core.Path.{_∙_}
+use mathlib.Core.Path.{refl, _∙_}
+use lib.ListN.{length}
 use Rattle.state.specs.View.{tables}
 use borrow.Author.Needs.{needs}
 use Rattle.sound.proofs.pace.paced_ok.Statement.{statement}
@@ -14,7 +16,7 @@ slice-aggregate-count-rows c = search needs
 count-rows-requires : tie.Need-count-rows-requires
 count-rows-requires c κs =
     let s = c .before .before .before in
-    (s .pre .0 .0, record { few-rows = omega (arith, s .pre .0 .0, s .pre .0 .1); known = L.named (s .args .members .now) (s .args .places .now) (s .pre .1 .1) }, L.counts-none)
+    (s .pre .0 .0, record { few-rows = omega (arith, s .pre .0 .0, s .pre .0 .1); known = L.named (s .args .members .now) (s .args .places .now) (s .pre .1 .1) }, K.counts-none length refl)
 
 slice-aggregate-queues-ok : tie.Need-slice-aggregate-queues-ok
 slice-aggregate-queues-ok c = search needs

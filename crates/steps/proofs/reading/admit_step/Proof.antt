@@ -1,21 +1,22 @@
-use Rattle.state.proofs.DoesLaws.{told-as}
-use Rattle.rules.proofs.Results.{answers-fit}
-use Rattle.state.specs.View.{Tables, tables, given, before, after, written, sound-hub, view}
-use Rattle.state.proofs.SoundLaws.{is-sound}
+use Rattle.both.proofs.DoesLaws.{told-as}
+use Rattle.either.proofs.Results.{answers-fit}
+use Rattle.tables.specs.Lent.{tables}
+use Rattle.both.specs.View.{view}
+use Rattle.both.proofs.SoundLaws.{is-sound}
 use native.Mathlib.Omega.{arith}
-use Rattle.state.specs.declared.Told.{Told}
+use Rattle.both.specs.declared.Replied.{Replied}
 use Rattle.steps.proofs.CallLaws.{did-call}
 use mathlib.Core.Path.{ap, _∙_}
 use Prim.Native.Nat.{_%_}
-use Rattle.rules.specs.Model.{admit}
+use Rattle.either.specs.Line.{admit-level}
 use Rattle.answers.specs.declared.Reply.the-variants.{Admitted}
 use Rattle.answers.proofs.WriteLaws.{admitted-low}
 use borrow.Author.Needs.{needs}
 use Rattle.steps.proofs.reading.admit_step.Statement.{statement}
 use Rattle.steps.proofs.reading.admit_step.Tie as tie
 
-admit-tested-requires : tie.Need-admit-tested-requires
-admit-tested-requires c κs = search needs
+admit-level-requires : tie.Need-admit-level-requires
+admit-level-requires c κs = search needs
 
 low-requires : tie.Need-low-requires
 low-requires c κs = search needs
@@ -30,9 +31,9 @@ cast-t17 : tie.Need-cast-t17
 cast-t17 c =
     let z = c .before .before .before .before .before .before .before .before .before .before .before .before .before in
     let a = z .args in
-    let k = c .before .before .before .before .before .before .before .admit-tested in
-    let f = answers-fit (admit (a .x)) (view (a .h) (tables (a .members .now) (a .places .now) (a .notices .now))) (is-sound (a .h) (tables (a .members .now) (a .places .now) (a .notices .now)) (z .pre .0)) in
-    omega (arith, f .units, ap (λ (y : Told). y .short .units) (told-as (admit (a .x)) (a .h) (tables (a .members .now) (a .places .now) (a .notices .now)) (z .pre .0) _ _ (k .ensures)))
+    let k = c .before .before .before .before .before .before .before .admit-level in
+    let f = answers-fit (admit-level (a .x)) (view (a .h) (tables (a .members .now) (a .places .now) (a .notices .now))) (is-sound (a .h) (tables (a .members .now) (a .places .now) (a .notices .now)) (z .pre .0)) in
+    omega (arith, f .units, ap (λ (y : Replied). y .short .units) (told-as (admit-level (a .x)) (a .h) (tables (a .members .now) (a .places .now) (a .notices .now)) (z .pre .0) _ _ (k .ensures)))
 
 answered-requires : tie.Need-answered-requires
 answered-requires c κs = search needs
@@ -47,22 +48,22 @@ returns : tie.Need-returns
 returns c =
     let z = c .before .before .before .before .before .before .before .before .before .before .before .before .before .before .before .before .before in
     let a = z .args in
-    let k = c .before .before .before .before .before .before .before .before .before .before .before .admit-tested in
+    let k = c .before .before .before .before .before .before .before .before .before .before .before .admit-level in
     let w = c .before .before .answered .ensures in
     let v = c .before .before .before .before .before .before .before .low in
     let m = c .before .before .before .before .before .before .low2 in
     let l = c .before .before .before .before .before .low3 in
-    let e = told-as (admit (a .x)) (a .h) (tables (a .members .now) (a .places .now) (a .notices .now)) (z .pre .0) _ _ (k .ensures) in
-    did-call (admit (a .x)) (a .h) (tables (a .members .now) (a .places .now) (a .notices .now)) _ _ _ (k .result) (z .pre .0) (k .ensures) (a .at) (a .used) _ (Admitted (v .result) (m .result) (l .result) (k .result .short .units)) _
-    (admitted-low _ _ _ _ _ _ _ _ (v .ensures ∙ ap (λ (y : Told). y .verdict % 256) e) (m .ensures ∙ ap (λ (y : Told). y .number % 256) e)
-    (l .ensures ∙ ap (λ (y : Told). y .short .level % 256) e) (ap (λ (y : Told). y .short .units) e))
+    let e = told-as (admit-level (a .x)) (a .h) (tables (a .members .now) (a .places .now) (a .notices .now)) (z .pre .0) _ _ (k .ensures) in
+    did-call (admit-level (a .x)) (a .h) (tables (a .members .now) (a .places .now) (a .notices .now)) _ _ _ (k .result) (z .pre .0) (k .ensures) (a .at) (a .used) _ (Admitted (v .result) (m .result) (l .result) (k .result .short .units)) _
+    (admitted-low _ _ _ _ _ _ _ _ (v .ensures ∙ ap (λ (y : Replied). y .verdict % 256) e) (m .ensures ∙ ap (λ (y : Replied). y .number % 256) e)
+    (l .ensures ∙ ap (λ (y : Replied). y .short .level % 256) e) (ap (λ (y : Replied). y .short .units) e))
     (w .0) (w .1)
 
 pub admit-step-spec : {M : Type 1} → statement M
 admit-step-spec =
     tie.close
     (tie.spec
-    admit-tested-requires
+    admit-level-requires
     low-requires
     low-requires-2
     low-requires-3

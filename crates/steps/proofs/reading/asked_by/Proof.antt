@@ -14,41 +14,53 @@ enum-known-what-3 c = search needs
 enum-known-what-4 : tie.Need-enum-known-what-4
 enum-known-what-4 c = search needs
 
-connection-named-requires : tie.Need-connection-named-requires
-connection-named-requires c κs = search needs
+framing-named-requires : tie.Need-framing-named-requires
+framing-named-requires c κs = search needs
 
 enum-known-what-5 : tie.Need-enum-known-what-5
 enum-known-what-5 c = search needs
 
-stamped-named-requires : tie.Need-stamped-named-requires
-stamped-named-requires c κs = search needs
+connection-named-requires : tie.Need-connection-named-requires
+connection-named-requires c κs = search needs
 
 enum-known-what-6 : tie.Need-enum-known-what-6
 enum-known-what-6 c = search needs
 
-cast-t68 : tie.Need-cast-t68
-cast-t68 c = search needs
+stamped-named-requires : tie.Need-stamped-named-requires
+stamped-named-requires c κs = search needs
 
 enum-known-what-7 : tie.Need-enum-known-what-7
 enum-known-what-7 c = search needs
 
-plain-offer-requires : tie.Need-plain-offer-requires
-plain-offer-requires c κs = search needs
+share-named-requires : tie.Need-share-named-requires
+share-named-requires c κs = search needs
 
 enum-known-what-8 : tie.Need-enum-known-what-8
 enum-known-what-8 c = search needs
 
-stamped-offer-requires : tie.Need-stamped-offer-requires
-stamped-offer-requires c κs = search needs
+cast-t75 : tie.Need-cast-t75
+cast-t75 c = search needs
 
 enum-known-what-9 : tie.Need-enum-known-what-9
 enum-known-what-9 c = search needs
 
-cast-t71 : tie.Need-cast-t71
-cast-t71 c = search needs
+plain-offer-requires : tie.Need-plain-offer-requires
+plain-offer-requires c κs = search needs
 
 enum-known-what-10 : tie.Need-enum-known-what-10
 enum-known-what-10 c = search needs
+
+stamped-offer-requires : tie.Need-stamped-offer-requires
+stamped-offer-requires c κs = search needs
+
+enum-known-what-11 : tie.Need-enum-known-what-11
+enum-known-what-11 c = search needs
+
+cast-t78 : tie.Need-cast-t78
+cast-t78 c = search needs
+
+enum-known-what-12 : tie.Need-enum-known-what-12
+enum-known-what-12 c = search needs
 
 enum-told : tie.Need-enum-told
 enum-told c = search needs
@@ -63,28 +75,34 @@ returns-3 : tie.Need-returns-3
 returns-3 c = rw (c .before .what3 .given .1)
 
 returns-4 : tie.Need-returns-4
-returns-4 c = rw (c .before .before .what4 .given .1, c .connection-named .ensures)
+returns-4 c = rw (c .before .before .what4 .given .1, c .framing-named .ensures)
 
 returns-5 : tie.Need-returns-5
-returns-5 c = rw (c .before .before .what5 .given .1, c .stamped-named .ensures)
+returns-5 c = rw (c .before .before .what5 .given .1, c .connection-named .ensures)
 
 returns-6 : tie.Need-returns-6
-returns-6 c = rw (c .before .what6 .given .1)
+returns-6 c = rw (c .before .before .what6 .given .1, c .stamped-named .ensures)
 
 returns-7 : tie.Need-returns-7
-returns-7 c = rw (c .before .before .what7 .given .1, c .plain-offer .ensures)
+returns-7 c = rw (c .before .before .what7 .given .1, c .share-named .ensures)
 
 returns-8 : tie.Need-returns-8
-returns-8 c = rw (c .before .before .what8 .given .1, c .stamped-offer .ensures)
+returns-8 c = rw (c .before .what8 .given .1)
 
 returns-9 : tie.Need-returns-9
-returns-9 c = rw (c .before .what9 .given .1)
+returns-9 c = rw (c .before .before .what9 .given .1, c .plain-offer .ensures)
 
 returns-10 : tie.Need-returns-10
-returns-10 c = rw (c .before .what10 .given .1)
+returns-10 c = rw (c .before .before .what10 .given .1, c .stamped-offer .ensures)
 
 returns-11 : tie.Need-returns-11
-returns-11 c = search needs
+returns-11 c = rw (c .before .what11 .given .1)
+
+returns-12 : tie.Need-returns-12
+returns-12 c = rw (c .before .what12 .given .1)
+
+returns-13 : tie.Need-returns-13
+returns-13 c = rw (c .enum-told .given .1)
 
 pub asked-by-spec : {M : Type 1} → statement M
 asked-by-spec =
@@ -94,18 +112,22 @@ asked-by-spec =
     enum-known-what-2
     enum-known-what-3
     enum-known-what-4
-    connection-named-requires
+    framing-named-requires
     enum-known-what-5
-    stamped-named-requires
+    connection-named-requires
     enum-known-what-6
-    cast-t68
+    stamped-named-requires
     enum-known-what-7
-    plain-offer-requires
+    share-named-requires
     enum-known-what-8
-    stamped-offer-requires
+    cast-t75
     enum-known-what-9
-    cast-t71
+    plain-offer-requires
     enum-known-what-10
+    stamped-offer-requires
+    enum-known-what-11
+    cast-t78
+    enum-known-what-12
     enum-told
     returns
     returns-2
@@ -117,4 +139,6 @@ asked-by-spec =
     returns-8
     returns-9
     returns-10
-    returns-11)
+    returns-11
+    returns-12
+    returns-13)

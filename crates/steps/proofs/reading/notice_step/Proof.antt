@@ -1,18 +1,18 @@
-use Rattle.state.proofs.DoesLaws.{told-as}
-use Rattle.state.specs.View.{tables}
-use Rattle.state.specs.declared.Told.{Told}
+use Rattle.both.proofs.DoesLaws.{told-as}
+use Rattle.tables.specs.Lent.{tables}
+use Rattle.both.specs.declared.Replied.{Replied}
 use Rattle.steps.proofs.CallLaws.{did-call}
 use mathlib.Core.Path.{ap, _∙_}
 use Prim.Native.Nat.{_%_}
-use Rattle.rules.specs.Model.{notice}
+use Rattle.either.specs.Line.{notice}
 use Rattle.answers.specs.declared.Reply.the-variants.{Noticed}
 use Rattle.answers.proofs.WriteLaws.{noticed-low}
 use borrow.Author.Needs.{needs}
 use Rattle.steps.proofs.reading.notice_step.Statement.{statement}
 use Rattle.steps.proofs.reading.notice_step.Tie as tie
 
-notice-tested-requires : tie.Need-notice-tested-requires
-notice-tested-requires c κs = search needs
+notice-requires : tie.Need-notice-requires
+notice-requires c κs = search needs
 
 low-requires : tie.Need-low-requires
 low-requires c κs = search needs
@@ -30,10 +30,10 @@ returns : tie.Need-returns
 returns c =
     let z = c .before .before .before .before .before .before .before .before .before .before .before .before .before in
     let a = z .args in
-    let k = c .before .before .before .before .before .before .before .notice-tested in
+    let k = c .before .before .before .before .before .before .before .notice in
     let w = c .before .before .answered .ensures in
-    let v = c .before .before .before .before .low .ensures ∙ ap (λ (x : Told). x .verdict % 256) (told-as (notice (a .len) (a .tag)) (a .h) (tables (a .members .now) (a .places .now) (a .notices .now)) (z .pre .0) _ _ (k .ensures)) in
-    let n = ap (λ (x : Told). x .number) (told-as (notice (a .len) (a .tag)) (a .h) (tables (a .members .now) (a .places .now) (a .notices .now)) (z .pre .0) _ _ (k .ensures)) in
+    let v = c .before .before .before .before .low .ensures ∙ ap (λ (x : Replied). x .verdict % 256) (told-as (notice (a .len) (a .tag)) (a .h) (tables (a .members .now) (a .places .now) (a .notices .now)) (z .pre .0) _ _ (k .ensures)) in
+    let n = ap (λ (x : Replied). x .number) (told-as (notice (a .len) (a .tag)) (a .h) (tables (a .members .now) (a .places .now) (a .notices .now)) (z .pre .0) _ _ (k .ensures)) in
     did-call (notice (a .len) (a .tag)) (a .h) (tables (a .members .now) (a .places .now) (a .notices .now)) _ _ _ (k .result) (z .pre .0) (k .ensures) (a .at) (a .used) _ (Noticed (c .before .before .before .before .low .result) (k .result .number)) _
     (noticed-low _ _ _ _ v n) (w .0) (w .1)
 
@@ -41,7 +41,7 @@ pub notice-step-spec : {M : Type 1} → statement M
 notice-step-spec =
     tie.close
     (tie.spec
-    notice-tested-requires
+    notice-requires
     low-requires
     answered-requires
     same-length

@@ -1,4 +1,5 @@
-use Rattle.state.specs.View.{tables, view}
+use Rattle.tables.specs.Lent.{tables}
+use Rattle.both.specs.View.{view}
 use Rattle.log.proofs.ReadLaws.{read-lies}
 use Rattle.steps.specs.declared.Phase.the-variants.{Reading, Finished}
 use Rattle.steps.specs.declared.Status.the-variants.{MoreBytes, Done}

@@ -1,4 +1,5 @@
-use Rattle.state.specs.View.{tables, view}
+use Rattle.tables.specs.Lent.{tables}
+use Rattle.both.specs.View.{view}
 use Rattle.steps.proofs.CallLaws.{did-kept, as-asked}
 use mathlib.Core.Path.{refl}
 use mathlib.Core.List.{[]}
@@ -29,29 +30,41 @@ link-step-requires c κs = search needs
 enum-known-wanted-2 : tie.Need-enum-known-wanted-2
 enum-known-wanted-2 c = search needs
 
-admit-step-requires : tie.Need-admit-step-requires
-admit-step-requires c κs = search needs
+frame-step-requires : tie.Need-frame-step-requires
+frame-step-requires c κs = search needs
 
 enum-known-wanted-3 : tie.Need-enum-known-wanted-3
 enum-known-wanted-3 c = search needs
 
-close-step-requires : tie.Need-close-step-requires
-close-step-requires c κs = search needs
+admit-step-requires : tie.Need-admit-step-requires
+admit-step-requires c κs = search needs
 
 enum-known-wanted-4 : tie.Need-enum-known-wanted-4
 enum-known-wanted-4 c = search needs
 
-offer-step-requires : tie.Need-offer-step-requires
-offer-step-requires c κs = search needs
+share-step-requires : tie.Need-share-step-requires
+share-step-requires c κs = search needs
 
 enum-known-wanted-5 : tie.Need-enum-known-wanted-5
 enum-known-wanted-5 c = search needs
 
-notice-step-requires : tie.Need-notice-step-requires
-notice-step-requires c κs = search needs
+close-step-requires : tie.Need-close-step-requires
+close-step-requires c κs = search needs
 
 enum-known-wanted-6 : tie.Need-enum-known-wanted-6
 enum-known-wanted-6 c = search needs
+
+offer-step-requires : tie.Need-offer-step-requires
+offer-step-requires c κs = search needs
+
+enum-known-wanted-7 : tie.Need-enum-known-wanted-7
+enum-known-wanted-7 c = search needs
+
+notice-step-requires : tie.Need-notice-step-requires
+notice-step-requires c κs = search needs
+
+enum-known-wanted-8 : tie.Need-enum-known-wanted-8
+enum-known-wanted-8 c = search needs
 
 begin-ticks-requires : tie.Need-begin-ticks-requires
 begin-ticks-requires c κs = search needs
@@ -95,10 +108,10 @@ same-length-8 c = search needs
 
 returns-2 : tie.Need-returns-2
 returns-2 c =
-    let a = c .before .before .before .before .before .before .before .before .before .before .before .before .before .before .before .before .before .args in
-    let q = c .before .before .before .before .before .before .before .before .before .before .before .before .asked-by in
-    let k = c .before .before .before .before .admit-step in
-    (as-asked (q .result) (a .f .what) (a .f .taken) (a .at) (view (a .h) (tables (a .members .now) (a .places .now) (a .notices .now))) _ _ _ _ (q .ensures) (rw (c .before .before .before .before .before .before .before .before .before .before .wanted2 .given .1) (k .ensures)), rw (k .ensures .answers) (omega arith))
+    let a = c .before .before .before .before .before .before .before .before .before .before .before .before .before .before .before .args in
+    let q = c .before .before .before .before .before .before .before .before .before .before .asked-by in
+    let k = c .before .before .frame-step in
+    (as-asked (q .result) (a .f .what) (a .f .taken) (a .at) (view (a .h) (tables (a .members .now) (a .places .now) (a .notices .now))) _ _ _ _ (q .ensures) (rw (c .before .before .before .before .before .before .before .before .wanted2 .given .1) (k .ensures)), rw (k .ensures .answers) (omega arith))
 
 same-length-9 : tie.Need-same-length-9
 same-length-9 c = search needs
@@ -116,7 +129,7 @@ returns-3 : tie.Need-returns-3
 returns-3 c =
     let a = c .before .before .before .before .before .before .before .before .before .before .before .before .before .before .before .before .before .args in
     let q = c .before .before .before .before .before .before .before .before .before .before .before .before .asked-by in
-    let k = c .before .before .before .before .close-step in
+    let k = c .before .before .before .before .admit-step in
     (as-asked (q .result) (a .f .what) (a .f .taken) (a .at) (view (a .h) (tables (a .members .now) (a .places .now) (a .notices .now))) _ _ _ _ (q .ensures) (rw (c .before .before .before .before .before .before .before .before .before .before .wanted3 .given .1) (k .ensures)), rw (k .ensures .answers) (omega arith))
 
 same-length-13 : tie.Need-same-length-13
@@ -133,10 +146,10 @@ same-length-16 c = search needs
 
 returns-4 : tie.Need-returns-4
 returns-4 c =
-    let a = c .before .before .before .before .before .before .before .before .before .before .before .before .before .before .before .before .before .before .before .args in
-    let q = c .before .before .before .before .before .before .before .before .before .before .before .before .before .before .asked-by in
-    let k = c .before .before .before .before .before .before .offer-step in
-    (as-asked (q .result) (a .f .what) (a .f .taken) (a .at) (view (a .h) (tables (a .members .now) (a .places .now) (a .notices .now))) _ _ _ _ (q .ensures) (rw (c .before .before .before .before .before .before .before .before .before .before .before .before .wanted4 .given .1) (k .ensures)), rw (k .ensures .answers) (omega arith))
+    let a = c .before .before .before .before .before .before .before .before .before .before .before .before .before .before .before .before .before .args in
+    let q = c .before .before .before .before .before .before .before .before .before .before .before .before .asked-by in
+    let k = c .before .before .before .before .share-step in
+    (as-asked (q .result) (a .f .what) (a .f .taken) (a .at) (view (a .h) (tables (a .members .now) (a .places .now) (a .notices .now))) _ _ _ _ (q .ensures) (rw (c .before .before .before .before .before .before .before .before .before .before .wanted4 .given .1) (k .ensures)), rw (k .ensures .answers) (omega arith))
 
 same-length-17 : tie.Need-same-length-17
 same-length-17 c = search needs
@@ -154,22 +167,60 @@ returns-5 : tie.Need-returns-5
 returns-5 c =
     let a = c .before .before .before .before .before .before .before .before .before .before .before .before .before .before .before .before .before .args in
     let q = c .before .before .before .before .before .before .before .before .before .before .before .before .asked-by in
-    let k = c .before .before .before .before .notice-step in
+    let k = c .before .before .before .before .close-step in
     (as-asked (q .result) (a .f .what) (a .f .taken) (a .at) (view (a .h) (tables (a .members .now) (a .places .now) (a .notices .now))) _ _ _ _ (q .ensures) (rw (c .before .before .before .before .before .before .before .before .before .before .wanted5 .given .1) (k .ensures)), rw (k .ensures .answers) (omega arith))
-
-returns-6 : tie.Need-returns-6
-returns-6 c =
-    let z = c .before .before .before .before .before .before .before .before .before in
-    let a = z .args in
-    let q = c .before .before .before .before .asked-by in
-    let k = c .begin-ticks in
-    (as-asked (q .result) (a .f .what) (a .f .taken) (a .at) (view (a .h) (tables (a .members .now) (a .places .now) (a .notices .now))) _ _ _ _ (q .ensures) (rw (c .before .before .wanted6 .given .1) (did-kept (a .h) (tables (a .members .now) (a .places .now) (a .notices .now)) (z .pre .0) _ _ _ [] GoOn _ _ _ (k .ensures) refl)), rw (k .ensures) (search needs))
 
 same-length-21 : tie.Need-same-length-21
 same-length-21 c = search needs
 
+same-length-22 : tie.Need-same-length-22
+same-length-22 c = search needs
+
+same-length-23 : tie.Need-same-length-23
+same-length-23 c = search needs
+
+same-length-24 : tie.Need-same-length-24
+same-length-24 c = search needs
+
+returns-6 : tie.Need-returns-6
+returns-6 c =
+    let a = c .before .before .before .before .before .before .before .before .before .before .before .before .before .before .before .before .before .before .before .args in
+    let q = c .before .before .before .before .before .before .before .before .before .before .before .before .before .before .asked-by in
+    let k = c .before .before .before .before .before .before .offer-step in
+    (as-asked (q .result) (a .f .what) (a .f .taken) (a .at) (view (a .h) (tables (a .members .now) (a .places .now) (a .notices .now))) _ _ _ _ (q .ensures) (rw (c .before .before .before .before .before .before .before .before .before .before .before .before .wanted6 .given .1) (k .ensures)), rw (k .ensures .answers) (omega arith))
+
+same-length-25 : tie.Need-same-length-25
+same-length-25 c = search needs
+
+same-length-26 : tie.Need-same-length-26
+same-length-26 c = search needs
+
+same-length-27 : tie.Need-same-length-27
+same-length-27 c = search needs
+
+same-length-28 : tie.Need-same-length-28
+same-length-28 c = search needs
+
 returns-7 : tie.Need-returns-7
 returns-7 c =
+    let a = c .before .before .before .before .before .before .before .before .before .before .before .before .before .before .before .before .before .args in
+    let q = c .before .before .before .before .before .before .before .before .before .before .before .before .asked-by in
+    let k = c .before .before .before .before .notice-step in
+    (as-asked (q .result) (a .f .what) (a .f .taken) (a .at) (view (a .h) (tables (a .members .now) (a .places .now) (a .notices .now))) _ _ _ _ (q .ensures) (rw (c .before .before .before .before .before .before .before .before .before .before .wanted7 .given .1) (k .ensures)), rw (k .ensures .answers) (omega arith))
+
+returns-8 : tie.Need-returns-8
+returns-8 c =
+    let z = c .before .before .before .before .before .before .before .before .before in
+    let a = z .args in
+    let q = c .before .before .before .before .asked-by in
+    let k = c .begin-ticks in
+    (as-asked (q .result) (a .f .what) (a .f .taken) (a .at) (view (a .h) (tables (a .members .now) (a .places .now) (a .notices .now))) _ _ _ _ (q .ensures) (rw (c .before .before .wanted8 .given .1) (did-kept (a .h) (tables (a .members .now) (a .places .now) (a .notices .now)) (z .pre .0) _ _ _ [] GoOn _ _ _ (k .ensures) refl)), rw (k .ensures) (search needs))
+
+same-length-29 : tie.Need-same-length-29
+same-length-29 c = search needs
+
+returns-9 : tie.Need-returns-9
+returns-9 c =
     let z = c .before .before .before .before .before .before .before .before .before .before .before in
     let a = z .args in
     let q = c .before .before .before .before .before .before .asked-by in
@@ -187,14 +238,18 @@ record-step-spec =
     windows-named-requires
     link-step-requires
     enum-known-wanted-2
-    admit-step-requires
+    frame-step-requires
     enum-known-wanted-3
-    close-step-requires
+    admit-step-requires
     enum-known-wanted-4
-    offer-step-requires
+    share-step-requires
     enum-known-wanted-5
-    notice-step-requires
+    close-step-requires
     enum-known-wanted-6
+    offer-step-requires
+    enum-known-wanted-7
+    notice-step-requires
+    enum-known-wanted-8
     begin-ticks-requires
     enum-told
     broken-step-requires
@@ -223,6 +278,16 @@ record-step-spec =
     same-length-19
     same-length-20
     returns-5
-    returns-6
     same-length-21
-    returns-7)
+    same-length-22
+    same-length-23
+    same-length-24
+    returns-6
+    same-length-25
+    same-length-26
+    same-length-27
+    same-length-28
+    returns-7
+    returns-8
+    same-length-29
+    returns-9)

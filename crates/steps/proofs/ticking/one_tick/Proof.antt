@@ -1,12 +1,12 @@
-use Rattle.state.specs.View.{tables}
+use Rattle.tables.specs.Lent.{tables}
 use Rattle.steps.proofs.CallLaws.{did-refused, did-tick}
 use native.Mathlib.Omega.{arith}
 use borrow.Author.Needs.{needs}
 use Rattle.steps.proofs.ticking.one_tick.Statement.{statement}
 use Rattle.steps.proofs.ticking.one_tick.Tie as tie
 
-tick-tested-requires : tie.Need-tick-tested-requires
-tick-tested-requires c κs = search needs
+tick-requires : tie.Need-tick-requires
+tick-requires c κs = search needs
 
 without-requires : tie.Need-without-requires
 without-requires c κs = search needs
@@ -39,12 +39,12 @@ returns c =
     let z = c .before .before .before .before .before .before .before .before .before .before .before .before .before .before .before .before .before .before .before .before .before .before .before in
     let a = z .args in
     let k = c .before .before .answered .ensures in
-    let w = c .before .before .before .before .before .before .before .before .before .before .before .before .before .before .before .tick-tested in
+    let w = c .before .before .before .before .before .before .before .before .before .before .before .before .before .before .before .tick in
     let n = c .before .before .before .before .before .without in
     did-refused (a .at) (a .asked) (a .left) (a .h) (tables (a .members .now) (a .places .now) (a .notices .now)) (z .pre .0) (w .result) _ (w .ensures) _ _ _ (c .before .before .before .before .before .before .if1 .taken) (c .before .before .before .before .low .result) (n .result) (c .before .before .before .before .low .ensures) (n .ensures) (k .0) (k .1)
 
 put-departure-requires : tie.Need-put-departure-requires
-put-departure-requires c κs = search needs
+put-departure-requires c κs = c .before .before .before .before .before .before .before .before .before .before .before .before .before .before .before .before .before .before .pre .1
 
 sub-rest : tie.Need-sub-rest
 sub-rest c = search (needs, c .before .before .before .before .before .before .before .before .before .before .before .before .before .before .before .before .before .before .before .before .before .pre .2)
@@ -66,14 +66,14 @@ returns-2 c =
     let z = c .before .before .before .before .before .before .before .before .before .before .before .before .before .before .before .before .before .before .before .before .before in
     let a = z .args in
     let k = c .before .before .put-departure .ensures in
-    let w = c .before .before .before .before .before .before .before .before .before .before .before .before .before .tick-tested in
+    let w = c .before .before .before .before .before .before .before .before .before .before .before .before .before .tick in
     did-tick (a .at) (a .asked) (a .left) (a .h) (tables (a .members .now) (a .places .now) (a .notices .now)) (z .pre .0) (w .result) _ (w .ensures) _ _ _ (c .before .before .before .before .if1 .left) (rw (k .0)) (k .1)
 
 pub one-tick-spec : {M : Type 1} → statement M
 one-tick-spec =
     tie.close
     (tie.spec
-    tick-tested-requires
+    tick-requires
     without-requires
     cast-done
     low-requires

@@ -20,6 +20,9 @@ returns c =
 low-requires : tie.Need-low-requires
 low-requires c κs = search needs
 
+clock-of-requires : tie.Need-clock-of-requires
+clock-of-requires c κs = search needs
+
 write-requires : tie.Need-write-requires
 write-requires c κs = search needs
 
@@ -28,12 +31,15 @@ same-length c = search needs
 
 returns-2 : tie.Need-returns-2
 returns-2 c =
-    let a = c .before .before .before .before .before .before .before .before .before .args in
+    let z = c .before .before .before .before .before .before .before .before .before .before in
+    let a = z .args in
     let w = c .before .before .write .ensures in
+    let v = c .before .before .before .before .before .low in
+    let f = c .before .before .before .before .clock-of in
     let p = a .told .packet in
-    let r = Departed (c .before .before .before .before .low .result) (p .tag) (p .arrival) (p .eligibility) (a .told .hub .clock) in
-    let e = some-told (a .told) (c .before .before .before .before .low .result) (not-false _ (c .before .before .before .before .before .before .if1 .left)) (c .before .before .before .before .low .ensures) in
-    (w .0 ∙ length-written r (a .out .now) (c .before .before .before .before .before .before .before .before .before .pre) ∙ ap (λ (l : List ℕ). length l) e, w .1 ∙ room-written r (a .out .now) (c .before .before .before .before .before .before .before .before .before .pre) ∙ ap (λ (l : List ℕ). over l (a .out .now)) e)
+    let r = Departed (v .result) (p .tag) (p .arrival) (p .eligibility) (f .result) in
+    let e = some-told (a .told) (v .result) (f .result) (not-false _ (c .before .before .before .before .before .before .before .if1 .left)) (v .ensures) (f .ensures) in
+    (w .0 ∙ length-written r (a .out .now) (z .pre) ∙ ap (λ (l : List ℕ). length l) e, w .1 ∙ room-written r (a .out .now) (z .pre) ∙ ap (λ (l : List ℕ). over l (a .out .now)) e)
 
 pub put-departure-spec : {M : Type 1} → statement M
-put-departure-spec = tie.close (tie.spec returns low-requires write-requires same-length returns-2)
+put-departure-spec = tie.close (tie.spec returns low-requires clock-of-requires write-requires same-length returns-2)

@@ -1,8 +1,6 @@
-use Rattle.state.specs.View.{tables}
+use Rattle.tables.specs.Lent.{tables}
 use mathlib.Core.Path.{sym, _∙_}
-use Rattle.service.proofs.QuietCases.{quiet-room}
-use Rattle.state.proofs.SoundLaws.{shapes, formed-tables, sound-view, places-kept, places-size}
-use Rattle.steps.proofs.CallLaws.{did-all, did-quiet, did-one}
+use Rattle.steps.proofs.CallLaws.{quiet-fits, did-all, did-quiet, did-one}
 use borrow.Author.Needs.{needs}
 use Rattle.steps.proofs.ticking.tick_step.Statement.{statement}
 use Rattle.steps.proofs.ticking.tick_step.Tie as tie
@@ -34,15 +32,13 @@ returns c =
     did-all (a .at) (a .asked) (a .left) (a .h) (tables (a .members .now) (a .places .now) (a .notices .now)) (s .pre .0) (c .before .before .before .before .before .before .before .before .if1 .taken) (v .result) _ _ _ (v .ensures) (k .0) (k .1)
 
 quiet-ticks-requires : tie.Need-quiet-ticks-requires
-quiet-ticks-requires c κs =
-    let s = c .before .before .before .before .before .before .before .before in
-    let a = s .args in
-    let ok = s .pre .0 in
-    let t = tables (a .members .now) (a .places .now) (a .notices .now) in
-    (sound-view (a .h) t ok, places-kept (a .h) t ok, places-size (a .h) t ok, shapes t (formed-tables (a .h) t ok) .members-shape)
+quiet-ticks-requires c κs = search needs
 
 pass-over-requires : tie.Need-pass-over-requires
-pass-over-requires c κs = let i = quiet-room (c .before .before .before .before .before .before .before .before .before .before .args .left) _ (c .before .quiet-ticks .ensures) (c .if2 .taken) in (i .few, i .quiet .in-time)
+pass-over-requires c κs =
+    let s = c .before .before .before .before .before .before .before .before .before .before in
+    let a = s .args in
+    quiet-fits (a .left) (a .h) (tables (a .members .now) (a .places .now) (a .notices .now)) (c .before .quiet-ticks .ensures) (c .if2 .taken)
 
 same-length-5 : tie.Need-same-length-5
 same-length-5 c = search needs

@@ -1,0 +1,6 @@
+pub mod FreshLaws
+pub mod TablesLaws
+pub mod SoundLaws
+pub mod WrittenLaws
+pub mod DoesLaws
+pub mod QuietLaws

@@ -1,0 +1,4 @@
+pub mod Turns
+pub mod Replies
+pub mod Histories
+pub mod Results

@@ -1,0 +1,265 @@
+-- THE PROOFS of the statements in specs/Promises, each under its name in small letters.
+use Prim.Native.Nat.{ℕ, _<_}
+use native.Mathlib.Omega.{arith}
+use mathlib.Core.Path.{_≡_, refl, sym, ap, _∙_, subst}
+use mathlib.Core.Bool.{Bool, true, false, cond, not, _&&_, true≢false}
+use mathlib.Core.Logic.{_⊎_, inl, inr, ⊎-elim}
+use mathlib.Core.List.{List, [], _∷_, _++_}
+use mathlib.Core.Option.{none, some}
+use lib.Dec.{eqb}
+use Rattle.rules.specs.declared.Link.{Link}
+use Rattle.rules.specs.declared.Connection.{Connection}
+use Rattle.rules.specs.Limits.{no-connection-number, beyond-32-bits}
+use Rattle.rules.specs.Model.{State as Level-state, Call as Level-call, link as level-link, admit as level-admit, offer as level-offer, notice as level-notice, close as level-close, tick as level-tick}
+use Rattle.rules.specs.SoundTest.{sound as level-sound}
+use Rattle.rules.specs.Calls.{refused-number as level-refused-number, answer as level-answer}
+use Rattle.rules.specs.Runs.{run-from as level-run-from, nothing-yet as level-nothing-yet, History as Level-history}
+use Rattle.rules.specs.Promises.{number-limit as level-number-limit}
+use Rattle.rules.proofs.Sums.{cond-is, cond-ind}
+use Rattle.rules.proofs.Tests.{never, and-true, and-intro, not-true-false}
+use Rattle.rules.proofs.Rows.{none-some}
+use Rattle.rules.proofs.Invariant.{Invariant as Level-invariant, clock-le-end as level-clock}
+use Rattle.rules.proofs.Every.{fresh-invariant as level-fresh-invariant}
+use Rattle.rules.proofs.Results.{demand-1-refusals as level-refusals, test-is-exact as level-exact, verdict-1-exactly as level-1-exactly, sound-is-kept as level-kept, answers-fit as level-fits}
+use Rattle.frames.specs.declared.Framing.{Framing}
+use Rattle.frames.specs.declared.Share.{Share}
+use Rattle.frames.specs.Model.{State as Frame-state, Call as Frame-call, link as frame-link, admit as frame-admit, offer as frame-offer, notice as frame-notice, tick as frame-tick}
+use Rattle.frames.specs.SoundTest.{sound as frame-sound}
+use Rattle.frames.specs.Calls.{refused-number as frame-refused-number, answer as frame-answer}
+use Rattle.frames.specs.Runs.{run-from as frame-run-from, nothing-yet as frame-nothing-yet, History as Frame-history}
+use Rattle.frames.specs.Promises.{number-limit as frame-number-limit}
+use Rattle.frames.proofs.Every.{fresh-invariant as frame-fresh-invariant}
+use Rattle.frames.proofs.Fields.{clock-le-end as frame-clock}
+use Rattle.frames.proofs.Results.{refusals-change-nothing as frame-refusals, test-is-exact as frame-exact, verdict-1-exactly as frame-1-exactly, sound-is-kept as frame-kept, answers-fit as frame-fits}
+use Rattle.either.specs.Line.{Line, Request, link-levels, link-frames, admit-level, admit-share, offer, notice, close, tick, Reply, by-levels, by-frames, refuse, refused-number, levels-set, frames-set, Sound-line, sound-line, turn, respond, Line-history, clock-of, run-from, nothing-yet, run, level-call, frame-call, level-calls, frame-calls}
+use Rattle.either.specs.Promises.{Refusals-change-nothing, Test-is-exact, Verdict-1-exactly, Sound-is-kept, Fresh-is-sound, number-limit, Reply-fits, Answers-fit, of-levels, One-discipline, First-link-decides, Told-by-levels, Told-by-frames, Told-by-its-discipline}
+use Rattle.either.proofs.Turns.{level-links, frame-links, level-link-same, frame-link-same, turn-cases}
+use Rattle.either.proofs.Replies.{reply}
+use Rattle.either.proofs.Histories.{frames-refused, levels-told, share-refused, frames-told, levels-refused, level-refused, stamp-refused, close-refused, By-levels, By-frames, Tied, tied-run, levels-on, frames-on}
+
+-- ---- a refused request changes nothing
+
+same-line : (s : Line) (u : Level-state) (v : Frame-state) → u ≡ s .levels → v ≡ s .frames → _≡_ {A = Line} (record { levels = u; frames = v }) s
+same-line s u v e f = rw (e, f) refl
+
+abbrev Changes-nothing : Request → Line → Reply → Type 0
+Changes-nothing k s a = (a .verdict ≡ 0 → ⊥) → (a .next ≡ s) × (a .departed ≡ none) × (a .number ≡ refused-number k)
+
+pub refusals-change-nothing : Refusals-change-nothing
+refusals-change-nothing k s = cond-ind (Changes-nothing k s) (sound-line s) (λ _. turned) (λ _ _. (refl, refl, refl))
+  where
+    turned : Changes-nothing k s (turn k s)
+    turned =
+        turn-cases (Changes-nothing k s) s k (λ e _. (refl, refl, sym e))
+        (λ j e _ n. let r = level-refusals j (s .levels) n in (same-line s (level-answer j (s .levels) .next) (s .frames) (r .0) refl, r .1, r .2 ∙ e))
+        (λ j e _ n. let r = frame-refusals j (s .frames) n in (same-line s (s .levels) (frame-answer j (s .frames) .next) refl (r .0), r .1, r .2 ∙ e))
+
+-- ---- the sound line
+
+pub test-is-exact : Test-is-exact
+unfolding sound-line
+test-is-exact s = (to, from)
+  where
+    to : sound-line s ≡ true → Sound-line s
+    to h =
+        let a = and-true (level-sound (s .levels)) _ h in
+        let b = and-true (frame-sound (s .frames)) (not (levels-set s && frames-set s)) (a .1) in
+        record {
+          levels-sound = level-exact (s .levels) .0 (a .0);
+          frames-sound = frame-exact (s .frames) .0 (b .0);
+          never-both = λ l f. true≢false (sym (b .1) ∙ ap not (and-intro (levels-set s) (frames-set s) l f));
+        }
+
+    one : (l f : Bool) → (l ≡ true → f ≡ true → ⊥) → not (l && f) ≡ true
+    one true true n = absurd (n refl refl)
+    one true false n = refl
+    one false f n = refl
+
+    from : Sound-line s → sound-line s ≡ true
+    from S =
+        and-intro (level-sound (s .levels)) _ (level-exact (s .levels) .1 (S .levels-sound))
+        (and-intro (frame-sound (s .frames)) (not (levels-set s && frames-set s)) (frame-exact (s .frames) .1 (S .frames-sound)) (one (levels-set s) (frames-set s) (S .never-both)))
+
+-- the reply on a sound line
+sound-reply : (k : Request) (s : Line) → Sound-line s → respond k s ≡ turn k s
+sound-reply k s S = reply s (test-is-exact s .1 S) k
+
+pub verdict-1-exactly : Verdict-1-exactly
+verdict-1-exactly k s = (
+  λ e S.
+      turn-cases (λ a. a .verdict ≡ 1 → ⊥) s k (λ _ i. omega arith)
+      (λ j _ _ i. level-1-exactly j (s .levels) .0 i (S .levels-sound))
+      (λ j _ _ i. frame-1-exactly j (s .frames) .0 i (S .frames-sound))
+      (sym (ap (λ (a : Reply). a .verdict) (sound-reply k s S)) ∙ e),
+  λ n. ap (λ (a : Reply). a .verdict) (cond-is (turn k s) (refuse s 1 (refused-number k)) (not-true-false (sound-line s) (λ e. n (test-is-exact s .0 e)))),
+)
+
+pub sound-is-kept : Sound-is-kept
+sound-is-kept k s S = subst (λ (a : Reply). Sound-line (a .next)) (sym (sound-reply k s S)) (turn-cases (λ a. Sound-line (a .next)) s k (λ _. S) level frame)
+  where
+    level : (j : Level-call) → level-refused-number j ≡ refused-number k → (level-links j ≡ true → frames-set s ≡ false) → Sound-line (by-levels s (level-answer j (s .levels)) .next)
+    level j _ only = record {
+      levels-sound = level-kept j (s .levels) (S .levels-sound);
+      frames-sound = S .frames-sound;
+      never-both = λ l f. go (level-links j) refl l f;
+    }
+      where
+        go : (b : Bool) → level-links j ≡ b → levels-set (by-levels s (level-answer j (s .levels)) .next) ≡ true → frames-set s ≡ true → ⊥
+        go true i l f = true≢false (sym f ∙ only i)
+        go false i l f = S .never-both (ap (λ (m : Link). not (eqb (m .levels) 0)) (sym (level-link-same j (s .levels) i)) ∙ l) f
+
+    frame : (j : Frame-call) → frame-refused-number j ≡ refused-number k → (frame-links j ≡ true → levels-set s ≡ false) → Sound-line (by-frames s (frame-answer j (s .frames)) .next)
+    frame j _ only = record {
+      levels-sound = S .levels-sound;
+      frames-sound = frame-kept j (s .frames) (S .frames-sound);
+      never-both = λ l f. go (frame-links j) refl l f;
+    }
+      where
+        go : (b : Bool) → frame-links j ≡ b → levels-set s ≡ true → frames-set (by-frames s (frame-answer j (s .frames)) .next) ≡ true → ⊥
+        go true i l f = true≢false (sym l ∙ only i)
+        go false i l f = S .never-both l (ap (λ (m : Framing). not (eqb (m .frame) 0)) (sym (frame-link-same j (s .frames) i)) ∙ f)
+
+pub fresh-is-sound : Fresh-is-sound
+fresh-is-sound = record {
+  levels-sound = level-fresh-invariant .sound;
+  frames-sound = frame-fresh-invariant .sound;
+  never-both = λ l _. true≢false (sym l);
+}
+
+-- ---- a reply's numbers fit
+
+clock-fits : (s : Line) → Sound-line s → clock-of s < beyond-32-bits
+clock-fits s S =
+    cond-ind (λ t. t < beyond-32-bits) (frames-set s) (λ _. omega (arith, frame-clock (s .frames) (S .frames-sound))) (λ _. omega (arith, level-clock (s .levels) (S .levels-sound)))
+
+-- an admission's number has a limit of its own, and an admission is known by the number of its refusal
+limit-for : ℕ → ℕ
+limit-for n = cond (eqb n 0) beyond-32-bits 256
+
+limit-is : (k : Request) → number-limit k ≡ limit-for (refused-number k)
+unfolding limit-for
+limit-is (link-levels l) = refl
+limit-is (link-frames l) = refl
+limit-is (admit-level x) = refl
+limit-is (admit-share x) = refl
+limit-is (offer c len tag st) = refl
+limit-is (notice len tag) = refl
+limit-is (close c) = refl
+limit-is tick = refl
+
+level-limit-is : (j : Level-call) → level-number-limit j ≡ limit-for (level-refused-number j)
+unfolding limit-for
+level-limit-is (level-link l) = refl
+level-limit-is (level-admit x) = refl
+level-limit-is (level-offer c len tag st) = refl
+level-limit-is (level-notice len tag) = refl
+level-limit-is (level-close c) = refl
+level-limit-is level-tick = refl
+
+frame-limit-is : (j : Frame-call) → frame-number-limit j ≡ limit-for (frame-refused-number j)
+unfolding limit-for
+frame-limit-is (frame-link l) = refl
+frame-limit-is (frame-admit x) = refl
+frame-limit-is (frame-offer c len tag) = refl
+frame-limit-is (frame-notice len tag) = refl
+frame-limit-is frame-tick = refl
+
+some-limit : 0 < limit-for 0
+unfolding limit-for
+some-limit = omega arith
+
+pub answers-fit : Answers-fit
+answers-fit k s S = subst (Reply-fits k) (sym (sound-reply k s S)) (turned (subst (λ (a : Reply). Sound-line (a .next)) (sound-reply k s S) (sound-is-kept k s S)))
+  where
+    turned : Sound-line (turn k s .next) → Reply-fits k (turn k s)
+    turned =
+        turn-cases (λ a. Sound-line (a .next) → Reply-fits k a) s k
+        (λ e T. record { verdict = omega arith; number = subst (λ (n : ℕ). 0 < n) (sym (limit-is k ∙ ap limit-for e)) some-limit; level = omega arith; units = omega arith; departed = λ p i. absurd (none-some i); finish = clock-fits s S })
+        (λ j e _ T. let f = level-fits j (s .levels) (S .levels-sound) in
+        record {
+          verdict = f .verdict;
+          number = subst (λ (n : ℕ). level-answer j (s .levels) .number < n) (level-limit-is j ∙ ap limit-for e ∙ sym (limit-is k)) (f .number);
+          level = f .level;
+          units = f .units;
+          departed = f .departed;
+          finish = clock-fits _ T;
+        })
+        (λ j e _ T. let f = frame-fits j (s .frames) (S .frames-sound) in
+        record {
+          verdict = f .verdict;
+          number = subst (λ (n : ℕ). frame-answer j (s .frames) .number < n) (frame-limit-is j ∙ ap limit-for e ∙ sym (limit-is k)) (f .number);
+          level = f .level;
+          units = f .units;
+          departed = f .departed;
+          finish = clock-fits _ T;
+        })
+
+-- ---- one discipline
+
+tied : (ks : List Request) → Tied (run ks) (level-run-from level-nothing-yet (level-calls ks)) (frame-run-from frame-nothing-yet (frame-calls ks))
+tied ks = tied-run ks nothing-yet level-nothing-yet frame-nothing-yet (inl (refl, refl, refl))
+
+pub one-discipline : One-discipline
+one-discipline ks =
+    ⊎-elim
+    (λ e. inl (ap (λ (g : Line-history). frames-set (g .now)) (e .0), e .0 ∙ ap of-levels (sym (e .1))))
+    (λ b. ⊎-elim (λ l. inl (ap (λ (g : Line-history). frames-set (g .now)) (l .is), l .is)) (λ f. inr (frames-on [] (run ks) _ f, f .is)) b)
+    (tied ks)
+
+run-append : (ks ms : List Request) (h : Line-history) → run-from h (ks ++ ms) ≡ run-from (run-from h ks) ms
+run-append [] ms h = refl
+run-append (k ∷ ks) ms h = run-append ks ms _
+
+pub first-link-decides : First-link-decides
+first-link-decides ks ms = (λ l. go-levels l (tied ks), λ f. go-frames f (tied ks))
+  where
+    on : run (ks ++ ms) ≡ run-from (run ks) ms
+    on = run-append ks ms nothing-yet
+
+    go-levels : levels-set (run ks .now) ≡ true → Tied (run ks) (level-run-from level-nothing-yet (level-calls ks)) (frame-run-from frame-nothing-yet (frame-calls ks)) → levels-set (run (ks ++ ms) .now) ≡ true
+    go-levels l (inl e) = absurd (true≢false (sym l ∙ ap (λ (g : Line-history). levels-set (g .now)) (e .0)))
+    go-levels l (inr (inl b)) = ap (λ (g : Line-history). levels-set (g .now)) on ∙ levels-on ms (run ks) _ b
+    go-levels l (inr (inr b)) = absurd (true≢false (sym l ∙ ap (λ (g : Line-history). levels-set (g .now)) (b .is)))
+
+    go-frames : frames-set (run ks .now) ≡ true → Tied (run ks) (level-run-from level-nothing-yet (level-calls ks)) (frame-run-from frame-nothing-yet (frame-calls ks)) → frames-set (run (ks ++ ms) .now) ≡ true
+    go-frames f (inl e) = absurd (true≢false (sym f ∙ ap (λ (g : Line-history). frames-set (g .now)) (e .0)))
+    go-frames f (inr (inl b)) = absurd (true≢false (sym f ∙ ap (λ (g : Line-history). frames-set (g .now)) (b .is)))
+    go-frames f (inr (inr b)) = ap (λ (g : Line-history). frames-set (g .now)) on ∙ frames-on ms (run ks) _ b
+
+-- ---- what is replied
+
+abbrev Told-at : Line → Level-state → Type 0
+Told-at s u =
+    ((k : Request) (x : Level-call) → level-call k ≡ some x → respond k s ≡ by-levels s (level-answer x u))
+    × ((l : Framing) → levels-set s ≡ true → respond (link-frames l) s ≡ refuse s 3 0)
+    × ((x : Share) → respond (admit-share x) s ≡ refuse s 2 no-connection-number)
+
+levels-at : (h : Level-history) → Level-invariant h → Told-at (of-levels h .now) (h .now)
+levels-at h I = (levels-told h I, frames-refused h I, share-refused h I)
+
+pub told-by-its-discipline : Told-by-its-discipline
+told-by-its-discipline ks = (λ n. by-level n (tied ks), λ f. by-frame f (tied ks))
+  where
+    by-level : frames-set (run ks .now) ≡ false → Tied (run ks) (level-run-from level-nothing-yet (level-calls ks)) (frame-run-from frame-nothing-yet (frame-calls ks)) → Told-by-levels ks
+    by-level n (inl e) =
+        subst (λ (g : Line-history). Told-at (g .now) (level-run-from level-nothing-yet (level-calls ks) .now)) (sym (e .0))
+        (subst (λ (u : Level-history). Told-at (nothing-yet .now) (u .now)) (sym (e .1)) (levels-at level-nothing-yet level-fresh-invariant))
+    by-level n (inr (inl b)) =
+        subst (λ (g : Line-history). Told-at (g .now) (level-run-from level-nothing-yet (level-calls ks) .now)) (sym (b .is))
+        (levels-at (level-run-from level-nothing-yet (level-calls ks)) (b .holds))
+    by-level n (inr (inr b)) = absurd (true≢false (sym (frames-on [] (run ks) _ b) ∙ n))
+
+    by-frame : frames-set (run ks .now) ≡ true → Tied (run ks) (level-run-from level-nothing-yet (level-calls ks)) (frame-run-from frame-nothing-yet (frame-calls ks)) → Told-by-frames ks
+    by-frame f (inl e) = absurd (true≢false (sym f ∙ ap (λ (g : Line-history). frames-set (g .now)) (e .0)))
+    by-frame f (inr (inl b)) = absurd (true≢false (sym f ∙ ap (λ (g : Line-history). frames-set (g .now)) (b .is)))
+    by-frame f (inr (inr b)) =
+        let h = frame-run-from frame-nothing-yet (frame-calls ks) in
+        subst
+        (λ (g : Line-history).
+        ((k : Request) (x : Frame-call) → frame-call k ≡ some x → respond k (g .now) ≡ by-frames (g .now) (frame-answer x (h .now)))
+        × ((l : Link) → respond (link-levels l) (g .now) ≡ refuse (g .now) 3 0)
+        × ((x : Connection) → respond (admit-level x) (g .now) ≡ refuse (g .now) 2 no-connection-number)
+        × ((c len tag stamp : ℕ) → respond (offer c len tag (some stamp)) (g .now) ≡ refuse (g .now) 2 0)
+        × ((c : ℕ) → respond (close c) (g .now) ≡ refuse (g .now) 2 0))
+        (sym (b .is))
+        (frames-told h (b .holds) (b .set), levels-refused h (b .holds) (b .set), level-refused h (b .holds) (b .set), stamp-refused h (b .holds) (b .set), close-refused h (b .holds) (b .set))

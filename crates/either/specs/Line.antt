@@ -1,0 +1,197 @@
+-- One line with either discipline: that of levels (document 01) or that of frames (document 02, R-13). The first link that is accepted decides which; the other stays fresh.
+-- docs/RULES-AFTER-BASE.md, R-13, "One line, one discipline".
+use Prim.Native.Nat.{ℕ, _+_}
+use mathlib.Core.Path.{_≡_}
+use mathlib.Core.Bool.{Bool, true, cond, not, _&&_}
+use mathlib.Core.List.{List, [], _∷_}
+use mathlib.Core.Option.{Option, none, some}
+use lib.Dec.{eqb}
+use Rattle.rules.specs.declared.Link.{Link}
+use Rattle.rules.specs.declared.Connection.{Connection}
+use Rattle.rules.specs.declared.Packet.{Packet}
+use Rattle.rules.specs.Words.{push}
+use Rattle.rules.specs.Limits.{notice-number, no-connection-number}
+use Rattle.rules.specs.declared.Short.{Short}
+use Rattle.rules.specs.Model.{no-short, State as Level-state, Call as Level-call, link as level-link, admit as level-admit, offer as level-offer, notice as level-notice, close as level-close, tick as level-tick, Answer as Level-answer, fresh as level-fresh}
+use Rattle.rules.specs.SoundState.{Sound as Level-sound}
+use Rattle.rules.specs.SoundTest.{sound as level-sound}
+use Rattle.rules.specs.Calls.{answer as level-answer}
+use Rattle.rules.specs.Runs.{Departure, if-done}
+use Rattle.frames.specs.declared.Framing.{Framing}
+use Rattle.frames.specs.declared.Share.{Share}
+use Rattle.frames.specs.Model.{State as Frame-state, Call as Frame-call, link as frame-link, admit as frame-admit, offer as frame-offer, notice as frame-notice, tick as frame-tick, Answer as Frame-answer, fresh as frame-fresh}
+use Rattle.frames.specs.SoundState.{Sound as Frame-sound}
+use Rattle.frames.specs.SoundTest.{sound as frame-sound}
+use Rattle.frames.specs.Calls.{answer as frame-answer}
+
+pub record Line : Type 0 where
+  pub levels : Level-state
+  pub frames : Frame-state
+
+-- each discipline has its own link and its own admission; offers without a stamp, notices and ticks go to the one that is set; offers with a stamp and closes are known to the
+-- discipline of levels alone
+pub data Request : Type 0 where
+  link-levels : Link → Request
+  link-frames : Framing → Request
+  admit-level : Connection → Request
+  admit-share : Share → Request
+  offer : ℕ → ℕ → ℕ → Option ℕ → Request
+  notice : ℕ → ℕ → Request
+  close : ℕ → Request
+  tick : Request
+
+pub record Reply : Type 0 where
+  pub verdict : ℕ
+  pub number : ℕ
+  pub short : Short
+  pub departed : Option Packet
+  pub next : Line
+
+abbrev pub by-levels : Line → Level-answer → Reply
+by-levels s a = record {
+  verdict = a .verdict;
+  number = a .number;
+  short = a .short;
+  departed = a .departed;
+  next = record { levels = a .next; frames = s .frames };
+}
+
+abbrev pub by-frames : Line → Frame-answer → Reply
+by-frames s a = record {
+  verdict = a .verdict;
+  number = a .number;
+  short = a .short;
+  departed = a .departed;
+  next = record { levels = s .levels; frames = a .next };
+}
+
+abbrev pub refuse : Line → ℕ → ℕ → Reply
+refuse s v n = record { verdict = v; number = n; short = no-short; departed = none; next = s }
+
+abbrev pub levels-set : Line → Bool
+levels-set s = not (eqb (s .levels .link .levels) 0)
+
+abbrev pub frames-set : Line → Bool
+frames-set s = not (eqb (s .frames .link .frame) 0)
+
+-- sound: both are, and at most one is set, so that the other is fresh
+pub record Sound-line (s : Line) : Type 0 where
+  pub levels-sound : Level-sound (s .levels)
+  pub frames-sound : Frame-sound (s .frames)
+  pub never-both : levels-set s ≡ true → frames-set s ≡ true → ⊥
+
+-- .. as a test
+unfoldable pub sound-line : Line → Bool
+sound-line s = level-sound (s .levels) && (frame-sound (s .frames) && not (levels-set s && frames-set s))
+
+-- a link of the other discipline: one is set already. What only the other discipline knows gets that discipline's own answer with no link set, which is 2
+abbrev pub turn : Request → Line → Reply
+turn (link-levels l) s = cond (frames-set s) (refuse s 3 0) (by-levels s (level-answer (level-link l) (s .levels)))
+turn (link-frames l) s = cond (levels-set s) (refuse s 3 0) (by-frames s (frame-answer (frame-link l) (s .frames)))
+turn (admit-level x) s = by-levels s (level-answer (level-admit x) (s .levels))
+turn (admit-share x) s = by-frames s (frame-answer (frame-admit x) (s .frames))
+turn (offer c len tag none) s =
+    cond (frames-set s) (by-frames s (frame-answer (frame-offer c len tag) (s .frames))) (by-levels s (level-answer (level-offer c len tag none) (s .levels)))
+turn (offer c len tag (some stamp)) s = by-levels s (level-answer (level-offer c len tag (some stamp)) (s .levels))
+turn (notice len tag) s =
+    cond (frames-set s) (by-frames s (frame-answer (frame-notice len tag) (s .frames))) (by-levels s (level-answer (level-notice len tag) (s .levels)))
+turn (close c) s = by-levels s (level-answer (level-close c) (s .levels))
+turn tick s = cond (frames-set s) (by-frames s (frame-answer frame-tick (s .frames))) (by-levels s (level-answer level-tick (s .levels)))
+
+abbrev pub refused-number : Request → ℕ
+refused-number (link-levels l) = 0
+refused-number (link-frames l) = 0
+refused-number (admit-level x) = no-connection-number
+refused-number (admit-share x) = no-connection-number
+refused-number (offer c len tag st) = 0
+refused-number (notice len tag) = 0
+refused-number (close c) = 0
+refused-number tick = 0
+
+-- THE RULES of a line with either discipline
+abbrev pub respond : Request → Line → Reply
+respond k s = cond (sound-line s) (turn k s) (refuse s 1 (refused-number k))
+
+-- ---- runs
+
+pub record Line-history : Type 0 where
+  pub accepted : List Packet
+  pub departed : List Departure
+  pub now : Line
+
+abbrev pub clock-of : Line → ℕ
+clock-of s = cond (frames-set s) (s .frames .clock) (s .levels .clock)
+
+abbrev pub taken : Request → Line → Reply → Option Packet
+taken (link-levels l) s a = none
+taken (link-frames l) s a = none
+taken (admit-level x) s a = none
+taken (admit-share x) s a = none
+taken (offer c len tag st) s a = if-done (a .verdict) (record { connection = c; len = len; tag = tag; arrival = clock-of s; eligibility = a .number })
+taken (notice len tag) s a =
+    if-done (a .verdict) (record { connection = notice-number; len = len; tag = tag; arrival = clock-of s; eligibility = a .number })
+taken (close c) s a = none
+taken tick s a = none
+
+abbrev pub leaving : Line → Option Packet → Option Departure
+leaving s none = none
+leaving s (some p) = some (record { what = p; finish = clock-of s + 1 })
+
+abbrev pub logged : Line-history → Request → Reply → Line-history
+logged h k a = record {
+  accepted = push (h .accepted) (taken k (h .now) a);
+  departed = push (h .departed) (leaving (h .now) (a .departed));
+  now = a .next;
+}
+
+abbrev pub after : Line-history → Request → Line-history
+after h k = logged h k (respond k (h .now))
+
+abbrev pub run-from : Line-history → List Request → Line-history
+run-from h [] = h
+run-from h (k ∷ ks) = run-from (after h k) ks
+
+-- as every line starts: no link of either discipline
+abbrev pub fresh-line : Line
+fresh-line = record { levels = level-fresh; frames = frame-fresh }
+
+abbrev pub nothing-yet : Line-history
+nothing-yet = record { accepted = []; departed = []; now = fresh-line }
+
+abbrev pub run : List Request → Line-history
+run ks = run-from nothing-yet ks
+
+-- ---- the calls of a run that are a discipline's own
+
+abbrev pub level-call : Request → Option Level-call
+level-call (link-levels l) = some (level-link l)
+level-call (link-frames l) = none
+level-call (admit-level x) = some (level-admit x)
+level-call (admit-share x) = none
+level-call (offer c len tag st) = some (level-offer c len tag st)
+level-call (notice len tag) = some (level-notice len tag)
+level-call (close c) = some (level-close c)
+level-call tick = some level-tick
+
+abbrev pub frame-call : Request → Option Frame-call
+frame-call (link-levels l) = none
+frame-call (link-frames l) = some (frame-link l)
+frame-call (admit-level x) = none
+frame-call (admit-share x) = some (frame-admit x)
+frame-call (offer c len tag none) = some (frame-offer c len tag)
+frame-call (offer c len tag (some stamp)) = none
+frame-call (notice len tag) = some (frame-notice len tag)
+frame-call (close c) = none
+frame-call tick = some frame-tick
+
+abbrev pub and-then : {A : Type 0} → Option A → List A → List A
+and-then none ks = ks
+and-then (some k) ks = k ∷ ks
+
+abbrev pub level-calls : List Request → List Level-call
+level-calls [] = []
+level-calls (k ∷ ks) = and-then (level-call k) (level-calls ks)
+
+abbrev pub frame-calls : List Request → List Frame-call
+frame-calls [] = []
+frame-calls (k ∷ ks) = and-then (frame-call k) (frame-calls ks)

@@ -1,0 +1,3 @@
+pub mod PassLaws
+pub mod VerdictLaws
+pub mod ActLaws

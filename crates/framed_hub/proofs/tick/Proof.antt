@@ -1,0 +1,52 @@
+use mathlib.Core.Path.{refl, sym, _∙_}
+use borrow.Author.Tests.{not-true, not-false}
+use Rattle.frames.specs.Model.{tick}
+use Rattle.framed_state.specs.View.{tables}
+use Rattle.framed_state.proofs.DoesLaws.{refuses-unsound}
+use borrow.Author.Needs.{needs}
+use Rattle.framed_hub.proofs.tick.Statement.{statement}
+use Rattle.framed_hub.proofs.tick.Tie as tie
+
+is-sound-requires : tie.Need-is-sound-requires
+is-sound-requires c κs = search needs
+
+say-requires : tie.Need-say-requires
+say-requires c κs = search needs
+
+same-length : tie.Need-same-length
+same-length c = search needs
+
+same-length-2 : tie.Need-same-length-2
+same-length-2 c = search needs
+
+returns : tie.Need-returns
+returns c =
+    let z = c .before .before .before .before .before .before .before .before in
+    let t = tables (z .args .shares .now) (z .args .places .now) (z .args .notices .now) in
+    refuses-unsound tick (z .args .h) t (sym (c .before .before .is-sound .ensures) ∙ not-true _ (c .before .if1 .taken)) _ 0 refl (c .say .ensures)
+
+tick-tested-requires : tie.Need-tick-tested-requires
+tick-tested-requires c κs = sym (c .before .before .before .is-sound .ensures) ∙ not-false _ (c .before .before .if1 .left)
+
+same-length-3 : tie.Need-same-length-3
+same-length-3 c = search needs
+
+same-length-4 : tie.Need-same-length-4
+same-length-4 c = search needs
+
+returns-2 : tie.Need-returns-2
+returns-2 c = search needs
+
+pub tick-spec : {M : Type 1} → statement M
+tick-spec =
+    tie.close
+    (tie.spec
+    is-sound-requires
+    say-requires
+    same-length
+    same-length-2
+    returns
+    tick-tested-requires
+    same-length-3
+    same-length-4
+    returns-2)

@@ -1,0 +1,5 @@
+pub mod ChoiceLaws
+pub mod ReadyLaws
+pub mod TickLaws
+pub mod QuietLaws
+pub mod QuietCases

@@ -1,0 +1,23 @@
+-- What a tick of the second discipline needs of a wire and its tables. A sound state with a link has it: `ready` in proofs/ReadyLaws. Document 02, R-13.
+use Prim.Native.Nat.{ℕ}
+use mathlib.Core.Path.{_≡_}
+use mathlib.Core.List.{List}
+use Rattle.rules.specs.Words.{All, Pairs}
+use Rattle.rules.specs.Limits.{notice-number}
+use Rattle.frames.specs.SoundState.{Not-after}
+use Rattle.tables.specs.Places.{rows}
+use Rattle.line.specs.declared.Wire.{Wire}
+use Rattle.line.specs.Wires.{In-place}
+use Rattle.framed_state.specs.declared.Frames.{Frames}
+
+-- the line of a `Frames`
+abbrev pub wire-in : Frames → Wire
+wire-in h = record { serving = h .serving; «to_go» = h .«to_go»; silent = h .silent }
+
+pub record Ready (w : Wire) (t q : List ℕ) : Type 0 where
+  -- each row names a connection, which has another number than the notices
+  pub others : All (λ p. p .connection ≡ notice-number → ⊥) (rows t)
+  -- eligibilities never fall in row order
+  pub in-order : Pairs Not-after (rows t)
+  -- the tables, and what is in service
+  pub in-place : In-place w t q

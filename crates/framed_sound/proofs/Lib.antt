@@ -1,0 +1,2 @@
+pub mod TallyLaws
+pub mod PartLaws

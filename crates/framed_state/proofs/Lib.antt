@@ -1,0 +1,3 @@
+pub mod WrittenLaws
+pub mod SoundLaws
+pub mod DoesLaws

@@ -1,0 +1,36 @@
+-- HOW LONG A LINE IS QUIET, whatever the discipline: the ticks in which nothing starts and nothing departs. Document 01, "One tick"; document 02, R-1, R-4, R-11 and
+-- R-13.
+use Prim.Native.Nat.{ℕ, zero, suc, _-_, min}
+use mathlib.Core.Bool.{Bool, cond, _&&_}
+use mathlib.Core.List.{List, [], _∷_}
+use mathlib.Core.Option.{Option, none, some}
+use lib.Dec.{eqb}
+use lib.ListN.{length}
+use Rattle.rules.specs.declared.Packet.{Packet}
+use Rattle.rules.specs.declared.Notice.{Notice}
+use Rattle.rules.specs.Limits.{clock-end}
+use Rattle.tables.specs.Places.{rows}
+use Rattle.line.specs.declared.Wire.{Wire}
+use Rattle.line.specs.Wires.{idle}
+
+-- the first tick at which one of some packets is eligible; the clock's end where that is earlier
+abbrev pub eligible-from : List Packet → ℕ
+eligible-from [] = clock-end
+eligible-from (p ∷ ps) = min (p .eligibility) (eligible-from ps)
+
+-- the ticks in which nothing starts and nothing departs: until a packet is eligible, if no notice waits and no packet stands by, or the rest of a silence, or all
+-- but the last unit of what is in service
+abbrev pub quiet-for : ℕ → ℕ → List Packet → List Notice → Option Packet → ℕ → ℕ
+quiet-for zero zero held [] none clock = eligible-from held - clock
+quiet-for zero zero held [] (some p) clock = 0
+quiet-for zero zero held (n ∷ ns) o clock = 0
+quiet-for zero (suc silent) held ns o clock = suc silent
+quiet-for (suc to-go) silent held ns o clock = to-go
+
+-- the line waits for a packet: it is idle, and no notice waits
+abbrev pub awaits : Wire → List ℕ → Bool
+awaits w q = idle w && eqb (length (rows q)) 0
+
+-- .. and the quiet ticks where it does not
+abbrev pub taken-for : Wire → ℕ
+taken-for w = cond (eqb (w .«to_go») 0) (w .silent) (w .«to_go» - 1)
