@@ -4,9 +4,9 @@ use Prim.Native.Nat.{_≤_}
 use lib.ListN.{length}
 use borrow.Author.Tests.{not-true, not-false}
 use Rattle.answers.specs.Answers.{longest-answer}
-use Rattle.mtredovim.specs.declared.End.the-variants.{On}
-use Rattle.mtredovim.specs.Turns.{window, turns-left, Right}
-use Rattle.mtredovim.proofs.RunLaws.{on-true, on-false, Made, made-none, made-more}
+use Rattle.turns.specs.declared.End.the-variants.{On}
+use Rattle.turns.specs.Turns.{window, turns-left, Right}
+use Rattle.turns.proofs.RunLaws.{on-true, on-false, Made, made-none, made-more}
 use borrow.Author.Needs.{needs}
 use Rattle.mtredovim.proofs.replay_all.Statement.{statement}
 use Rattle.mtredovim.proofs.replay_all.Tie as tie
