@@ -9,28 +9,13 @@ import random
 import subprocess
 from typing import NamedTuple
 
-from records import ANSWERS, admit, link, records
+from records import ANSWERS, records
+from ward.figures import LONGEST_BOUND, LONGEST_GAP, MOST_LEVELS, Gap, Levels
 
 ROOT = os.path.dirname(os.path.dirname(os.path.abspath(__file__)))
 SIM = os.path.join(ROOT, "sim", "target", "release", "sim")
-HIGHEST_BOUND = LONGEST_WINDOW = 32_768
-LONGEST_GAP = 65_535
-MOST_LEVELS = 8
 # by how much slower the lines of each turn are than those of the turn before, the turns, and how many lines are drawn for each that is to stand
 SLOWER, TURNS, DRAWN = 1.1, 40, 1.2
-
-
-class Line(NamedTuple):
-    """The figures of a connection by its gap; no average is 0 and 0."""
-
-    level: int
-    gap: int
-    size: int
-    window: int
-    average: int
-
-    def record(self):
-        return admit(*self)
 
 
 class Ward(NamedTuple):
@@ -44,7 +29,7 @@ class Ward(NamedTuple):
     newcomers: tuple
 
     def link(self, windowed):
-        return link(self.largest, self.silence, self.bounds, 0, self.windows) if windowed else link(self.largest, self.silence, self.bounds)
+        return Levels(self.largest, self.silence, self.bounds, self.windows if windowed else ()).record()
 
     def trace(self, windowed):
         return self.link(windowed) + b"".join(line.record() for line in self.standing)
@@ -71,8 +56,8 @@ def some_windows(numbers, bounds):
     style = numbers.randrange(4)
     made = []
     for bound in bounds:
-        window = (bound + numbers.randint(0, 400), bound * numbers.randint(1, 4), numbers.randint(bound, LONGEST_WINDOW), LONGEST_WINDOW)[style]
-        made.append(min(window, LONGEST_WINDOW))
+        window = (bound + numbers.randint(0, 400), bound * numbers.randint(1, 4), numbers.randint(bound, LONGEST_BOUND), LONGEST_BOUND)[style]
+        made.append(min(window, LONGEST_BOUND))
     return tuple(made)
 
 
@@ -83,8 +68,8 @@ def some_line(numbers, ward, connections, slower):
     gap = max(1, min(gap, LONGEST_GAP))
     packets = numbers.randint(2, 8)
     if numbers.randrange(4) or packets * gap > LONGEST_GAP:
-        return Line(level, gap, size, 0, 0)
-    return Line(level, max(1, gap // numbers.randint(1, 6)), size, packets * gap, gap)
+        return Gap(level, gap, size, 0, 0)
+    return Gap(level, max(1, gap // numbers.randint(1, 6)), size, packets * gap, gap)
 
 
 def some_link(numbers, connections):
@@ -95,7 +80,7 @@ def some_link(numbers, connections):
     bounds = []
     for share in sorted(shares):
         least = max(bounds[-1] + 1 if bounds else 0, largest + silence)
-        bounds.append(min(max(least, int(once * share)), HIGHEST_BOUND - levels))
+        bounds.append(min(max(least, int(once * share)), LONGEST_BOUND - levels))
     return Ward(largest, silence, tuple(bounds), some_windows(numbers, bounds), (), ())
 
 

@@ -1,0 +1,227 @@
+"""The sub-commands of ./ward: what each takes, and what it writes."""
+
+import argparse
+import contextlib
+import os
+import sys
+
+from ward import sending, wards
+from ward.check import check
+from ward.delays import DelayPicture, Delays
+from ward.ends import CANNOT_READ, CANNOT_WRITE, DAMAGED, DONE, STATUSES, WRONG_USE, Ended, cannot_read
+from ward.files import opened, readable, text_of, writable
+from ward.history import History
+from ward.picture import TimeLine, Window, usual_ticks
+from ward.plan import plan
+from ward.records import LONGEST, CannotRead
+from ward.run import run
+from ward.summary import summary
+from ward.text import bytes_lines, kinds_of, text_lines, together
+
+
+def ward_of(path):
+    return wards.read_ward(path, text_of(path))
+
+
+def pumps_in(path):
+    """The pumps of a ward, in the order in which they ask; none without a ward."""
+    return ward_of(path).pumps if path else ()
+
+
+def say(lines):
+    for line in lines:
+        print(line)
+
+
+def do_plan(options):
+    lines, status = plan(ward_of(options.ward), options.each, options.fit)
+    say(lines)
+    return status
+
+
+def do_trace(options):
+    ward = sending.with_ways(ward_of(options.ward), options.sends)
+    made = sending.trace(ward, ward.ticks if options.ticks is None else options.ticks, options.seed)
+    with writable(options.output) as file:
+        file.write(made)
+    return DONE
+
+
+def do_text(options):
+    """One file, or a trace and its log together."""
+    with contextlib.ExitStack() as open_files:
+        files = [open_files.enter_context(opened(open_files.enter_context(readable(path)))) for path in options.files]
+        lines = together(*files) if len(files) == 2 else text_lines(files[0], kinds_at(files[0]))
+        try:
+            say(lines)
+        except CannotRead as damage:
+            raise Ended(f"{' '.join(options.files)}: damaged: {damage}", DAMAGED) from None
+    return DONE
+
+
+def kinds_at(file):
+    """Whether a file is a trace or a log."""
+    kinds = kinds_of(file.read(LONGEST))
+    file.seek(0)
+    return kinds
+
+
+def do_bytes(options):
+    lines = text_of(options.text).splitlines()
+    with writable(options.output) as file:
+        for part in bytes_lines(options.text, lines, options.only):
+            file.write(part)
+    return DONE
+
+
+def do_run(options):
+    with readable(options.trace) as path:
+        try:
+            lines, status = summary(run(path, options.log, pumps_in(options.ward), options.progress))
+        except CannotRead as damage:
+            raise cannot_read("the program's answers", damage) from None
+    say(lines)
+    return status
+
+
+def do_picture(options):
+    """A first reading tells where the trace ends, the second keeps what is drawn."""
+    with readable(options.trace) as trace, readable(options.log) as log:
+        pumps = pumps_in(options.ward)
+        whole = told_by(options.log, trace, log, pumps)
+        known = [line.name for line in whole.all_lines()]
+        for name in options.lines:
+            if name not in known:
+                raise Ended(f"--lines: the trace has no line {name!r}", WRONG_USE)
+        kept = (Delays if options.delays else Window)(*shown_ticks(options, whole))
+        history = told_by(options.log, trace, log, pumps, kept.keep)
+    drawing = (DelayPicture if options.delays else TimeLine)(history, kept, options.lines)
+    with writable(options.output) as file:
+        file.write(drawing.written().encode())
+    return DAMAGED if history.damage else DONE
+
+
+def shown_ticks(options, history):
+    """The first and the last tick of a picture."""
+    low = options.low
+    high = min(history.clock, low + usual_ticks(history.link)) if options.high is None else options.high
+    if options.delays and options.high is None:
+        high = history.clock
+    if high < low:
+        raise Ended(f"--from {low}: the {'trace ends' if options.high is None else 'picture would end'} at tick {high}, before that", WRONG_USE)
+    return low, high
+
+
+def told_by(name, trace, log, pumps, keep=lambda event: None):
+    """The history of a trace and its log, with an eye on each event."""
+    with opened(trace) as records, opened(log) as answers:
+        try:
+            return History(pumps, keep).read(records, answers)
+        except CannotRead as damage:
+            raise Ended(f"{name}: damaged: {damage}", DAMAGED) from None
+
+
+def do_check(options):
+    with readable(options.trace) as trace, readable(options.log) as log:
+        line, status = check(trace, log)
+    print(line)
+    return status
+
+
+def count(text):
+    """A number of ticks."""
+    number = text.replace(",", "")
+    if not (number.isascii() and number.isdigit()) or int(number) > 4_000_000_000:
+        raise argparse.ArgumentTypeError(f"{text!r} is no number of ticks from 0 to 4,000,000,000")
+    return int(number)
+
+
+# What a shell says of a command that was ended from the keyboard.
+INTERRUPTED = 130
+
+
+class Parser(argparse.ArgumentParser):
+    """Tells wrong use in one line."""
+
+    def error(self, message):
+        self.exit(WRONG_USE, f"{self.prog}: {message} ({self.prog} --help tells more)\n")
+
+
+def parser():
+    what = "The technician's bench: a ward planned, run and drawn, by the proved program. docs/TECHNICIAN.md shows how."
+    top = Parser(prog="ward", description=what, epilog=STATUSES)
+    subs = top.add_subparsers(dest="command", required=True, metavar="COMMAND")
+
+    def sub(name, act, what, more=None):
+        made = subs.add_parser(name, help=what, description=f"{what}\n\n{more or ''}", epilog=STATUSES, formatter_class=argparse.RawDescriptionHelpFormatter)
+        made.set_defaults(act=act)
+        return made
+
+    one = sub("plan", do_plan, "who of a ward is let in, what is to spare, and what would let in those who are refused", wards.__doc__)
+    one.add_argument("ward", metavar="WARD", help="the ward, a text file; - is standard input")
+    one.add_argument("--each", action="store_true", help="a row for each pump, also for those that are alike")
+    fit = "how many more of a pump fit, by document 01's test and by the finer one: a name of the ward, or figures such as 'level 1 gap 40 size 4'"
+    one.add_argument("--fit", metavar="PUMP", help=fit)
+
+    one = sub("trace", do_trace, "a trace of a ward: who sends when")
+    one.add_argument("ward", metavar="WARD")
+    one.add_argument("--ticks", type=count, help="how long it is; else as the ward says, or 1,000")
+    one.add_argument("--seed", type=int, default=0, help="for those that send at random; 0 where nothing is said")
+    one.add_argument("--sends", metavar="PUMP=WAY", action="append", default=[], help=f"another way for a pump: {', '.join(wards.WAYS)}")
+    one.add_argument("-o", "--output", metavar="FILE")
+
+    one = sub("text", do_text, "a trace or a log as text, a line for each record; of both, each record with its answers under it")
+    one.add_argument("files", metavar="FILE", nargs="+")
+
+    one = sub("bytes", do_bytes, "text of ward text as bytes again, byte for byte")
+    one.add_argument("text", metavar="TEXT")
+    one.add_argument("--only", choices=("trace", "log"), help="of a text that has both")
+    one.add_argument("-o", "--output", metavar="FILE")
+
+    one = sub("run", do_run, "a trace run by the proved program, and what became of each line")
+    one.add_argument("trace", metavar="TRACE")
+    one.add_argument("--log", metavar="FILE", help="where the answers go")
+    one.add_argument("--ward", metavar="WARD", help="the ward that the trace was made of, for its names")
+    one.add_argument("--progress", action="store_true", help="on standard error, also where that is no terminal")
+
+    one = sub("picture", do_picture, "a trace and its log as a picture (SVG): a time line, or delays beside their bounds")
+    one.add_argument("trace", metavar="TRACE")
+    one.add_argument("log", metavar="LOG")
+    one.add_argument("--delays", action="store_true", help="how long packets took, beside their bounds")
+    one.add_argument("--from", dest="low", metavar="TICK", type=count, default=0)
+    one.add_argument("--to", dest="high", metavar="TICK", type=count, help="else as many ticks are shown as the first bound has twice, 400 at least; of delays all")
+    one.add_argument("--lines", metavar="NAME", nargs="+", default=(), help="these lines alone")
+    one.add_argument("--ward", metavar="WARD", help="the ward that the trace was made of, for its names")
+    one.add_argument("-o", "--output", metavar="FILE")
+
+    one = sub("check", do_check, "whether a log is the one that the rules give for a trace")
+    one.add_argument("trace", metavar="TRACE")
+    one.add_argument("log", metavar="LOG")
+    return top
+
+
+def acted(options):
+    """Runs a sub-command; its status. Nobody who reads the output any more is no error to tell of."""
+    try:
+        status = options.act(options)
+        sys.stdout.flush()
+        return status
+    except Ended as end:
+        sys.stdout.flush()
+        print(f"ward {options.command}: {end}", file=sys.stderr)
+        return end.status
+    except KeyboardInterrupt:
+        return INTERRUPTED
+    except OSError as error:
+        if not isinstance(error, BrokenPipeError):
+            print(f"ward {options.command}: {error.filename or 'a file'}: {error.strerror}", file=sys.stderr)
+            return CANNOT_READ
+        os.dup2(os.open(os.devnull, os.O_WRONLY), sys.stdout.fileno())
+        return CANNOT_WRITE
+
+
+def main(arguments):
+    options = parser().parse_args(arguments)
+    if options.command == "text" and len(options.files) > 2:
+        parser().error("a file, or a trace and its log")
+    return acted(options)
