@@ -1,6 +1,8 @@
 """The pictures of ./ward, for tests/ward: the marks are read from the SVG's own elements, and with a browser from where it has drawn them, and held against
 ticks that were worked out by hand (examples/ward/README.md)."""
 
+import functools
+import glob
 import html
 import json
 import os
@@ -8,6 +10,8 @@ import re
 import shutil
 import subprocess
 import xml.etree.ElementTree
+
+from records import admit, link, offer, ticks
 
 ROOT = os.path.dirname(os.path.dirname(os.path.abspath(__file__)))
 EXAMPLES = os.path.join(ROOT, "examples", "ward")
@@ -126,9 +130,8 @@ def picture(expect, run, what, *words):
     return output.decode()
 
 
-def delays_are_right(expect, what, svg):
+def delays_are_right(expect, what, marks):
     """A dot for each delay, at its share of the bound."""
-    marks = list(marks_of(svg))
     bands = {mark.data["line"]: mark for mark in marks if mark.cls == "bound"}
     given = sorted((mark.data["line"], int(mark.data["delay"]), share_of(bands[mark.data["line"]], mark)) for mark in marks if mark.cls == "delay")
     wanted = sorted({(line, finish - eligible, (finish - eligible) / bound) for line, _, _, eligible, _, finish, bound in PACKETS})
@@ -154,23 +157,29 @@ def window_is_cut(expect, run):
 
 
 PAGE_OF = """<!doctype html><html><body style="margin: 0">%s<pre id="found"></pre><script>
-const found = [];
-for (const element of document.querySelectorAll("svg [class]")) {
-  const box = element.getBoundingClientRect(), size = element.tagName == "text" ? parseFloat(getComputedStyle(element).fontSize) : 0;
-  found.push({cls: element.getAttribute("class"), data: {...element.dataset}, tag: element.tagName, text: element.tagName == "text" ? element.textContent : "", size: size,
-    left: box.left, right: box.right, top: box.top, bottom: box.bottom, seen: getComputedStyle(element).display != "none"});
+const pictures = [];
+for (const svg of document.querySelectorAll("svg")) {
+  const page = svg.getBoundingClientRect(), found = [];
+  for (const element of svg.querySelectorAll("[class]")) {
+    const box = element.getBoundingClientRect(), words = element.tagName == "text" ? element.textContent : "";
+    found.push({cls: element.getAttribute("class"), data: {...element.dataset}, text: words, size: parseFloat(getComputedStyle(element).fontSize),
+      left: box.left - page.left, right: box.right - page.left, top: box.top - page.top, bottom: box.bottom - page.top});
+  }
+  pictures.push({found: found, width: page.width, height: page.height, scale: page.width / svg.viewBox.baseVal.width});
 }
-const page = document.querySelector("svg").getBoundingClientRect(), wide = document.querySelector("svg").viewBox.baseVal.width;
-document.getElementById("found").textContent = JSON.stringify({found: found, width: page.width, height: page.height, scale: page.width / wide});
+document.getElementById("found").textContent = JSON.stringify(pictures);
 </script></body></html>"""
 
 
-def in_browser(svg, size, kept):
-    """What a browser has drawn, and where."""
-    path = kept("picture.html", PAGE_OF % svg)
+def in_browser(svgs, size, kept):
+    """What a browser has drawn of some pictures, one under another, and where; nothing where it has drawn no page."""
+    path = kept("pictures.html", PAGE_OF % "".join(f"<div>{svg}</div>" for svg in svgs))
     words = ["chromium", "--headless", "--no-sandbox", "--disable-gpu", "--hide-scrollbars", f"--window-size={size[0]},{size[1]}", "--dump-dom", f"file://{path}"]
-    dom = subprocess.run(words, stdout=subprocess.PIPE, stderr=subprocess.DEVNULL, check=True, timeout=60).stdout.decode()
-    return json.loads(html.unescape(re.search(r'<pre id="found">(.*?)</pre>', dom, re.S).group(1)))
+    ended = subprocess.run(words, stdout=subprocess.PIPE, stderr=subprocess.PIPE, check=False, timeout=120)
+    found = re.search(r'<pre id="found">(.+?)</pre>', ended.stdout.decode(errors="replace"), re.S)
+    if not found:
+        print(f"chromium ended with status {ended.returncode}: {ended.stderr.decode(errors='replace')[-500:]}")
+    return json.loads(html.unescape(found.group(1))) if found else []
 
 
 def overlaps(one, other):
@@ -178,28 +187,52 @@ def overlaps(one, other):
     return min(one["right"], other["right"]) - max(one["left"], other["left"]) > 1 and min(one["bottom"], other["bottom"]) - max(one["top"], other["top"]) > 3
 
 
+def off_the_page(drawn, each):
+    """Whether something that was drawn goes beyond the page by more than a hair."""
+    return min(each["left"], each["top"]) < -0.5 or each["right"] > drawn["width"] + 0.5 or each["bottom"] > drawn["height"] + 0.5
+
+
 def drawn_well(expect, what, drawn):
-    """All texts are large enough, on the page, and none covers another."""
-    texts = [each for each in drawn["found"] if each["tag"] == "text" and each["text"]]
+    """All that was drawn is on the page; all texts are large enough, and none covers another."""
+    texts = [each for each in drawn["found"] if each["text"]]
+    expect(f"{what}: something is drawn", bool(texts) and drawn["width"] > 0, True)
     expect(f"{what}: small letters", [each["text"] for each in texts if each["size"] * drawn["scale"] < LEAST_LETTER], [])
-    expect(f"{what}: off the page", [each["text"] or each["cls"] for each in drawn["found"] if each["left"] < -0.5 or each["right"] > drawn["width"] + 0.5 or each["bottom"] > drawn["height"] + 0.5], [])
+    expect(f"{what}: off the page", [each["text"] or each["cls"] for each in drawn["found"] if off_the_page(drawn, each)], [])
     expect(f"{what}: over one another", [(one["text"], other["text"]) for place, one in enumerate(texts) for other in texts[place + 1:] if overlaps(one, other)], [])
 
 
 def browser_test(expect, run, kept, full):
-    """The pictures in a browser at two sizes."""
+    """The pictures in a browser at two sizes: those of `drawings`, those of the pages, and two whose texts are long."""
     if not shutil.which("chromium"):
-        expect("a browser", "missing: tests/needs browser", "there")
+        expect("a browser", "chromium is missing, and tests/needs browser installs it", "there")
         return
-    for what, svg in drawings(expect, run, full).items():
-        for size in SIZES:
-            drawn = in_browser(svg, size, kept)
+    of_the_pages = {os.path.basename(path): bytes_in(path).decode() for path in sorted(glob.glob(os.path.join(ROOT, "docs", "pictures", "*.svg")))}
+    pictures = {**drawings(expect, run, full), **of_the_pages, **long_texts(expect, run, kept)}
+    for size in SIZES:
+        all_drawn = in_browser(pictures.values(), size, kept)
+        expect(f"pictures in a browser of {size[0]} x {size[1]}", len(all_drawn), len(pictures))
+        for what, drawn in zip(pictures, all_drawn):
             name = f"{what} in a browser of {size[0]} x {size[1]}"
             drawn_well(expect, name, drawn)
+            marks = [Mark(each["cls"], each["data"], *drawn_extent(each)) for each in drawn["found"] if each["data"]]
             if what == "the sample":
-                marks = [Mark(each["cls"], each["data"], *drawn_extent(each)) for each in drawn["found"] if each["data"]]
                 marks_are_right(expect, name, marks)
                 wire_is_right(expect, name, marks)
+            if what == "its delays":
+                delays_are_right(expect, name, marks)
+
+
+def long_texts(expect, run, kept):
+    """A ward with a long name, and a time line of ticks of ten digits: a packet each 50 ticks, the first 65,535 x 61,000 ticks from the start."""
+    ward = kept("long.ward", "link largest 8 silence 1 bounds 400\npump the-pump-in-the-far-corner<b>&\"9\" count 12 level 1 gap 400 size 4 sends wild\n")
+    trace = kept("long.trace", run("trace", ward)[1])
+    far = kept("far.trace", link(8, 1, [40]) + admit(1, 40, 4) + ticks(65_535) * 61_000 + (offer(0, 4, 7) + ticks(50)) * 8)
+    for path in (trace, far):
+        run("run", path, "--log", path + ".log")
+    drawn = picture(expect, run, "ticks of ten digits", far, far + ".log", "--from", str(65_535 * 61_000))
+    marks = list(marks_of(drawn))
+    expect("ticks of ten digits: where they stand", [at for _, _, at in ticks_of(marks, "arrival", False)], [float(65_535 * 61_000 + 50 * place) for place in range(8)])
+    return {"a long name": picture(expect, run, "a long name", trace, trace + ".log", "--ward", ward), "ticks of ten digits": drawn}
 
 
 def drawn_extent(each):
@@ -208,8 +241,9 @@ def drawn_extent(each):
     return (middle, middle) if each["cls"] in ("eligible", "deadline") else (each["left"], each["right"])
 
 
+@functools.lru_cache(maxsize=None)
 def drawings(expect, run, full):
-    """The pictures of the sample and of the full ward, whose trace and log are handed in."""
+    """The pictures of the sample and of the full ward, whose trace and log are handed in; drawn once for all tests."""
     return {
         "the sample": picture(expect, run, "the sample", SAMPLE_TRACE, SAMPLE_LOG, "--ward", SAMPLE),
         "its delays": picture(expect, run, "its delays", SAMPLE_TRACE, SAMPLE_LOG, "--ward", SAMPLE, "--delays"),
@@ -223,7 +257,7 @@ def test(expect, run, kept, full):
     marks = list(marks_of(pictures["the sample"]))
     marks_are_right(expect, "the sample", marks)
     wire_is_right(expect, "the sample", marks)
-    delays_are_right(expect, "its delays", pictures["its delays"])
+    delays_are_right(expect, "its delays", list(marks_of(pictures["its delays"])))
     window_is_cut(expect, run)
     expect("the full ward: lines left out are told", "182 more lines are not shown" in pictures["the full ward"], True)
     empty, damaged = kept("empty", b""), kept("damaged.trace", bytes_in(SAMPLE_TRACE)[:201])
@@ -232,7 +266,16 @@ def test(expect, run, kept, full):
         picture(expect, run, "a damaged trace", damaged, SAMPLE_LOG, *more)
     status, _, error = run("picture", SAMPLE_TRACE, full[1])
     expect("a log of another trace", (status, "it is no log of this trace" in error), (4, True))
-    expect("a damaged log", run("picture", SAMPLE_TRACE, kept("damaged.log", bytes_in(SAMPLE_LOG)[:-1]))[0], 3)
+    damaged_log(expect, run, kept)
+
+
+def damaged_log(expect, run, kept):
+    """Of a log that ends within its last TA all up to there is drawn: every departure stands before it."""
+    path = kept("damaged.log", bytes_in(SAMPLE_LOG)[:-1])
+    status, output, error = run("picture", SAMPLE_TRACE, path, "--ward", SAMPLE, "--to", str(END))
+    expect("a damaged log", (status, error), (3, f"ward picture: {path}: damaged at byte 687: it is cut short; all up to there is drawn"))
+    given = ticks_of(list(marks_of(output.decode())), "departure", False)
+    expect("a damaged log: departures", nearly(given, rounded([(line, tag, finish) for line, tag, _, _, _, finish, _ in PACKETS])), True)
 
 
 def bytes_in(path):

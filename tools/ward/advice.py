@@ -57,9 +57,12 @@ def pump_to_fit(ward, named):
     for pump in ward.pumps:
         if pump.name == named:
             return pump.figures
-    if len(named.split()) == 1:
+    if len(named.split()) < 2:
         raise Ended(f"--fit: the ward has no pump {named!r}; figures are given as in the file: 'level 1 gap 40 size 4'", WRONG_USE)
-    figures = read_figures(named)
+    try:
+        figures = read_figures(named)
+    except Ended as end:
+        raise Ended(str(end), WRONG_USE) from None
     if isinstance(figures, Share) == isinstance(ward.link, Levels):
         asked = "levels has level, gap and size" if isinstance(ward.link, Levels) else "frames has units and places"
         raise Ended(f"--fit: {named}: a pump of a link of {asked}", WRONG_USE)

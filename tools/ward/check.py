@@ -1,76 +1,62 @@
-"""`ward check`: whether a log is the one that the rules give for a trace; and if not, the first byte that differs, as the record and the field that it stands
-in."""
+"""Whether a log is the one that the rules give for a trace, as the proved checker says (document 02, R-14); and if not, the first byte that is wrong, as the
+record and the field that it stands in. For `ward check` and for ./check-log."""
 
 import os
 
 from ward import program
-from ward.ends import CANNOT_RUN, DONE, NO, Ended
+from ward.ends import CANNOT_READ, CANNOT_RUN, Ended
 from ward.files import opened
-from ward.place import found_words, place_of, record_words, size_of
-from ward.records import PIECE
+from ward.place import place_of, place_words
+from ward.records import LONGEST, CannotRead
+
+# What the checker says of a log that is not accepted, before the byte.
+DIFFERS, TOO_LONG, ENDS_EARLY = WRONG = ("differs", "too long", "ends early")
 
 
-# What the proved checker says of a log that is not accepted, before the byte.
-DIFFERS, TOO_LONG, ENDS_EARLY = "differs at byte", "too long at byte", "ends early at byte"
+class Unread(Ended):
+    """The checker could not read the trace, or the log."""
+
+    def __init__(self, what):
+        super().__init__(f"reading the {what} failed", CANNOT_READ)
+        self.what = what
 
 
 def found(trace_path, log_path):
-    """What is wrong with a log, and at which byte; nothing where it is accepted. The proved checker says it; where that is not there, the log is held against
-    the one that the program gives, which says the same."""
-    said = program.judged(trace_path, log_path)
-    if said is None:
-        return compared(trace_path, log_path)
-    if said == "accepted":
-        return None
-    kind, _, offset = said.rpartition(" ")
-    if kind not in (DIFFERS, TOO_LONG, ENDS_EARLY) or not offset.isdigit():
-        raise Ended(f"the checker said {said!r}", CANNOT_RUN)
-    return kind, int(offset)
+    """What is wrong with a log, and at which byte; nothing where it is accepted."""
+    said, complained = program.judged(trace_path, log_path)
+    kind, _, offset = said.partition(" at byte ")
+    if kind in WRONG and offset.isdigit():
+        return kind, int(offset)
+    for what in ("trace", "log"):
+        if complained == f"check_log: reading the {what} failed":
+            raise Unread(what)
+    if said != "accepted" or complained:
+        raise Ended(f"the checker did not tell what it found: {complained or said}", CANNOT_RUN)
+    return None
 
 
-def compared(trace_path, log_path):
-    """The same, by comparing, piece by piece."""
-    with opened(trace_path) as trace, opened(log_path) as log, program.running(trace) as told:
-        common = 0
-        while (given := told.read(PIECE)) == (read := log.read(PIECE)) != b"":
-            common += len(given)
-        while told.read(PIECE):
-            pass
-    if given == read:
-        return None
-    same = next((at for at, (one, other) in enumerate(zip(given, read)) if one != other), min(len(given), len(read)))
-    return (ENDS_EARLY if same == len(read) else TOO_LONG if same == len(given) else DIFFERS), common + same
-
-
-def bytes_at(path, at, count):
+def bytes_at(path, at):
+    """As many bytes of a file as the longest record has, fewer at its end."""
     with opened(path) as file:
         file.seek(at)
-        return file.read(count)
+        return file.read(LONGEST)
 
 
-def placed(trace_path, offset):
-    """The place of a byte of the log that the program gives."""
+def where(trace_path, log_path, offset):
+    """The place of a byte, in words. Raises CannotRead where a file has changed since it was judged."""
     with opened(trace_path) as trace, opened(trace_path) as fed, program.running(fed) as told:
         place = place_of(trace, told, offset)
-        while told.read(PIECE):
-            pass
-        return place
-
-
-def words_of(trace_path, log_path, kind, offset):
-    """What is wrong with a log, in one line."""
-    place = placed(trace_path, offset)
-    if place.answer is None:
-        return f"too long: all that the trace asks is answered before byte {offset} of the log"
-    where = f"in the answer to {record_words(place.exchange)}"
-    if kind == ENDS_EARLY:
-        return f"ends early, at byte {offset} of the log, {where}, before the {place.field} of its {place.answer.mark.decode()}"
-    return f"differs at byte {offset} of the log, {where}: {found_words(place, bytes_at(log_path, place.answer.at, size_of(place.answer)))}"
+    return place_words(place, bytes_at(log_path, place.at(offset)), offset)
 
 
 def check(trace_path, log_path):
-    """A line for people, and the exit status."""
+    """A line for people, and what is wrong with the log, nothing where it is accepted. What is wrong is told also where its place can't be."""
     wrong = found(trace_path, log_path)
     if wrong is None:
-        return f"accepted: the log is the one that the rules give for this trace, all {os.path.getsize(log_path)} bytes of it", DONE
-    return words_of(trace_path, log_path, *wrong), NO
+        return f"accepted: the log is the one that the rules give for the trace, all {os.path.getsize(log_path)} bytes of it", None
+    kind, offset = wrong
+    try:
+        place = where(trace_path, log_path, offset)
+    except (Ended, OSError, CannotRead) as why:
+        place = f"; its place can't be told: {why}"
+    return f"{kind} at byte {offset} of the log{place}", kind

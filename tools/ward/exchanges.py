@@ -34,7 +34,7 @@ def damaged(count, damage, answers):
 
 def exchanges(trace, log):
     """The exchanges of a trace and a log, both files, in order, no more than one of them kept. An answer `ER` ends them: the rest of the trace was not looked
-    at. Raises CannotRead where the log is damaged."""
+    at. Raises CannotRead where the log is damaged, behind the exchange that has the answers up to there, where it has any."""
     answers, count = (Record(*each) for each in records_in(log, ANSWERS)), 0
     given = records_in(trace, TRACE)
     while True:
@@ -46,17 +46,24 @@ def exchanges(trace, log):
         except CannotRead as damage:
             yield damaged(count, damage, answers)
             return
-        told = answers_to(record, answers)
-        yield Exchange(count, record, told)
+        told, damage = answers_to(record, answers)
+        if told or not damage:
+            yield Exchange(count, record, told)
+        if damage:
+            raise damage
         if told and told[-1].mark == b"ER":
             return
 
 
 def answers_to(record, answers):
-    """What a record is answered: all departures up to its `TA` for a `TK`, one answer for any other; less where the log ends."""
+    """What a record is answered: all departures up to its `TA` for a `TK`, one answer for any other; less where the log ends, or is damaged: then with the
+    damage."""
     told = []
-    for answer in answers:
-        told.append(answer)
-        if record.mark != b"TK" or answer.mark != b"DP":
-            break
-    return told
+    try:
+        for answer in answers:
+            told.append(answer)
+            if record.mark != b"TK" or answer.mark != b"DP":
+                break
+    except CannotRead as damage:
+        return told, damage
+    return told, None

@@ -7,11 +7,13 @@ from typing import NamedTuple
 from ward.ends import cannot_read
 from ward.exchanges import exchanges
 from ward.figures import NOTICES, Frames, Gap, Levels, Share, Stamps
-from ward.records import ANSWERED
+from ward.records import ANSWERED, CannotRead
 from ward.verdicts import DONE
 
 # The verdict of an offer whose stamp is not timely.
 UNTIMELY = 17
+# Why a record that can be read is answered with `ER`.
+TOO_LONG = "a trace has at most 16,777,216 bytes"
 ADMISSIONS = {b"CN": Gap, b"CS": Stamps, b"CF": Share}
 
 
@@ -103,31 +105,38 @@ def suits(link, figures):
 
 
 class History:
-    """All lines of a trace and its log, with the clock, and how often something else than an offer was refused, by what and by verdict. `keep` is handed
-    every packet when it has left, or at the end, and every refusal of an offer. `pumps` are those of the ward that the trace was made of, in the order in
-    which they ask: for their names."""
+    """All lines of a trace and its log, up to damage in either, with the clock, and how often something else than an offer was refused, by what and by
+    verdict. `keep` is handed every packet when it has left, or at the end, and every refusal of an offer. `pumps` are those of the ward that the trace was made
+    of, in the order in which they ask: for their names."""
 
     def __init__(self, pumps=(), keep=lambda event: None):
-        self.link, self.clock, self.records, self.at, self.damage = None, 0, 0, 0, None
+        self.link, self.clock, self.records, self.at, self.damage, self.log_is_damaged = None, 0, 0, 0, None, False
         self.lines, self.standing, self.nobody, self.refused = [], {}, {}, Counter()
         self.pumps, self.keep, self.owners = list(pumps), keep, Counter()
         self.notices = Line(NOTICES, None, None, "notices")
 
     def read(self, trace, log, progress=lambda history: None):
         """Goes through a trace and its log, both files."""
-        for exchange in exchanges(trace, log):
-            if exchange.damage or (exchange.answers and exchange.answers[-1].mark == b"ER"):
-                self.damage = exchange
-                break
-            self.records, self.at = exchange.count, exchange.record.at
-            if exchange.answers:
-                must_answer(exchange)
-                self.follow(exchange.record, exchange.answers)
-            progress(self)
+        try:
+            for exchange in exchanges(trace, log):
+                if exchange.damage or (exchange.answers and exchange.answers[-1].mark == b"ER"):
+                    self.damage = CannotRead(exchange.damage or TOO_LONG, exchange.record.at)
+                    break
+                self.take(exchange)
+                progress(self)
+        except CannotRead as damage:
+            self.damage, self.log_is_damaged = damage, True
         for line in self.all_lines():
             for packet in line.held:
                 self.keep(packet)
         return self
+
+    def take(self, exchange):
+        """Takes in one exchange."""
+        self.records, self.at = exchange.count, exchange.record.at
+        if exchange.answers:
+            must_answer(exchange)
+            self.follow(exchange.record, exchange.answers)
 
     def all_lines(self):
         """The lines in the order in which they were let in, then offers under numbers that are nobody's, then notices, as far as there are such."""

@@ -3,34 +3,28 @@
 import argparse
 import contextlib
 import os
-import sys
 
 from ward import sending, wards
 from ward.check import check
 from ward.delays import DelayPicture, Delays
-from ward.ends import CANNOT_READ, CANNOT_WRITE, DAMAGED, DONE, STATUSES, WRONG_USE, Ended, cannot_read
-from ward.files import opened, readable, text_of, writable
+from ward.ends import CANNOT_READ, CANNOT_WRITE, DAMAGED, DONE, NO, STATUSES, WRONG_USE, Ended
+from ward.files import STANDARD, complain, name_of, opened, readable, say, stand_in, text_of, writable
 from ward.history import History
 from ward.picture import TimeLine, Window, usual_ticks
 from ward.plan import plan
-from ward.records import LONGEST, CannotRead
+from ward.records import LONGEST
 from ward.run import run
 from ward.summary import summary
 from ward.text import bytes_lines, kinds_of, text_lines, together
 
 
 def ward_of(path):
-    return wards.read_ward(path, text_of(path))
+    return wards.read_ward(name_of(path), text_of(path))
 
 
 def pumps_in(path):
     """The pumps of a ward, in the order in which they ask; none without a ward."""
     return ward_of(path).pumps if path else ()
-
-
-def say(lines):
-    for line in lines:
-        print(line)
 
 
 def do_plan(options):
@@ -50,12 +44,8 @@ def do_trace(options):
 def do_text(options):
     """One file, or a trace and its log together."""
     with contextlib.ExitStack() as open_files:
-        files = [open_files.enter_context(opened(open_files.enter_context(readable(path)))) for path in options.files]
-        lines = together(*files) if len(files) == 2 else text_lines(files[0], kinds_at(files[0]))
-        try:
-            say(lines)
-        except CannotRead as damage:
-            raise Ended(f"{' '.join(options.files)}: damaged: {damage}", DAMAGED) from None
+        files = [(name_of(path), open_files.enter_context(opened(open_files.enter_context(readable(path))))) for path in options.files]
+        say(together(*files) if len(files) == 2 else text_lines(*files[0], kinds_at(files[0][1])))
     return DONE
 
 
@@ -69,17 +59,16 @@ def kinds_at(file):
 def do_bytes(options):
     lines = text_of(options.text).splitlines()
     with writable(options.output) as file:
-        for part in bytes_lines(options.text, lines, options.only):
+        for part in bytes_lines(name_of(options.text), lines, options.only):
             file.write(part)
     return DONE
 
 
 def do_run(options):
+    if options.output == STANDARD:
+        raise Ended("--log: a file, please: standard output has the summary", WRONG_USE)
     with readable(options.trace) as path:
-        try:
-            lines, status = summary(run(path, options.log, pumps_in(options.ward), options.progress))
-        except CannotRead as damage:
-            raise cannot_read("the program's answers", damage) from None
+        lines, status = summary(run(path, options.output, pumps_in(options.ward), options.progress))
     say(lines)
     return status
 
@@ -88,17 +77,19 @@ def do_picture(options):
     """A first reading tells where the trace ends, the second keeps what is drawn."""
     with readable(options.trace) as trace, readable(options.log) as log:
         pumps = pumps_in(options.ward)
-        whole = told_by(options.log, trace, log, pumps)
+        whole = told_by(trace, log, pumps)
         known = [line.name for line in whole.all_lines()]
         for name in options.lines:
             if name not in known:
                 raise Ended(f"--lines: the trace has no line {name!r}", WRONG_USE)
         kept = (Delays if options.delays else Window)(*shown_ticks(options, whole))
-        history = told_by(options.log, trace, log, pumps, kept.keep)
+        history = told_by(trace, log, pumps, kept.keep)
     drawing = (DelayPicture if options.delays else TimeLine)(history, kept, options.lines)
     with writable(options.output) as file:
         file.write(drawing.written().encode())
-    return DAMAGED if history.damage else DONE
+    if history.damage:
+        raise Ended(f"{name_of(options.log if history.log_is_damaged else options.trace)}: damaged at byte {history.damage.at}: {history.damage.why}; all up to there is drawn", DAMAGED)
+    return DONE
 
 
 def shown_ticks(options, history):
@@ -112,27 +103,24 @@ def shown_ticks(options, history):
     return low, high
 
 
-def told_by(name, trace, log, pumps, keep=lambda event: None):
+def told_by(trace, log, pumps, keep=lambda event: None):
     """The history of a trace and its log, with an eye on each event."""
     with opened(trace) as records, opened(log) as answers:
-        try:
-            return History(pumps, keep).read(records, answers)
-        except CannotRead as damage:
-            raise Ended(f"{name}: damaged: {damage}", DAMAGED) from None
+        return History(pumps, keep).read(records, answers)
 
 
 def do_check(options):
     with readable(options.trace) as trace, readable(options.log) as log:
-        line, status = check(trace, log)
-    print(line)
-    return status
+        line, wrong = check(trace, log)
+    say([line])
+    return NO if wrong else DONE
 
 
 def count(text):
     """A number of ticks."""
     number = text.replace(",", "")
-    if not (number.isascii() and number.isdigit()) or int(number) > 4_000_000_000:
-        raise argparse.ArgumentTypeError(f"{text!r} is no number of ticks from 0 to 4,000,000,000")
+    if not (number.isascii() and number.isdigit()) or int(number) > wards.MOST_TICKS:
+        raise argparse.ArgumentTypeError(f"{text!r} is no number of ticks from 0 to {wards.MOST_TICKS:,}")
     return int(number)
 
 
@@ -180,7 +168,7 @@ def parser():
 
     one = sub("run", do_run, "a trace run by the proved program, and what became of each line")
     one.add_argument("trace", metavar="TRACE")
-    one.add_argument("--log", metavar="FILE", help="where the answers go")
+    one.add_argument("--log", dest="output", metavar="FILE", help="where the answers go")
     one.add_argument("--ward", metavar="WARD", help="the ward that the trace was made of, for its names")
     one.add_argument("--progress", action="store_true", help="on standard error, also where that is no terminal")
 
@@ -200,28 +188,34 @@ def parser():
     return top
 
 
+def look_over(options):
+    """Raises Ended where the files that are named can't be meant so."""
+    given, made = [*getattr(options, "files", ()), *(getattr(options, name, None) for name in ("ward", "text", "trace", "log"))], getattr(options, "output", None)
+    if len(getattr(options, "files", ())) > 2:
+        raise Ended("a file, please, or a trace and its log", WRONG_USE)
+    if given.count(STANDARD) > 1:
+        raise Ended("standard input can be only one of the files", WRONG_USE)
+    if made and os.path.isfile(made) and any(path and os.path.isfile(path) and os.path.samefile(path, made) for path in given):
+        raise Ended(f"{made}: it is read, and would be written over", WRONG_USE)
+
+
 def acted(options):
     """Runs a sub-command; its status. Nobody who reads the output any more is no error to tell of."""
     try:
-        status = options.act(options)
-        sys.stdout.flush()
-        return status
+        look_over(options)
+        return options.act(options)
     except Ended as end:
-        sys.stdout.flush()
-        print(f"ward {options.command}: {end}", file=sys.stderr)
+        complain(f"ward {options.command}: {end}")
         return end.status
     except KeyboardInterrupt:
         return INTERRUPTED
-    except OSError as error:
-        if not isinstance(error, BrokenPipeError):
-            print(f"ward {options.command}: {error.filename or 'a file'}: {error.strerror}", file=sys.stderr)
-            return CANNOT_READ
-        os.dup2(os.open(os.devnull, os.O_WRONLY), sys.stdout.fileno())
+    except BrokenPipeError:
         return CANNOT_WRITE
+    except OSError as error:
+        complain(f"ward {options.command}: {error.filename or 'a file'}: {error.strerror}")
+        return CANNOT_READ
 
 
 def main(arguments):
-    options = parser().parse_args(arguments)
-    if options.command == "text" and len(options.files) > 2:
-        parser().error("a file, or a trace and its log")
-    return acted(options)
+    stand_in()
+    return acted(parser().parse_args(arguments))

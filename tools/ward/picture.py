@@ -2,7 +2,7 @@
 
 from ward.figures import NOTICES, Frames, Share
 from ward.history import Packet
-from ward.svg import Drawing, Scale, fitted
+from ward.svg import Drawing, Scale, fitted, room_of
 from ward.verdicts import words
 
 WIDTH, LEFT, RIGHT = 1200, 236, 30
@@ -137,11 +137,16 @@ class TimeLine(Drawing):
             self.text("legend", x + 28, y + 6, said)
         self.height += 64
 
+    def ticks(self):
+        """The ticks that the axis names, as far apart as their numbers are wide."""
+        return self.x.steps(max(80, room_of(f"{self.window.high}  ", 16)))
+
     def axis(self):
-        """The ticks above the rows."""
+        """The ticks above the rows; the number of the last one is left out where it would go beyond the page."""
         self.height += 24
-        for tick in self.x.steps(80):
-            self.text("axis", self.x(tick), self.height, str(tick), "middle", {"tick": tick})
+        for tick in self.ticks():
+            if self.x(tick) + room_of(str(tick), 16) / 2 <= WIDTH:
+                self.text("axis", self.x(tick), self.height, str(tick), "middle", {"tick": tick})
         self.text("axis", LEFT - 60, self.height, "tick", "end")
         self.height += 8
         return self.height
@@ -149,7 +154,7 @@ class TimeLine(Drawing):
     def grid(self, top):
         """Lines under the rows' marks, from the axis to the last row."""
         drawn, self.parts = self.parts, []
-        for tick in self.x.steps(80):
+        for tick in self.ticks():
             self.line("grid", self.x(tick), top, self.x(tick), self.height)
         self.parts = drawn[:self.grid_from] + self.parts + drawn[self.grid_from:]
 

@@ -1,25 +1,35 @@
-"""Where a byte of a log stands: in the answer to which record of the trace, and in which field. For `ward check`, and for every other tool that has an offset
-to show."""
+"""Where a byte of a log stands: in the answer to which record of the trace, and in which field."""
 
 from typing import NamedTuple
 
 from ward.exchanges import Exchange, Record, exchanges
-from ward.records import KINDS, form_of
-from ward.text import shown
+from ward.records import ANSWERS, CannotRead, form_of, record_at
+from ward.text import plain
+
+# How many bytes are shown that are no answer.
+SHOWN = 24
 
 
 class Place(NamedTuple):
     """A byte of a log: the exchange that it belongs to, the answer that it stands in, and the answer's field. Behind the last answer of a log there is no
-    answer, and the exchange is the last one."""
+    answer, and the exchange is the last one; where the trace has no record there is no exchange either."""
 
     exchange: Exchange
     answer: Record
     field: str
 
+    def at(self, offset):
+        """Where the answer begins; behind the last one, the byte itself."""
+        return self.answer.at if self.answer else offset
+
+
+def form(answer):
+    return form_of(answer.mark, 0)[1]
+
 
 def size_of(answer):
     """The bytes of an answer."""
-    return 2 + form_of(answer.mark, 0)[1].size
+    return 2 + form(answer).size
 
 
 def field_at(answer, offset):
@@ -48,24 +58,43 @@ def place_of(trace, log, offset):
 def record_words(exchange):
     """Which record of the trace that is, for people."""
     record = exchange.record
-    what = shown(record.mark, record.numbers) if record.mark else f"damaged: {exchange.damage}"
-    return f"record {exchange.count} of the trace, at its byte {record.at} ({' '.join(what.split())})"
+    what = plain(record.mark, record.numbers) if record.mark else f"damaged: {exchange.damage}"
+    return f"record {exchange.count} of the trace, at its byte {record.at} ({what})"
+
+
+def bytes_words(data):
+    """The answer with which some bytes begin, or the bytes where that is none."""
+    try:
+        _, unpacks, _ = record_at(data, 0, ANSWERS)
+    except CannotRead:
+        return f"the bytes {data[:SHOWN].hex(' ').upper()}{' ..' if len(data) > SHOWN else ''}" if data else "nothing"
+    return plain(data[:2], unpacks.unpack_from(data, 2))
 
 
 def number_in(data, answer, field):
     """The number of a field in bytes that stand where an answer should; None where they end before it does, or have another mark."""
-    _, form = form_of(answer.mark, 0)
-    if data[:2] != answer.mark or len(data) < 2 + form.size:
+    if field == "mark" or data[:2] != answer.mark or len(data) < size_of(answer):
         return None
-    names = [name for name, _ in answer.fields]
-    return form.unpack_from(data, 2)[names.index(field)]
+    return form(answer).unpack_from(data, 2)[[name for name, _ in answer.fields].index(field)]
 
 
-def found_words(place, data):
-    """What stands in a log in the place of the answer that the rules give, from the bytes there."""
+def answer_words(place, data, there):
+    """What the rules give for an answer, and what the log has in its place: its bytes there. Both are the same up to so many bytes, and no further."""
     answer, field = place.answer, place.field
-    found = None if field == "mark" else number_in(data, answer, field)
-    if found is not None:
-        return f"in the field {field} of its {answer.mark.decode()} the rules give {answer.named()[field]}, and the log has {found}"
-    name = KINDS.get(data[:2], ("no answer",))[0]
-    return f"the rules give {' '.join(shown(answer.mark, answer.numbers).split())}, and the log has {data[:size_of(answer)].hex(' ').upper()} ({name})"
+    given = answer.mark + form(answer).pack(*answer.numbers)
+    if data[:there] != given[:there] or data[there:there + 1] == given[there:there + 1]:
+        raise CannotRead("a file has changed")
+    number = number_in(data, answer, field)
+    if number is not None:
+        return f"in the field {field} of its {answer.mark.decode()} the rules give {answer.named()[field]}, and the log has {number}"
+    ends = f"ends before the end of the {'mark' if field == 'mark' else f'field {field}'}"
+    return f"the rules give {plain(answer.mark, answer.numbers)}, and the log {ends if len(data) == there else f'has {bytes_words(data)}'}"
+
+
+def place_words(place, data, offset):
+    """The place of a byte in words, and what stands there: some bytes of the log from the answer on, or from the byte itself on where there is no answer."""
+    if place.exchange is None:
+        return f": the trace has no record, and the log has {bytes_words(data)}"
+    if place.answer is None:
+        return f", behind the last answer, to {record_words(place.exchange)}: the log has {bytes_words(data)}"
+    return f", in the answer to {record_words(place.exchange)}: {answer_words(place, data, offset - place.answer.at)}"

@@ -14,6 +14,7 @@ from ward.verdicts import refusal
 from ward.wards import Pump
 
 FIGURES = ["level", "gap", "size", "window", "average", "allowance", "units", "places"]
+AVERAGE = ("window", "average")
 
 
 class Asked(NamedTuple):
@@ -49,7 +50,9 @@ def pump_row(group, framed):
     """A row for pumps in a row that are alike. On a link of frames a pump names its places itself."""
     first, last = group[0], group[-1]
     figures = first.pump.figures._asdict()
-    row = [span(first.pump.name, last.pump.name), len(group) if len(group) > 1 else "", *(figures.get(name) or "" for name in FIGURES)]
+    if not any(figures.get(name) for name in AVERAGE):
+        figures.update(dict.fromkeys(AVERAGE, ""))
+    row = [span(first.pump.name, last.pump.name), len(group) if len(group) > 1 else "", *(figures.get(name, "") for name in FIGURES)]
     if not first.answer.let_in():
         return [*row, "-", "" if framed else "-", f"refused: {refusal(first.answer)}"]
     return [*row, span(first.answer.number, last.answer.number), "" if framed else first.reserved, "let in"]
@@ -94,12 +97,12 @@ def plan(ward, each=False, fit=None):
     """The lines of a plan, and the exit status: whether all are let in."""
     framed, asked = not isinstance(ward.link, Levels), ask(ward)
     standing = standing_of(asked)
-    lines = [f"Link: {ward.link.words()}.", "", *pump_lines(asked, framed, each), ""]
+    lines = [f"Link: {ward.link.words()}.", "", *(pump_lines(asked, framed, each) if asked else ["The ward has no pumps."]), ""]
     lines += [*(frame_lines(ward.link, standing) if framed else level_lines(ward.link, standing)), "", total_line(asked)]
     for one, many in refused_kinds(asked):
         others = f" (and {many - 1} more like it)" if many > 1 else ""
         lines += ["", f"What would let {one.pump.name}{others} in, beside those that are let in, each by itself:"]
         lines += help_lines(ward.link, standing, one.pump.figures, one.answer)
-    if fit:
+    if fit is not None:
         lines += ["", *fit_lines(ward, standing, fit)]
     return lines, DONE if len(standing) == len(asked) else NO

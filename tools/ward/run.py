@@ -6,6 +6,7 @@ import sys
 import time
 
 from ward import program
+from ward.ends import cannot_read
 from ward.files import opened, writable
 from ward.history import History
 from ward.records import PIECE
@@ -59,4 +60,6 @@ def run(path, log_path=None, pumps=(), wanted=False):
                 pass
         finally:
             progress.end()
+    if history.log_is_damaged:
+        raise cannot_read("the program's answers", history.damage)
     return history

@@ -1,10 +1,12 @@
 """`ward trace`: a trace of a ward, in which each line sends in its own way. The proved program says which number each pump has."""
 
 import random
+from collections import deque
+from itertools import islice
 from typing import NamedTuple
 
 from ward import records
-from ward.ends import CANNOT_READ, WRONG_USE, Ended
+from ward.ends import WRONG_USE, Ended, cannot_read
 from ward.figures import Share, Stamps
 from ward.questions import in_turn, must_stand
 from ward.wards import WAYS
@@ -12,7 +14,9 @@ from ward.wards import WAYS
 # What `bursts` sends at once, and how many packets `wild` sends for each that it may.
 BURST, WILD = 4, 6
 LONGEST_TICKS = 65_535
-LONGEST_TRACE = 16_777_216
+# The bytes of a trace, and of its shortest offer: so many offers are never too few to see that there are too many.
+LONGEST_TRACE, SHORTEST_OFFER = 16_777_216, 8
+TAGS = 2**32
 
 
 class Pace(NamedTuple):
@@ -48,22 +52,21 @@ def pace_of(figures, link):
 
 def keeps(pace, start, end):
     """The ticks of a line that keeps its word and sends as soon as it may."""
-    sent, tick = [], start
+    sent, tick = deque(maxlen=pace.packets or 1), start
     while tick < end:
+        yield tick
         sent.append(tick)
         tick += pace.gap
-        if pace.packets and len(sent) >= pace.packets:
-            tick = max(tick, sent[-pace.packets] + pace.window)
-    return sent
+        if len(sent) == pace.packets:
+            tick = max(tick, sent[0] + pace.window)
 
 
 def at_random(pace, start, end, numbers):
     """A packet each two gaps at the most, and as often sooner as later than a gap."""
-    sent, tick = [], start + numbers.randrange(2 * pace.gap)
+    tick = start + numbers.randrange(2 * pace.gap)
     while tick < end:
-        sent.append(tick)
+        yield tick
         tick += numbers.randint(1, 2 * pace.gap)
-    return sent
 
 
 def ticks_of(sending, pace, ticks, numbers):
@@ -72,15 +75,15 @@ def ticks_of(sending, pace, ticks, numbers):
     if sending.way == "at":
         return sorted(tick for tick in sending.ticks if start <= tick < end)
     if sending.way == "every":
-        return list(range(start, end, sending.every))
+        return range(start, end, sending.every)
     if sending.way == "nothing" or pace is None:
-        return []
+        return ()
     if sending.way == "keeps":
         return keeps(pace, start, end)
     if sending.way == "bursts":
-        return [tick for tick in range(start, end, BURST * pace.gap) for _ in range(BURST)]
+        return (tick for tick in range(start, end, BURST * pace.gap) for _ in range(BURST))
     if sending.way == "wild":
-        return list(range(start, end, max(1, pace.gap // WILD)))
+        return range(start, end, max(1, pace.gap // WILD))
     return at_random(pace, start, end, numbers)
 
 
@@ -91,7 +94,7 @@ def pump_offers(ward, place, number, ticks, seed):
     for count, tick in enumerate(ticks_of(pump.sending, pace, ticks, numbers)):
         # how long a packet is hangs on the way alone, so that one that can't keep its word offers something too
         most = pace.size if pace else 1
-        length, tag = numbers.randint(1, most) if pump.sending.way == "random" else most, pump.sending.tags + count
+        length, tag = numbers.randint(1, most) if pump.sending.way == "random" else most, (pump.sending.tags + count) % TAGS
         if isinstance(pump.figures, Stamps):
             late = pump.figures.allowance // 2
             yield Offer(tick + late, place, records.offer_stamped(number, length, tag, tick))
@@ -104,7 +107,7 @@ def notice_offers(ward, place, ticks, seed):
     sender = ward.notices[place - len(ward.pumps)]
     pace, numbers = Pace(10 * max(1, sender.size), 0, 0, sender.size), random.Random(f"{seed} {sender.name}")
     for count, tick in enumerate(ticks_of(sender.sending, pace, ticks, numbers)):
-        yield Offer(tick, place, records.notice(sender.size, sender.sending.tags + count))
+        yield Offer(tick, place, records.notice(sender.size, (sender.sending.tags + count) % TAGS))
 
 
 def waits(count):
@@ -117,9 +120,17 @@ def offers(ward, ticks, seed):
     which is nobody's."""
     must_stand(ward)
     numbers = [answer.number for answer in in_turn(ward.link, [pump.figures for pump in ward.pumps])]
-    made = [offer for place in range(len(ward.pumps)) for offer in pump_offers(ward, place, numbers[place], ticks, seed)]
-    made += [offer for place in range(len(ward.pumps), len(ward.pumps) + len(ward.notices)) for offer in notice_offers(ward, place, ticks, seed)]
-    return sorted((offer for offer in made if offer.tick < ticks), key=lambda offer: (offer.tick, offer.place))
+    made = [pump_offers(ward, place, number, ticks, seed) for place, number in enumerate(numbers)]
+    made += [notice_offers(ward, place, ticks, seed) for place in range(len(ward.pumps), len(ward.pumps) + len(ward.notices))]
+    most = LONGEST_TRACE // SHORTEST_OFFER + 1
+    found = list(islice((offer for each in made for offer in each if offer.tick < ticks), most))
+    if len(found) == most:
+        raise too_long(ward)
+    return sorted(found, key=lambda offer: (offer.tick, offer.place))
+
+
+def too_long(ward):
+    return cannot_read(ward.path, f"a trace has at most {LONGEST_TRACE} bytes, and this would have more; fewer ticks, please")
 
 
 def trace(ward, ticks, seed):
@@ -130,7 +141,7 @@ def trace(ward, ticks, seed):
         clock = offer.tick
     whole = b"".join([*made, waits(ticks - clock)])
     if len(whole) > LONGEST_TRACE:
-        raise Ended(f"{ward.path}: a trace has at most {LONGEST_TRACE} bytes, and this would have {len(whole)}; fewer ticks, please", CANNOT_READ)
+        raise too_long(ward)
     return whole
 
 

@@ -42,6 +42,5 @@ def summary(history):
     lines += ["", "Refused:", *(f"  {line}" for line in table(["who", "how often", "with", "why"], refusals))] if refusals else ["", "Nothing was refused."]
     lines += ["", *late_lines(history)] if late_lines(history) else []
     if history.damage:
-        why = history.damage.damage or "a trace has at most 16,777,216 bytes"
-        lines += ["", f"The trace is damaged at byte {history.damage.record.at}, in its record {history.damage.count}: {why}. All up to there was run."]
+        lines += ["", f"The trace is damaged at byte {history.damage.at}, in its record {history.records + 1}: {history.damage.why}. All up to there was run."]
     return lines, DAMAGED if history.damage else DONE

@@ -90,6 +90,11 @@ class Scale:
         return range(-(-self.low // step) * step, self.high + 1, step)
 
 
+def room_of(words, size):
+    """How wide some words are, or a little less."""
+    return len(words) * size * LETTER
+
+
 def fitted(words, size, room):
     """Words that fit into some room, cut where they don't."""
     most = int(room / (size * LETTER))

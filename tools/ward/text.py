@@ -12,7 +12,7 @@ no record: from damage on, all that is left. What stands behind a # is for peopl
 import functools
 import re
 
-from ward.ends import cannot_read
+from ward.ends import DAMAGED, Ended, cannot_read
 from ward.records import ANSWERS, KINDS, MOST_LEVELS, PER_LEVEL, PIECE, TRACE, CannotRead, form_of, records_in
 from ward.verdicts import words
 
@@ -44,6 +44,11 @@ def shown_fields(mark, numbers):
     return ", ".join(single + [f"{PLURAL[what]} {' '.join(given)}" for what, given in lists.items()])
 
 
+def plain(mark, numbers):
+    """A record in words, within a sentence."""
+    return f"{mark.decode()} {KINDS[mark][0]} {shown_fields(mark, numbers)}"
+
+
 @functools.lru_cache(maxsize=KEPT)
 def shown(mark, numbers):
     """A record as a line of text. What a refusal means is told behind it."""
@@ -64,9 +69,9 @@ def raw_lines(file):
             yield f"{RAW} {more[at:at + RAW_BYTES].hex(' ').upper()}"
 
 
-def text_lines(file, kinds):
-    """The lines of a file of records that can be read twice. From damage on its bytes are shown as they are; then the damage is raised, behind the last
-    line."""
+def text_lines(path, file, kinds):
+    """The lines of a file of records that can be read twice, under its name. From damage on its bytes are shown as they are; then the damage is raised, as the
+    end, behind the last line."""
     try:
         for _, mark, _, numbers in records_in(file, kinds):
             yield shown(mark, numbers)
@@ -74,23 +79,23 @@ def text_lines(file, kinds):
         yield f"# damaged from byte {damage.at} on: {damage.why}"
         file.seek(damage.at)
         yield from raw_lines(file)
-        raise
+        raise Ended(f"{path}: damaged: {damage}", DAMAGED) from None
 
 
 def put_off(lines, damages):
     """Lines whose damage, which comes behind the last of them, is put down in place of being raised."""
     try:
         yield from lines
-    except CannotRead as damage:
+    except Ended as damage:
         damages.append(damage)
 
 
 def together(trace, log):
     """Each record of a trace, and under it, four spaces in, what the log answers to it: all departures up to its `TA` for a `TK`, one answer for any other.
-    What is left of the log comes last, and then damage is raised."""
+    What is left of the log comes last, and then damage is raised. Of each its name and the file."""
     damages = []
-    answers = put_off(text_lines(log, ANSWERS), damages)
-    for line in put_off(text_lines(trace, TRACE), damages):
+    answers = put_off(text_lines(*log, ANSWERS), damages)
+    for line in put_off(text_lines(*trace, TRACE), damages):
         yield line
         if line.startswith(("#", RAW)):
             continue
@@ -127,6 +132,8 @@ def levels_named(mark, named):
     if not lists:
         return 0
     levels = len(lists[0])
+    if "levels" in named:
+        raise Unclear(f"{mark.decode()}: levels", "its bounds tell how many there are")
     if not 1 <= levels <= MOST_LEVELS or any(len(given) != levels for given in lists):
         raise Unclear(f"{mark.decode()}: bounds", f"1 to {MOST_LEVELS} of them, please, and as many windows where it has any")
     named["levels"] = [levels]
@@ -154,9 +161,10 @@ def record_of(mark, text):
 @functools.lru_cache(maxsize=KEPT)
 def bytes_of(line):
     """The bytes of a line of text; none where it has nothing but what is for people. Raises Unclear."""
-    mark, _, rest = line.split("#")[0].strip().partition(" ")
-    if not mark:
+    words = line.split("#")[0].split(None, 1)
+    if not words:
         return b""
+    mark, rest = words[0], "".join(words[1:])
     if mark == RAW:
         try:
             return bytes.fromhex(rest)

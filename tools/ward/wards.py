@@ -24,6 +24,8 @@ DEFAULT_TICKS = 1_000
 # How far apart the tags of two pumps are, and of two senders of notices.
 TAGS_APART, NOTICES_APART = 1_000_000, 100_000
 BYTE, TWO_BYTES, FOUR_BYTES = 0xFF, 0xFFFF, 0xFFFFFFFF
+# The clock ends there.
+MOST_TICKS = 4_000_000_000
 # Of each statement what may stand in it, with the largest number that a record has room for; and what must.
 LINK = {"largest": TWO_BYTES, "silence": BYTE, "bounds": TWO_BYTES, "windows": TWO_BYTES, "early": None}
 FRAMES = {"length": TWO_BYTES, "largest": TWO_BYTES, "silence": BYTE}
@@ -32,7 +34,7 @@ BY_LEVEL = {"level": BYTE, "gap": TWO_BYTES, "size": TWO_BYTES, "window": TWO_BY
 BY_FRAME = {"units": TWO_BYTES, "places": TWO_BYTES}
 PUMP = {**BY_LEVEL, **BY_FRAME, "count": TWO_BYTES, **SENDING}
 NOTICE = {"size": TWO_BYTES, **SENDING}
-TICKS = {"ticks": FOUR_BYTES}
+TICKS = {"ticks": MOST_TICKS}
 LISTS = ("bounds", "windows", "at")
 
 
@@ -99,7 +101,7 @@ class Statement:
     def numbers(self, name):
         """The numbers of a figure, each of which its record has room for."""
         for word in self.figures.get(name, ()):
-            if not re.fullmatch(r"\d{1,3}(,\d{3})+|\d+", word):
+            if not re.fullmatch(r"[0-9]{1,3}(,[0-9]{3})+|[0-9]+", word):
                 raise self.wrong(name, f"{word!r} is not a number")
         numbers = tuple(int(word.replace(",", "")) for word in self.figures.get(name, ()))
         for number in numbers:
@@ -170,8 +172,13 @@ def sending_of(statement, tags):
         raise statement.wrong(ways[1], f"{ways[0]} says already how it sends")
     if "every" in ways and every == 0:
         raise statement.wrong("every", "at least 1, please")
+    if "at" in ways and not ticks:
+        raise statement.wrong("at", "at least one tick, please")
     way = statement.word("sends", WAYS, WAYS[0]) if ways in ([], ["sends"]) else ways[0]
-    return Sending(way, ticks, every, statement.number("from", 0), statement.number("to", FOUR_BYTES), statement.number("tags", tags))
+    start, stop = statement.number("from", 0), statement.number("to", FOUR_BYTES)
+    if stop < start:
+        raise statement.wrong("to", f"{stop} is before {start}, from which it sends")
+    return Sending(way, ticks, every, start, stop, statement.number("tags", tags))
 
 
 def counted(name, count):
@@ -215,7 +222,9 @@ class Reader:
             raise cannot_read(place, f"a line begins with link, frames, pump, notice or ticks, and not with {kind!r}")
 
     def named(self, name, place):
-        """Names are of one pump or sender of notices each."""
+        """Names are of one pump or sender of notices each, and can be printed."""
+        if not name.isprintable():
+            raise cannot_read(place, f"the name {name!r} can't be printed")
         if name in self.names:
             raise cannot_read(f"{place}: {name}", f"{self.names[name]} has this name already")
         self.names[name] = place
@@ -241,4 +250,4 @@ def read_ward(path, text):
 
 def read_figures(text):
     """The figures of a pump alone, as `ward plan --fit` takes them."""
-    return figures_of(Statement("--fit", text.split(), PUMP))
+    return figures_of(Statement("--fit", text.split(), {**BY_LEVEL, **BY_FRAME}))
