@@ -126,6 +126,7 @@ def count(text):
 
 # What a shell says of a command that was ended from the keyboard.
 INTERRUPTED = 130
+A_WARD, OUTPUT = "the ward, a text file; - is standard input", "where it goes; else to standard output"
 
 
 class Parser(argparse.ArgumentParser):
@@ -146,45 +147,45 @@ def parser():
         return made
 
     one = sub("plan", do_plan, "who of a ward is let in, what is to spare, and what would let in those who are refused", wards.__doc__)
-    one.add_argument("ward", metavar="WARD", help="the ward, a text file; - is standard input")
+    one.add_argument("ward", metavar="WARD", help=A_WARD)
     one.add_argument("--each", action="store_true", help="a row for each pump, also for those that are alike")
     fit = "how many more of a pump fit, by document 01's test and by the finer one: a name of the ward, or figures such as 'level 1 gap 40 size 4'"
     one.add_argument("--fit", metavar="PUMP", help=fit)
 
     one = sub("trace", do_trace, "a trace of a ward: who sends when")
-    one.add_argument("ward", metavar="WARD")
+    one.add_argument("ward", metavar="WARD", help=A_WARD)
     one.add_argument("--ticks", type=count, help="how long it is; else as the ward says, or 1,000")
     one.add_argument("--seed", type=int, default=0, help="for those that send at random; 0 where nothing is said")
     one.add_argument("--sends", metavar="PUMP=WAY", action="append", default=[], help=f"another way for a pump: {', '.join(wards.WAYS)}")
-    one.add_argument("-o", "--output", metavar="FILE")
+    one.add_argument("-o", "--output", metavar="FILE", help=OUTPUT)
 
     one = sub("text", do_text, "a trace or a log as text, a line for each record; of both, each record with its answers under it")
-    one.add_argument("files", metavar="FILE", nargs="+")
+    one.add_argument("files", metavar="FILE", nargs="+", help="a trace or a log, or both, the trace first; - is standard input")
 
     one = sub("bytes", do_bytes, "text of ward text as bytes again, byte for byte")
-    one.add_argument("text", metavar="TEXT")
+    one.add_argument("text", metavar="TEXT", help="the text; - is standard input")
     one.add_argument("--only", choices=("trace", "log"), help="of a text that has both")
-    one.add_argument("-o", "--output", metavar="FILE")
+    one.add_argument("-o", "--output", metavar="FILE", help=OUTPUT)
 
     one = sub("run", do_run, "a trace run by the proved program, and what became of each line")
-    one.add_argument("trace", metavar="TRACE")
+    one.add_argument("trace", metavar="TRACE", help="the trace; - is standard input")
     one.add_argument("--log", dest="output", metavar="FILE", help="where the answers go")
     one.add_argument("--ward", metavar="WARD", help="the ward that the trace was made of, for its names")
     one.add_argument("--progress", action="store_true", help="on standard error, also where that is no terminal")
 
     one = sub("picture", do_picture, "a trace and its log as a picture (SVG): a time line, or delays beside their bounds")
-    one.add_argument("trace", metavar="TRACE")
-    one.add_argument("log", metavar="LOG")
+    one.add_argument("trace", metavar="TRACE", help="the trace; - is standard input")
+    one.add_argument("log", metavar="LOG", help="its log")
     one.add_argument("--delays", action="store_true", help="how long packets took, beside their bounds")
-    one.add_argument("--from", dest="low", metavar="TICK", type=count, default=0)
-    one.add_argument("--to", dest="high", metavar="TICK", type=count, help="else as many ticks are shown as the first bound has twice, 400 at least; of delays all")
+    one.add_argument("--from", dest="low", metavar="TICK", type=count, default=0, help="the first tick of the picture; 0 where nothing is said")
+    one.add_argument("--to", dest="high", metavar="TICK", type=count, help="the last one; else as many ticks are shown as the first bound has twice, 400 at least; of delays all")
     one.add_argument("--lines", metavar="NAME", nargs="+", default=(), help="these lines alone")
     one.add_argument("--ward", metavar="WARD", help="the ward that the trace was made of, for its names")
-    one.add_argument("-o", "--output", metavar="FILE")
+    one.add_argument("-o", "--output", metavar="FILE", help=OUTPUT)
 
     one = sub("check", do_check, "whether a log is the one that the rules give for a trace")
-    one.add_argument("trace", metavar="TRACE")
-    one.add_argument("log", metavar="LOG")
+    one.add_argument("trace", metavar="TRACE", help="the trace; - is standard input")
+    one.add_argument("log", metavar="LOG", help="its log")
     return top
 
 

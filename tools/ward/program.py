@@ -24,7 +24,7 @@ TESTS = os.path.join(ROOT, "tests")
 def built(name):
     """The words that run a proved program."""
     if not os.path.exists(os.path.join(ROOT, "target", "bin", name)):
-        complain(f"ward: the program {name} is proved and built first, which takes some minutes")
+        complain(f"the program {name} is proved and built first, which takes some minutes")
     done = subprocess.run([os.path.join(TESTS, "built"), name], stdin=subprocess.DEVNULL, stdout=subprocess.PIPE, check=False)
     if done.returncode:
         raise Ended(f"the proved program {name} could not be built", CANNOT_RUN)
