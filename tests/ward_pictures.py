@@ -223,16 +223,20 @@ def browser_test(expect, run, kept, full):
 
 
 def long_texts(expect, run, kept):
-    """A ward with a long name, and a time line of ticks of ten digits: a packet each 50 ticks, the first 65,535 x 61,000 ticks from the start."""
+    """A ward with a long name; delays of packets that go early, by some 40 times their bound; and a time line of ticks of ten digits: a packet each 50 ticks, the first
+    65,535 x 61,000 ticks from the start."""
     ward = kept("long.ward", "link largest 8 silence 1 bounds 400\npump the-pump-in-the-far-corner<b>&\"9\" count 12 level 1 gap 400 size 4 sends wild\n")
     trace = kept("long.trace", run("trace", ward)[1])
     far = kept("far.trace", link(8, 1, [40]) + admit(1, 40, 4) + ticks(65_535) * 61_000 + (offer(0, 4, 7) + ticks(50)) * 8)
-    for path in (trace, far):
+    early = kept("early.trace", link(8, 0, [20], 1) + admit(1, 800, 4) + (offer(0, 4, 7) + ticks(4)) * 2)
+    for path in (trace, far, early):
         run("run", path, "--log", path + ".log")
     drawn = picture(expect, run, "ticks of ten digits", far, far + ".log", "--from", str(65_535 * 61_000))
     marks = list(marks_of(drawn))
     expect("ticks of ten digits: where they stand", [at for _, _, at in ticks_of(marks, "arrival", False)], [float(65_535 * 61_000 + 50 * place) for place in range(8)])
-    return {"a long name": picture(expect, run, "a long name", trace, trace + ".log", "--ward", ward), "ticks of ten digits": drawn}
+    delays = picture(expect, run, "early packets", early, early + ".log", "--delays")
+    expect("early packets: delays", sorted(int(mark.data["delay"]) for mark in marks_of(delays) if mark.cls == "delay"), [8 - 800, 4])
+    return {"a long name": picture(expect, run, "a long name", trace, trace + ".log", "--ward", ward), "early packets": delays, "ticks of ten digits": drawn}
 
 
 def drawn_extent(each):

@@ -8,6 +8,8 @@ ROW, MOST_ROWS, RIGHT = 46, 30, 250
 # How far past the bound the picture goes, and before the eligibility, in hundredths of the bound.
 PAST, BEFORE = 110, 0
 DOT = 5
+# How far apart two marks of the axis must be.
+MARK_ROOM = 120
 
 
 class Delays:
@@ -52,9 +54,14 @@ class DelayPicture(Drawing):
     def head(self):
         self.text("title", 20, 36, self.title)
         self.text("small", 20, 62, "A dot is a packet: from when it may go to when it has left. Each row is as wide as the line's own bound.")
-        for share, said in ((0, "at once"), (50, "half its bound"), (100, "its bound")):
+        for share, said in self.marks():
             self.text("axis", self.x(share), 96, said, "middle")
         self.top = self.height = 106
+
+    def marks(self):
+        """What the axis names; less where packets left so early that there is no room for all of it."""
+        half = self.x(50) - self.x(0)
+        return [*([(0, "at once")] if half > MARK_ROOM / 2 else []), *([(50, "half its bound")] if half > MARK_ROOM else []), (100, "its bound")]
 
     def row(self, line):
         top, bound, counts = self.height, line.bound(), self.delays.found[line]
