@@ -1,4 +1,4 @@
-//! The second discipline: a line with frames (docs/RULES-AFTER-BASE.md, section R-13). Its calls are link,
+//! The second discipline: a line with frames (docs/RULES.md, R-13). Its calls are link,
 //! admit, offer, offer of a notice, tick.
 
 use std::collections::VecDeque;

@@ -1,7 +1,7 @@
 //! A second opinion on the packet hub: the trace job of document 01 in ordinary Rust.
 //!
 //! Nothing here is shared with the hub's own library. Every rule names the section of
-//! document 01 that it follows, or the request of docs/RULES-AFTER-BASE.md. The simulator tests its own state for soundness
+//! document 01 that it follows, or the request of document 02 (docs/RULES.md). The simulator tests its own state for soundness
 //! only where it is asked to (`sound`): a trace starts from an empty state, so verdict 1 cannot occur.
 
 pub mod departure;

@@ -1,4 +1,4 @@
-//! The queue of notices below all levels (docs/RULES-AFTER-BASE.md, section R-1).
+//! The queue of notices below all levels (docs/RULES.md, R-1).
 
 use std::collections::VecDeque;
 

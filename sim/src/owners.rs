@@ -1,4 +1,4 @@
-//! Which connection has which number (docs/RULES-AFTER-BASE.md, section R-8): an owner stands until
+//! Which connection has which number (docs/RULES.md, R-8): an owner stands until
 //! it is closed, and closed it is charged until its number is freed. Eligibilities, by gaps and
 //! averages or by stamps (section R-9).
 

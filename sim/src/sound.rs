@@ -1,4 +1,4 @@
-//! The test of the state (section "A sound state"; docs/RULES-AFTER-BASE.md: notices by R-1, the
+//! The test of the state (section "A sound state"; docs/RULES.md: notices by R-1, the
 //! silence by R-4, averages by R-6, closes by R-8, stamps by R-9, packets that stand by by R-11, windows by R-12). What is
 //! kept beside the state's own numbers, so that no call counts anew, is tested with them.
 

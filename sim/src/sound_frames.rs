@@ -1,4 +1,4 @@
-//! The test of the state of a line with frames (docs/RULES-AFTER-BASE.md, section R-13, "A sound state"). What
+//! The test of the state of a line with frames (docs/RULES.md, R-13, "A sound state"). What
 //! is kept beside the state's own numbers, so that no call counts anew, is tested with them.
 
 use crate::frames::{Frames, Framing, Member, Row};

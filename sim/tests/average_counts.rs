@@ -1,4 +1,4 @@
-//! The count of packets in a stretch (docs/RULES-AFTER-BASE.md, section R-6) against every pattern
+//! The count of packets in a stretch (docs/RULES.md, R-6) against every pattern
 //! that keeps both rules: the count is what the densest of them holds.
 
 use sim::link::{Connection, Figures, Link};

@@ -1,5 +1,5 @@
-//! What must hold of every connection in every generated trace (docs/RULES-AFTER-BASE.md, section
-//! R-6, by stamps R-9, of those that stand by R-11), told by the records and their answers alone.
+//! What must hold of every connection in every generated trace (docs/RULES.md, R-6, by stamps R-9, of
+//! those that stand by R-11), told by the records and their answers alone.
 
 mod told;
 

@@ -1,4 +1,4 @@
-//! Average rates (docs/RULES-AFTER-BASE.md, section R-6), worked out by hand.
+//! Average rates (docs/RULES.md, R-6), worked out by hand.
 //!
 //! Unless a test says otherwise: S 2, no silence, bound 100. The camera has gap 5, size 2, window 40
 //! and average gap 20, so n is 2; 100 ticks are two windows and 20 ticks: 2 * 2 + 2 = 6 packets.

@@ -1,4 +1,4 @@
-//! Closing a connection (docs/RULES-AFTER-BASE.md, section R-8), worked out by hand.
+//! Closing a connection (docs/RULES.md, R-8), worked out by hand.
 //!
 //! Unless a test says otherwise: S 2, no silence, bounds 10 and 30. A closed connection is charged
 //! until 30 ticks behind its last eligibility. A pump is of level 1, gap 10, size 2: 2 of level 1's

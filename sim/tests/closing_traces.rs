@@ -1,4 +1,4 @@
-//! Numbers, charges and closes of every generated trace (docs/RULES-AFTER-BASE.md, section R-8),
+//! Numbers, charges and closes of every generated trace (docs/RULES.md, R-8),
 //! told by the records and their answers alone.
 
 mod told;

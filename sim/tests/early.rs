@@ -1,4 +1,4 @@
-//! Packets that stand by (docs/RULES-AFTER-BASE.md, section R-11), worked out by hand.
+//! Packets that stand by (docs/RULES.md, R-11), worked out by hand.
 //!
 //! Unless a test says otherwise: S 4, no silence, bounds 10 and 20, the queue on; line 0 of level 1, gap
 //! 10 and size 4, line 1 of level 2, gap 20 and size 4. Each has one place: distances of 10 and 20.

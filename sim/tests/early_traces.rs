@@ -1,5 +1,5 @@
 //! What must hold of every generated trace with packets that stand by and without
-//! (docs/RULES-AFTER-BASE.md, section R-11), told by the records and their answers alone. Every verdict
+//! (docs/RULES.md, R-11), told by the records and their answers alone. Every verdict
 //! 18 is recomputed in `stamp_traces.rs`, with those of all other offers.
 
 mod told;

@@ -1,4 +1,4 @@
-//! What must hold of every generated trace with frames (docs/RULES-AFTER-BASE.md, section R-13), told by the
+//! What must hold of every generated trace with frames (docs/RULES.md, R-13), told by the
 //! records and their answers alone: every verdict is found again by counting all that was accepted, and all
 //! departures are those of a schedule that goes from start to start and knows no ticks.
 

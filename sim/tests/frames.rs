@@ -1,4 +1,4 @@
-//! A line with frames (docs/RULES-AFTER-BASE.md, section R-13), worked out by hand; the examples of
+//! A line with frames (docs/RULES.md, R-13), worked out by hand; the examples of
 //! `crates/frames/specs/Examples.antt` stand in tests/vectors besides.
 
 use sim::firmware::{level_answer, NOT_TO_BE_ASKED};

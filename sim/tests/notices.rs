@@ -1,4 +1,4 @@
-//! Notices (docs/RULES-AFTER-BASE.md, section R-1), worked out by hand.
+//! Notices (docs/RULES.md, R-1), worked out by hand.
 //!
 //! Link A of document 01: S 4, bounds 10 and 20; connections 0 (level 1, gap 10, size 4) and
 //! 1 (level 2, gap 20, size 4).

@@ -1,4 +1,4 @@
-//! Which level was short, and by how much (docs/RULES-AFTER-BASE.md, section R-2).
+//! Which level was short, and by how much (docs/RULES.md, R-2).
 
 mod told;
 

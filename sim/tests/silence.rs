@@ -1,4 +1,4 @@
-//! The silence after each packet (docs/RULES-AFTER-BASE.md, section R-4), worked out by hand.
+//! The silence after each packet (docs/RULES.md, R-4), worked out by hand.
 //!
 //! Unless a test says otherwise: S 4, silence 3, bounds 14 and 35; connections 0 (level 1, gap 14,
 //! size 4: 7 + 7 = 14 of 14) and 1 (level 2, gap 35, size 4: 3 * 7 + 7 + 7 = 35 of 35).

@@ -1,5 +1,5 @@
 //! The departures of every generated trace against a schedule that knows no ticks: from start to
-//! start, with the silence behind each finish (docs/RULES-AFTER-BASE.md, section R-4) and with packets
+//! start, with the silence behind each finish (docs/RULES.md, R-4) and with packets
 //! that go early (section R-11).
 
 use sim::departure::Departure;

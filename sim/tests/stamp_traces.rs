@@ -1,4 +1,4 @@
-//! Every offer of every generated trace (docs/RULES-AFTER-BASE.md, sections ): its verdict
+//! Every offer of every generated trace (docs/RULES.md, R-9 and R-11): its verdict
 //! and its eligibility, told by the records and answers before it, and what is promised of stamps.
 
 mod told;

@@ -1,4 +1,4 @@
-//! Connections by stamps (docs/RULES-AFTER-BASE.md, section R-9), worked out by hand.
+//! Connections by stamps (docs/RULES.md, R-9), worked out by hand.
 //!
 //! Unless a test says otherwise: S 4, no silence, bounds 10 and 20. The relay is by stamps, of level 1,
 //! gap 10, size 4, allowance 5: (5 + 10) / 10 rounded up, two places; 4 of level 1's 10 ticks, 8 of

@@ -1,4 +1,4 @@
-//! What must hold of every generated trace with windows (docs/RULES-AFTER-BASE.md, section R-12), told by
+//! What must hold of every generated trace with windows (docs/RULES.md, R-12), told by
 //! the records and their answers alone. That a charge lasts as long as it must is tested in
 //! `closing_traces.rs`, for all kinds.
 

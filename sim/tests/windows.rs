@@ -1,4 +1,4 @@
-//! Windows (docs/RULES-AFTER-BASE.md, section R-12), worked out by hand.
+//! Windows (docs/RULES.md, R-12), worked out by hand.
 
 use sim::firmware::{level_answer, units_answer, NOT_TO_BE_ASKED};
 use sim::hub::Hub;

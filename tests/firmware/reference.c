@@ -1,4 +1,4 @@
-/* Document 01, "Eligibility", "Link, connections, places", "The level test" and "Two questions from C firmware"; docs/RULES-AFTER-BASE.md, R-2,
+/* Document 01, "Eligibility", "Link, connections, places", "The level test" and "Two questions from C firmware"; docs/RULES.md, R-2,
    R-4 and R-6; document 02, R-7 and R-12. */
 #include "reference.h"
 

@@ -1,4 +1,4 @@
-"""What each verdict means, in a technician's words. Document 01 has the numbers, docs/RULES-AFTER-BASE.md those that came later."""
+"""What each verdict means, in a technician's words. Document 01 has the numbers, docs/RULES.md those that came later."""
 
 DONE, LINK_LIMIT, LINE_LIMIT, FULL, SHORT, PLACES, NOBODY, ROOM = 0, 4, 6, 7, 8, 9, 10, 12
 

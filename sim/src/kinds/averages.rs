@@ -1,4 +1,4 @@
-//! Kinds with average rates (docs/RULES-AFTER-BASE.md, section R-6).
+//! Kinds with average rates (docs/RULES.md, R-6).
 
 use super::edges::{after_the_end, broken_average, cross_the_end, crowd_up_to};
 use super::script::Script;

@@ -1,4 +1,4 @@
-//! Kinds with closes (docs/RULES-AFTER-BASE.md, section R-8).
+//! Kinds with closes (docs/RULES.md, R-8).
 
 use super::beds::{admit_for, newcomers, reserve_between, wide_link};
 use super::edges::{

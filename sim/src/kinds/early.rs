@@ -1,4 +1,4 @@
-//! Kinds with packets that stand by (docs/RULES-AFTER-BASE.md, section R-11).
+//! Kinds with packets that stand by (docs/RULES.md, R-11).
 
 use super::closing::{
     close_any, close_idle, close_odd, idle_behind_a_packet, probe, run_over_ends, spread_link,

@@ -1,4 +1,4 @@
-//! Kinds with frames (docs/RULES-AFTER-BASE.md, section R-13).
+//! Kinds with frames (docs/RULES.md, R-13).
 
 use super::closing;
 use super::edges::{at_the_limit, broken_link, cross_the_end};

@@ -1,4 +1,4 @@
-//! Kinds with notices (docs/RULES-AFTER-BASE.md, section R-1).
+//! Kinds with notices (docs/RULES.md, R-1).
 
 use super::edges::{at_the_limit, broken_link, refusals, tight};
 use super::script::Script;

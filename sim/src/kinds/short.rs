@@ -1,4 +1,4 @@
-//! Refused admissions (docs/RULES-AFTER-BASE.md, section R-2): every level comes to be the lowest
+//! Refused admissions (docs/RULES.md, R-2): every level comes to be the lowest
 //! that fails, by one unit, by few and by many.
 
 use super::edges::{bad_admission, largest_passing};

@@ -1,4 +1,4 @@
-//! Kinds about the silence after each packet (docs/RULES-AFTER-BASE.md, section R-4).
+//! Kinds about the silence after each packet (docs/RULES.md, R-4).
 
 use super::edges::{tight_admission, tight_link};
 use super::notices::notice_after_the_end;

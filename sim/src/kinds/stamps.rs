@@ -1,4 +1,4 @@
-//! Kinds with connections by stamps (docs/RULES-AFTER-BASE.md, section R-9).
+//! Kinds with connections by stamps (docs/RULES.md, R-9).
 
 use super::closing::{
     close_any, close_idle, close_odd, odd_number, ticks_about, until_it_holds_nothing,

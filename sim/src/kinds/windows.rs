@@ -1,4 +1,4 @@
-//! Kinds with windows (docs/RULES-AFTER-BASE.md, section R-12).
+//! Kinds with windows (docs/RULES.md, R-12).
 
 use super::closing::{
     close_any, close_idle, close_odd, idle_behind_a_packet, probe, run_over_ends, spread_link,
