@@ -14,7 +14,7 @@ LA = plain (0x4C ∷ 0x41 ∷ []) (1 ∷ []) (λ x. Linked (x 0))
 abbrev pub CA : Kind Reply
 CA = plain (0x43 ∷ 0x41 ∷ []) (1 ∷ 1 ∷ 1 ∷ 4 ∷ []) (λ x. Admitted (x 0) (x 1) (x 2) (x 3))
 
--- document 02, R-8, as docs/RULES-AFTER-BASE.md lays it out: "verdict (1)"
+-- document 02, R-8, as docs/RULES.md lays it out: "verdict (1)"
 abbrev pub CD : Kind Reply
 CD = plain (0x43 ∷ 0x44 ∷ []) (1 ∷ []) (λ x. Closed (x 0))
 
@@ -22,7 +22,7 @@ CD = plain (0x43 ∷ 0x44 ∷ []) (1 ∷ []) (λ x. Closed (x 0))
 abbrev pub PA : Kind Reply
 PA = plain (0x50 ∷ 0x41 ∷ []) (1 ∷ 4 ∷ []) (λ x. Offered (x 0) (x 1))
 
--- document 02, R-1, as docs/RULES-AFTER-BASE.md lays it out: "verdict (1), eligibility (4)"
+-- document 02, R-1, as docs/RULES.md lays it out: "verdict (1), eligibility (4)"
 abbrev pub NA : Kind Reply
 NA = plain (0x4E ∷ 0x41 ∷ []) (1 ∷ 4 ∷ []) (λ x. Noticed (x 0) (x 1))
 

@@ -1,5 +1,5 @@
 -- THE TIE: the line that a `Kept` and its three tables stand for, and a line written back. The tables are those of the discipline that is set; the other is fresh and has none.
--- Document 02, R-13; docs/RULES-AFTER-BASE.md, R-13, "One line, one discipline".
+-- Document 02, R-13; docs/RULES.md, R-13, "One line, one discipline".
 use Prim.Native.Nat.{ℕ, _-_}
 use mathlib.Core.Bool.{Bool, cond, not, _&&_, _||_}
 use mathlib.Core.List.{List, _++_}

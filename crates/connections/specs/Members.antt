@@ -1,5 +1,5 @@
 -- The table of connections: a row for each number, with level, size, gap, averaging window, average gap, kind, allowance, a mark, how many eligibilities are remembered, and these,
--- newest first; and behind the rows two numbers that sum them up. Document 01 leaves its form open; docs/RULES-AFTER-BASE.md, R-6, R-8 and R-9, has it.
+-- newest first; and behind the rows two numbers that sum them up. Document 01 leaves its form open; docs/RULES.md, R-6, R-8 and R-9, has it.
 use Prim.Native.Nat.{ℕ, zero, suc, _+_, _*_, min}
 use mathlib.Core.Path.{_≡_, refl}
 use mathlib.Core.Bool.{Bool, cond, not, _&&_}

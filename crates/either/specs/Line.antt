@@ -1,5 +1,5 @@
 -- One line with either discipline: that of levels (document 01) or that of frames (document 02, R-13). The first link that is accepted decides which; the other stays fresh.
--- docs/RULES-AFTER-BASE.md, R-13, "One line, one discipline".
+-- docs/RULES.md, R-13, "One line, one discipline".
 use Prim.Native.Nat.{ℕ, _+_}
 use mathlib.Core.Path.{_≡_}
 use mathlib.Core.Bool.{Bool, true, cond, not, _&&_}

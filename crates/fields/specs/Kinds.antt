@@ -1,5 +1,5 @@
--- Document 01, "Trace and answer records": what a kind of records is. The ten kinds of its table, and the eight
--- of document 02, R-1, R-8, R-9, R-11 and R-12, stand in the crates `traces` and `answers`. R is the type of the records.
+-- Document 01, "Trace and answer records": what a kind of records is. The ten kinds of its table, and the ten
+-- of document 02, R-1, R-8, R-9 and R-11 to R-13, stand in the crates `traces` and `answers`. R is the type of the records.
 use mathlib.Core.Bool.{Bool, true}
 use mathlib.Core.List.{List, _++_}
 use Prim.Native.Nat.{ℕ, _+_}

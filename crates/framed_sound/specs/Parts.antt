@@ -1,4 +1,4 @@
--- Parts of the test for which the rules have no name of their own. docs/RULES-AFTER-BASE.md, R-13.
+-- Parts of the test for which the rules have no name of their own. docs/RULES.md, R-13.
 use Prim.Native.Nat.{ℕ, _≤_, _<_}
 use mathlib.Core.Bool.{Bool, false, _&&_}
 use mathlib.Core.List.{List}

@@ -38,6 +38,6 @@ written s = tables (written-shares (s .connections)) (written-places (s .held)) 
 unfoldable pub tables-formed : Tables → Bool
 tables-formed t = formed packet-width places-length (t .places) && (shares-formed (t .members) && notices-formed (t .notices))
 
--- docs/RULES-AFTER-BASE.md, R-13, of a `Frames` and its tables as they are handed in
+-- docs/RULES.md, R-13, of a `Frames` and its tables as they are handed in
 unfoldable pub sound-frames : Frames → Tables → Bool
 sound-frames h t = tables-formed t && sound (view h t)

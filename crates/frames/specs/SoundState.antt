@@ -1,4 +1,4 @@
--- A sound state of a framed line, clause by clause, after the pattern of document 01, "A sound state": docs/RULES-AFTER-BASE.md, R-13.
+-- A sound state of a framed line, clause by clause, after the pattern of document 01, "A sound state": docs/RULES.md, R-13.
 use Prim.Native.Nat.{ℕ, _≤_, _<_}
 use mathlib.Core.Path.{_≡_}
 use mathlib.Core.Bool.{true, false}

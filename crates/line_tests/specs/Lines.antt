@@ -1,5 +1,5 @@
 -- What the tests of a sound line speak of, whatever the discipline: how many rows the tables have, the line and what waits for it, and the line's part of the test of a wire.
--- Document 01, "A sound state"; docs/RULES-AFTER-BASE.md, R-1 and R-4.
+-- Document 01, "A sound state"; docs/RULES.md, R-1 and R-4.
 use Prim.Native.Nat.{ℕ, _≤_}
 use mathlib.Core.Path.{_≡_}
 use mathlib.Core.Bool.{Bool, cond, _&&_}

@@ -1,4 +1,4 @@
--- The rows of one connection in a sound state: the clauses of docs/RULES-AFTER-BASE.md, R-6, said as one step from each row to the next (`Chain`), by what is
+-- The rows of one connection in a sound state: the clauses of docs/RULES.md, R-6, said as one step from each row to the next (`Chain`), by what is
 -- remembered alone; the two forms are the same; and the second is kept by the calls.
 use Prim.Native.Nat.{ℕ, zero, suc, _+_, _*_, _-_, _≤_, _<_, max, min}
 use native.Mathlib.Omega.{arith}

@@ -1,4 +1,4 @@
--- A sound line with what waits for it, whatever the discipline: the clauses of document 01, "A sound state", and of docs/RULES-AFTER-BASE.md, R-1, R-4 and R-11, that
+-- A sound line with what waits for it, whatever the discipline: the clauses of document 01, "A sound state", and of docs/RULES.md, R-1, R-4 and R-11, that
 -- speak of these alone; and the test of them. The second discipline's sound state (document 02, R-13) is made of it.
 use Prim.Native.Nat.{ℕ, _+_, _≤_}
 use mathlib.Core.Path.{_≡_}

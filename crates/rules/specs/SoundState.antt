@@ -1,5 +1,5 @@
 -- A sound state, clause by clause. Document 01, "A sound state"; its first clause, the length of the places table, is the table's own and stands with
--- the code. The clauses on notices, on the silence, on what is remembered and on closed numbers: docs/RULES-AFTER-BASE.md, R-1, R-4, R-6, R-8 and R-9;
+-- the code. The clauses on notices, on the silence, on what is remembered and on closed numbers: docs/RULES.md, R-1, R-4, R-6, R-8 and R-9;
 -- those that document 02, R-11, amends while the stand-by queue is on, the packet in service and the distance past the clock: R-11 there.
 use Prim.Native.Nat.{ℕ, zero, suc, _+_, _≤_, _<_, max}
 use mathlib.Core.Path.{_≡_}

@@ -1,5 +1,5 @@
 -- What the pass over the rows keeps of each connection: a table of connections that remembers them one by one. Document 01, "A sound state";
--- docs/RULES-AFTER-BASE.md, R-6, R-8, R-11 and R-12.
+-- docs/RULES.md, R-6, R-8, R-11 and R-12.
 use Prim.Native.Nat.{ℕ, _+_, _≤_, _<_}
 use mathlib.Core.Path.{_≡_}
 use mathlib.Core.Bool.{Bool, true, false, not, _&&_, _||_}

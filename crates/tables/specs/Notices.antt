@@ -1,5 +1,5 @@
 -- The table of notices: rows as in the places table, so that one reader, one writer and one removal serve both; each bears the notices' number, and an
--- eligibility that is its arrival. docs/RULES-AFTER-BASE.md, R-1.
+-- eligibility that is its arrival. docs/RULES.md, R-1.
 use Prim.Native.Nat.{ℕ, _*_}
 use mathlib.Core.Bool.{Bool, _&&_}
 use mathlib.Core.List.{List, map}

@@ -21,11 +21,11 @@ link-kind mark figures levels make = record { mark = mark; allows = levels-allow
 abbrev pub pairs : ℕ → List ℕ
 pairs n = replicate n 2
 
--- document 02, R-4, as docs/RULES-AFTER-BASE.md lays it out: "n (1), S (2), silence (1), then n bounds (2 each)"
+-- document 02, R-4, as docs/RULES.md lays it out: "n (1), S (2), silence (1), n bounds (2 each)"
 abbrev pub LK : Kind Record
 LK = link-kind (0x4C ∷ 0x4B ∷ []) (2 ∷ 1 ∷ []) pairs (λ x. Link (x 0) (x 1) (x 2) (x 3) (x 4) (x 5) (x 6) (x 7) (x 8) (x 9) (x 10))
 
--- document 02, R-11, as docs/RULES-AFTER-BASE.md lays it out: "number of levels n (1), S (2), silence (1), setting (1), the n bounds (2 each)"
+-- document 02, R-11, as docs/RULES.md lays it out: "n (1), S (2), silence (1), setting (1), n bounds (2 each)"
 abbrev pub LE : Kind Record
 LE = link-kind (0x4C ∷ 0x45 ∷ []) (2 ∷ 1 ∷ 1 ∷ []) pairs (λ x. LinkStandBy (x 0) (x 1) (x 2) (x 3) (x 4) (x 5) (x 6) (x 7) (x 8) (x 9) (x 10) (x 11))
 
@@ -37,30 +37,29 @@ among x first n k = cond (ltb k n) (x (first + k)) 0
 abbrev pub windowed : ℕ → ℕ → ℕ → ℕ → (ℕ → ℕ) → (ℕ → ℕ) → Record
 windowed n s silence early d w = LinkWindows n s silence early (d 0) (d 1) (d 2) (d 3) (d 4) (d 5) (d 6) (d 7) (w 0) (w 1) (w 2) (w 3) (w 4) (w 5) (w 6) (w 7)
 
--- document 02, R-12, as docs/RULES-AFTER-BASE.md lays it out: "number of levels n (1), S (2), silence (1), setting (1), the n bounds (2 each), the n windows
--- (2 each)"
+-- document 02, R-12, as docs/RULES.md lays it out: "n (1), S (2), silence (1), setting (1), n bounds (2 each), n windows (2 each)"
 abbrev pub LW : Kind Record
 LW =
     link-kind (0x4C ∷ 0x57 ∷ []) (2 ∷ 1 ∷ 1 ∷ []) (λ n. pairs n ++ pairs n)
     (λ x. windowed (x 0) (x 1) (x 2) (x 3) (among x 4 (x 0)) (among x (4 + x 0) (x 0)))
 
--- document 02, R-13, as docs/RULES-AFTER-BASE.md lays it out: "T (2), S (2), silence (1)"
+-- document 02, R-13, as docs/RULES.md lays it out: "T (2), S (2), silence (1)"
 abbrev pub LF : Kind Record
 LF = plain (0x4C ∷ 0x46 ∷ []) (2 ∷ 2 ∷ 1 ∷ []) (λ x. LinkFrames (x 0) (x 1) (x 2))
 
--- document 02, R-6, as docs/RULES-AFTER-BASE.md lays it out: "level (1), gap (2), size (2), window (2), average gap (2)"
+-- document 02, R-6, as docs/RULES.md lays it out: "level (1), gap (2), size (2), averaging window (2), average gap (2)"
 abbrev pub CN : Kind Record
 CN = plain (0x43 ∷ 0x4E ∷ []) (1 ∷ 2 ∷ 2 ∷ 2 ∷ 2 ∷ []) (λ x. Admit (x 0) (x 1) (x 2) (x 3) (x 4))
 
--- document 02, R-9, as docs/RULES-AFTER-BASE.md lays it out: "level (1), gap (2), size (2), allowance (2)"
+-- document 02, R-9, as docs/RULES.md lays it out: "level (1), gap (2), size (2), allowance (2)"
 abbrev pub CS : Kind Record
 CS = plain (0x43 ∷ 0x53 ∷ []) (1 ∷ 2 ∷ 2 ∷ 2 ∷ []) (λ x. AdmitStamped (x 0) (x 1) (x 2) (x 3))
 
--- document 02, R-13, as docs/RULES-AFTER-BASE.md lays it out: "r (2), p (2)"
+-- document 02, R-13, as docs/RULES.md lays it out: "r (2), p (2)"
 abbrev pub CF : Kind Record
 CF = plain (0x43 ∷ 0x46 ∷ []) (2 ∷ 2 ∷ []) (λ x. AdmitShare (x 0) (x 1))
 
--- document 02, R-8, as docs/RULES-AFTER-BASE.md lays it out: "connection (1)"
+-- document 02, R-8, as docs/RULES.md lays it out: "connection (1)"
 abbrev pub CL : Kind Record
 CL = plain (0x43 ∷ 0x4C ∷ []) (1 ∷ []) (λ x. Close (x 0))
 
@@ -68,11 +67,11 @@ CL = plain (0x43 ∷ 0x4C ∷ []) (1 ∷ []) (λ x. Close (x 0))
 abbrev pub PK : Kind Record
 PK = plain (0x50 ∷ 0x4B ∷ []) (1 ∷ 2 ∷ 4 ∷ []) (λ x. Offer (x 0) (x 1) (x 2))
 
--- document 02, R-9, as docs/RULES-AFTER-BASE.md lays it out: "connection (1), length (2), tag (4), stamp (4)"
+-- document 02, R-9, as docs/RULES.md lays it out: "connection (1), length (2), tag (4), stamp (4)"
 abbrev pub PS : Kind Record
 PS = plain (0x50 ∷ 0x53 ∷ []) (1 ∷ 2 ∷ 4 ∷ 4 ∷ []) (λ x. OfferStamped (x 0) (x 1) (x 2) (x 3))
 
--- document 02, R-1, as docs/RULES-AFTER-BASE.md lays it out: "length (2), tag (4)"
+-- document 02, R-1, as docs/RULES.md lays it out: "length (2), tag (4)"
 abbrev pub NQ : Kind Record
 NQ = plain (0x4E ∷ 0x51 ∷ []) (2 ∷ 4 ∷ []) (λ x. Notice (x 0) (x 1))
 
