@@ -58,10 +58,9 @@ def check(project, crate, folder, kept, room=None):
     return run(["rt", "check", folder, *deps, "-L", f"dependency={rlib}", *words, "--incremental", kept], project, room)
 
 
-def keep(project, crate, kept, has_proofs=True):
+def keep(project, crate, kept):
     """Puts what the proof of a library has left (target/rlib) where a check with --incremental looks for it. A program's proof leaves nothing.
 
-    Where the functions' proofs are left out the next check over `kept` proves these again, and keeps them declaration by declaration.
     Where the toolchain keeps it otherwise, nothing is found there, and the next check over `kept` is one from nothing.
     """
     rlib = os.path.join(project, "target", "rlib", f"{crate}.rlib")
@@ -71,8 +70,7 @@ def keep(project, crate, kept, has_proofs=True):
     with open(os.path.join(rlib, "format"), encoding="utf-8") as file:
         build = re.search("^rattle-build (.*)$", file.read(), re.MULTILINE)
     if build:
-        but = None if has_proofs else shutil.ignore_patterns("*.Proof.oantt")
-        shutil.copytree(proved, os.path.join(kept, build.group(1).replace("/", "_")), ignore=but)
+        shutil.copytree(proved, os.path.join(kept, build.group(1).replace("/", "_")))
 
 
 def copied(project, crate, folder):
