@@ -12,12 +12,9 @@ use Rattle.frames.specs.SoundState.{Sound-with-link, Sound}
 use Rattle.frames.specs.SoundTest.{sound}
 use Rattle.frames.proofs.Figures.{stands-below}
 use Rattle.frames.proofs.SoundExact.{exact}
-use Rattle.tables.specs.Table.{formed}
-use Rattle.tables.specs.Places.{packet-width, places-length, rows, table-of}
-use Rattle.tables.specs.Notices.{notices-length, notices-formed}
-use Rattle.tables.proofs.TableLaws.{formed-length}
-use Rattle.tables.proofs.PlacesLaws.{table-back}
-use Rattle.tables.proofs.NoticeLaws.{notices-length-is, as-a-table, notices-back}
+use Rattle.tables.specs.Places.{places-length, rows, table-of}
+use Rattle.tables.specs.Lent.{formed-with}
+use Rattle.tables.proofs.LentLaws as L
 use Rattle.shares.specs.Shares.{shares-length, shares-in, shares-formed}
 use Rattle.shares.proofs.ShareLaws.{shares-back, shares-long}
 use Rattle.framed_state.specs.declared.Frames.{Frames}
@@ -25,23 +22,18 @@ use Rattle.framed_state.specs.View.{Tables, view, written, tables-formed
 
 -- ---- formed tables
 
-pub record Formed (t : Tables) : Type 0 where
-  pub shares-shape : shares-formed (t .members) ≡ true
-  pub places-shape : formed packet-width places-length (t .places) ≡ true
-  pub notices-shape : notices-formed (t .notices) ≡ true
-
-module _ (t : Tables) (ok : tables-formed t ≡ true) where
-  pub shapes : Formed t
-  unfolding tables-formed
-  shapes =
-      let a = and-true (formed packet-width places-length (t .places)) _ ok in
-      let b = and-true (shares-formed (t .members)) (notices-formed (t .notices)) (a .1) in
-      record { shares-shape = b .0; places-shape = a .0; notices-shape = b .1 }
+pub shapes : (t : Tables) → tables-formed t ≡ true → L.Formed shares-formed t
+unfolding tables-formed
+shapes t ok = L.shapes shares-formed t ok
 
 module _ (h : Frames) (t : Tables) (ok : sound-frames h t ≡ true) where
   pub formed-tables : tables-formed t ≡ true
   unfolding sound-frames
   formed-tables = and-true (tables-formed t) (sound (view h t)) ok .0
+
+  formed : formed-with shares-formed t ≡ true
+  unfolding tables-formed
+  formed = formed-tables
 
   pub sound-view : sound (view h t) ≡ true
   unfolding sound-frames
@@ -53,30 +45,27 @@ module _ (h : Frames) (t : Tables) (ok : sound-frames h t ≡ true) where
   -- ---- the tables are what is written of what is read in them
 
   pub shares-kept : t .members ≡ written (view h t) .members
-  shares-kept = shares-back (t .members) (shapes t formed-tables .shares-shape)
+  shares-kept = shares-back (t .members) (shapes t formed-tables .members-shape)
 
   pub places-kept : t .places ≡ written (view h t) .places
-  places-kept = table-back (t .places) (shapes t formed-tables .places-shape)
+  places-kept = L.places-kept shares-formed t formed
 
   pub notices-kept : t .notices ≡ written (view h t) .notices
-  notices-kept = notices-back (t .notices) (shapes t formed-tables .notices-shape)
+  notices-kept = L.notices-kept shares-formed t formed
 
   pub tables-kept : t ≡ written (view h t)
-  tables-kept i = record { members = shares-kept i; places = places-kept i; notices = notices-kept i }
+  tables-kept = L.tables-kept shares-formed t formed (written (view h t) .members) shares-kept
 
   -- ---- their lengths, and what each has room for
 
   pub shares-size : length (t .members) ≡ shares-length
-  shares-size = shares-long (t .members) (shapes t formed-tables .shares-shape)
+  shares-size = shares-long (t .members) (shapes t formed-tables .members-shape)
 
   pub places-size : length (t .places) ≡ places-length
-  places-size = formed-length packet-width places-length (t .places) (shapes t formed-tables .places-shape)
-
-  pub notices-size : length (t .notices) ≡ notices-length
-  notices-size = notices-length-is (t .notices) (shapes t formed-tables .notices-shape)
+  places-size = L.places-size shares-formed t formed
 
   pub notices-as-table : t .notices ≡ table-of (length (t .notices)) (rows (t .notices))
-  notices-as-table = as-a-table (t .notices) (shapes t formed-tables .notices-shape)
+  notices-as-table = L.notices-as-table shares-formed t formed
 
   -- ---- with a link set
 

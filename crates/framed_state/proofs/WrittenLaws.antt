@@ -6,7 +6,7 @@ use mathlib.Core.Bool.{true}
 use mathlib.Core.Logic.{⊎-elim}
 use lib.ListN.{length}
 use Rattle.rules.specs.Words.{All, within}
-use Rattle.rules.specs.Limits.{max-connections, max-reserved, max-notices}
+use Rattle.rules.specs.Limits.{max-connections}
 use Rattle.rules.proofs.Lists.{all-map, all-from}
 use Rattle.rules.proofs.Sums.{same}
 use Rattle.rules.proofs.Tests.{and-true, and-intro, within-true}
@@ -18,11 +18,9 @@ use Rattle.frames.specs.SoundState.{Sound-with-link, Sound}
 use Rattle.frames.specs.SoundTest.{sound}
 use Rattle.frames.proofs.SoundExact.{exact}
 use Rattle.frames.proofs.Results.{rows-fit}
-use Rattle.tables.specs.Table.{formed}
-use Rattle.tables.specs.Places.{packet-width, places-length}
-use Rattle.tables.specs.Notices.{notices-formed}
-use Rattle.tables.proofs.PlacesLaws.{places-again, places-formed-again}
-use Rattle.tables.proofs.NoticeLaws.{notices-again, written-formed}
+use Rattle.tables.proofs.PlacesLaws.{places-again}
+use Rattle.tables.proofs.NoticeLaws.{notices-again}
+use Rattle.tables.proofs.LentLaws.{Writable-rows, nothing-held, written-tables-formed}
 use Rattle.shares.specs.Shares.{shares-formed}
 use Rattle.shares.proofs.ShareLaws as S
 use Rattle.framed_state.specs.View.{view, frames-of, written, tables-formed, sound-frames}
@@ -30,10 +28,7 @@ use Rattle.framed_state.specs.View.{view, frames-of, written, tables-for
 pub record Writable (s : State) : Type 0 where
   pub some-places : All (λ x. 0 < x .places) (s .connections)
   pub few : length (s .connections) ≤ max-connections
-  pub sent : All (λ p. 0 < p .len) (s .held)
-  pub fit : length (s .held) ≤ max-reserved
-  pub said : All (λ n. 0 < n .len) (s .notices)
-  pub few-said : length (s .notices) ≤ max-notices
+  pub rows : Writable-rows (s .held) (s .notices)
 
 places-of : (x : Share) → share-within x ≡ true → 0 < x .places
 unfolding share-within
@@ -43,14 +38,16 @@ linked-writable : (s : State) → Sound s → Sound-with-link s → Writable s
 linked-writable s T S = record {
   some-places = all-from (λ x. 0 < x .places) (s .connections) no-share (λ c l. places-of _ (S .shares-in c l));
   few = S .few;
-  sent = all-map (λ p f. f .some-len) (s .held) (S .fit);
-  fit = rows-fit s T;
-  said = all-map (λ n f. f .some-len) (s .notices) (S .line .notices-fit);
-  few-said = S .line .few-notices;
+  rows = record {
+    sent = all-map (λ p f. f .some-len) (s .held) (S .fit);
+    fit = rows-fit s T;
+    said = all-map (λ n f. f .some-len) (s .notices) (S .line .notices-fit);
+    few-said = S .line .few-notices;
+  };
 }
 
 fresh-writable : Writable fresh
-fresh-writable = record { some-places = tt; few = omega arith; sent = tt; fit = omega arith; said = tt; few-said = omega arith }
+fresh-writable = record { some-places = tt; few = omega arith; rows = nothing-held }
 
 pub writable : (s : State) → Sound s → Writable s
 writable s S =
@@ -62,17 +59,16 @@ writable s S =
 module _ (s : State) (W : Writable s) where
   -- READING WHAT IS WRITTEN gives the state back
   pub read-written : view (frames-of s) (written s) ≡ s
-  read-written = rw (S.shares-again (s .connections) (W .some-places), places-again (s .held) (W .sent), notices-again (s .notices) (W .said) (W .few-said))
+  read-written = rw (S.shares-again (s .connections) (W .some-places), places-again (s .held) (W .rows .sent), notices-again (s .notices) (W .rows .said) (W .rows .few-said))
 
-  written-tables-formed : tables-formed (written s) ≡ true
+  formed-again : tables-formed (written s) ≡ true
   unfolding tables-formed
-  written-tables-formed =
-      and-intro (formed packet-width places-length (written s .places)) _ (places-formed-again (s .held) (W .sent) (W .fit))
-      (and-intro (shares-formed (written s .members)) (notices-formed (written s .notices)) (S.written-formed (s .connections) (W .some-places) (W .few)) (written-formed (s .notices) (W .said) (W .few-said)))
+  formed-again =
+      written-tables-formed shares-formed (written s .members) (s .held) (s .notices) (S.written-formed (s .connections) (W .some-places) (W .few)) (W .rows)
 
 -- and what is written is sound
 pub written-sound : (s : State) → Sound s → sound-frames (frames-of s) (written s) ≡ true
 unfolding sound-frames
 written-sound s S =
-    and-intro (tables-formed (written s)) (sound (view (frames-of s) (written s))) (written-tables-formed s (writable s S))
+    and-intro (tables-formed (written s)) (sound (view (frames-of s) (written s))) (formed-again s (writable s S))
     (ap sound (read-written s (writable s S)) ∙ exact s .1 S)

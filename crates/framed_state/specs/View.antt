@@ -3,9 +3,9 @@ use mathlib.Core.Bool.{Bool, _&&_}
 use lib.ListN.{replicate}
 use Rattle.frames.specs.Model.{State}
 use Rattle.frames.specs.SoundTest.{sound}
-use Rattle.tables.specs.Table.{formed}
-use Rattle.tables.specs.Places.{packet-width, places-length, rows, written-places}
-use Rattle.tables.specs.Notices.{notices-length, notices-in, written-notices, notices-formed}
+use Rattle.tables.specs.Places.{places-length, rows, written-places}
+use Rattle.tables.specs.Notices.{notices-length, notices-in, written-notices}
+use Rattle.tables.specs.Lent.{formed-with}
 pub use Rattle.tables.specs.Lent.{Tables, tables, given, before, after}
 use Rattle.shares.specs.Shares.{shares-length, shares-in, written-shares, shares-formed}
 use Rattle.framed_state.specs.declared.Frames.{Frames}
@@ -34,9 +34,9 @@ frames-of s = record { link = s .link; clock = s .clock; serving = s .serving; �
 abbrev pub written : State → Tables
 written s = tables (written-shares (s .connections)) (written-places (s .held)) (written-notices (s .notices))
 
--- the tables are what is written of what is read in them: their lengths, zeros behind their rows, the notices' marks
+-- the tables are what is written of what is read in them
 unfoldable pub tables-formed : Tables → Bool
-tables-formed t = formed packet-width places-length (t .places) && (shares-formed (t .members) && notices-formed (t .notices))
+tables-formed t = formed-with shares-formed t
 
 -- docs/RULES.md, R-13, of a `Frames` and its tables as they are handed in
 unfoldable pub sound-frames : Frames → Tables → Bool

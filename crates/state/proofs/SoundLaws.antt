@@ -17,12 +17,9 @@ use Rattle.rules.proofs.Tests.{and-true}
 use Rattle.rules.proofs.Sums.{split}
 use Rattle.rules.proofs.Standing.{owned-below}
 use Rattle.rules.proofs.SoundExact.{exact}
-use Rattle.tables.specs.Table.{formed}
-use Rattle.tables.specs.Places.{packet-width, places-length, rows, table-of}
-use Rattle.tables.specs.Notices.{notices-length, notices-formed}
-use Rattle.tables.proofs.TableLaws.{formed-length}
-use Rattle.tables.proofs.PlacesLaws.{table-back}
-use Rattle.tables.proofs.NoticeLaws.{notices-length-is, as-a-table, notices-back}
+use Rattle.tables.specs.Places.{places-length, rows, table-of}
+use Rattle.tables.specs.Lent.{formed-with}
+use Rattle.tables.proofs.LentLaws as L
 use Rattle.connections.specs.Members.{members-length, connections-in, members-formed}
 use Rattle.connections.specs.Within.{Within}
 use Rattle.connections.proofs.MemberLaws.{connection-none}
@@ -33,23 +30,18 @@ use Rattle.state.proofs.WrittenLaws.{writable}
 
 -- ---- formed tables
 
-pub record Formed (t : Tables) : Type 0 where
-  pub members-shape : members-formed (t .members) ≡ true
-  pub places-shape : formed packet-width places-length (t .places) ≡ true
-  pub notices-shape : notices-formed (t .notices) ≡ true
-
-module _ (t : Tables) (ok : tables-formed t ≡ true) where
-  pub shapes : Formed t
-  unfolding tables-formed
-  shapes =
-      let a = and-true (formed packet-width places-length (t .places)) _ ok in
-      let b = and-true (members-formed (t .members)) (notices-formed (t .notices)) (a .1) in
-      record { members-shape = b .0; places-shape = a .0; notices-shape = b .1 }
+pub shapes : (t : Tables) → tables-formed t ≡ true → L.Formed members-formed t
+unfolding tables-formed
+shapes t ok = L.shapes members-formed t ok
 
 module _ (h : Hub) (t : Tables) (ok : sound-hub h t ≡ true) where
   pub formed-tables : tables-formed t ≡ true
   unfolding sound-hub
   formed-tables = and-true (tables-formed t) (sound (view h t)) ok .0
+
+  formed : formed-with members-formed t ≡ true
+  unfolding tables-formed
+  formed = formed-tables
 
   pub sound-view : sound (view h t) ≡ true
   unfolding sound-hub
@@ -64,13 +56,13 @@ module _ (h : Hub) (t : Tables) (ok : sound-hub h t ≡ true) where
   members-kept = members-written (t .members) (shapes t formed-tables .members-shape)
 
   pub places-kept : t .places ≡ written (view h t) .places
-  places-kept = table-back (t .places) (shapes t formed-tables .places-shape)
+  places-kept = L.places-kept members-formed t formed
 
   pub notices-kept : t .notices ≡ written (view h t) .notices
-  notices-kept = notices-back (t .notices) (shapes t formed-tables .notices-shape)
+  notices-kept = L.notices-kept members-formed t formed
 
   pub tables-kept : t ≡ written (view h t)
-  tables-kept i = record { members = members-kept i; places = places-kept i; notices = notices-kept i }
+  tables-kept = L.tables-kept members-formed t formed (written (view h t) .members) members-kept
 
   -- ---- their lengths, and what each has room for
 
@@ -78,13 +70,10 @@ module _ (h : Hub) (t : Tables) (ok : sound-hub h t ≡ true) where
   members-size = members-long (t .members) (shapes t formed-tables .members-shape)
 
   pub places-size : length (t .places) ≡ places-length
-  places-size = formed-length packet-width places-length (t .places) (shapes t formed-tables .places-shape)
-
-  pub notices-size : length (t .notices) ≡ notices-length
-  notices-size = notices-length-is (t .notices) (shapes t formed-tables .notices-shape)
+  places-size = L.places-size members-formed t formed
 
   pub notices-as-table : t .notices ≡ table-of (length (t .notices)) (rows (t .notices))
-  notices-as-table = as-a-table (t .notices) (shapes t formed-tables .notices-shape)
+  notices-as-table = L.notices-as-table members-formed t formed
 
   -- ---- with a link set
 

@@ -3,9 +3,9 @@ use mathlib.Core.Bool.{Bool, _&&_}
 use lib.ListN.{replicate}
 use Rattle.rules.specs.Model.{State}
 use Rattle.rules.specs.SoundTest.{sound}
-use Rattle.tables.specs.Table.{formed}
-use Rattle.tables.specs.Places.{packet-width, places-length, rows, written-places}
-use Rattle.tables.specs.Notices.{notices-length, notices-in, written-notices, notices-formed}
+use Rattle.tables.specs.Places.{places-length, rows, written-places}
+use Rattle.tables.specs.Notices.{notices-length, notices-in, written-notices}
+use Rattle.tables.specs.Lent.{formed-with}
 pub use Rattle.tables.specs.Lent.{Tables, tables, given, before, after}
 use Rattle.connections.specs.Members.{members-length, connections-in, pasts-in, closed-in, written-members, members-formed}
 use Rattle.state.specs.declared.Hub.{Hub}
@@ -36,9 +36,9 @@ hub-of s = record { link = s .link; clock = s .clock; serving = s .serving; «to
 abbrev pub written : State → Tables
 written s = tables (written-members (s .connections) (s .pasts) (s .closed)) (written-places (s .held)) (written-notices (s .notices))
 
--- the tables are what is written of what is read in them: their lengths, "everything unused is zero", marks as they must be
+-- the tables are what is written of what is read in them
 unfoldable pub tables-formed : Tables → Bool
-tables-formed t = formed packet-width places-length (t .places) && (members-formed (t .members) && notices-formed (t .notices))
+tables-formed t = formed-with members-formed t
 
 -- document 01, "A sound state", of a hub and its tables as they are handed in
 unfoldable pub sound-hub : Hub → Tables → Bool

@@ -32,7 +32,7 @@ join-requires c κs =
     let z = c .before .before .before .before .before .before .before .before .before .before .before in
     let t = tables (z .args .shares .now) (z .args .places .now) (z .args .notices .now) in
     let n = c .before .before .before .before .before .before .standing in
-    (S.shapes t (S.formed-tables (z .args .h) t (z .pre)) .shares-shape, n .ensures, A.admit-few (z .args .h) (tables (z .args .shares .now) (z .args .places .now) (z .args .notices .now)) (z .pre) (z .args .x) (n .result) (zero-then _ _ (ap (λ (y : Ruling). y .verdict) (c .before .before .before .before .admit-verdict .ensures)) (omega (arith, c .before .if1 .left))) (n .ensures))
+    (S.shapes t (S.formed-tables (z .args .h) t (z .pre)) .members-shape, n .ensures, A.admit-few (z .args .h) (tables (z .args .shares .now) (z .args .places .now) (z .args .notices .now)) (z .pre) (z .args .x) (n .result) (zero-then _ _ (ap (λ (y : Ruling). y .verdict) (c .before .before .before .before .admit-verdict .ensures)) (omega (arith, c .before .if1 .left))) (n .ensures))
 
 cast-say : tie.Need-cast-say
 cast-say c =

@@ -31,7 +31,7 @@ unfolding sound-frames
 returns-2 c = let s = c .before .before .before .before .before .before .before .before .before .before .before in S.passes-on (c .before .before .before .before .tables-formed .ensures) (c .before .before .before .if1 .left) (L.sound-unlinked (view (s .args .h) (tables (s .args .shares .now) (s .args .places .now) (s .args .notices .now))) (c .before .if2 .taken) (c .unused-ok .ensures ∙ L.unused-read (s .args .h) (tables (s .args .shares .now) (s .args .places .now) (s .args .notices .now)) (c .before .before .before .before .before .before .before .standing .ensures) (c .before .before .before .before .before .before .held .ensures) (c .before .before .before .before .before .held2 .ensures)))
 
 linked-ok-requires : tie.Need-linked-ok-requires
-linked-ok-requires c κs = let s = c .before .before .before .before .before .before .before .before .before .before in let shape = S.holds (c .before .before .before .tables-formed .ensures) (c .before .before .if1 .left) in let f = shapes (tables (s .args .shares .now) (s .args .places .now) (s .args .notices .now)) shape in let k = S.counted (s .args .places .now) (s .args .notices .now) (f .places-shape) (f .notices-shape) (c .before .before .before .before .before .held .ensures) (c .before .before .before .before .held2 .ensures) in (k .0, k .1, f .shares-shape, c .before .before .before .before .before .before .standing .ensures)
+linked-ok-requires c κs = let s = c .before .before .before .before .before .before .before .before .before .before in let shape = S.holds (c .before .before .before .tables-formed .ensures) (c .before .before .if1 .left) in let f = shapes (tables (s .args .shares .now) (s .args .places .now) (s .args .notices .now)) shape in let k = S.counted (s .args .places .now) (s .args .notices .now) (f .places-shape) (f .notices-shape) (c .before .before .before .before .before .held .ensures) (c .before .before .before .before .held2 .ensures) in (k .0, k .1, f .members-shape, c .before .before .before .before .before .before .standing .ensures)
 
 returns-3 : tie.Need-returns-3
 unfolding sound-frames

@@ -26,7 +26,7 @@ sum-with-requires c κs =
     let z = c .before .before .before .before .before .before in
     let t = tables (z .args .shares .now) (z .args .places .now) (z .args .notices .now) in
     let none = zero-then _ _ (c .before .before .admit-refusal .ensures) (omega (arith, c .before .if1 .left)) in
-    (S.shapes t (S.formed-tables (z .args .h) t (z .pre .0)) .shares-shape, z .pre .1, W.admit-units (z .args .h) t (z .pre .0) (z .args .x) (z .args .standing) (z .pre .1) none)
+    (S.shapes t (S.formed-tables (z .args .h) t (z .pre .0)) .members-shape, z .pre .1, W.admit-units (z .args .h) t (z .pre .0) (z .args .x) (z .args .standing) (z .pre .1) none)
 
 sub-over : tie.Need-sub-over
 sub-over c = search needs
@@ -41,7 +41,7 @@ places-of-all-requires : tie.Need-places-of-all-requires
 places-of-all-requires c κs =
     let z = c .before .before .before .before .before .before .before .before in
     let t = tables (z .args .shares .now) (z .args .places .now) (z .args .notices .now) in
-    (S.shapes t (S.formed-tables (z .args .h) t (z .pre .0)) .shares-shape, z .pre .1)
+    (S.shapes t (S.formed-tables (z .args .h) t (z .pre .0)) .members-shape, z .pre .1)
 
 cast-places-asked : tie.Need-cast-places-asked
 cast-places-asked c = search needs

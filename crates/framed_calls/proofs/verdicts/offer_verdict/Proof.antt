@@ -17,7 +17,7 @@ stands-requires : tie.Need-stands-requires
 stands-requires c κs =
     let z = c .before .before .before .before in
     let t = tables (z .args .shares .now) (z .args .places .now) (z .args .notices .now) in
-    S.shapes t (S.formed-tables (z .args .h) t (z .pre)) .shares-shape
+    S.shapes t (S.formed-tables (z .args .h) t (z .pre)) .members-shape
 
 unset-requires : tie.Need-unset-requires
 unset-requires c κs = search needs
@@ -35,7 +35,7 @@ figures-of-requires : tie.Need-figures-of-requires
 figures-of-requires c κs =
     let z = c .before .before .before .before .before .before .before .before in
     let t = tables (z .args .shares .now) (z .args .places .now) (z .args .notices .now) in
-    S.shapes t (S.formed-tables (z .args .h) t (z .pre)) .shares-shape
+    S.shapes t (S.formed-tables (z .args .h) t (z .pre)) .members-shape
 
 taken-by-requires : tie.Need-taken-by-requires
 taken-by-requires c κs =
