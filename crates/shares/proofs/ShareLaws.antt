@@ -21,7 +21,7 @@ use Rattle.frames.specs.Admission.{stands}
 use Rattle.limits.specs.Zeros.{zeros}
 use Rattle.limits.proofs.ZeroLaws.{zero-at}
 use Rattle.tables.specs.Table.{row-in, used, formed}
-use Rattle.tables.proofs.TableLaws.{listed-row, number-in, read-at, used-end, held-stop, held-more, formed-length, formed-written, put-last, read-back, formed-back}
+use Rattle.tables.proofs.TableLaws.{listed-row, number-in, read-at, used-end, held-stop, formed-length, formed-written, put-last, read-back, formed-back}
 use Rattle.shares.specs.Shares.{share-width, shares-length, share-in, numbers-of, share-at, put, shares-in, written-shares, shares-formed}
 
 -- ---- a row
@@ -34,7 +34,7 @@ row-numbers t c = let n = number-in share-width t c in rw (n 0 (omega arith), n 
 
 -- ---- the rows in use
 
-shares-used : (t : List ℕ) → length (shares-in t) ≡ length (used share-width t)
+pub shares-used : (t : List ℕ) → length (shares-in t) ≡ length (used share-width t)
 unfolding shares-in
 shares-used t = length-map (used share-width t) share-in
 
@@ -45,11 +45,8 @@ share-is t c h = read-at share-width share-in t c (omega (arith, shares-used t))
 pub shares-end : (t : List ℕ) → 2 * length (shares-in t) ≤ length t
 shares-end t = omega (arith, used-end share-width t, shares-used t)
 
-pub shares-stop : (t : List ℕ) (i : ℕ) → i ≤ length (shares-in t) → getD t (2 * i + 1) 0 ≡ 0 → i ≡ length (shares-in t)
+shares-stop : (t : List ℕ) (i : ℕ) → i ≤ length (shares-in t) → getD t (2 * i + 1) 0 ≡ 0 → i ≡ length (shares-in t)
 shares-stop t i h z = let k = held-stop share-width t (omega arith) i (omega (arith, shares-used t)) z in omega (arith, shares-used t)
-
-pub shares-more : (t : List ℕ) (i : ℕ) → 2 * i + 2 ≤ length t → (getD t (2 * i + 1) 0 ≡ 0 → ⊥) → i ≤ length (shares-in t) → i < length (shares-in t)
-shares-more t i l z h = let k = held-more share-width t (omega arith) i (omega arith) z (omega (arith, shares-used t)) in omega (arith, shares-used t)
 
 positive : (m : ℕ) → (m ≡ 0 → ⊥) → 0 < m
 positive zero n = absurd (n refl)

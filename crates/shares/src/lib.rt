@@ -48,15 +48,7 @@ fn put_share(shares: &mut [u32], c: usize, x: Share)
 pub fn standing(shares: &[u32]) -> usize
     ensures { λ r. ⌜ r ≡ length (shares-in (now (shares .entry))) ⌝ }
 {
-    let n = shares.len() / SHARE_WIDTH;
-    let mut i: usize = 0;
-    while i < n {
-        if shares[SHARE_WIDTH * i + 1] == 0 {
-            return i;
-        }
-        i += 1;
-    }
-    i
+    tables::in_use(shares, SHARE_WIDTH)
 }
 
 // Whether number c stands.

@@ -134,7 +134,7 @@ module _ (c : ℕ) where
 
 -- ---- loops over the rows
 
-rows-used : (t : List ℕ) → length (rows t) ≡ length (used packet-width t)
+pub rows-used : (t : List ℕ) → length (rows t) ≡ length (used packet-width t)
 unfolding rows
 rows-used t = length-map (used packet-width t) packet-in
 

@@ -129,6 +129,9 @@ module _ (w : ℕ) where
   rows-fit : (t : List ℕ) (n : ℕ) → n ≤ length t / w → w * n ≤ length t
   rows-fit t n h = le-trans (mul-le-mul-left w h) (mul-div-le (length t) w)
 
+  pub row-fits : (t : List ℕ) (i : ℕ) → i < length t / w → w * i + w ≤ length t
+  row-fits t i h = omega (arith, rows-fit t (suc i) h, mul-suc w i)
+
 -- .. and so does what is read of it
 pub made-at : {A : Type 0} (w n : ℕ) (make : List ℕ → A) (t : List ℕ) (i : ℕ) → i < n → getD (map make (rows-in w n t)) i (make []) ≡ make (row-in w t i)
 made-at w n make t i h = List·getD-map make (rows-in w n t) i [] ∙ ap make (rows-in-at w n t i h)
@@ -178,7 +181,7 @@ until-end (r ∷ rs) h = go (ends (r ∷ rs)) refl h (until-end rs)
     go false q h ih = ih (le-of-suc-le-suc h)
 
 module _ (w : ℕ) (t : List ℕ) where
-  used-le : length (used w t) ≤ length t / w
+  pub used-le : length (used w t) ≤ length t / w
   used-le = omega (arith, until-le (whole w t), length-rows w (length t / w) t)
 
   used-first : used w t ≡ rows-in w (length (used w t)) t

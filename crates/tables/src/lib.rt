@@ -6,6 +6,7 @@ ghost use lib.Dec.{eqb};
 ghost use lib.ListN.{length};
 ghost use lib.Seq.{sets};
 ghost use Rattle.rules.specs.SoundTest.{same-numbers};
+ghost use Rattle.tables.specs.Table.{used};
 ghost use Rattle.tables.specs.Places.{row-at, put, shifted, rows, table-of, cut, place, no-packet};
 use limits::PACKET_WIDTH;
 use rules::Packet;
@@ -92,19 +93,27 @@ pub fn same(a: &[u32], b: &[u32]) -> bool
     true
 }
 
-// The number of rows.
-pub fn held(table: &[u32]) -> usize
-    ensures { λ r. ⌜ r ≡ length (rows (now (table .entry))) ⌝ }
+// The number of rows in use, in any table, of `width` numbers to a row.
+pub fn in_use(table: &[u32], width: usize) -> usize
+    requires { ⌜ 2 ≤ width ⌝ }
+    ensures { λ r. ⌜ r ≡ length (used width (now (table .entry))) ⌝ }
 {
-    let n = table.len() / PACKET_WIDTH;
+    let n = table.len() / width;
     let mut i: usize = 0;
     while i < n {
-        if table[PACKET_WIDTH * i + 1] == 0 {
+        if table[width * i + 1] == 0 {
             return i;
         }
         i += 1;
     }
     i
+}
+
+// The number of rows.
+pub fn held(table: &[u32]) -> usize
+    ensures { λ r. ⌜ r ≡ length (rows (now (table .entry))) ⌝ }
+{
+    in_use(table, PACKET_WIDTH)
 }
 
 // Whether there is no row.
