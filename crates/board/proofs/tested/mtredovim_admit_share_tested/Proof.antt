@@ -1,0 +1,63 @@
+use Rattle.tables.specs.Lent.{tables}
+use Rattle.board.proofs.NumberLaws.{sound-long}
+use Rattle.board.proofs.DoesLaws.{kept-sound, units-fit, does}
+use Rattle.board.specs.Calls.{admit-share}
+use mathlib.Core.Path.{refl}
+use borrow.Author.Needs.{needs}
+use Rattle.board.proofs.tested.mtredovim_admit_share_tested.Statement.{statement}
+use Rattle.board.proofs.tested.mtredovim_admit_share_tested.Tie as tie
+
+read-kept-requires : tie.Need-read-kept-requires
+read-kept-requires c κs =
+    let z = c .before .before .before .before .before in
+    let a = z .args in
+    let t = tables (a .members .now) (a .places .now) (a .notices .now) in
+    sound-long (a .line .now) t (z .pre)
+
+admit-share-requires : tie.Need-admit-share-requires
+admit-share-requires c κs =
+    let z = c .before .before .before .before .before .before .before in
+    let a = z .args in
+    let t = tables (a .members .now) (a .places .now) (a .notices .now) in
+    kept-sound (a .line .now) t (z .pre) _ (c .before .read-kept .ensures)
+
+put-kept-requires : tie.Need-put-kept-requires
+put-kept-requires c κs =
+    let z = c .before .before .before .before .before .before .before .before .before .before .before in
+    let a = z .args in
+    let t = tables (a .members .now) (a .places .now) (a .notices .now) in
+    sound-long (a .line .now) t (z .pre)
+
+admission-of-requires : tie.Need-admission-of-requires
+admission-of-requires c κs =
+    let z = c .before .before .before .before .before .before .before .before .before .before .before .before .before .before in
+    let a = z .args in
+    let t = tables (a .members .now) (a .places .now) (a .notices .now) in
+    units-fit _ _ t (kept-sound (a .line .now) t (z .pre) _ (c .before .before .before .before .before .before .before .before .read-kept .ensures)) _ _ (c .before .before .before .before .before .before .admit-share .ensures)
+
+same-length : tie.Need-same-length
+same-length c = search needs
+
+same-length-2 : tie.Need-same-length-2
+same-length-2 c = search needs
+
+returns : tie.Need-returns
+returns c =
+    let z = c .before .before .before .before .before .before .before .before .before .before .before .before .before .before .before in
+    let a = z .args in
+    let t = tables (a .members .now) (a .places .now) (a .notices .now) in
+    let h = c .before .before .before .before .before .before .before .before .before .read-kept in
+    let w = c .before .before .before .before .before .before .before .admit-share in
+    does (admit-share (a .units) (a .room)) (a .line .now) t (z .pre) _ refl _ (h .ensures) (w .result) _ (w .ensures) _ _ (c .admission-of .ensures) (c .before .before .before .put-kept .ensures)
+
+pub mtredovim-admit-share-tested-spec : {M : Type 1} → statement M
+mtredovim-admit-share-tested-spec =
+    tie.close
+    (tie.spec
+    read-kept-requires
+    admit-share-requires
+    put-kept-requires
+    admission-of-requires
+    same-length
+    same-length-2
+    returns)
