@@ -1,32 +1,21 @@
 -- Laws of the line's table: read and written back it is itself, and what is written of a `Kept` is read again.
-use Prim.Native.Nat.{ℕ, zero, suc, _+_, _≤_}
+use Prim.Native.Nat.{ℕ, _+_}
 use native.Mathlib.Omega.{arith}
-use mathlib.Core.Path.{_≡_, refl, sym, ap, _∙_}
+use mathlib.Core.Path.{_≡_, refl, ap, _∙_}
 use mathlib.Core.Bool.{Bool, true, false, cond}
-use mathlib.Core.List.{List, [], _∷_, _++_, append-nil}
+use mathlib.Core.List.{List, _++_, append-nil}
 use lib.Dec.{eqb}
 use mir.Val.{boolByte}
-use lib.ListN.{length, getD, drop, drop-of-length-le}
+use lib.ListN.{length, drop-of-length-le}
 use lib.Seq.{sets, sets-eq}
 use borrow.Author.Tests.{eqb-true, eq-eqb, ne-eqb}
 use Rattle.rules.specs.Limits.{max-levels}
 use Rattle.rules.proofs.Tests.{and-true}
 use Rattle.tables.specs.Lent.{Tables}
+use Rattle.tables.proofs.TableLaws.{listed-row}
 use Rattle.both.specs.declared.Kept.{Kept}
 use Rattle.both.specs.View.{sound-kept}
-use Rattle.board.specs.Numbers.{numbers-at, eight, line-length, kept-in, numbers-of, sound-lent}
-
--- ---- some numbers of a list
-
-behind-first : (x : ℕ) (l : List ℕ) (k n : ℕ) → numbers-at (x ∷ l) (suc k) n ≡ numbers-at l k n
-behind-first x l k zero = refl
-behind-first x l k (suc n) = ap (λ (r : List ℕ). getD l k 0 ∷ r) (behind-first x l (suc k) n)
-
-pub all-numbers : (l : List ℕ) (n : ℕ) → length l ≡ n → numbers-at l 0 n ≡ l
-all-numbers [] zero e = refl
-all-numbers [] (suc n) e = absurd (omega arith)
-all-numbers (x ∷ l) zero e = absurd (omega arith)
-all-numbers (x ∷ l) (suc n) e = ap (λ (r : List ℕ). x ∷ r) (behind-first x l 0 n ∙ all-numbers l n (omega arith))
+use Rattle.board.specs.Numbers.{eight, line-length, kept-in, numbers-of, sound-lent}
 
 -- numbers copied over all of a table
 pub copied-whole : (l v : List ℕ) → length l ≡ length v → sets l 0 v ≡ v
@@ -36,7 +25,7 @@ copied-whole l v e = sets-eq v l 0 (omega arith) ∙ ap (λ (r : List ℕ). v ++
 
 -- READ AND WRITTEN BACK, a line's table is itself
 pub line-back : (l : List ℕ) → length l ≡ line-length → numbers-of (kept-in l) ≡ l
-line-back l e = all-numbers l line-length e
+line-back l e = listed-row line-length l e
 
 -- the bounds and the windows are eight each
 pub record Eights (h : Kept) : Type 0 where
@@ -50,8 +39,8 @@ with-eights h ds ws e f = rw (e, f)
 -- WRITTEN AND READ AGAIN, a `Kept` is itself
 pub read-again : (h : Kept) → Eights h → kept-in (numbers-of h) ≡ h
 read-again h E =
-    with-eights h (eight (h .hub .link .bounds)) (eight (h .hub .link .windows)) (all-numbers (h .hub .link .bounds) max-levels (E .bounds))
-    (all-numbers (h .hub .link .windows) max-levels (E .windows))
+    with-eights h (eight (h .hub .link .bounds)) (eight (h .hub .link .windows)) (listed-row max-levels (h .hub .link .bounds) (E .bounds))
+    (listed-row max-levels (h .hub .link .windows) (E .windows))
 
 pub written-long : (h : Kept) → length (numbers-of h) ≡ line-length
 written-long h = refl
@@ -75,6 +64,11 @@ module _ (l : List ℕ) (t : Tables) where
     pub sound-kept-in : sound-kept (kept-in l) t ≡ true
     unfolding sound-lent
     sound-kept-in = and-true (eqb (length l) line-length) (sound-kept (kept-in l) t) ok .1
+
+-- what is written of a sound `Kept` with eights is sound
+pub lent-sound : (h : Kept) (t : Tables) → Eights h → sound-kept h t ≡ true → sound-lent (numbers-of h) t ≡ true
+unfolding sound-lent
+lent-sound h t E ok = ap (λ (x : Kept). sound-kept x t) (read-again h E) ∙ ok
 
 -- ---- a number from a test
 

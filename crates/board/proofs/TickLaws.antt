@@ -4,13 +4,13 @@ use native.Mathlib.Omega.{arith}
 use mathlib.Core.Path.{_≡_, refl, sym, ap, _∙_, subst}
 use mathlib.Core.Bool.{Bool, true, false, cond, not, _||_, true≢false}
 use mathlib.Core.Logic.{_⊎_, inl, inr}
-use mathlib.Core.Option.{Option, none, some}
+use mathlib.Core.Option.{Option, none}
 use lib.Dec.{eqb}
 use borrow.Author.Tests.{eq-eqb, ne-eqb, eqb-true, eqb-false, not-false}
 use Rattle.rules.specs.Limits.{clock-end, beyond-32-bits}
 use Rattle.rules.specs.Model.{no-short}
 use Rattle.rules.proofs.Sums.{cond-is, cond-ind}
-use Rattle.either.specs.Line.{Line, tick, Reply, levels-set, frames-set, Sound-line, sound-line, respond}
+use Rattle.either.specs.Line.{Line, tick, Reply, Sound-line, respond, resting-verdict}
 use Rattle.either.proofs.Results.{refusals-change-nothing, sound-is-kept}
 use Rattle.tables.specs.Places.{is-some, packet-or-unused}
 use Rattle.tables.specs.Lent.{Tables}
@@ -18,26 +18,26 @@ use Rattle.both.specs.declared.Kept.{Kept}
 use Rattle.both.specs.declared.Replied.{Replied}
 use Rattle.both.specs.View.{view, kept-of, written, has-link, kept-clock, sound-kept}
 use Rattle.both.specs.Replied.{replied-of}
-use Rattle.both.specs.Quiet.{passed, quiet-ticks}
-use Rattle.both.proofs.SoundLaws.{clock-kept, is-sound, sound-view, tables-kept, kept-back}
+use Rattle.both.specs.Quiet.{passed}
+use Rattle.both.proofs.SoundLaws.{set-seen, is-sound, sound-view, tables-kept, kept-back}
 use Rattle.both.proofs.WrittenLaws.{written-reads-back}
-use Rattle.both.proofs.QuietLaws.{Quiet, one-quiet-tick, quiet-then, pass-none, pass-one-more, quiet-room}
-use Rattle.board.specs.Ticks.{Many, no-ticks, later, many, resting-verdict, many-verdict, run-ticks}
+use Rattle.both.proofs.QuietLaws.{Quiet, quiet-reply, one-quiet-tick, over-quiet, passed-written, quiet-room, quiet-fits}
+use Rattle.board.specs.Ticks.{Many, no-ticks, later, many, many-verdict, run-ticks}
 use Rattle.board.specs.Stretch.{most-at-once, quiet-of, counted, quiet-stretch, stretch, undeparted, last-of, counted-told}
 
 -- ---- the first tick
 
 module _ (n : ℕ) (s : Line) where
-  refused-first : (respond tick s .verdict ≡ 0 → ⊥) → many (suc n) s ≡ no-ticks s
+  pub refused-first : (respond tick s .verdict ≡ 0 → ⊥) → many (suc n) s ≡ no-ticks s
   unfolding many
   refused-first z = rw (ne-eqb (respond tick s .verdict) 0 z)
 
   module _ (e : respond tick s .verdict ≡ 0) where
-    departed-first : is-some (respond tick s .departed) ≡ true → many (suc n) s ≡ record { done = 1; departed = respond tick s .departed; next = respond tick s .next }
+    pub departed-first : is-some (respond tick s .departed) ≡ true → many (suc n) s ≡ record { done = 1; departed = respond tick s .departed; next = respond tick s .next }
     unfolding many
     departed-first g = rw (eq-eqb (respond tick s .verdict) 0 e, g)
 
-    one-first : is-some (respond tick s .departed) ≡ false → many (suc n) s ≡ later 1 (many n (respond tick s .next))
+    pub one-first : is-some (respond tick s .departed) ≡ false → many (suc n) s ≡ later 1 (many n (respond tick s .next))
     unfolding many
     one-first g = rw (eq-eqb (respond tick s .verdict) 0 e, g)
 
@@ -51,15 +51,6 @@ before-before a b m =
     let e : a + (b + m .done) ≡ a + b + m .done = omega arith in ap (λ (d : ℕ). record { done = d; departed = m .departed; next = m .next }) e
 
 -- ---- quiet ticks
-
-abbrev quiet-reply : Line → Reply
-quiet-reply s = record { verdict = 0; number = 0; short = no-short; departed = none; next = passed s 1 }
-
-over-quiet : (P : ℕ → Line → Line → Type 0) → ((s : Line) → Sound-line s → P 0 s s) → ((k : ℕ) (s z : Line) → respond tick s ≡ quiet-reply s → P k (passed s 1) z → P (suc k) s z)
-    → (k : ℕ) (s : Line) → Quiet s k → P k s (passed s k)
-over-quiet P start more zero s Q = subst (P 0 s) (sym (pass-none s)) (start s (Q .sound-state))
-over-quiet P start more (suc k) s Q =
-    subst (P (suc k) s) (pass-one-more s k) (more k s (passed (passed s 1) k) (one-quiet-tick s k Q) (over-quiet P start more k (passed s 1) (quiet-then s k Q)))
 
 one-more : (k m : ℕ) (s z : Line) → respond tick s ≡ quiet-reply s → many (k + m) (passed s 1) ≡ later k (many m z) → many (suc k + m) s ≡ later (suc k) (many m z)
 one-more k m s z a ih =
@@ -80,10 +71,6 @@ passes-over : (k : ℕ) (s : Line) → Quiet s k → Over k s (passed s k)
 passes-over = over-quiet Over
     (λ s S. record { ticks = λ m. let e : 0 + m ≡ m = omega arith in ap (λ (j : ℕ). many j s) e ∙ sym (none-before (many m s)); sound-then = S })
     (λ k s z a O. record { ticks = λ m. one-more k m s z a (O .ticks m); sound-then = O .sound-then })
-
--- what is passed over leaves the tables
-passed-written : (s : Line) (k : ℕ) → written s ≡ written (passed s k)
-passed-written s k = cond-ind (λ x. written s ≡ written x) (frames-set s) (λ _. refl) (λ _. refl)
 
 -- ---- a stretch
 
@@ -165,7 +152,7 @@ stretched (suc m) z n S =
 module _ (left : ℕ) (h : Kept) (t : Tables) {k : ℕ} (e : k ≡ quiet-of left (view h t)) where
   -- they end before the clock does
   pub quiet-in-time : (k ≡ 0 → ⊥) → kept-clock h + k ≤ clock-end
-  quiet-in-time n = rw (← clock-kept h t) (quiet-room (min left most-at-once) (view h t) e n .quiet .in-time)
+  quiet-in-time n = quiet-fits (min left most-at-once) h t e n .1
 
   stretch-quiet : (k ≡ 0 → ⊥) → stretch left (view h t) ≡ quiet-stretch k (view h t)
   unfolding stretch
@@ -231,7 +218,7 @@ module _ (n : ℕ) (s : Line) where
     sym (ap written run-next ∙ ap (λ (x : Many). written (x .next)) f),
   )
 
-  first-told : (n ≡ 0 → ⊥) → many-verdict n s ≡ respond tick s .verdict
+  pub first-told : (n ≡ 0 → ⊥) → many-verdict n s ≡ respond tick s .verdict
   first-told z = cond-is (resting-verdict s) (respond tick s .verdict) (ne-eqb n 0 z)
 
 module _ (n : ℕ) (s : Line) (h : Kept) (t : Tables) (done : ℕ) (G : Going n s h t done) where
@@ -325,17 +312,6 @@ pub left-less : (n done k : ℕ) → done < n → 1 ≤ k → n - (done + k) < n
 left-less n done k l s = omega arith
 
 -- ---- no tick is asked
-
-or-true : (b : Bool) → (b || true) ≡ true
-or-true true = refl
-or-true false = refl
-
-set-seen : (h : Kept) (t : Tables) → (levels-set (view h t) || frames-set (view h t)) ≡ has-link h
-set-seen h t = go (eqb (h .frames .link .frame) 0) refl
-  where
-    go : (b : Bool) → eqb (h .frames .link .frame) 0 ≡ b → (levels-set (view h t) || frames-set (view h t)) ≡ has-link h
-    go true e = rw e
-    go false e = rw e (ap not e ∙ sym (or-true (not (eqb (h .hub .link .levels) 0))))
 
 resting-is : (h : Kept) (t : Tables) → sound-kept h t ≡ true → resting-verdict (view h t) ≡ cond (has-link h) 0 2
 resting-is h t ok = rw (sound-view h t ok, set-seen h t) (go (has-link h))

@@ -2,7 +2,6 @@
 use Prim.Native.Nat.{ℕ}
 use mathlib.Core.Bool.{cond}
 use mathlib.Core.List.{List, _∷_}
-use Rattle.either.specs.Line.{Reply}
 use Rattle.tables.specs.Lent.{Tables}
 use Rattle.tables.specs.Calls.{Does-by}
 use Rattle.both.specs.declared.Replied.{Replied}

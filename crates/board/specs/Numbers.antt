@@ -1,10 +1,11 @@
 -- THE LINE'S TABLE: what a caller in C keeps of a line beside its tables of connections, places and notices, as 31 numbers; all are zero when it is fresh.
 -- Document 01, "Link, connections, places"; document 02, R-13; include/mtredovim.h.
-use Prim.Native.Nat.{ℕ, zero, suc}
+use Prim.Native.Nat.{ℕ, _+_}
 use mathlib.Core.Bool.{Bool, _&&_}
 use mathlib.Core.List.{List, [], _∷_, _++_}
 use lib.Dec.{eqb}
 use lib.ListN.{length, getD}
+use Rattle.rules.specs.Words.{tabulate}
 use Rattle.rules.specs.Limits.{max-levels}
 use Rattle.state.specs.declared.Hub.{Hub}
 use Rattle.framed_state.specs.declared.Frames.{Frames}
@@ -12,14 +13,12 @@ use Rattle.tables.specs.Lent.{Tables}
 use Rattle.both.specs.declared.Kept.{Kept}
 use Rattle.both.specs.View.{sound-kept}
 
--- n numbers of l from the k-th on, 0 past the last one
-abbrev pub numbers-at : List ℕ → ℕ → ℕ → List ℕ
-numbers-at l k zero = []
-numbers-at l k (suc n) = getD l k 0 ∷ numbers-at l (suc k) n
+-- the eight bounds, or windows, of a link: from the k-th number of l on, and all of l; 0 past the last one
+abbrev pub eight-from : ℕ → List ℕ → List ℕ
+eight-from k l = tabulate max-levels (λ i. getD l (k + i) 0)
 
--- the eight bounds, or windows, of a link
 abbrev pub eight : List ℕ → List ℕ
-eight l = numbers-at l 0 max-levels
+eight l = tabulate max-levels (λ i. getD l i 0)
 
 abbrev pub line-length : ℕ
 line-length = 31
@@ -27,7 +26,7 @@ line-length = 31
 -- the hub of levels, in 24 numbers: levels, S, the silence, the setting of the stand-by queue, the bounds, the windows; clock, who is in service, units to go, silence to run
 abbrev pub hub-in : List ℕ → Hub
 hub-in l = record {
-  link = record { levels = getD l 0 0; largest = getD l 1 0; silence = getD l 2 0; early = getD l 3 0; bounds = numbers-at l 4 max-levels; windows = numbers-at l 12 max-levels };
+  link = record { levels = getD l 0 0; largest = getD l 1 0; silence = getD l 2 0; early = getD l 3 0; bounds = eight-from 4 l; windows = eight-from 12 l };
   clock = getD l 20 0;
   serving = getD l 21 0;
   «to_go» = getD l 22 0;

@@ -1,14 +1,12 @@
 -- MANY TICKS in one call: one after another, each a request of its own, up to the first with which a packet departs, or the last before one that is refused, or n.
 -- Document 01, "One tick".
 use Prim.Native.Nat.{ℕ, zero, suc, _+_}
-use mathlib.Core.Bool.{cond, not, _||_}
-use mathlib.Core.List.{[], _∷_}
+use mathlib.Core.Bool.{cond}
 use mathlib.Core.Option.{Option, none}
 use lib.Dec.{eqb}
 use Rattle.rules.specs.declared.Packet.{Packet}
-use Rattle.rules.specs.Words.{first-number}
 use Rattle.rules.specs.Model.{no-short}
-use Rattle.either.specs.Line.{Line, tick, Reply, levels-set, frames-set, sound-line, respond}
+use Rattle.either.specs.Line.{Line, tick, Reply, respond, resting-verdict}
 use Rattle.tables.specs.Places.{is-some}
 
 -- the ticks that were done, the packet that departed with the last of them, if one did, and the line then
@@ -33,11 +31,7 @@ many (suc n) s =
     (later 1 (many n (respond tick s .next))))
     (no-ticks s)
 
--- "`TK` 0 changes nothing and answers 1 or 2 where they apply, else 0, even at the clock's end"
-abbrev pub resting-verdict : Line → ℕ
-resting-verdict s = first-number ((1, not (sound-line s)) ∷ (2, not (levels-set s || frames-set s)) ∷ [])
-
--- the verdict is that of the first tick: where it is not 0, none was done
+-- the verdict is that of the first tick, where one is asked: where it is not 0, none was done
 abbrev pub many-verdict : ℕ → Line → ℕ
 many-verdict n s = cond (eqb n 0) (resting-verdict s) (respond tick s .verdict)
 

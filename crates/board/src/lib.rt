@@ -162,27 +162,18 @@ pub extern "C" fn mtredovim_offer(
     members: &mut [u32],
     places: &mut [u32],
     notices: &[u32],
-    connection: u32,
+    c: u32,
     len: u32,
     tag: u32,
     eligibility: &mut u32,
 ) -> u32
-    ensures { λ r. ⌜ Does (offer connection len tag) (now (line .entry)) (before members places notices) (spoken (r ∷ now (eligibility .exit) ∷ []) (now (line .exit))) (after members places notices) ⌝ }
+    ensures { λ r. ⌜ Does (offer c len tag) (now (line .entry)) (before members places notices) (spoken (r ∷ now (eligibility .exit) ∷ []) (now (line .exit))) (after members places notices) ⌝ }
 {
     if !is_sound(line, members, places, notices) {
         *eligibility = 0;
         return 1;
     }
-    tested::mtredovim_offer_tested(
-        line,
-        members,
-        places,
-        notices,
-        connection,
-        len,
-        tag,
-        eligibility,
-    )
+    tested::mtredovim_offer_tested(line, members, places, notices, c, len, tag, eligibility)
 }
 
 // A packet that brings a stamp.
@@ -192,13 +183,13 @@ pub extern "C" fn mtredovim_offer_stamped(
     members: &mut [u32],
     places: &mut [u32],
     notices: &[u32],
-    connection: u32,
+    c: u32,
     len: u32,
     tag: u32,
     stamp: u32,
     eligibility: &mut u32,
 ) -> u32
-    ensures { λ r. ⌜ Does (offer-stamped connection len tag stamp) (now (line .entry)) (before members places notices) (spoken (r ∷ now (eligibility .exit) ∷ []) (now (line .exit))) (after members places notices) ⌝ }
+    ensures { λ r. ⌜ Does (offer-stamped c len tag stamp) (now (line .entry)) (before members places notices) (spoken (r ∷ now (eligibility .exit) ∷ []) (now (line .exit))) (after members places notices) ⌝ }
 {
     if !is_sound(line, members, places, notices) {
         *eligibility = 0;
@@ -209,7 +200,7 @@ pub extern "C" fn mtredovim_offer_stamped(
         members,
         places,
         notices,
-        connection,
+        c,
         len,
         tag,
         stamp,
@@ -244,14 +235,14 @@ pub extern "C" fn mtredovim_close(
     members: &mut [u32],
     places: &[u32],
     notices: &[u32],
-    connection: u32,
+    c: u32,
 ) -> u32
-    ensures { λ r. ⌜ Does (close connection) (now (line .entry)) (before members places notices) (spoken (r ∷ []) (now (line .exit))) (after members places notices) ⌝ }
+    ensures { λ r. ⌜ Does (close c) (now (line .entry)) (before members places notices) (spoken (r ∷ []) (now (line .exit))) (after members places notices) ⌝ }
 {
     if !is_sound(line, members, places, notices) {
         return 1;
     }
-    tested::mtredovim_close_tested(line, members, places, notices, connection)
+    tested::mtredovim_close_tested(line, members, places, notices, c)
 }
 
 // One tick.

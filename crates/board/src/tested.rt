@@ -159,20 +159,20 @@ pub extern "C" fn mtredovim_offer_tested(
     members: &mut [u32],
     places: &mut [u32],
     notices: &[u32],
-    connection: u32,
+    c: u32,
     len: u32,
     tag: u32,
     eligibility: &mut u32,
 ) -> u32
     requires { ⌜ sound-lent (now line) (given members places notices) ≡ true ⌝ }
-    ensures { λ r. ⌜ Does (offer connection len tag) (now (line .entry)) (before members places notices) (spoken (r ∷ now (eligibility .exit) ∷ []) (now (line .exit))) (after members places notices) ⌝ }
+    ensures { λ r. ⌜ Does (offer c len tag) (now (line .entry)) (before members places notices) (spoken (r ∷ now (eligibility .exit) ∷ []) (now (line .exit))) (after members places notices) ⌝ }
 {
     let told = both::offer(
         read_kept(line),
         members,
         places,
         notices,
-        connection,
+        c,
         len,
         tag,
         false,
@@ -190,21 +190,21 @@ pub extern "C" fn mtredovim_offer_stamped_tested(
     members: &mut [u32],
     places: &mut [u32],
     notices: &[u32],
-    connection: u32,
+    c: u32,
     len: u32,
     tag: u32,
     stamp: u32,
     eligibility: &mut u32,
 ) -> u32
     requires { ⌜ sound-lent (now line) (given members places notices) ≡ true ⌝ }
-    ensures { λ r. ⌜ Does (offer-stamped connection len tag stamp) (now (line .entry)) (before members places notices) (spoken (r ∷ now (eligibility .exit) ∷ []) (now (line .exit))) (after members places notices) ⌝ }
+    ensures { λ r. ⌜ Does (offer-stamped c len tag stamp) (now (line .entry)) (before members places notices) (spoken (r ∷ now (eligibility .exit) ∷ []) (now (line .exit))) (after members places notices) ⌝ }
 {
     let told = both::offer(
         read_kept(line),
         members,
         places,
         notices,
-        connection,
+        c,
         len,
         tag,
         true,
@@ -242,12 +242,12 @@ pub extern "C" fn mtredovim_close_tested(
     members: &mut [u32],
     places: &[u32],
     notices: &[u32],
-    connection: u32,
+    c: u32,
 ) -> u32
     requires { ⌜ sound-lent (now line) (given members places notices) ≡ true ⌝ }
-    ensures { λ r. ⌜ Does (close connection) (now (line .entry)) (before members places notices) (spoken (r ∷ []) (now (line .exit))) (after members places notices) ⌝ }
+    ensures { λ r. ⌜ Does (close c) (now (line .entry)) (before members places notices) (spoken (r ∷ []) (now (line .exit))) (after members places notices) ⌝ }
 {
-    let told = both::close(read_kept(line), members, places, notices, connection);
+    let told = both::close(read_kept(line), members, places, notices, c);
     put_kept(line, told.kept);
     told.verdict
 }

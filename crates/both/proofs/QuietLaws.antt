@@ -1,5 +1,5 @@
 -- Ticks in which nothing starts and nothing departs: what the rules reply to each, and the line after it, by the discipline that is set.
-use Prim.Native.Nat.{ℕ, suc, _+_, _≤_}
+use Prim.Native.Nat.{ℕ, zero, suc, _+_, _≤_}
 use mathlib.Core.Path.{_≡_, refl, sym, ap, _∙_, subst}
 use mathlib.Core.Bool.{Bool, true, false, cond}
 use mathlib.Core.Logic.{_⊎_, inl, inr}
@@ -22,9 +22,9 @@ use Rattle.tables.specs.Lent.{Tables}
 use Rattle.state.specs.View.{hub-of, view as level-view}
 use Rattle.framed_state.specs.View.{frames-of, view as frame-view}
 use Rattle.both.specs.declared.Kept.{Kept}
-use Rattle.both.specs.View.{has-frames, framed, of-frames, view, kept-clock, kept-of, sound-kept}
+use Rattle.both.specs.View.{has-frames, framed, of-frames, view, kept-clock, kept-of, written, sound-kept}
 use Rattle.both.specs.Quiet.{passed, quiet-ticks}
-use Rattle.both.proofs.SoundLaws.{seen-framed, seen-level, line-framed, line-level, sound-view}
+use Rattle.both.proofs.SoundLaws.{seen-framed, seen-level, line-framed, line-level, clock-kept, sound-view}
 
 -- for k ticks nothing starts and nothing departs on a sound line, up to the clock's end
 pub record Quiet (s : Line) (k : ℕ) : Type 0 where
@@ -40,7 +40,7 @@ levels-passed s k = record { levels = level-passed (s .levels) k; frames = s .fr
 
 -- ---- one tick
 
-abbrev quiet-reply : Line → Reply
+abbrev pub quiet-reply : Line → Reply
 quiet-reply s = record { verdict = 0; number = 0; short = no-short; departed = none; next = passed s 1 }
 
 module _ (s : Line) where
@@ -111,6 +111,17 @@ pass-one-more s k = go (frames-set s) refl
         ∙ ap (λ (y : Level-state). record { levels = y; frames = s .frames }) (level.pass-one-more (s .levels) k)
         ∙ sym (level-pass s (suc k) n)
 
+-- what holds of no tick, and of one more quiet tick before others, holds of quiet ticks passed over
+pub over-quiet : (P : ℕ → Line → Line → Type 0) → ((s : Line) → Sound-line s → P 0 s s) → ((k : ℕ) (s z : Line) → respond tick s ≡ quiet-reply s → P k (passed s 1) z → P (suc k) s z)
+    → (k : ℕ) (s : Line) → Quiet s k → P k s (passed s k)
+over-quiet P start more zero s Q = subst (P 0 s) (sym (pass-none s)) (start s (Q .sound-state))
+over-quiet P start more (suc k) s Q =
+    subst (P (suc k) s) (pass-one-more s k) (more k s (passed (passed s 1) k) (one-quiet-tick s k Q) (over-quiet P start more k (passed s 1) (quiet-then s k Q)))
+
+-- what is passed over leaves the tables
+pub passed-written : (s : Line) (k : ℕ) → written s ≡ written (passed s k)
+passed-written s k = cond-ind (λ x. written s ≡ written x) (frames-set s) (λ _. refl) (λ _. refl)
+
 -- ---- those that are passed over at once
 
 -- they are no more than are left, and nothing happens in them
@@ -147,6 +158,12 @@ quiets left s = cond-ind (λ k. (k ≡ 0 → ⊥) → Quiets left s k) (sound-li
 
 pub quiet-room : (left : ℕ) (s : Line) {k : ℕ} → k ≡ quiet-ticks left s → (k ≡ 0 → ⊥) → Quiets left s k
 quiet-room left s e n = rw e (quiets left s (λ z. n (e ∙ z)))
+
+-- they are no more than are left, and end before the clock does
+pub quiet-fits : (left : ℕ) (h : Kept) (t : Tables) {k : ℕ} → k ≡ quiet-ticks left (view h t) → (k ≡ 0 → ⊥) → (k ≤ left) × (kept-clock h + k ≤ clock-end)
+quiet-fits left h t e n =
+    let i = quiet-room left (view h t) e n in
+    (i .few, rw (← clock-kept h t) (i .quiet .in-time))
 
 -- ---- in code
 

@@ -2,7 +2,8 @@
 use Prim.Native.Nat.{_≤_}
 use native.Mathlib.Omega.{arith}
 use mathlib.Core.Path.{_≡_, refl, sym, ap, _∙_}
-use mathlib.Core.Bool.{Bool, true, false, not, _&&_, true≢false}
+use mathlib.Core.Bool.{Bool, true, false, not, _&&_, _||_, true≢false}
+use lib.Dec.{eqb}
 use borrow.Author.Tests.{eq-eqb, ne-eqb}
 use lib.ListN.{length, take}
 use lib.Seq.{length-take-le}
@@ -23,7 +24,7 @@ use Rattle.framed_state.specs.declared.Frames.{Frames}
 use Rattle.framed_state.specs.View.{frames-of, sound-frames, written as frame-written}
 use Rattle.framed_state.proofs.SoundLaws.{is-sound as frame-is-sound, tables-kept as frame-kept}
 use Rattle.both.specs.declared.Kept.{Kept}
-use Rattle.both.specs.View.{has-frames, framed, of-levels, of-frames, view, kept-clock, kept-of, unframed, written, unused-hub, unused-frames, members-framed, sound-kept}
+use Rattle.both.specs.View.{has-frames, has-link, framed, of-levels, of-frames, view, kept-clock, kept-of, unframed, written, unused-hub, unused-frames, members-framed, sound-kept}
 use Rattle.both.proofs.FreshLaws.{fresh-hub, fresh-frames}
 use Rattle.both.proofs.TablesLaws.{framed-long, tables-back}
 
@@ -49,6 +50,18 @@ module _ (h : Kept) where
 
     pub line-level : has-frames h ≡ false → frames-set (view h t) ≡ false
     line-level n = ap frames-set (seen-level n)
+
+-- a link is set on the line where one is kept
+or-always : (b : Bool) → (b || true) ≡ true
+or-always true = refl
+or-always false = refl
+
+pub set-seen : (h : Kept) (t : Tables) → (levels-set (view h t) || frames-set (view h t)) ≡ has-link h
+set-seen h t = go (eqb (h .frames .link .frame) 0) refl
+  where
+    go : (b : Bool) → eqb (h .frames .link .frame) 0 ≡ b → (levels-set (view h t) || frames-set (view h t)) ≡ has-link h
+    go true e = rw e
+    go false e = rw e (ap not e ∙ sym (or-always (not (eqb (h .hub .link .levels) 0))))
 
 -- the clock of the line is that of the discipline that is set
 pub clock-kept : (h : Kept) (t : Tables) → clock-of (view h t) ≡ kept-clock h

@@ -2,14 +2,14 @@
 -- docs/RULES.md, R-13, "One line, one discipline".
 use Prim.Native.Nat.{ℕ, _+_}
 use mathlib.Core.Path.{_≡_}
-use mathlib.Core.Bool.{Bool, true, cond, not, _&&_}
+use mathlib.Core.Bool.{Bool, true, cond, not, _&&_, _||_}
 use mathlib.Core.List.{List, [], _∷_}
 use mathlib.Core.Option.{Option, none, some}
 use lib.Dec.{eqb}
 use Rattle.rules.specs.declared.Link.{Link}
 use Rattle.rules.specs.declared.Connection.{Connection}
 use Rattle.rules.specs.declared.Packet.{Packet}
-use Rattle.rules.specs.Words.{push}
+use Rattle.rules.specs.Words.{first-number, push}
 use Rattle.rules.specs.Limits.{notice-number, no-connection-number}
 use Rattle.rules.specs.declared.Short.{Short}
 use Rattle.rules.specs.Model.{no-short, State as Level-state, Call as Level-call, link as level-link, admit as level-admit, offer as level-offer, notice as level-notice, close as level-close, tick as level-tick, Answer as Level-answer, fresh as level-fresh}
@@ -111,6 +111,10 @@ refused-number tick = 0
 -- THE RULES of a line with either discipline
 abbrev pub respond : Request → Line → Reply
 respond k s = cond (sound-line s) (turn k s) (refuse s 1 (refused-number k))
+
+-- no tick is asked: "`TK` 0 changes nothing and answers 1 or 2 where they apply, else 0, even at the clock's end"
+abbrev pub resting-verdict : Line → ℕ
+resting-verdict s = first-number ((1, not (sound-line s)) ∷ (2, not (levels-set s || frames-set s)) ∷ [])
 
 -- ---- runs
 

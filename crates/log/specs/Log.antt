@@ -1,14 +1,13 @@
 -- THE ANSWER LOG of a trace, from bytes to bytes, by the rules alone: no hub value, no table, no window. Document 01, "Trace and answer records" and
 -- "One tick"; document 02, R-1, R-2, R-4, R-6, R-8, R-9, R-11, R-12 and R-13.
 use Prim.Native.Nat.{ℕ, zero, suc, _+_, _-_}
-use mathlib.Core.Bool.{cond, not, _||_}
+use mathlib.Core.Bool.{cond}
 use mathlib.Core.List.{List, [], _∷_, _++_}
 use mathlib.Core.Option.{Option, none, some}
 use lib.Dec.{ltb, eqb}
 use lib.ListN.{length, drop}
 use Rattle.rules.specs.declared.Packet.{Packet}
-use Rattle.rules.specs.Words.{first-number}
-use Rattle.either.specs.Line.{Line, Request, link-levels, link-frames, admit-level, admit-share, offer, notice, close, tick, Reply, levels-set, frames-set, sound-line, respond, clock-of, fresh-line}
+use Rattle.either.specs.Line.{Line, Request, link-levels, link-frames, admit-level, admit-share, offer, notice, close, tick, Reply, respond, resting-verdict, clock-of, fresh-line}
 use Rattle.traces.specs.declared.Record.{Record}
 use Rattle.traces.specs.declared.Record.the-variants.{Link as LinkRecord, LinkStandBy, LinkWindows, LinkFrames, Admit, AdmitStamped, AdmitShare, Close, Offer, OfferStamped, Notice, Ticks, Malformed}
 use Rattle.traces.specs.declared.Found.{Found}
@@ -35,9 +34,9 @@ departure (some p) finish = answer-bytes (Departed (p .connection) (p .tag) (p .
 abbrev pub tick-log : Reply → List ℕ
 tick-log a = departure (a .departed) (clock-of (a .next))
 
--- all the asked ticks are done; "`TK` 0 changes nothing and answers 1 or 2 where they apply, else 0, even at the clock's end"
+-- all the asked ticks are done
 abbrev pub all-done-verdict : ℕ → Line → ℕ
-all-done-verdict asked s = cond (eqb asked 0) (first-number ((1, not (sound-line s)) ∷ (2, not (levels-set s || frames-set s)) ∷ [])) 0
+all-done-verdict asked s = cond (eqb asked 0) (resting-verdict s) 0
 
 -- "`TK` runs the asked ticks one by one, each a call of its own, .. and stops at the first refused one; `TA` gives that verdict and the ticks done":
 -- what is written from the line s on, where `left` of `asked` are still to run

@@ -41,7 +41,7 @@ returns c =
     let t = tables (a .members .now) (a .places .now) (a .notices .now) in
     let h = c .before .before .before .before .before .before .before .before .read-kept in
     let w = c .before .before .before .before .before .before .close in
-    does (close (a .connection)) (a .line .now) t (z .pre) _ refl _ (h .ensures) (w .result) _ (w .ensures) _ _ refl (c .before .before .put-kept .ensures)
+    does (close (a .c)) (a .line .now) t (z .pre) _ refl _ (h .ensures) (w .result) _ (w .ensures) _ _ refl (c .before .before .put-kept .ensures)
 
 pub mtredovim-close-tested-spec : {M : Type 1} → statement M
 mtredovim-close-tested-spec =

@@ -44,7 +44,7 @@ returns c =
     let t = tables (a .members .now) (a .places .now) (a .notices .now) in
     let h = c .before .before .before .before .before .before .before .before .before .before .before .read-kept in
     let w = c .before .before .before .before .before .before .before .before .offer in
-    does (offer-stamped (a .connection) (a .len) (a .tag) (a .stamp)) (a .line .now) t (z .pre) _ refl _ (h .ensures) (w .result) _ (w .ensures) _ _ refl (c .before .before .put-kept .ensures)
+    does (offer-stamped (a .c) (a .len) (a .tag) (a .stamp)) (a .line .now) t (z .pre) _ refl _ (h .ensures) (w .result) _ (w .ensures) _ _ refl (c .before .before .put-kept .ensures)
 
 pub mtredovim-offer-stamped-tested-spec : {M : Type 1} → statement M
 mtredovim-offer-stamped-tested-spec =
