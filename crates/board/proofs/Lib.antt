@@ -1,3 +1,8 @@
 pub mod NumberLaws
 pub mod DoesLaws
 pub mod TickLaws
+pub mod ReplyLaws
+pub mod FollowLaws
+pub mod GatherLaws
+pub mod ShareLaws
+pub mod Results
