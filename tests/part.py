@@ -27,14 +27,17 @@ def files_in(folder):
 
 
 def cut(crate, folder, file):
-    """Leaves of the files that proofs/Lib.antt declares, in a copy of a crate, the one named and what it rests on; and what the proofs of functions rest on."""
+    """Leaves of a copy of a crate, of its functions and of the files that proofs/Lib.antt declares, what one file rests on: a file of laws, or the proof of a function."""
     if not os.path.isfile(os.path.join(folder, file)):
         raise BadEdit(f"its 'at:' line names no file of the crate: {file}")
-    drop_laws(crate, os.path.join(folder, "proofs"), {os.path.join(folder, file)})
+    if os.path.basename(file) == "Proof.antt":
+        leave(crate, folder, {tuple(os.path.dirname(file).split("/")[1:])}, set())
+    else:
+        leave(crate, folder, set(), {os.path.join(folder, file)})
 
 
 def drop_laws(crate, proofs, wanted):
-    """Leaves of the files that proofs/Lib.antt declares those wanted, and those that these and the proofs of functions rest on."""
+    """Leaves of the files that proofs/Lib.antt declares those wanted, and those that these and the proofs of the functions rest on."""
     lib = os.path.join(proofs, "Lib.antt")
     paths = {name: os.path.join(proofs, f"{name}.antt") for name in MOD.findall(text_of(lib))}
     stay = {path for path in files_in(proofs) if path not in paths.values()} | wanted
@@ -68,8 +71,9 @@ def reached(found, names):
     return stay
 
 
-def leave(crate, folder, names):
-    """Leaves of the functions of a copy of a crate those with these names and those that they call, with their proofs and what these rest on. Each line keeps its number."""
+def leave(crate, folder, names, laws=()):
+    """Leaves of the functions of a copy of a crate those with these names and those that they call, with their proofs; of its files of laws those named; and what all these
+    rest on. Each line keeps its number."""
     found = dict(functions(folder))
     gone = found.keys() - reached(found, names).keys()
     unnamed = {body.names[-1] for body in gone} - {body.names[-1] for body in found.keys() - gone}
@@ -83,4 +87,4 @@ def leave(crate, folder, names):
     for body in gone:
         shutil.rmtree(os.path.join(folder, os.path.dirname(body.proof())), ignore_errors=True)
     if os.path.isfile(os.path.join(folder, "proofs", "Lib.antt")):
-        drop_laws(crate, os.path.join(folder, "proofs"), set())
+        drop_laws(crate, os.path.join(folder, "proofs"), set(laws))
