@@ -1,7 +1,7 @@
 -- THE STATEMENTS of the code of the second discipline, apart from their proofs: each is proved in proofs/Results under the same name in small letters. Document 02, R-13.
-use Prim.Native.Nat.{ℕ, _+_, _-_, _≤_, _<_}
+use Prim.Native.Nat.{ℕ, _-_, _≤_, _<_}
 use mathlib.Core.Path.{_≡_}
-use mathlib.Core.Bool.{true, false}
+use mathlib.Core.Bool.{true}
 use mathlib.Core.Logic.{_↔_}
 use mathlib.Core.List.{List, _++_, map}
 use mathlib.Core.Option.{some}
@@ -10,28 +10,27 @@ use Rattle.rules.specs.declared.Packet.{Packet}
 use Rattle.rules.specs.Words.{All, total}
 use Rattle.rules.specs.Limits.{notice-number}
 use Rattle.rules.specs.Service.{of}
-use Rattle.rules.specs.Runs.{Departure, departures, Exchange}
+use Rattle.rules.specs.Runs.{Departure, Exchange}
 use Rattle.frames.specs.declared.Share.{Share}
-use Rattle.frames.specs.Model.{State, Call, admit, offer, figures}
+use Rattle.frames.specs.Model.{State, Call, admit, offer, Answer, figures}
 use Rattle.frames.specs.Admission.{frame-sum}
 use Rattle.frames.specs.Service.{next-frame, leaves-by, used}
 use Rattle.frames.specs.SoundState.{Sound}
 use Rattle.frames.specs.Calls.{refused-number, joining, answer}
 use Rattle.frames.specs.Runs.{run, in-hub, of-connections, asks, own-exchanges}
 use Rattle.frames.specs.Promises.{Past-its-units, arrived-now}
+use Rattle.faces.specs.Sequence.{Noted-by}
+use Rattle.faces.specs.Promises as F
 use Rattle.framed_state.specs.declared.Frames.{Frames}
 use Rattle.framed_state.specs.declared.Said.{Said}
 use Rattle.framed_state.specs.View.{Tables, view, frames-of, written, sound-frames}
+use Rattle.framed_state.specs.Said.{said-of}
 use Rattle.framed_state.specs.Does.{Does}
-use Rattle.framed_hub.specs.Sequence.{Notes, calls, state-of, notes-of, all-noted, Seen-to-keep-to-half}
+use Rattle.framed_hub.specs.Sequence.{calls, state-of, notes-of, all-noted, Seen-to-keep-to-half}
 
 -- any two answers and tables that a contract allows are equal
 abbrev pub One-outcome : Type 0
-One-outcome =
-    (k : Call) (h : Frames) (before : Tables) (said said′ : Said) (after after′ : Tables)
-    → Does k h before said after
-    → Does k h before said′ after′
-    → (said ≡ said′) × (after ≡ after′)
+One-outcome = F.One-outcome Does
 
 -- of a sound state, reading what is written gives it back, and what is written is sound: everything unused is zero
 abbrev pub Written-reads-back : Type 0
@@ -43,36 +42,19 @@ Sound-is-written = (h : Frames) (t : Tables) → sound-frames h t ≡ true → S
 
 -- a refused call changes nothing that the caller lent or handed in, gives the number of a refusal, and no packet leaves
 abbrev pub Refusals-change-nothing-of-the-code : Type 0
-Refusals-change-nothing-of-the-code =
-    (k : Call) (h : Frames) (before : Tables) (said : Said) (after : Tables)
-    → Does k h before said after
-    → (said .verdict ≡ 0 → ⊥)
-    → (said .frames ≡ h) × (after ≡ before) × (said .number ≡ refused-number k) × (said .gone ≡ false)
+Refusals-change-nothing-of-the-code = F.Refusals-change-nothing-of-the-code Does Said.verdict Said.frames Said.number refused-number Said.gone
 
 -- verdict 1 is given exactly where the `Frames` and its tables are not sound
 abbrev pub Verdict-1-of-the-code : Type 0
-Verdict-1-of-the-code =
-    (k : Call) (h : Frames) (before : Tables) (said : Said) (after : Tables)
-    → Does k h before said after
-    → (sound-frames h before ≡ false → said .verdict ≡ 1) × (sound-frames h before ≡ true → said .verdict ≡ 1 → ⊥)
+Verdict-1-of-the-code = F.Verdict-1-of-the-code Does sound-frames Said.verdict
 
 -- a call on a sound line leaves a sound one: a run that has tested once need not test again
 abbrev pub Sound-is-kept-by-the-code : Type 0
-Sound-is-kept-by-the-code =
-    (k : Call) (h : Frames) (before : Tables) (said : Said) (after : Tables)
-    → Does k h before said after
-    → sound-frames h before ≡ true
-    → sound-frames (said .frames) after ≡ true
+Sound-is-kept-by-the-code = F.Sound-is-kept-by-the-code Does sound-frames Said.frames
 
--- on a sound line the verdict, the number and the state that is left are the rules'
+-- on a sound line the answer and the state that is left are the rules'
 abbrev pub Answers-as-the-rules : Type 0
-Answers-as-the-rules =
-    (k : Call) (h : Frames) (before : Tables) (said : Said) (after : Tables)
-    → Does k h before said after
-    → sound-frames h before ≡ true
-    → (view (said .frames) after ≡ answer k (view h before) .next)
-    × (said .verdict ≡ answer k (view h before) .verdict)
-    × (said .number ≡ answer k (view h before) .number)
+Answers-as-the-rules = F.Answers-as-the-rules Does sound-frames view Said.frames answer Answer.next said-of
 
 -- on a sound line with a link an offer gets 19 exactly where it is of a length from 1 to S, to a connection that stands and has a place, while the clock runs, and with its
 -- silence would take the connection past r in this frame
@@ -104,15 +86,11 @@ Follows-the-rules = (ks : List Call) → calls ks ≡ notes-of (run ks)
 
 -- for each connection, and for the notices under their number, what the answers accepted is what they let go, followed by what waits
 abbrev pub Conservation-of-the-code : Type 0
-Conservation-of-the-code =
-    (ks : List Call) (c : ℕ)
-    → of c (calls ks .accepted) ≡ map (λ (d : Departure). d .what) (departures c (calls ks .departed)) ++ of c (in-hub (state-of (calls ks)))
+Conservation-of-the-code = F.Conservation-of-the-code calls state-of in-hub
 
 -- .. and counted: accepted since the line was fresh = departed plus what waits
 abbrev pub Counted-of-the-code : Type 0
-Counted-of-the-code =
-    (ks : List Call) (c : ℕ)
-    → length (of c (calls ks .accepted)) ≡ length (departures c (calls ks .departed)) + length (of c (in-hub (state-of (calls ks))))
+Counted-of-the-code = F.Counted-of-the-code calls state-of in-hub
 
 -- "eligible packets go in the order offered": of all connections together, what the answers accepted is what they let go, in this order, followed by what is held
 abbrev pub In-the-order-offered-of-the-code : Type 0
@@ -125,31 +103,25 @@ abbrev pub Use-is-what-arrived-of-the-code : Type 0
 Use-is-what-arrived-of-the-code =
     (ks : List Call) (c : ℕ)
     → (c ≡ notice-number → ⊥)
-    → used (calls ks .frames .link) (calls ks .frames .clock) c (state-of (calls ks) .held) ≡ total (arrived-now (state-of (calls ks))) (of c (calls ks .accepted))
+    → used (calls ks .kept .link) (calls ks .kept .clock) c (state-of (calls ks) .held) ≡ total (arrived-now (state-of (calls ks))) (of c (calls ks .accepted))
 
 -- "a packet arriving in one frame is eligible at the start of the next"
 abbrev pub Eligible-at-the-next-start-of-the-code : Type 0
 Eligible-at-the-next-start-of-the-code =
     (ks : List Call) (c : ℕ)
     → (c ≡ notice-number → ⊥)
-    → All (λ p. p .eligibility ≡ next-frame (calls ks .frames .link .frame) (p .arrival)) (of c (calls ks .accepted))
+    → All (λ p. p .eligibility ≡ next-frame (calls ks .kept .link .frame) (p .arrival)) (of c (calls ks .accepted))
 
 -- "from a fresh line, each accepted packet has left by the end of the frame after its arrival frame, once the clock has got there": in the caller's own notes of the answers.
 -- The i-th packet of c that the answers accepted is then the i-th departure of c that they tell, with a finish no later; and it did not leave before the frame in which it is
 -- eligible
-pub record Noted-by (g : Notes) (c i : ℕ) (p : Packet) (deadline : ℕ) : Type 0 where
-  pub finish : ℕ
-  pub is-departure : getElem? (departures c (g .departed)) i ≡ some (record { what = p; finish = finish })
-  pub in-time : finish ≤ deadline
-  pub not-early : next-frame (g .frames .link .frame) (p .arrival) < finish
-
 abbrev pub Left-by-the-next-end-of-the-code : Type 0
 Left-by-the-next-end-of-the-code =
     (ks : List Call) (c i : ℕ) (p : Packet)
     → (c ≡ notice-number → ⊥)
     → getElem? (of c (calls ks .accepted)) i ≡ some p
-    → leaves-by (calls ks .frames .link .frame) (p .arrival) ≤ calls ks .frames .clock
-    → Noted-by (calls ks) c i p (leaves-by (calls ks .frames .link .frame) (p .arrival))
+    → leaves-by (calls ks .kept .link .frame) (p .arrival) ≤ calls ks .kept .clock
+    → (N : Noted-by (calls ks) c i p (leaves-by (calls ks .kept .link .frame) (p .arrival))) × (next-frame (calls ks .kept .link .frame) (p .arrival) < N .finish)
 
 -- "a connection that offers at most p / 2 packets in each frame never gets 12"
 abbrev pub Never-for-room-of-the-code : Type 0
@@ -160,14 +132,14 @@ abbrev pub Told-by-its-own-of-the-code : Type 0
 Told-by-its-own-of-the-code =
     (ks : List Call) (c : ℕ)
     → Seen-to-keep-to-half c ks
-    → all-noted c ks ≡ own-exchanges (calls ks .frames .link) (figures (state-of (calls ks)) c) (asks (all-noted c ks))
+    → all-noted c ks ≡ own-exchanges (calls ks .kept .link) (figures (state-of (calls ks)) c) (asks (all-noted c ks))
 
 -- so through any two sequences of calls with the same link a connection with the same figures and the same offers at the same ticks gets the same answers, whatever its number
 -- in each
 abbrev pub No-other-changes-it-of-the-code : Type 0
 No-other-changes-it-of-the-code =
     (ks ms : List Call) (c d : ℕ)
-    → calls ks .frames .link ≡ calls ms .frames .link
+    → calls ks .kept .link ≡ calls ms .kept .link
     → figures (state-of (calls ks)) c ≡ figures (state-of (calls ms)) d
     → asks (all-noted c ks) ≡ asks (all-noted d ms)
     → Seen-to-keep-to-half c ks

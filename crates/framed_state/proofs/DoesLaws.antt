@@ -1,55 +1,84 @@
--- How a refusal and a call done meet the contract.
-use Prim.Native.Nat.{ℕ, suc}
-use mathlib.Core.Path.{_≡_, refl, ap, _∙_}
-use mathlib.Core.Bool.{true, false}
-use Rattle.frames.specs.Model.{Call}
-use Rattle.frames.specs.Calls.{verdict, done, refused-number, refused-short, settle, answer}
-use Rattle.tables.proofs.CallLaws as C
+-- The laws of the discipline of frames, as the shared proofs ask for them; how a refusal and a call done meet the contract.
+use mathlib.Core.Path.{refl, ap}
+use Rattle.frames.specs.Model.{State, Call, Answer}
+use Rattle.frames.specs.SoundState.{Sound}
+use Rattle.frames.specs.Calls.{verdict, refused-number, refused-short, settle, answer}
+use Rattle.frames.proofs.SoundKept.{kept}
+use Rattle.frames.proofs.Results.{refusals-change-nothing, verdict-1-exactly}
+use Rattle.tables.proofs.CallLaws.{Ruled}
+use Rattle.faces.proofs.Discipline.{Discipline}
+use Rattle.faces.proofs.CallLaws as C
 use Rattle.framed_state.specs.declared.Frames.{Frames}
 use Rattle.framed_state.specs.declared.Said.{Said}
-use Rattle.framed_state.specs.View.{Tables, view, written, sound-frames}
-use Rattle.framed_state.specs.Said.{said-of, refusal, refusal-short}
-use Rattle.framed_state.specs.Does.{tells, leaves, Does}
-use Rattle.framed_state.proofs.SoundLaws.{tables-kept}
+use Rattle.framed_state.specs.View.{Tables, view, frames-of, written, sound-frames}
+use Rattle.framed_state.specs.Said.{is-some, said-of, refusal, refusal-short}
+use Rattle.framed_state.specs.Does.{tells, leaves}
+use Rattle.framed_state.proofs.WrittenLaws.{writable, read-written, written-sound}
+use Rattle.framed_state.proofs.SoundLaws.{is-sound, tables-kept}
 
-module _ (k : Call) (h : Frames) (t : Tables) where
-  ruled : C.Ruled tells leaves k h t (sound-frames h t) (said-of (answer k (view h t))) (refusal h 1 (refused-number k)) (written (answer k (view h t) .next))
-  unfolding tells leaves
-  ruled = record { tells-is = refl; leaves-is = refl }
+pub ruled : (k : Call) (h : Frames) (t : Tables)
+    → Ruled tells leaves k h t (sound-frames h t) (said-of (answer k (view h t))) (refusal h 1 (refused-number k)) (written (answer k (view h t) .next))
+unfolding tells leaves
+ruled k h t = record { tells-is = refl; leaves-is = refl }
 
-  -- not sound: number 1, and nothing changes
-  pub refuses-unsound : sound-frames h t ≡ false → (r : Said) (n : ℕ) → n ≡ refused-number k → r ≡ refusal h 1 n → Does k h t r t
-  refuses-unsound e r n f g = C.refuses-unsound ruled e r (g ∙ ap (refusal h 1) f)
+abbrev pub frames : Discipline
+frames = record {
+  State = State;
+  Call = Call;
+  Answer = Answer;
+  Sound = Sound;
+  answer = answer;
+  next = Answer.next;
+  refused-number = refused-number;
+  Kept = Frames;
+  Told = Said;
+  verdict = Said.verdict;
+  number = Said.number;
+  gone = Said.gone;
+  kept = Said.frames;
+  view = view;
+  kept-of = frames-of;
+  written = written;
+  sound = sound-frames;
+  told-of = said-of;
+  refusal = refusal;
+  tells = tells;
+  leaves = leaves;
+  ruled = ruled;
+  kept-told = λ a. refl;
+  kept-back = λ h t ok. refl;
+  refused-as = λ h v n. (refl, refl, refl, refl);
+  is-sound = is-sound;
+  tables-kept = tables-kept;
+  read-written = λ s S. read-written s (writable s S);
+  written-sound = written-sound;
+  next-sound = kept;
+  never-1 = λ k s S z. verdict-1-exactly k s .0 z S;
+  refuses = λ k s n. let f = refusals-change-nothing k s n in (f .0, f .2, ap is-some (f .1));
+}
 
-  module _ (ok : sound-frames h t ≡ true) where
-    -- sound: the rules' answer, written back
-    pub answers-as : (r : Said) (u : Tables) → r ≡ said-of (answer k (view h t)) → u ≡ written (answer k (view h t) .next) → Does k h t r u
-    answers-as = C.answers-as ruled ok
+abbrev pub settled : C.Settled frames
+settled = record {
+  rule = verdict;
+  settle = settle;
+  refusal-short = refusal-short;
+  refused-short = refused-short;
+  answer-is = λ k s. refl;
+  told-is = λ k h t w. refl;
+  next-is = λ k s w. refl;
+}
 
-    -- .. by the verdict
-    by-verdict : (v : ℕ) → verdict k (view h t) ≡ v → (r : Said) (u : Tables) → r ≡ said-of (settle k (view h t) v) → u ≡ written (settle k (view h t) v .next) → Does k h t r u
-    by-verdict = C.settles (λ v. said-of (settle k (view h t) v)) (λ v. written (settle k (view h t) v .next)) (verdict k (view h t)) ruled ok
+pub refuses-unsound : C.Refuses-unsound frames
+refuses-unsound = C.refuses-unsound frames
 
-    -- a refusal: the rules leave the state, and writing what was read gives the tables back
-    pub refuses : (v w n : ℕ) (r : Said) → verdict k (view h t) ≡ v → v ≡ suc w → n ≡ refused-number k
-        → r ≡ refusal-short h v n (refused-short k (view h t) v) → Does k h t r t
-    refuses v w n r e f g i =
-        by-verdict (suc w) (e ∙ f) r t
-        (i
-        ∙ ap (λ (u : ℕ). refusal-short h u n (refused-short k (view h t) u)) f
-        ∙ ap (λ (m : ℕ). refusal-short h (suc w) m (refused-short k (view h t) (suc w))) g)
-        (tables-kept h t ok)
+pub refuses : C.Refuses frames settled
+refuses = C.refuses frames settled
 
-    -- a call done
-    pub acts : (r : Said) (u : Tables) → verdict k (view h t) ≡ 0
-        → r ≡ said-of (done k (view h t)) → u ≡ written (done k (view h t) .next)
-        → Does k h t r u
-    acts r u e = by-verdict 0 e r u
+pub acts : C.Acts frames settled
+acts = C.acts frames settled
 
--- of a call on a sound state: the answer and the tables are the rules'
-module _ (k : Call) (h : Frames) (t : Tables) (ok : sound-frames h t ≡ true) (r : Said) (u : Tables) (D : Does k h t r u) where
-  pub said-as : r ≡ said-of (answer k (view h t))
-  said-as = C.told-as (ruled k h t) ok r u D
+pub said-as : C.Told-as frames
+said-as = C.told-as frames
 
-  pub left-as : u ≡ written (answer k (view h t) .next)
-  left-as = C.left-as (ruled k h t) ok r u D
+pub left-as : C.Left-as frames
+left-as = C.left-as frames

@@ -1,5 +1,4 @@
 -- What a sound `Frames` and its tables give: a sound state, and tables that are what is written of it.
-use Prim.Native.Nat.{ℕ}
 use native.Mathlib.Omega.{arith}
 use mathlib.Core.Path.{_≡_}
 use mathlib.Core.Bool.{true}

@@ -18,36 +18,35 @@ use Rattle.rules.specs.Admission.{owned, stands, stamped, joining, reservation,
 use Rattle.rules.specs.Service.{suits, untimely-by, Spaced, of, eligibilities, first, notice-departs, packet-departs, after-unit, started, charge-over}
 use Rattle.rules.specs.SoundState.{Sound}
 use Rattle.rules.specs.SoundTest.{sound}
-use Rattle.rules.specs.Calls.{heard, verdict, done, refused-number, settle, answer, eligibility-now}
+use Rattle.rules.specs.Calls.{heard, verdict, done, settle, answer, eligibility-now}
 use Rattle.rules.specs.Runs.{Departure, History, while-owned, taken, leaving, after, run-from, nothing-yet, run, departures, in-hub, bound-of, allowed, offer-tick, offer-ticks-from, offer-ticks, Keeps-its-word, Exchange, exchange, exchanges-from, exchanges, own-answer, own-stamp-answers}
 use Rattle.rules.specs.Promises.{Conserved-since, Left-by, Kept-promise, Still-charged, Lowest-free, stamp-plus, No-cause, Stamp-promise}
-use Rattle.rules.proofs.Sums.{cond-is}
 use Rattle.rules.proofs.Verdicts.{settled, admit-done, short-refused}
 use Rattle.rules.proofs.LevelTest.{test-holds, holds-test}
 use Rattle.rules.proofs.SoundKept.{kept}
 use Rattle.rules.proofs.Every.{fresh-invariant}
 use Rattle.rules.proofs.Alone.{asks}
-use Rattle.rules.proofs.Results.{answer-verdict, finer-test-says, windows-at-the-bounds, demand-1-refusals, verdict-1-exactly, runs-are-sound, conservation, conservation-by-owner, demand-3-first, demand-3-second, told-by-its-own, bed-nine-and-bed-ten, counted, close-is-refused, closed-gets-10, closed-or-freed, freed-by-the-tick, charge-lasts, lowest-number-is-given, ten-exactly, seventeen-exactly, no-finish-before, eighteen-exactly, stamps-never-18, never-far-ahead, demand-3-for-stamps, stamps-told-by-their-own, bed-nine-and-bed-ten-with-stamps}
+use Rattle.rules.proofs.Results.{answer-verdict, finer-test-says, windows-at-the-bounds, runs-are-sound, conservation, conservation-by-owner, demand-3-first, demand-3-second, told-by-its-own, bed-nine-and-bed-ten, close-is-refused, closed-gets-10, closed-or-freed, freed-by-the-tick, charge-lasts, lowest-number-is-given, ten-exactly, seventeen-exactly, no-finish-before, eighteen-exactly, stamps-never-18, never-far-ahead, demand-3-for-stamps, stamps-told-by-their-own, bed-nine-and-bed-ten-with-stamps}
 use Rattle.tables.specs.Places.{written-places, table-of}
-use Rattle.tables.proofs.CallLaws.{same-outcome}
 use Rattle.connections.specs.Members.{written-rows}
+use Rattle.faces.specs.Sequence.{Noted-by}
+use Rattle.faces.proofs.Results as F
+use Rattle.faces.proofs.Sequences as Q
 use Rattle.state.specs.declared.Hub.{Hub}
 use Rattle.state.specs.declared.Told.{Told}
 use Rattle.state.specs.View.{Tables, view, hub-of, written, sound-hub}
-use Rattle.state.specs.Told.{is-some, packet-or-unused, told-of, refusal}
-use Rattle.state.specs.Does.{tells, leaves, Does}
+use Rattle.state.specs.Told.{is-some, packet-or-unused, told-of}
+use Rattle.state.specs.Does.{tells, Does}
 use Rattle.state.proofs.WrittenLaws.{writable, read-written, written-sound}
 use Rattle.state.proofs.SoundLaws.{is-sound, tables-kept}
-use Rattle.state.proofs.DoesLaws.{told-as, left-as}
-use Rattle.hub.specs.Sequence.{Notes, brought, went, call, calls-from, blank, calls, state-of, notes-of, seen-ticks-from, seen-ticks, Seen-to-keep-its-word, noted, noted-from, all-noted}
-use Rattle.hub.specs.Promises.{One-outcome, Written-reads-back, Sound-is-written, Demand-1-of-the-code, Verdict-1-of-the-code, Sound-is-kept-by-the-code, Answers-as-the-rules, Close-is-refused-of-the-code, Closed-gets-10-of-the-code, Closed-or-freed-of-the-code, Freed-by-the-tick-of-the-code, Charge-lasts-of-the-code, Lowest-number-is-given-of-the-code, Finer-test-of-the-code, Windows-at-the-bounds-of-the-code, Follows-the-rules, Conservation-of-the-code, Noted-since, Conservation-by-owner-of-the-code, Noted-by, Demand-3-first-of-the-code, Kept-by-the-code, Demand-3-second-of-the-code, Told-by-its-own-of-the-code, Bed-nine-and-bed-ten-of-the-code, Counted-of-the-code, Ten-exactly-of-the-code, Seventeen-exactly-of-the-code, No-finish-before-of-the-code, Eighteen-exactly-of-the-code, Stamps-never-18-of-the-code, Never-far-ahead-of-the-code, Stamp-kept-by-the-code, Demand-3-for-stamps-of-the-code, Stamps-told-by-their-own-of-the-code, Bed-nine-and-bed-ten-with-stamps-of-the-code}
+use Rattle.state.proofs.DoesLaws.{levels, told-as}
+use Rattle.hub.specs.Sequence.{Notes, brought, went, blank, calls, state-of, notes-of, seen-ticks, Seen-to-keep-its-word, noted, all-noted}
+use Rattle.hub.specs.Promises.{One-outcome, Written-reads-back, Sound-is-written, Demand-1-of-the-code, Verdict-1-of-the-code, Sound-is-kept-by-the-code, Answers-as-the-rules, Close-is-refused-of-the-code, Closed-gets-10-of-the-code, Closed-or-freed-of-the-code, Freed-by-the-tick-of-the-code, Charge-lasts-of-the-code, Lowest-number-is-given-of-the-code, Finer-test-of-the-code, Windows-at-the-bounds-of-the-code, Follows-the-rules, Conservation-of-the-code, Noted-since, Conservation-by-owner-of-the-code, Demand-3-first-of-the-code, Kept-by-the-code, Demand-3-second-of-the-code, Told-by-its-own-of-the-code, Bed-nine-and-bed-ten-of-the-code, Counted-of-the-code, Ten-exactly-of-the-code, Seventeen-exactly-of-the-code, No-finish-before-of-the-code, Eighteen-exactly-of-the-code, Stamps-never-18-of-the-code, Never-far-ahead-of-the-code, Stamp-kept-by-the-code, Demand-3-for-stamps-of-the-code, Stamps-told-by-their-own-of-the-code, Bed-nine-and-bed-ten-with-stamps-of-the-code}
 
--- ---- one outcome
+-- ---- one call
 
 pub one-outcome : One-outcome
-one-outcome = same-outcome tells leaves
-
--- ---- reading and writing
+one-outcome = F.one-outcome levels
 
 pub written-reads-back : Written-reads-back
 written-reads-back s S = (read-written s (writable s S), written-sound s S)
@@ -55,44 +54,20 @@ written-reads-back s S = (read-written s (writable s S), written-sound s S)
 pub sound-is-written : Sound-is-written
 sound-is-written h t ok = (is-sound h t ok, tables-kept h t ok)
 
--- ---- demand 1
-
 pub demand-1-of-the-code : Demand-1-of-the-code
-unfolding tells leaves
-demand-1-of-the-code k h t r u D n = go (sound-hub h t) refl (D .answers) (D .tables)
-  where
-    go : (b : Bool) → sound-hub h t ≡ b
-        → r ≡ cond b (told-of (answer k (view h t))) (refusal h 1 (refused-number k))
-        → u ≡ cond b (written (answer k (view h t) .next)) t
-        → (r .hub ≡ h) × (u ≡ t) × (r .number ≡ refused-number k) × (r .gone ≡ false)
-    go false e a b = (ap (λ (x : Told). x .hub) a, b, ap (λ (x : Told). x .number) a, ap (λ (x : Told). x .gone) a)
-    go true e a b =
-        let f = demand-1-refusals k (view h t) (λ z. n (ap (λ (x : Told). x .verdict) a ∙ z)) in (
-          ap (λ (x : Told). x .hub) a ∙ ap hub-of (f .0),
-          b ∙ ap written (f .0) ∙ sym (tables-kept h t e),
-          ap (λ (x : Told). x .number) a ∙ f .2,
-          ap (λ (x : Told). x .gone) a ∙ ap is-some (f .1),
-        )
+demand-1-of-the-code = F.refusals-change-nothing-of-the-code levels
 
 pub verdict-1-of-the-code : Verdict-1-of-the-code
-unfolding tells
-verdict-1-of-the-code k h t r u D = (
-  λ e. rw (D .answers, e) refl,
-  λ e z. verdict-1-exactly k (view h t) .0 (rw (D .answers, e) at z) (is-sound h t e),
-)
+verdict-1-of-the-code = F.verdict-1-of-the-code levels
 
 pub sound-is-kept-by-the-code : Sound-is-kept-by-the-code
-sound-is-kept-by-the-code k h t r u D e =
-    rw (told-as k h t e r u D, left-as k h t e r u D) (written-sound (answer k (view h t) .next) (kept k (view h t) (is-sound h t e)))
+sound-is-kept-by-the-code = F.sound-is-kept-by-the-code levels
 
 pub answers-as-the-rules : Answers-as-the-rules
-answers-as-the-rules k h t r u D e =
-    let n = answer k (view h t) .next in
-    let a = told-as k h t e r u D in (
-      ap (λ (x : Told). view (x .hub) u) a ∙ ap (λ (w : Tables). view (hub-of n) w) (left-as k h t e r u D) ∙ read-written n (writable n (kept k (view h t) (is-sound h t e))),
-      ap (λ (x : Told). x .verdict) a,
-      ap (λ (x : Told). x .number) a,
-    )
+answers-as-the-rules = F.answers-as-the-rules levels
+
+verdict-as : (k : Call) (h : Hub) (t : Tables) (r : Told) (u : Tables) → Does k h t r u → sound-hub h t ≡ true → r .verdict ≡ answer k (view h t) .verdict
+verdict-as k h t r u D e = ap Told.verdict (answers-as-the-rules k h t r u D e .1)
 
 -- ---- closing
 
@@ -107,14 +82,14 @@ done-sound k h t r u D z = go (sound-hub h t) refl
 pub close-is-refused-of-the-code : Close-is-refused-of-the-code
 close-is-refused-of-the-code c h t r u D e linked =
     subst (λ (v : ℕ). (v ≡ 10 ↔ stands (view h t) c ≡ false) × (v ≡ 16 ↔ ((stands (view h t) c ≡ true) × (1 ≤ length (of c (view h t .held))))))
-    (sym (answers-as-the-rules (close c) h t r u D e .1))
+    (sym (verdict-as (close c) h t r u D e))
     (close-is-refused c (view h t) (is-sound h t e) linked)
 
 pub closed-gets-10-of-the-code : Closed-gets-10-of-the-code
 closed-gets-10-of-the-code c len tag st h t e is-closed =
     let ten = closed-gets-10 (view h t) c len tag st (is-sound h t e) is-closed in (
-      λ r u D. answers-as-the-rules (offer c len tag st) h t r u D e .1 ∙ ten .0,
-      λ r u D. answers-as-the-rules (close c) h t r u D e .1 ∙ ten .1,
+      λ r u D. verdict-as (offer c len tag st) h t r u D e ∙ ten .0,
+      λ r u D. verdict-as (close c) h t r u D e ∙ ten .1,
     )
 
 pub closed-or-freed-of-the-code : Closed-or-freed-of-the-code
@@ -123,7 +98,7 @@ closed-or-freed-of-the-code c h t r u D z =
     let same = answers-as-the-rules (close c) h t r u D (done-sound (close c) h t r u D z) in
     subst (λ (n : State). (over ≡ true → owned (n .connections) c ≡ false) × (over ≡ false → Still-charged (view h t) c n))
     (sym (same .0))
-    (closed-or-freed c (view h t) (sym (same .1) ∙ z))
+    (closed-or-freed c (view h t) (sym (ap Told.verdict (same .1)) ∙ z))
 
 pub freed-by-the-tick-of-the-code : Freed-by-the-tick-of-the-code
 freed-by-the-tick-of-the-code c h t r u D z is-closed =
@@ -131,7 +106,7 @@ freed-by-the-tick-of-the-code c h t r u D z is-closed =
     let same = answers-as-the-rules tick h t r u D (done-sound tick h t r u D z) in
     subst (λ (n : State). (over ≡ true → owned (n .connections) c ≡ false) × (over ≡ false → Still-charged (view h t) c n))
     (sym (same .0))
-    (freed-by-the-tick c (view h t) (sym (same .1) ∙ z) is-closed)
+    (freed-by-the-tick c (view h t) (sym (ap Told.verdict (same .1)) ∙ z) is-closed)
 
 pub charge-lasts-of-the-code : Charge-lasts-of-the-code
 charge-lasts-of-the-code k c h t r u D e is-closed =
@@ -144,7 +119,7 @@ pub lowest-number-is-given-of-the-code : Lowest-number-is-given-of-the-code
 lowest-number-is-given-of-the-code x h t r u D z =
     let same = answers-as-the-rules (admit x) h t r u D (done-sound (admit x) h t r u D z) in
     subst (Lowest-free (view h t) x (r .number)) (sym (same .0))
-    (subst (λ (n : ℕ). Lowest-free (view h t) x n (answer (admit x) (view h t) .next)) (sym (same .2)) (lowest-number-is-given x (view h t) (sym (same .1) ∙ z)))
+    (subst (λ (n : ℕ). Lowest-free (view h t) x n (answer (admit x) (view h t) .next)) (sym (ap Told.number (same .1))) (lowest-number-is-given x (view h t) (sym (ap Told.verdict (same .1)) ∙ z)))
 
 -- ---- the finer test
 
@@ -162,7 +137,7 @@ finer-test-of-the-code x h t r u D own = (
     cs = joining (view h t .connections) x
 
     as-ruled : {n : ℕ} → r .verdict ≡ n → sound-hub h t ≡ true → verdict (admit x) (view h t) ≡ n
-    as-ruled z e = sym (answer-verdict (admit x) (view h t)) ∙ sym (answers-as-the-rules (admit x) h t r u D e .1) ∙ z
+    as-ruled z e = sym (answer-verdict (admit x) (view h t)) ∙ sym (verdict-as (admit x) h t r u D e) ∙ z
 
     -- 8 is given on a sound hub only
     eight-sound : r .verdict ≡ 8 → sound-hub h t ≡ true
@@ -176,7 +151,7 @@ pub windows-at-the-bounds-of-the-code : Windows-at-the-bounds-of-the-code
 windows-at-the-bounds-of-the-code x h t r u D e at =
     let same = answers-as-the-rules (admit x) h t r u D e in
     let rule = windows-at-the-bounds .1 (view h t) x at in
-    (same .1 ∙ rule .0, λ z. ap (λ (a : Told). a .short) (told-as (admit x) h t e r u D) ∙ rule .1 (sym (same .1) ∙ z))
+    (ap Told.verdict (same .1) ∙ rule .0, λ z. ap (λ (a : Told). a .short) (told-as (admit x) h t e r u D) ∙ rule .1 (sym (ap Told.verdict (same .1)) ∙ z))
 
 -- ---- any calls follow the rules
 
@@ -223,39 +198,41 @@ answer-brought (notice len tag) s a = refl
 answer-brought (close c) s a = refl
 answer-brought tick s a = refl
 
-module _ (s : State) (S : Sound s) where
-  back : view (hub-of s) (written s) ≡ s
-  back = written-reads-back s S .0
-
-  same-tells : (k : Call) → tells k (hub-of s) (written s) ≡ told-of (answer k s)
-  unfolding tells
-  same-tells k = cond-is _ (refusal (hub-of s) 1 (refused-number k)) (written-sound s S) ∙ ap (λ (r : State). told-of (answer k r)) back
-
-  same-leaves : (k : Call) → leaves k (hub-of s) (written s) ≡ written (answer k s .next)
-  unfolding leaves
-  same-leaves k = cond-is _ (written s) (written-sound s S) ∙ ap (λ (r : State). written (answer k r .next)) back
-
--- a call on what a state of the rules is written as
-follows-one : (h : History) (k : Call) → Sound (h .now) → call (notes-of h) k ≡ notes-of (after h k)
-follows-one h k S =
-    ap (λ (r : Told). record { accepted = push (h .accepted) (brought k (hub-of (h .now)) r); departed = push (h .departed) (went r); hub = r .hub; tables = leaves k (hub-of (h .now)) (written (h .now)) })
-    (same-tells (h .now) S k)
-    ∙ rw (same-leaves (h .now) S k, answer-left k (h .now), answer-brought k (h .now) (answer k (h .now)))
-
-follows-from : (ks : List Call) (h : History) → Sound (h .now) → calls-from (notes-of h) ks ≡ notes-of (run-from h ks)
-follows-from [] h S = refl
-follows-from (k ∷ ks) h S = ap (λ (g : Notes). calls-from g ks) (follows-one h k S) ∙ follows-from ks (after h k) (kept k (h .now) S)
-
 blank-is : blank ≡ notes-of nothing-yet
 unfolding written-rows written-places table-of
 blank-is = refl
 
+abbrev runs : Q.Runs levels
+runs = record {
+  History = History;
+  accepted = History.accepted;
+  departed = History.departed;
+  now = History.now;
+  after = after;
+  run-from = run-from;
+  start = nothing-yet;
+  brought = brought;
+  went = went;
+  blank = blank;
+  run-none = λ h. refl;
+  run-more = λ h k ks. refl;
+  now-after = λ h k. refl;
+  accepted-after = λ h k. ap (push (h .accepted)) (sym (answer-brought k (h .now) (answer k (h .now))));
+  departed-after = λ h k. ap (push (h .departed)) (sym (answer-left k (h .now)));
+  start-sound = fresh-invariant .sound;
+  blank-is = blank-is;
+}
+
 pub follows-the-rules : Follows-the-rules
-follows-the-rules ks = ap (λ (g : Notes). calls-from g ks) blank-is ∙ follows-from ks nothing-yet (fresh-invariant .sound)
+follows-the-rules = Q.follows-the-rules levels runs
 
 -- what the caller keeps stands for the state of the rules
 state-is : (ks : List Call) → state-of (calls ks) ≡ run ks .now
-state-is ks = ap state-of (follows-the-rules ks) ∙ back (run ks .now) (runs-are-sound ks)
+state-is = Q.state-is levels runs
+
+-- an answer to what the caller keeps is the rules' answer to their state
+told-then : (ks : List Call) (k : Call) (r : Told) (u : Tables) → Does k (calls ks .kept) (calls ks .tables) r u → r ≡ told-of (answer k (run ks .now))
+told-then = Q.told-then levels runs
 
 same-figures : (ks : List Call) (c : ℕ) → figures (state-of (calls ks)) c ≡ figures (run ks .now) c
 same-figures ks c = ap (λ (s : State). figures s c) (state-is ks)
@@ -263,25 +240,14 @@ same-figures ks c = ap (λ (s : State). figures s c) (state-is ks)
 same-bound : (ks : List Call) (c : ℕ) → bound-of (state-of (calls ks)) c ≡ bound-of (run ks .now) c
 same-bound ks c = ap (λ (s : State). bound-of s c) (state-is ks)
 
--- an answer to what the caller keeps is the rules' answer to their state
-told-then : (ks : List Call) (k : Call) (r : Told) (u : Tables) → Does k (calls ks .hub) (calls ks .tables) r u → r ≡ told-of (answer k (run ks .now))
-told-then ks k r u D =
-    D .answers ∙ ap (λ (g : Notes). tells k (g .hub) (g .tables)) (follows-the-rules ks) ∙ same-tells (run ks .now) (runs-are-sound ks) k
-
 -- ---- a connection that keeps its word
 
 -- the ticks seen in the calls are those of the rules' run
-ticks-all : (c : ℕ) (ks : List Call) (h : History) (ts : List ℕ) → Sound (h .now) → seen-ticks-from c (notes-of h) ts ks ≡ offer-ticks-from c h ts ks
-ticks-all c [] h ts S = refl
-ticks-all c (k ∷ ks) h ts S =
-    let us = push ts (offer-tick c (h .now) k) in
-    ap (λ (s : State). seen-ticks-from c (call (notes-of h) k) (while-owned (state-of (call (notes-of h) k)) c (push ts (offer-tick c s k))) ks) (back (h .now) S)
-    ∙ ap (λ (g : Notes). seen-ticks-from c g (while-owned (state-of g) c us) ks) (follows-one h k S)
-    ∙ ap (λ (s : State). seen-ticks-from c (notes-of (after h k)) (while-owned s c us) ks) (back (after h k .now) (kept k (h .now) S))
-    ∙ ticks-all c ks (after h k) (while-owned (after h k .now) c us) (kept k (h .now) S)
-
 ticks-are : (c : ℕ) (ks : List Call) → seen-ticks c ks ≡ offer-ticks c ks
-ticks-are c ks = ap (λ (g : Notes). seen-ticks-from c g [] ks) blank-is ∙ ticks-all c ks nothing-yet [] (fresh-invariant .sound)
+ticks-are c =
+    Q.gathered-is levels runs (λ g k. offer-tick c (state-of g) k) (λ g ts. while-owned (state-of g) c ts) (λ h k. offer-tick c (h .now) k) (λ h ts. while-owned (h .now) c ts)
+    (offer-ticks-from c) (λ h ts. refl) (λ h ts k ks. refl)
+    (λ h k S. ap (λ (s : State). offer-tick c s k) (levels .read-written (h .now) S)) (λ h ts S. ap (λ (s : State). while-owned s c ts) (levels .read-written (h .now) S))
 
 -- so to be seen to keep its word is to keep it in the rules' run
 word-is : (c : ℕ) (ks : List Call) → Seen-to-keep-its-word c ks ≡ Keeps-its-word c ks
@@ -290,10 +256,10 @@ word-is c ks = ap (λ (x : Connection). Spaced x (seen-ticks c ks)) (same-figure
 -- ---- conservation
 
 pub conservation-of-the-code : Conservation-of-the-code
-conservation-of-the-code ks c =
-    subst (λ (g : Notes). of c (g .accepted) ≡ map (λ (d : Departure). d .what) (departures c (g .departed)) ++ of c (in-hub (state-of g)))
-    (sym (follows-the-rules ks))
-    (conservation ks c ∙ ap (λ (s : State). map (λ (d : Departure). d .what) (departures c (run ks .departed)) ++ of c (in-hub s)) (sym (back (run ks .now) (runs-are-sound ks))))
+conservation-of-the-code = Q.conservation-of-the-code levels runs in-hub conservation
+
+pub counted-of-the-code : Counted-of-the-code
+counted-of-the-code = Q.counted-of-the-code levels runs in-hub conservation
 
 -- from one moment on, in the notes g of the calls before it and G of all, with the state now
 abbrev Since : Notes → Notes → State → ℕ → Type 0
@@ -323,7 +289,7 @@ module _ (earlier later : List Call) (c len tag : ℕ) (st : Option ℕ) where
   -- in the notes g of the calls before it and G of all, with its owner's bound d
   abbrev Noted : Notes → Notes → ℕ → ℕ → Type 0
   Noted g G e d =
-      Noted-by G c (length (of c (g .accepted))) (record { connection = c; len = len; tag = tag; arrival = g .hub .clock; eligibility = e }) (e + d)
+      Noted-by G c (length (of c (g .accepted))) (record { connection = c; len = len; tag = tag; arrival = g .kept .clock; eligibility = e }) (e + d)
 
   has-left : (e : ℕ)
       → Left-by (run all) c (length (of c (run earlier .accepted))) (record { connection = c; len = len; tag = tag; arrival = run earlier .now .clock; eligibility = e })
@@ -335,8 +301,8 @@ module _ (earlier later : List Call) (c len tag : ℕ) (st : Option ℕ) where
       (subst (λ (G : Notes). Noted (notes-of (run earlier)) G e (bound-of (run earlier .now) c)) (sym (follows-the-rules all))
       (record { finish = q .finish; is-departure = q .is-departure; in-time = q .in-time })))
 
-  clock-is : calls all .hub .clock ≡ run all .now .clock
-  clock-is = ap (λ (g : Notes). g .hub .clock) (follows-the-rules all)
+  clock-is : calls all .kept .clock ≡ run all .now .clock
+  clock-is = ap (λ (g : Notes). g .kept .clock) (follows-the-rules all)
 
 pub demand-3-first-of-the-code : Demand-3-first-of-the-code
 demand-3-first-of-the-code earlier later c len tag st r u D z over =
@@ -349,8 +315,8 @@ demand-3-first-of-the-code earlier later c len tag st r u D z over =
     subst (λ (e : ℕ). Noted earlier later c len tag st (calls earlier) (calls (earlier ++ it ∷ later)) e (bound-of (state-of (calls earlier)) c)) (sym n)
     (has-left earlier later c len tag st (eligibility-now s c st) (demand-3-first earlier later c len tag st v then))
 
-same-clock : (ks : List Call) → calls ks .hub .clock ≡ run ks .now .clock
-same-clock ks = ap (λ (g : Notes). g .hub .clock) (follows-the-rules ks)
+same-clock : (ks : List Call) → calls ks .kept .clock ≡ run ks .now .clock
+same-clock ks = ap (λ (g : Notes). g .kept .clock) (follows-the-rules ks)
 
 module _ (earlier later : List Call) (c len tag : ℕ) (word : Seen-to-keep-its-word c (earlier ++ offer c len tag none ∷ [])) (good : allowed (state-of (calls earlier)) c len none ≡ true) where
   promise : Kept-promise earlier later c len tag
@@ -381,8 +347,8 @@ noted-one : (c : ℕ) (h : History) (k : Call) → Sound (h .now) → noted c (n
 noted-one c h (link l) S = refl
 noted-one c h (admit x) S = refl
 noted-one c h (offer d len tag st) S =
-    ap (λ (r : Told). listen (state-of (notes-of h)) r) (same-tells (h .now) S (offer d len tag st))
-    ∙ ap (λ (s : State). listen s (told-of (answer (offer d len tag st) (h .now)))) (back (h .now) S)
+    ap (λ (r : Told). listen (state-of (notes-of h)) r) (F.same-tells levels (h .now) S (offer d len tag st))
+    ∙ ap (λ (s : State). listen s (told-of (answer (offer d len tag st) (h .now)))) (levels .read-written (h .now) S)
   where
     listen : State → Told → Option Exchange
     listen s r =
@@ -391,18 +357,12 @@ noted-one c h (notice len tag) S = refl
 noted-one c h (close d) S = refl
 noted-one c h tick S = refl
 
-noted-each : (c : ℕ) (ks : List Call) (h : History) (es : List Exchange) → Sound (h .now) → noted-from c (notes-of h) es ks ≡ exchanges-from c h es ks
-noted-each c [] h es S = refl
-noted-each c (k ∷ ks) h es S =
-    let fs = push es (exchange c (h .now) k) in
-    ap (λ (o : Option Exchange). noted-from c (call (notes-of h) k) (while-owned (state-of (call (notes-of h) k)) c (push es o)) ks) (noted-one c h k S)
-    ∙ ap (λ (g : Notes). noted-from c g (while-owned (state-of g) c fs) ks) (follows-one h k S)
-    ∙ ap (λ (s : State). noted-from c (notes-of (after h k)) (while-owned s c fs) ks) (back (after h k .now) (kept k (h .now) S))
-    ∙ noted-each c ks (after h k) (while-owned (after h k .now) c fs) (kept k (h .now) S)
-
 -- so what is noted is what the rules say
 noted-is : (c : ℕ) (ks : List Call) → all-noted c ks ≡ exchanges c ks
-noted-is c ks = ap (λ (g : Notes). noted-from c g [] ks) blank-is ∙ noted-each c ks nothing-yet [] (fresh-invariant .sound)
+noted-is c =
+    Q.gathered-is levels runs (noted c) (λ g es. while-owned (state-of g) c es) (λ h k. exchange c (h .now) k) (λ h es. while-owned (h .now) c es)
+    (exchanges-from c) (λ h es. refl) (λ h es k ks. refl)
+    (noted-one c) (λ h es S. ap (λ (s : State). while-owned s c es) (levels .read-written (h .now) S))
 
 -- the kind of a connection is the one that the rules have
 kind-is : (ks : List Call) (c : ℕ) (b : Bool) → stamped (figures (state-of (calls ks)) c) ≡ b → stamped (figures (run ks .now) c) ≡ b
@@ -420,18 +380,12 @@ bed-nine-and-bed-ten-of-the-code ks ms c d alike asked kind word =
     (ap asks (sym (noted-is c ks)) ∙ asked ∙ ap asks (noted-is d ms)) (kind-is ks c false kind) (transport (word-is c ks) word)
     ∙ sym (noted-is d ms)
 
-pub counted-of-the-code : Counted-of-the-code
-counted-of-the-code ks c =
-    subst (λ (g : Notes). length (of c (g .accepted)) ≡ length (departures c (g .departed)) + length (of c (in-hub (state-of g))))
-    (sym (follows-the-rules ks))
-    (counted ks c ∙ ap (λ (s : State). length (departures c (run ks .departed)) + length (of c (in-hub s))) (sym (back (run ks .now) (runs-are-sound ks))))
-
 -- ---- connections by stamps
 
 pub ten-exactly-of-the-code : Ten-exactly-of-the-code
 ten-exactly-of-the-code c len tag st h t r u D e linked =
     subst (λ (v : ℕ). v ≡ 10 ↔ ((stands (view h t) c ≡ true) × (suits (figures (view h t) c) st ≡ true) → ⊥))
-    (sym (answers-as-the-rules (offer c len tag st) h t r u D e .1))
+    (sym (verdict-as (offer c len tag st) h t r u D e))
     (ten-exactly c len tag st (view h t) (is-sound h t e) linked)
 
 pub seventeen-exactly-of-the-code : Seventeen-exactly-of-the-code
@@ -441,7 +395,7 @@ seventeen-exactly-of-the-code c len tag stamp h t r u D e linked =
     × (length (of c (view h t .held)) < reservation (h .link) (figures (view h t) c))
     × (h .clock < clock-end)
     × (No-cause (view h t) c stamp → ⊥)))
-    (sym (answers-as-the-rules (offer c len tag (some stamp)) h t r u D e .1))
+    (sym (verdict-as (offer c len tag (some stamp)) h t r u D e))
     (seventeen-exactly c len tag stamp (view h t) (is-sound h t e) linked)
 
 module _ (earlier later : List Call) (c len tag : ℕ) (st : Option ℕ) (finish : ℕ) where
@@ -449,7 +403,7 @@ module _ (earlier later : List Call) (c len tag : ℕ) (st : Option ℕ) (finish
   abbrev Ended : Notes → Notes → ℕ → Type 0
   Ended g after e =
       getElem? (departures c (after .departed)) (length (of c (g .accepted)))
-      ≡ some (record { what = record { connection = c; len = len; tag = tag; arrival = g .hub .clock; eligibility = e }; finish = finish })
+      ≡ some (record { what = record { connection = c; len = len; tag = tag; arrival = g .kept .clock; eligibility = e }; finish = finish })
 
   ended-in-the-run : (e n : ℕ) → n ≡ e → Ended (calls earlier) (calls (earlier ++ offer c len tag st ∷ later)) n → Ended (notes-of (run earlier)) (notes-of (run (earlier ++ offer c len tag st ∷ later))) e
   ended-in-the-run e n same there =
@@ -518,14 +472,14 @@ eighteen-exactly-of-the-code c len tag st h t r u D e linked =
     × (untimely-by (figures (view h t) c) (past (view h t) c) (h .clock) st ≡ false)
     × (stand-by-on (h .link) ≡ true)
     × (h .clock + distance (h .link) (figures (view h t) c) < eligibility-now (view h t) c st)))
-    (sym (answers-as-the-rules (offer c len tag st) h t r u D e .1))
+    (sym (verdict-as (offer c len tag st) h t r u D e))
     (eighteen-exactly c len tag st (view h t) (is-sound h t e) linked)
 
 pub stamps-never-18-of-the-code : Stamps-never-18-of-the-code
 stamps-never-18-of-the-code c len tag stamp h t r u D z = go (sound-hub h t) refl
   where
     go : (b : Bool) → sound-hub h t ≡ b → ⊥
-    go true e = stamps-never-18 c len tag stamp (view h t) (sym (answers-as-the-rules (offer c len tag (some stamp)) h t r u D e .1) ∙ z)
+    go true e = stamps-never-18 c len tag stamp (view h t) (sym (verdict-as (offer c len tag (some stamp)) h t r u D e) ∙ z)
     go false e = absurd (omega (arith, z, verdict-1-of-the-code (offer c len tag (some stamp)) h t r u D .0 e))
 
 pub never-far-ahead-of-the-code : Never-far-ahead-of-the-code

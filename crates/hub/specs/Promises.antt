@@ -6,11 +6,10 @@ use mathlib.Core.Logic.{_↔_, _⊎_}
 use mathlib.Core.List.{List, [], _∷_, _++_, map}
 use mathlib.Core.Option.{Option, none, some}
 use lib.ListN.{length, getElem?, drop}
-use Rattle.rules.specs.declared.Packet.{Packet}
 use Rattle.rules.specs.declared.Connection.{Connection}
 use Rattle.rules.specs.Limits.{clock-end}
 use Rattle.rules.specs.Words.{first-number, All}
-use Rattle.rules.specs.Model.{State, Call, admit, offer, close, tick, no-past, past, figures, closed-at}
+use Rattle.rules.specs.Model.{State, Call, admit, offer, close, tick, Answer, no-past, past, figures, closed-at}
 use Rattle.rules.specs.Admission.{owned, stands, stamped, joining, windowed, reservation, charge-time, stand-by-on, distance}
 use Rattle.rules.specs.Service.{suits, untimely-by, of, eligibilities, charge-over}
 use Rattle.rules.specs.SoundState.{Sound}
@@ -18,19 +17,18 @@ use Rattle.rules.specs.Calls.{refused-number, answer, eligibility-now}
 use Rattle.rules.specs.Runs.{Departure, run, departures, in-hub, bound-of, allowed, Exchange, own-answer, own-stamp-answers}
 use Rattle.rules.specs.WithoutWindows.{bounds-test, bounds-verdicts}
 use Rattle.rules.specs.Promises.{Still-charged, Lowest-free, Accepts-at, At-the-bounds, stamp-plus, No-cause}
+use Rattle.faces.specs.Sequence.{Noted-by}
+use Rattle.faces.specs.Promises as F
 use Rattle.state.specs.declared.Hub.{Hub}
 use Rattle.state.specs.declared.Told.{Told}
 use Rattle.state.specs.View.{Tables, view, hub-of, written, sound-hub}
+use Rattle.state.specs.Told.{told-of}
 use Rattle.state.specs.Does.{Does}
-use Rattle.hub.specs.Sequence.{Notes, calls, state-of, notes-of, Seen-to-keep-its-word, all-noted}
+use Rattle.hub.specs.Sequence.{calls, state-of, notes-of, Seen-to-keep-its-word, all-noted}
 
 -- document 01, "What the hub's answers must settle": any two answers and tables that a contract allows are equal
 abbrev pub One-outcome : Type 0
-One-outcome =
-    (k : Call) (h : Hub) (before : Tables) (told told′ : Told) (after after′ : Tables)
-    → Does k h before told after
-    → Does k h before told′ after′
-    → (told ≡ told′) × (after ≡ after′)
+One-outcome = F.One-outcome Does
 
 -- of a sound state, reading what is written gives it back, and what is written is sound: everything unused is zero
 abbrev pub Written-reads-back : Type 0
@@ -42,36 +40,19 @@ Sound-is-written = (h : Hub) (t : Tables) → sound-hub h t ≡ true → Sound (
 
 -- demand 1, of the code: a refused call changes nothing that the caller lent or handed in, gives the number of a refusal, and no packet leaves
 abbrev pub Demand-1-of-the-code : Type 0
-Demand-1-of-the-code =
-    (k : Call) (h : Hub) (before : Tables) (told : Told) (after : Tables)
-    → Does k h before told after
-    → (told .verdict ≡ 0 → ⊥)
-    → (told .hub ≡ h) × (after ≡ before) × (told .number ≡ refused-number k) × (told .gone ≡ false)
+Demand-1-of-the-code = F.Refusals-change-nothing-of-the-code Does Told.verdict Told.hub Told.number refused-number Told.gone
 
 -- verdict 1 is given exactly where the hub and its tables are not sound
 abbrev pub Verdict-1-of-the-code : Type 0
-Verdict-1-of-the-code =
-    (k : Call) (h : Hub) (before : Tables) (told : Told) (after : Tables)
-    → Does k h before told after
-    → (sound-hub h before ≡ false → told .verdict ≡ 1) × (sound-hub h before ≡ true → told .verdict ≡ 1 → ⊥)
+Verdict-1-of-the-code = F.Verdict-1-of-the-code Does sound-hub Told.verdict
 
 -- a call on a sound hub leaves a sound one: a run that has tested once need not test again
 abbrev pub Sound-is-kept-by-the-code : Type 0
-Sound-is-kept-by-the-code =
-    (k : Call) (h : Hub) (before : Tables) (told : Told) (after : Tables)
-    → Does k h before told after
-    → sound-hub h before ≡ true
-    → sound-hub (told .hub) after ≡ true
+Sound-is-kept-by-the-code = F.Sound-is-kept-by-the-code Does sound-hub Told.hub
 
--- on a sound hub the verdict, the number and the state that is left are the rules'
+-- on a sound hub the answer and the state that is left are the rules'
 abbrev pub Answers-as-the-rules : Type 0
-Answers-as-the-rules =
-    (k : Call) (h : Hub) (before : Tables) (told : Told) (after : Tables)
-    → Does k h before told after
-    → sound-hub h before ≡ true
-    → (view (told .hub) after ≡ answer k (view h before) .next)
-    × (told .verdict ≡ answer k (view h before) .verdict)
-    × (told .number ≡ answer k (view h before) .number)
+Answers-as-the-rules = F.Answers-as-the-rules Does sound-hub view Told.hub answer Answer.next told-of
 
 -- ---- closing, of the code (document 02, R-8)
 
@@ -163,9 +144,7 @@ Follows-the-rules = (ks : List Call) → calls ks ≡ notes-of (run ks)
 
 -- for each connection, and for the notices under their number, what the answers accepted is what they let go, followed by what waits
 abbrev pub Conservation-of-the-code : Type 0
-Conservation-of-the-code =
-    (ks : List Call) (c : ℕ)
-    → of c (calls ks .accepted) ≡ map (λ (d : Departure). d .what) (departures c (calls ks .departed)) ++ of c (in-hub (state-of (calls ks)))
+Conservation-of-the-code = F.Conservation-of-the-code calls state-of in-hub
 
 -- from one moment on: what the answers accepted of number c since is what they let go since, followed by what waits
 abbrev pub Noted-since : List Call → List Call → ℕ → Type 0
@@ -178,40 +157,35 @@ Noted-since earlier later c =
 abbrev pub Conservation-by-owner-of-the-code : Type 0
 Conservation-by-owner-of-the-code =
     (earlier later : List Call) (x : Connection) (told : Told) (after : Tables)
-    → Does (admit x) (calls earlier .hub) (calls earlier .tables) told after
+    → Does (admit x) (calls earlier .kept) (calls earlier .tables) told after
     → told .verdict ≡ 0
     → Noted-since earlier (admit x ∷ later) (told .number)
 
 -- each accepted packet of a level has left by its eligibility plus its level's bound, whatever the other connections and the notices do: in the caller's own
 -- notes of the answers
-pub record Noted-by (g : Notes) (c i : ℕ) (p : Packet) (deadline : ℕ) : Type 0 where
-  pub finish : ℕ
-  pub is-departure : getElem? (departures c (g .departed)) i ≡ some (record { what = p; finish = finish })
-  pub in-time : finish ≤ deadline
-
 -- any calls `earlier`, an offer of c that is accepted, any calls `later`; the bound is the one of c's owner at the offer (document 02, R-8)
 abbrev pub Demand-3-first-of-the-code : Type 0
 Demand-3-first-of-the-code =
     (earlier later : List Call) (c len tag : ℕ) (st : Option ℕ) (told : Told) (after : Tables)
-    → Does (offer c len tag st) (calls earlier .hub) (calls earlier .tables) told after
+    → Does (offer c len tag st) (calls earlier .kept) (calls earlier .tables) told after
     → told .verdict ≡ 0
-    → told .number + bound-of (state-of (calls earlier)) c ≤ calls (earlier ++ offer c len tag st ∷ later) .hub .clock
+    → told .number + bound-of (state-of (calls earlier)) c ≤ calls (earlier ++ offer c len tag st ∷ later) .kept .clock
     → Noted-by (calls (earlier ++ offer c len tag st ∷ later)) c (length (of c (calls earlier .accepted)))
-    (record { connection = c; len = len; tag = tag; arrival = calls earlier .hub .clock; eligibility = told .number })
+    (record { connection = c; len = len; tag = tag; arrival = calls earlier .kept .clock; eligibility = told .number })
     (told .number + bound-of (state-of (calls earlier)) c)
 
 -- and a connection that keeps its word is never refused for room: while the clock runs its offer is accepted, eligible on arrival, and leaves within the bound of
 -- its arrival. Any calls `earlier`, an offer of c of allowed length, any calls `later`; c has kept its word up to this offer
 pub record Kept-by-the-code (earlier later : List Call) (c len tag : ℕ) : Type 0 where
-  pub never-for-room : (told : Told) (after : Tables) → Does (offer c len tag none) (calls earlier .hub) (calls earlier .tables) told after → told .verdict ≡ 12 → ⊥
-  pub accepted : (told : Told) (after : Tables) → Does (offer c len tag none) (calls earlier .hub) (calls earlier .tables) told after
-      → calls earlier .hub .clock < clock-end
-      → (told .verdict ≡ 0) × (told .number ≡ calls earlier .hub .clock)
-  pub in-time : calls earlier .hub .clock < clock-end
-      → calls earlier .hub .clock + bound-of (state-of (calls earlier)) c ≤ calls (earlier ++ offer c len tag none ∷ later) .hub .clock
+  pub never-for-room : (told : Told) (after : Tables) → Does (offer c len tag none) (calls earlier .kept) (calls earlier .tables) told after → told .verdict ≡ 12 → ⊥
+  pub accepted : (told : Told) (after : Tables) → Does (offer c len tag none) (calls earlier .kept) (calls earlier .tables) told after
+      → calls earlier .kept .clock < clock-end
+      → (told .verdict ≡ 0) × (told .number ≡ calls earlier .kept .clock)
+  pub in-time : calls earlier .kept .clock < clock-end
+      → calls earlier .kept .clock + bound-of (state-of (calls earlier)) c ≤ calls (earlier ++ offer c len tag none ∷ later) .kept .clock
       → Noted-by (calls (earlier ++ offer c len tag none ∷ later)) c (length (of c (calls earlier .accepted)))
-      (record { connection = c; len = len; tag = tag; arrival = calls earlier .hub .clock; eligibility = calls earlier .hub .clock })
-      (calls earlier .hub .clock + bound-of (state-of (calls earlier)) c)
+      (record { connection = c; len = len; tag = tag; arrival = calls earlier .kept .clock; eligibility = calls earlier .kept .clock })
+      (calls earlier .kept .clock + bound-of (state-of (calls earlier)) c)
 
 abbrev pub Demand-3-second-of-the-code : Type 0
 Demand-3-second-of-the-code =
@@ -242,9 +216,7 @@ Bed-nine-and-bed-ten-of-the-code =
 
 -- for every connection, counted in the caller's notes: accepted since the hub was fresh = departed plus held
 abbrev pub Counted-of-the-code : Type 0
-Counted-of-the-code =
-    (ks : List Call) (c : ℕ)
-    → length (of c (calls ks .accepted)) ≡ length (departures c (calls ks .departed)) + length (of c (in-hub (state-of (calls ks))))
+Counted-of-the-code = F.Counted-of-the-code calls state-of in-hub
 
 -- ---- connections by stamps, of the code (document 02, R-9). The first sentence of demand 3 is theirs too (`Demand-3-first-of-the-code`)
 
@@ -275,24 +247,24 @@ Seventeen-exactly-of-the-code =
 abbrev pub No-finish-before-of-the-code : Type 0
 No-finish-before-of-the-code =
     (earlier later : List Call) (c len tag : ℕ) (st : Option ℕ) (finish : ℕ) (told : Told) (after : Tables)
-    → Does (offer c len tag st) (calls earlier .hub) (calls earlier .tables) told after
+    → Does (offer c len tag st) (calls earlier .kept) (calls earlier .tables) told after
     → told .verdict ≡ 0
-    → (stamped (figures (state-of (calls earlier)) c) ≡ true) ⊎ (stand-by-on (calls earlier .hub .link) ≡ false)
+    → (stamped (figures (state-of (calls earlier)) c) ≡ true) ⊎ (stand-by-on (calls earlier .kept .link) ≡ false)
     → getElem? (departures c (calls (earlier ++ offer c len tag st ∷ later) .departed)) (length (of c (calls earlier .accepted)))
-    ≡ some (record { what = record { connection = c; len = len; tag = tag; arrival = calls earlier .hub .clock; eligibility = told .number }; finish = finish })
+    ≡ some (record { what = record { connection = c; len = len; tag = tag; arrival = calls earlier .kept .clock; eligibility = told .number }; finish = finish })
     → told .number + len ≤ finish
 
 -- in place of the second sentence of demand 3: an offer of allowed length to which no cause of 17 applies is never refused for room; while the clock runs it is
 -- accepted, with the stamp plus the allowance as its eligibility, and it leaves within the bound of that
 pub record Stamp-kept-by-the-code (earlier later : List Call) (c len tag stamp : ℕ) : Type 0 where
-  pub never-for-room : (told : Told) (after : Tables) → Does (offer c len tag (some stamp)) (calls earlier .hub) (calls earlier .tables) told after → told .verdict ≡ 12 → ⊥
-  pub accepted : (told : Told) (after : Tables) → Does (offer c len tag (some stamp)) (calls earlier .hub) (calls earlier .tables) told after
-      → calls earlier .hub .clock < clock-end
+  pub never-for-room : (told : Told) (after : Tables) → Does (offer c len tag (some stamp)) (calls earlier .kept) (calls earlier .tables) told after → told .verdict ≡ 12 → ⊥
+  pub accepted : (told : Told) (after : Tables) → Does (offer c len tag (some stamp)) (calls earlier .kept) (calls earlier .tables) told after
+      → calls earlier .kept .clock < clock-end
       → (told .verdict ≡ 0) × (told .number ≡ stamp-plus (state-of (calls earlier)) c stamp)
-  pub in-time : calls earlier .hub .clock < clock-end
-      → stamp-plus (state-of (calls earlier)) c stamp + bound-of (state-of (calls earlier)) c ≤ calls (earlier ++ offer c len tag (some stamp) ∷ later) .hub .clock
+  pub in-time : calls earlier .kept .clock < clock-end
+      → stamp-plus (state-of (calls earlier)) c stamp + bound-of (state-of (calls earlier)) c ≤ calls (earlier ++ offer c len tag (some stamp) ∷ later) .kept .clock
       → Noted-by (calls (earlier ++ offer c len tag (some stamp) ∷ later)) c (length (of c (calls earlier .accepted)))
-      (record { connection = c; len = len; tag = tag; arrival = calls earlier .hub .clock; eligibility = stamp-plus (state-of (calls earlier)) c stamp })
+      (record { connection = c; len = len; tag = tag; arrival = calls earlier .kept .clock; eligibility = stamp-plus (state-of (calls earlier)) c stamp })
       (stamp-plus (state-of (calls earlier)) c stamp + bound-of (state-of (calls earlier)) c)
 
 abbrev pub Demand-3-for-stamps-of-the-code : Type 0
@@ -349,7 +321,7 @@ Stamps-never-18-of-the-code =
 abbrev pub Never-far-ahead-of-the-code : Type 0
 Never-far-ahead-of-the-code =
     (ks : List Call) (c : ℕ)
-    → stand-by-on (calls ks .hub .link) ≡ true
+    → stand-by-on (calls ks .kept .link) ≡ true
     → owned (state-of (calls ks) .connections) c ≡ true
-    → All (λ e. e ≤ calls ks .hub .clock + distance (calls ks .hub .link) (figures (state-of (calls ks)) c)) (eligibilities c (state-of (calls ks) .held))
-    × All (λ e. e ≤ calls ks .hub .clock + distance (calls ks .hub .link) (figures (state-of (calls ks)) c)) (past (state-of (calls ks)) c)
+    → All (λ e. e ≤ calls ks .kept .clock + distance (calls ks .kept .link) (figures (state-of (calls ks)) c)) (eligibilities c (state-of (calls ks) .held))
+    × All (λ e. e ≤ calls ks .kept .clock + distance (calls ks .kept .link) (figures (state-of (calls ks)) c)) (past (state-of (calls ks)) c)

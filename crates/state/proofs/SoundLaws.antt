@@ -26,7 +26,6 @@ use Rattle.connections.proofs.MemberLaws.{connection-none}
 use Rattle.connections.proofs.WrittenLaws.{members-written, members-long}
 use Rattle.state.specs.declared.Hub.{Hub}
 use Rattle.state.specs.View.{Tables, view, written, tables-formed, sound-hub}
-use Rattle.state.proofs.WrittenLaws.{writable}
 
 -- ---- formed tables
 

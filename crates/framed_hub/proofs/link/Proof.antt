@@ -1,7 +1,5 @@
-use mathlib.Core.Path.{refl, sym, _∙_}
-use borrow.Author.Tests.{not-true, not-false}
-use Rattle.frames.specs.Model.{link}
-use Rattle.framed_state.specs.View.{tables}
+use mathlib.Core.Path.{sym, _∙_}
+use borrow.Author.Tests.{not-false}
 use Rattle.framed_state.proofs.DoesLaws.{refuses-unsound}
 use borrow.Author.Needs.{needs}
 use Rattle.framed_hub.proofs.link.Statement.{statement}
@@ -14,10 +12,7 @@ say-requires : tie.Need-say-requires
 say-requires c κs = search needs
 
 returns : tie.Need-returns
-returns c =
-    let z = c .before .before .before .before .before .before in
-    let t = tables (z .args .shares .now) (z .args .places .now) (z .args .notices .now) in
-    refuses-unsound (link (z .args .l)) (z .args .h) t (sym (c .before .before .is-sound .ensures) ∙ not-true _ (c .before .if1 .taken)) _ 0 refl (c .say .ensures)
+returns c = refuses-unsound _ _ _ _ (c .before .before .is-sound .ensures) (c .before .if1 .taken) _ (c .say .ensures)
 
 link-tested-requires : tie.Need-link-tested-requires
 link-tested-requires c κs = sym (c .before .is-sound .ensures) ∙ not-false _ (c .if1 .left)

@@ -1,8 +1,5 @@
-use borrow.Author.Tests.{not-true, not-false}
-use mathlib.Core.Path.{refl, sym, _∙_}
-use mathlib.Core.Option.{some}
-use Rattle.rules.specs.Model.{offer}
-use Rattle.state.specs.View.{tables}
+use borrow.Author.Tests.{not-false}
+use mathlib.Core.Path.{sym, _∙_}
 use Rattle.state.proofs.DoesLaws.{refuses-unsound}
 use borrow.Author.Needs.{needs}
 use Rattle.hub.proofs.offer_stamped.Statement.{statement}
@@ -21,10 +18,7 @@ same-length-2 : tie.Need-same-length-2
 same-length-2 c = search needs
 
 returns : tie.Need-returns
-returns c =
-    let z = c .before .before .before .before .before .before .before .before in
-    let t = tables (z .args .members .now) (z .args .places .now) (z .args .notices .now) in
-    refuses-unsound (offer (z .args .c) (z .args .len) (z .args .tag) (some (z .args .stamp))) (z .args .h) t (sym (c .before .before .is-sound .ensures) ∙ not-true _ (c .before .if1 .taken)) _ 0 refl (c .say .ensures)
+returns c = refuses-unsound _ _ _ _ (c .before .before .is-sound .ensures) (c .before .if1 .taken) _ (c .say .ensures)
 
 offer-tested-requires : tie.Need-offer-tested-requires
 offer-tested-requires c κs = sym (c .before .before .before .is-sound .ensures) ∙ not-false _ (c .before .before .if1 .left)

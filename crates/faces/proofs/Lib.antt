@@ -1,0 +1,4 @@
+pub mod Discipline
+pub mod CallLaws
+pub mod Results
+pub mod Sequences

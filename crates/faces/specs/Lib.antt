@@ -1,0 +1,3 @@
+-- Read in this order: Sequence, Promises.
+pub mod Sequence
+pub mod Promises

@@ -1,0 +1,69 @@
+-- WHAT IS PROMISED OF A CALL, whatever the discipline: each says of which of its functions (crates/hub/specs/Promises.antt, crates/framed_hub/specs/Promises.antt). Proved in proofs/Results under the
+-- same name in small letters.
+use Prim.Native.Nat.{ℕ, _+_}
+use mathlib.Core.Path.{_≡_}
+use mathlib.Core.Bool.{Bool, true, false}
+use mathlib.Core.List.{List, _++_, map}
+use lib.ListN.{length}
+use Rattle.rules.specs.declared.Packet.{Packet}
+use Rattle.rules.specs.Service.{of}
+use Rattle.rules.specs.Runs.{Departure, departures}
+use Rattle.tables.specs.Lent.{Tables}
+use Rattle.faces.specs.Sequence.{Notes}
+
+-- `Does` is the contract: handed what is kept between the calls, h, and the tables `before`, the call k answers `told` and leaves the tables `after`
+module _ {Call Kept Told : Type 0} (Does : Call → Kept → Tables → Told → Tables → Type 0) where
+  -- document 01, "What the hub's answers must settle": any two answers and tables that a contract allows are equal
+  abbrev pub One-outcome : Type 0
+  One-outcome =
+      (k : Call) (h : Kept) (before : Tables) (told told′ : Told) (after after′ : Tables)
+      → Does k h before told after
+      → Does k h before told′ after′
+      → (told ≡ told′) × (after ≡ after′)
+
+  -- a refused call changes nothing that the caller lent or handed in, gives the number of a refusal, and no packet leaves
+  abbrev pub Refusals-change-nothing-of-the-code : (verdict : Told → ℕ) (kept : Told → Kept) (number : Told → ℕ) (refused-number : Call → ℕ) (gone : Told → Bool) → Type 0
+  Refusals-change-nothing-of-the-code verdict kept number refused-number gone =
+      (k : Call) (h : Kept) (before : Tables) (told : Told) (after : Tables)
+      → Does k h before told after
+      → (verdict told ≡ 0 → ⊥)
+      → (kept told ≡ h) × (after ≡ before) × (number told ≡ refused-number k) × (gone told ≡ false)
+
+  -- verdict 1 is given exactly where what is handed in is not sound
+  abbrev pub Verdict-1-of-the-code : (sound : Kept → Tables → Bool) (verdict : Told → ℕ) → Type 0
+  Verdict-1-of-the-code sound verdict =
+      (k : Call) (h : Kept) (before : Tables) (told : Told) (after : Tables)
+      → Does k h before told after
+      → (sound h before ≡ false → verdict told ≡ 1) × (sound h before ≡ true → verdict told ≡ 1 → ⊥)
+
+  -- a call on what is sound leaves what is sound: a run that has tested once need not test again
+  abbrev pub Sound-is-kept-by-the-code : (sound : Kept → Tables → Bool) (kept : Told → Kept) → Type 0
+  Sound-is-kept-by-the-code sound kept =
+      (k : Call) (h : Kept) (before : Tables) (told : Told) (after : Tables)
+      → Does k h before told after
+      → sound h before ≡ true
+      → sound (kept told) after ≡ true
+
+  -- where it is sound, the state that is left and the answer are the rules'
+  abbrev pub Answers-as-the-rules : {State Answer : Type 0} (sound : Kept → Tables → Bool) (view : Kept → Tables → State) (kept : Told → Kept) (answer : Call → State → Answer)
+      (next : Answer → State) (told-of : Answer → Told) → Type 0
+  Answers-as-the-rules sound view kept answer next told-of =
+      (k : Call) (h : Kept) (before : Tables) (told : Told) (after : Tables)
+      → Does k h before told after
+      → sound h before ≡ true
+      → (view (kept told) after ≡ next (answer k (view h before))) × (told ≡ told-of (answer k (view h before)))
+
+-- ---- any calls: said of the answers that the caller has noted and of what the caller keeps, read as a state
+
+module _ {Call Kept State : Type 0} (calls : List Call → Notes Kept) (state-of : Notes Kept → State) (in-hub : State → List Packet) where
+  -- for each connection, and for the notices under their number, what the answers accepted is what they let go, followed by what waits
+  abbrev pub Conservation-of-the-code : Type 0
+  Conservation-of-the-code =
+      (ks : List Call) (c : ℕ)
+      → of c (calls ks .accepted) ≡ map (λ (d : Departure). d .what) (departures c (calls ks .departed)) ++ of c (in-hub (state-of (calls ks)))
+
+  -- .. and counted: accepted since the line was fresh = departed plus what waits
+  abbrev pub Counted-of-the-code : Type 0
+  Counted-of-the-code =
+      (ks : List Call) (c : ℕ)
+      → length (of c (calls ks .accepted)) ≡ length (departures c (calls ks .departed)) + length (of c (in-hub (state-of (calls ks))))
