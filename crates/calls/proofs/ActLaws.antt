@@ -1,5 +1,5 @@
 -- How a refusal and each call done meet the contract, on a sound hub.
-use Prim.Native.Nat.{ℕ, _+_, _*_, _-_, _≤_, _<_}
+use Prim.Native.Nat.{ℕ, zero, suc, _+_, _*_, _-_, _≤_, _<_}
 use mathlib.Core.Logic.{⊎-elim}
 use native.Mathlib.Omega.{arith}
 use mathlib.Core.Path.{_≡_, refl, sym, ap, _∙_, subst}
@@ -11,11 +11,10 @@ use lib.Seq.{getD-set-same, getD-set-other}
 use Rattle.rules.specs.declared.Link.{Link}
 use Rattle.rules.specs.declared.Connection.{Connection}
 use Rattle.rules.specs.declared.Packet.{Packet}
-use Rattle.rules.specs.declared.Notice.{Notice}
 use Rattle.rules.specs.declared.Short.{Short}
 use Rattle.rules.specs.Words.{All}
 use Rattle.rules.specs.Limits.{max-connections, clock-end, beyond-32-bits}
-use Rattle.rules.specs.Model.{Past, State, Call, link, admit, offer, notice, close, tick, no-short, no-connection, no-past, past, figures, closed-at, notice-packet}
+use Rattle.rules.specs.Model.{Past, State, Call, link, admit, offer, notice, close, tick, no-short, no-connection, no-past, past, figures, closed-at}
 use Rattle.rules.specs.Admission.{owned, free-number, joining, charge-time}
 use Rattle.rules.specs.Service.{eligibility-by, untimely-by, remember, ticked, charge-over, expired, swept-connections, swept-pasts, swept-marks}
 use Rattle.rules.specs.SoundState.{Free-number}
@@ -30,10 +29,8 @@ use Rattle.rules.proofs.Line.{tick-leaves}
 use Rattle.rules.proofs.Bounds.{rows-fit-places, eligibilities-fit-32, charges-fit-32}
 use Rattle.rules.proofs.Stamps.{in-time-of}
 use Rattle.rules.proofs.SoundKept.{done-sound}
-use Rattle.rules.proofs.Verdicts.{tick-done, admit-done, Offer-done, offer-done, notice-done, Close-done, close-done}
-use Rattle.tables.specs.Places.{places-length, rows, written-places, table-of, no-packet}
-use Rattle.tables.specs.Notices.{notices-formed}
-use Rattle.tables.proofs.NoticeLaws.{note-room, note-behind}
+use Rattle.rules.proofs.Verdicts.{tick-done, admit-done, Offer-done, offer-done, Close-done, close-done}
+use Rattle.tables.specs.Places.{places-length, rows, written-places, no-packet}
 use Rattle.connections.specs.declared.Member.{Member}
 use Rattle.connections.specs.Members.{member-in, connections-in, pasts-in, closed-in, connection-of, past-of, last-of, used-by, used-in, first-in, written-table, written-members}
 use Rattle.connections.specs.Closing.{Closed-in-order, Swept}
@@ -54,6 +51,8 @@ use Rattle.service.specs.Ready.{Ready}
 use Rattle.service.specs.Gives.{Gives}
 use Rattle.service.proofs.ReadyLaws.{ready}
 use Rattle.causes.specs.declared.Ruling.{Ruling}
+use Rattle.causes.specs.declared.Noted.{Noted}
+use Rattle.causes.specs.Notices.{Takes}
 use Rattle.calls.specs.Rulings.{ruling-of}
 
 module _ (h : Hub) (t : Tables) (ok : sound-hub h t ≡ true) where
@@ -222,24 +221,17 @@ module _ (h : Hub) (t : Tables) (ok : sound-hub h t ≡ true) (c len tag : ℕ) 
       let p′ = l ∙ ap (λ (u : ℕ). written-places (rows (t .places) ++ record { connection = c; len = len; tag = tag; arrival = h .clock; eligibility = u } ∷ [])) i in
       acts (offer c len tag st) h t ok r (tables m p (t .notices)) good (j ∙ ap (refusal h 0) i) (λ n. tables (m′ n) (p′ n) (notices-kept h t ok n))
 
--- ---- a notice
+-- ---- a notice: refused or done, by its verdict
 
-module _ (h : Hub) (t : Tables) (ok : sound-hub h t ≡ true) (len tag : ℕ) (good : verdict (notice len tag) (view h t) ≡ 0) where
-  abbrev note : Notice
-  note = record { len = len; tag = tag; arrival = h .clock }
-
-  shape : notices-formed (t .notices) ≡ true
-  shape = shapes t (formed-tables h t ok) .notices-shape
-
-  -- a place is left
-  pub notice-room : 5 * length (rows (t .notices)) + 5 ≤ length (t .notices)
-  notice-room = note-room (t .notices) shape (notice-done (view h t) len tag good .room)
-
-  pub notice-acts : (r : Told) (q : List ℕ) → r ≡ refusal h 0 (h .clock) → q ≡ table-of (length (t .notices)) (rows (t .notices) ++ notice-packet note ∷ [])
-      → Does (notice len tag) h t r (tables (t .members) (t .places) q)
-  notice-acts r q j l =
-      let k = l ∙ note-behind (t .notices) shape note in
-      acts (notice len tag) h t ok r (tables (t .members) (t .places) q) good j (λ i. tables (members-kept h t ok i) (places-kept h t ok i) (k i))
+module _ (h : Hub) (t : Tables) (ok : sound-hub h t ≡ true) where
+  pub notice-does : (len tag v : ℕ) → v ≡ verdict (notice len tag) (view h t) → (x : Noted) (q : List ℕ) (r : Told) → Takes v (h .clock) len tag (t .notices) x q
+      → r ≡ refusal h (x .verdict) (x .number) → Does (notice len tag) h t r (tables (t .members) (t .places) q)
+  notice-does len tag zero e x q r k j =
+      acts (notice len tag) h t ok r (tables (t .members) (t .places) q) (sym e) (j ∙ ap (λ (y : Noted). refusal h (y .verdict) (y .number)) (k .0))
+      (λ i. tables (members-kept h t ok i) (places-kept h t ok i) (k .1 i))
+  notice-does len tag (suc w) e x q r k j =
+      subst (λ (u : List ℕ). Does (notice len tag) h t r (tables (t .members) (t .places) u)) (sym (k .1))
+      (refused h t ok (notice len tag) (suc w) 0 r e (λ z. omega arith) refl refl (j ∙ ap (λ (y : Noted). refusal h (y .verdict) (y .number)) (k .0)))
 
 -- ---- a close
 

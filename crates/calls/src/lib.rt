@@ -9,7 +9,6 @@ ghost use Rattle.connections.specs.Stamps.{stamp-if};
 ghost use Rattle.state.specs.View.{given, before, after, view, sound-hub};
 ghost use Rattle.state.specs.Does.{Does};
 use limits::NO_CONNECTION;
-use limits::NOTICE_NUMBER;
 use rules::Connection;
 use rules::Link;
 use rules::Packet;
@@ -156,23 +155,9 @@ pub fn notice_tested(
     requires { ⌜ sound-hub h (given members places notices) ≡ true ⌝ }
     ensures { λ r. ⌜ Does (notice len tag) h (before members places notices) r (after members places notices) ⌝ }
 {
-    let waiting = tables::count(notices);
-    let v = verdicts::notice_verdict(h, members, places, notices, waiting, len);
-    if v != 0 {
-        return say(h, v, 0);
-    }
-    tables::append(
-        notices,
-        waiting,
-        Packet {
-            connection: NOTICE_NUMBER,
-            len: len,
-            tag: tag,
-            arrival: h.clock,
-            eligibility: h.clock,
-        },
-    );
-    say(h, 0, h.clock)
+    let unset = verdicts::unset(h);
+    let x = causes::take_notice(unset, h.link.largest, h.clock, notices, len, tag);
+    say(h, x.verdict, x.number)
 }
 
 // A close that is done: the number is freed at once where its charge is over, else its owner is charged.

@@ -7,7 +7,7 @@ ghost use lib.Dec.{leb, eqb};
 ghost use lib.ListN.{length, getD};
 ghost use Rattle.rules.specs.Words.{first-number};
 ghost use Rattle.rules.specs.Limits.{max-connections, beyond-32-bits};
-ghost use Rattle.rules.specs.Model.{link, admit, offer, notice, close, tick, nth, no-connection, no-past};
+ghost use Rattle.rules.specs.Model.{link, admit, offer, close, tick, nth, no-connection, no-past};
 ghost use Rattle.rules.specs.Admission.{bound, reservation, distance, free-number};
 ghost use Rattle.rules.specs.Service.{untimely-by, of};
 ghost use Rattle.rules.specs.Calls.{verdict};
@@ -30,7 +30,7 @@ use state::Hub;
 // ---- the tests
 
 // No link is set.
-fn unset(h: Hub) -> bool
+pub(crate) fn unset(h: Hub) -> bool
     ensures { λ r. ⌜ r ≡ eqb (h .link .levels) 0 ⌝ }
 {
     h.link.levels == 0
@@ -206,18 +206,4 @@ pub(crate) fn close_verdict(h: Hub, members: &[u32], places: &[u32], notices: &[
         return early;
     }
     first_of(1 <= held_by(places, c), 16, 0)
-}
-
-pub(crate) fn notice_verdict(
-    h: Hub,
-    members: &[u32],
-    places: &[u32],
-    notices: &[u32],
-    waiting: usize,
-    len: u32,
-) -> u32
-    requires { ⌜ (sound-hub h (given members places notices) ≡ true) × (waiting ≡ length (rows (now notices))) ⌝ }
-    ensures { λ r. ⌜ ((tag : ℕ) → r ≡ verdict (notice len tag) (view h (before members places notices))) ⌝ }
-{
-    causes::of_notice(unset(h), h.link.largest, h.clock, waiting, len)
 }

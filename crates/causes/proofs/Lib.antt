@@ -1,1 +1,2 @@
 pub mod CauseLaws
+pub mod NoticeLaws

@@ -1,1 +1,2 @@
 pub mod Causes
+pub mod Notices

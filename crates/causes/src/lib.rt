@@ -1,13 +1,17 @@
-// What the tables of verdicts of both disciplines ask alike, over plain numbers, and the decision: the first number of which the test holds.
+// What the tables of verdicts of both disciplines ask alike, over plain numbers, and the decision: the first number of which the test holds; a notice, taken or refused.
 // Document 01, "Verdict numbers"; document 02, R-1 and R-13.
 ghost use mathlib.Core.Path.{_≡_};
-ghost use mathlib.Core.Bool.{cond, not};
+ghost use mathlib.Core.Bool.{true, cond, not};
 ghost use lib.Dec.{leb, eqb};
 ghost use Rattle.rules.specs.Limits.{clock-end};
 ghost use Rattle.rules.specs.Words.{within, first-number};
+ghost use Rattle.tables.specs.Notices.{notices-in, notices-formed};
 ghost use Rattle.causes.specs.Causes.{nothing-short, early-offer, of-a-notice, of-a-tick};
+ghost use Rattle.causes.specs.Notices.{notice-verdict, Takes};
 use limits::CLOCK_END;
 use limits::MAX_NOTICES;
+use limits::NOTICE_NUMBER;
+use rules::Packet;
 use rules::Short;
 
 // The verdict of an admission, and by how much it is over where that is 8.
@@ -16,7 +20,13 @@ pub struct Ruling {
     pub short: Short,
 }
 
-// .. where it is not 8.
+// What a notice is told: its verdict, and its eligibility where that is 0, else 0.
+pub struct Noted {
+    pub verdict: u32,
+    pub number: u32,
+}
+
+// The ruling where the verdict is not 8.
 pub fn ruled(verdict: u32) -> Ruling
     ensures { λ r. ⌜ r ≡ nothing-short verdict ⌝ }
 {
@@ -81,7 +91,7 @@ pub fn early_offer(unset: bool, heard: bool, largest: u32, len: u32) -> u32
 }
 
 // What speaks against a notice while `waiting` others wait.
-pub fn of_notice(unset: bool, largest: u32, clock: u32, waiting: usize, len: u32) -> u32
+fn of_notice(unset: bool, largest: u32, clock: u32, waiting: usize, len: u32) -> u32
     ensures { λ r. ⌜ r ≡ first-number (of-a-notice unset largest clock waiting len) ⌝ }
 {
     let late = first_of(ended(clock), 13, first_of(MAX_NOTICES <= waiting, 15, 0));
@@ -93,4 +103,43 @@ pub fn of_tick(unset: bool, clock: u32) -> u32
     ensures { λ r. ⌜ r ≡ first-number (of-a-tick unset clock) ⌝ }
 {
     first_of(unset, 2, first_of(ended(clock), 13, 0))
+}
+
+// ---- a notice, whatever the discipline
+
+// A notice is refused, or waits behind the others; it is eligible on arrival.
+pub fn take_notice(
+    unset: bool,
+    largest: u32,
+    clock: u32,
+    notices: &mut [u32],
+    len: u32,
+    tag: u32,
+) -> Noted
+    requires { ⌜ notices-formed (now notices) ≡ true ⌝ }
+    ensures { λ r. ⌜ Takes (notice-verdict unset largest clock (notices-in (now (notices .entry))) len) clock len tag (now (notices .entry)) r (now (notices .exit)) ⌝ }
+{
+    let waiting = tables::count(notices);
+    let v = of_notice(unset, largest, clock, waiting, len);
+    if v != 0 {
+        return Noted {
+            verdict: v,
+            number: 0,
+        };
+    }
+    tables::append(
+        notices,
+        waiting,
+        Packet {
+            connection: NOTICE_NUMBER,
+            len: len,
+            tag: tag,
+            arrival: clock,
+            eligibility: clock,
+        },
+    );
+    Noted {
+        verdict: 0,
+        number: clock,
+    }
 }

@@ -1,27 +1,26 @@
 -- How a refusal and each call done meet the contract, on a sound `Frames`.
-use Prim.Native.Nat.{ℕ, _+_, _*_, _-_, _≤_, _<_}
+use Prim.Native.Nat.{ℕ, zero, suc, _+_, _*_, _-_, _≤_, _<_}
 use native.Mathlib.Omega.{arith}
-use mathlib.Core.Path.{_≡_, refl, sym, ap, _∙_}
+use mathlib.Core.Path.{_≡_, refl, sym, ap, _∙_, subst}
 use mathlib.Core.Bool.{true, false}
 use mathlib.Core.List.{List, [], _∷_, _++_}
 use lib.ListN.{length, length-append}
 use Rattle.rules.specs.declared.Packet.{Packet}
-use Rattle.rules.specs.declared.Notice.{Notice}
 use Rattle.rules.specs.declared.Short.{Short}
 use Rattle.rules.specs.Limits.{max-connections, beyond-32-bits}
-use Rattle.rules.specs.Model.{no-short, notice-packet}
+use Rattle.rules.specs.Model.{no-short}
 use Rattle.frames.specs.declared.Framing.{Framing}
 use Rattle.frames.specs.declared.Share.{Share}
 use Rattle.frames.specs.Model.{Call, link, admit, offer, notice}
 use Rattle.frames.specs.Calls.{verdict, refused-number, refused-short, eligibility-now, packet, placed}
 use Rattle.frames.proofs.Figures.{framing-facts}
-use Rattle.frames.proofs.Verdicts.{admit-done, offer-done, notice-done}
+use Rattle.frames.proofs.Verdicts.{admit-done, offer-done}
 use Rattle.frames.proofs.SoundKept.{done-sound}
 use Rattle.frames.proofs.Results.{rows-fit, eligibilities-fit}
 use Rattle.causes.specs.declared.Ruling.{Ruling}
-use Rattle.tables.specs.Places.{places-length, rows, written-places, table-of, no-packet}
-use Rattle.tables.specs.Notices.{notices-formed}
-use Rattle.tables.proofs.NoticeLaws.{note-room, note-behind}
+use Rattle.causes.specs.declared.Noted.{Noted}
+use Rattle.causes.specs.Notices.{Takes}
+use Rattle.tables.specs.Places.{places-length, rows, written-places, no-packet}
 use Rattle.shares.specs.Shares.{shares-in, written-shares}
 use Rattle.framed_state.specs.declared.Frames.{Frames}
 use Rattle.framed_state.specs.declared.Said.{Said}
@@ -29,7 +28,7 @@ use Rattle.framed_state.specs.View.{Tables, tables, view, sound-frames}
 use Rattle.framed_state.specs.Said.{refusal}
 use Rattle.framed_state.specs.Does.{Does}
 use Rattle.framed_state.proofs.SoundLaws as S
-use Rattle.framed_state.proofs.SoundLaws.{shapes, formed-tables, is-sound, shares-kept, places-kept, notices-kept, tables-kept}
+use Rattle.framed_state.proofs.SoundLaws.{is-sound, shares-kept, places-kept, notices-kept, tables-kept}
 use Rattle.framed_state.proofs.DoesLaws.{refuses, acts}
 use Rattle.framed_calls.specs.Rulings.{ruling-of}
 
@@ -95,21 +94,13 @@ module _ (h : Frames) (t : Tables) (ok : sound-frames h t ≡ true) where
         let k = l ∙ ap (λ (u : ℕ). written-places (rows (t .places) ++ record { connection = c; len = len; tag = tag; arrival = h .clock; eligibility = u } ∷ [])) i in
         acts (offer c len tag) h t ok r (tables (t .members) p (t .notices)) good (j ∙ ap (refusal h 0) i) (λ n. tables (shares-kept h t ok n) (k n) (notices-kept h t ok n))
 
-  -- ---- a notice
+  -- ---- a notice: refused or done, by its verdict
 
-  module _ (len tag : ℕ) (good : verdict (notice len tag) (view h t) ≡ 0) where
-    abbrev note : Notice
-    note = record { len = len; tag = tag; arrival = h .clock }
-
-    shape : notices-formed (t .notices) ≡ true
-    shape = shapes t (formed-tables h t ok) .notices-shape
-
-    -- a place is left
-    pub notice-room : 5 * length (rows (t .notices)) + 5 ≤ length (t .notices)
-    notice-room = note-room (t .notices) shape (notice-done (view h t) len tag good .room)
-
-    pub notice-acts : (r : Said) (q : List ℕ) → r ≡ refusal h 0 (h .clock) → q ≡ table-of (length (t .notices)) (rows (t .notices) ++ notice-packet note ∷ [])
-        → Does (notice len tag) h t r (tables (t .members) (t .places) q)
-    notice-acts r q j l =
-        let k = l ∙ note-behind (t .notices) shape note in
-        acts (notice len tag) h t ok r (tables (t .members) (t .places) q) good j (λ i. tables (shares-kept h t ok i) (places-kept h t ok i) (k i))
+  pub notice-does : (len tag v : ℕ) → v ≡ verdict (notice len tag) (view h t) → (x : Noted) (q : List ℕ) (r : Said) → Takes v (h .clock) len tag (t .notices) x q
+      → r ≡ refusal h (x .verdict) (x .number) → Does (notice len tag) h t r (tables (t .members) (t .places) q)
+  notice-does len tag zero e x q r k j =
+      acts (notice len tag) h t ok r (tables (t .members) (t .places) q) (sym e) (j ∙ ap (λ (y : Noted). refusal h (y .verdict) (y .number)) (k .0))
+      (λ i. tables (shares-kept h t ok i) (places-kept h t ok i) (k .1 i))
+  notice-does len tag (suc w) e x q r k j =
+      subst (λ (u : List ℕ). Does (notice len tag) h t r (tables (t .members) (t .places) u)) (sym (k .1))
+      (refused (notice len tag) (suc w) 0 r e (λ z. omega arith) refl refl (j ∙ ap (λ (y : Noted). refusal h (y .verdict) (y .number)) (k .0)))

@@ -14,7 +14,6 @@ use framed_state::say;
 use frames::Framing;
 use frames::Share;
 use limits::NO_CONNECTION;
-use limits::NOTICE_NUMBER;
 use rules::Packet;
 
 // A link is set, once.
@@ -120,23 +119,9 @@ pub fn notice_tested(
     requires { ⌜ sound-frames h (given shares places notices) ≡ true ⌝ }
     ensures { λ r. ⌜ Does (notice len tag) h (before shares places notices) r (after shares places notices) ⌝ }
 {
-    let waiting = tables::count(notices);
-    let v = verdicts::notice_verdict(h, shares, places, notices, waiting, len);
-    if v != 0 {
-        return say(h, v, 0);
-    }
-    tables::append(
-        notices,
-        waiting,
-        Packet {
-            connection: NOTICE_NUMBER,
-            len: len,
-            tag: tag,
-            arrival: h.clock,
-            eligibility: h.clock,
-        },
-    );
-    say(h, 0, h.clock)
+    let unset = verdicts::unset(h);
+    let x = causes::take_notice(unset, h.link.largest, h.clock, notices, len, tag);
+    say(h, x.verdict, x.number)
 }
 
 // One tick.

@@ -8,7 +8,7 @@ ghost use lib.Dec.{eqb};
 ghost use lib.ListN.{length};
 ghost use Rattle.rules.specs.Words.{first-number};
 ghost use Rattle.rules.specs.Limits.{beyond-32-bits};
-ghost use Rattle.frames.specs.Model.{link, admit, offer, notice, tick};
+ghost use Rattle.frames.specs.Model.{link, admit, offer, tick};
 ghost use Rattle.frames.specs.Admission.{frame-sum};
 ghost use Rattle.frames.specs.Service.{newly};
 ghost use Rattle.frames.specs.Calls.{verdict};
@@ -37,7 +37,7 @@ pub struct Taken {
 // ---- the tests
 
 // No link is set.
-fn unset(h: Frames) -> bool
+pub(crate) fn unset(h: Frames) -> bool
     ensures { λ r. ⌜ r ≡ eqb (h .link .frame) 0 ⌝ }
 {
     h.link.frame == 0
@@ -175,18 +175,4 @@ pub(crate) fn offer_verdict(
         first_of((x.units as u64) < asked, 19, 0),
     );
     first_of(x.places as u64 <= taken.held, 12, late)
-}
-
-pub(crate) fn notice_verdict(
-    h: Frames,
-    shares: &[u32],
-    places: &[u32],
-    notices: &[u32],
-    waiting: usize,
-    len: u32,
-) -> u32
-    requires { ⌜ (sound-frames h (given shares places notices) ≡ true) × (waiting ≡ length (rows (now notices))) ⌝ }
-    ensures { λ r. ⌜ ((tag : ℕ) → r ≡ verdict (notice len tag) (view h (before shares places notices))) ⌝ }
-{
-    causes::of_notice(unset(h), h.link.largest, h.clock, waiting, len)
 }

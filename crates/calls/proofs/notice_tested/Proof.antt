@@ -1,78 +1,42 @@
+-- `calls::notice_tested` meets its contract: what the table of notices and the link decide is told.
+use mathlib.Core.Path.{_∙_, ap}
+use mathlib.Core.Bool.{Bool}
+use borrow.Author.Needs.{needs}
 use Rattle.rules.specs.Model.{notice}
-use native.Mathlib.Omega.{arith}
-use Rattle.state.specs.View.{tables}
-use mathlib.Core.Path.{refl}
+use Rattle.tables.specs.Notices.{notices-in}
+use Rattle.causes.specs.Notices.{notice-verdict}
+use Rattle.state.specs.View.{tables, view}
 use Rattle.state.proofs.SoundLaws as S
 use Rattle.calls.proofs.ActLaws as A
-use Rattle.causes.proofs.CauseLaws.{zero-then}
 use Rattle.calls.proofs.VerdictLaws as W
-use borrow.Author.Needs.{needs}
 use Rattle.calls.proofs.notice_tested.Statement.{statement}
 use Rattle.calls.proofs.notice_tested.Tie as tie
-use Rattle.calls.proofs.notice_tested.Reads as reads
-use Rattle.calls.proofs.notice_tested.Lts as lts
-use Rattle.calls.proofs.verdicts.notice_verdict.Reads as notice-verdict-reads
-use Rattle.state.proofs.say.Reads as say-reads
-use Rattle.tables.proofs.append.Reads as append-reads
-use Rattle.tables.proofs.count.Reads as count-reads
 
--- src/lib.rt:116:9
-count-requires : tie.Need-count-requires
-count-requires c κs = let z = c .before .before .before .before in S.notices-as-table (z .args .h) (tables (z .args .members .now) (z .args .places .now) (z .args .notices .now)) (z .pre)
+unset-requires : tie.Need-unset-requires
+unset-requires c κs = search needs
 
--- src/lib.rt:117:9
-notice-verdict-requires : tie.Need-notice-verdict-requires
-notice-verdict-requires c κs = search needs
+take-notice-requires : tie.Need-take-notice-requires
+take-notice-requires c κs =
+    let z = c .before .before .before .before .before in
+    let t = tables (z .args .members .now) (z .args .places .now) (z .args .notices .now) in
+    S.shapes t (S.formed-tables (z .args .h) t (z .pre)) .notices-shape
 
--- src/lib.rt:119:9
 say-requires : tie.Need-say-requires
 say-requires c κs = search needs
 
--- src/lib.rt:119:9
 same-length : tie.Need-same-length
 same-length c = search needs
 
--- src/lib.rt:119:9
 returns : tie.Need-returns
 returns c =
-    let z = c .before .before .before .before .before .before .before .before .before in
-    let t = tables (z .args .members .now) (z .args .places .now) (z .args .notices .now) in
-    A.refused (z .args .h) t (z .pre) (notice (z .args .len) (z .args .tag)) _ 0 _ (c .before .before .notice-verdict .ensures (z .args .tag)) (c .before .if1 .taken) refl refl (c .say .ensures)
-
--- src/lib.rt:121:5
-append-requires : tie.Need-append-requires
-append-requires c κs =
-    let z = c .before .before .before .before .before .before .before .before .before in
-    let t = tables (z .args .members .now) (z .args .places .now) (z .args .notices .now) in
-    let good = zero-then _ _ (c .before .before .notice-verdict .ensures (z .args .tag)) (omega (arith, c .before .if1 .left)) in
-    (S.notices-as-table (z .args .h) t (z .pre), c .before .before .before .before .count .ensures, omega (arith, c .before .before .before .before .count .ensures, A.notice-room (z .args .h) t (z .pre) (z .args .len) (z .args .tag) good))
-
--- src/lib.rt:132:5
-say-requires-2 : tie.Need-say-requires-2
-say-requires-2 c κs = search needs
-
--- src/lib.rt:112:1
-same-length-2 : tie.Need-same-length-2
-same-length-2 c = search needs
-
--- src/lib.rt:112:1
-returns-2 : tie.Need-returns-2
-returns-2 c =
-    let z = c .before .before .before .before .before .before .before .before .before .before .before .before .before in
-    let t = tables (z .args .members .now) (z .args .places .now) (z .args .notices .now) in
-    let good = zero-then _ _ (c .before .before .before .before .before .before .notice-verdict .ensures (z .args .tag)) (omega (arith, c .before .before .before .before .before .if1 .left)) in
-    A.notice-acts (z .args .h) t (z .pre) (z .args .len) (z .args .tag) good _ _ (c .say2 .ensures) (c .before .before .before .append .ensures)
+    let x = c .before .before .before in
+    let u = x .before .before in
+    let z = u .before .before .before .before in
+    let a = z .args in
+    let t = tables (a .members .now) (a .places .now) (a .notices .now) in
+    let v = ap (λ (b : Bool). notice-verdict b (a .h .link .largest) (a .h .clock) (notices-in (a .notices .now)) (a .len)) (u .unset .ensures) in
+    A.notice-does (a .h) t (z .pre) (a .len) (a .tag) _ (v ∙ W.by-causes (notice (a .len) (a .tag)) (view (a .h) t) (S.sound-view (a .h) t (z .pre)))
+    _ _ _ (x .take-notice .ensures) (c .say .ensures)
 
 pub notice-tested-spec : {M : Type 1} → statement M
-notice-tested-spec =
-    tie.close
-    (tie.spec
-    count-requires
-    notice-verdict-requires
-    say-requires
-    same-length
-    returns
-    append-requires
-    say-requires-2
-    same-length-2
-    returns-2)
+notice-tested-spec = tie.close (tie.spec unset-requires take-notice-requires say-requires same-length returns)
