@@ -1,5 +1,6 @@
 -- How a call made, and each kind of step of a `TK`, meet the contract of a step.
-use Prim.Native.Nat.{ℕ, _+_, _-_, _%_, _≤_}
+use Prim.Native.Nat.{ℕ, _+_, _-_, _%_, _<_, _≤_}
+use native.Mathlib.Omega.{arith}
 use mathlib.Core.Path.{_≡_, refl, sym, ap, _∙_, subst}
 use mathlib.Core.Bool.{Bool, true, false, cond, not, _||_}
 use mathlib.Core.List.{List, []}
@@ -8,9 +9,10 @@ use lib.Dec.{eqb}
 use lib.ListN.{length}
 use borrow.Author.Tests.{eq-eqb, ne-eqb}
 use Rattle.rules.specs.declared.Packet.{Packet}
-use Rattle.rules.specs.Limits.{clock-end}
+use Rattle.rules.specs.Limits.{clock-end, beyond-32-bits}
 use Rattle.rules.proofs.Sums.{cond-ind}
 use Rattle.either.specs.Line.{Line, Request, tick, Reply as Line-reply, levels-set, frames-set, clock-of, respond}
+use Rattle.either.proofs.Results.{answers-fit}
 use Rattle.tables.specs.Places.{is-some, packet-or-unused}
 use Rattle.tables.specs.Lent.{Tables}
 use Rattle.both.specs.declared.Kept.{Kept}
@@ -19,25 +21,25 @@ use Rattle.both.specs.View.{view, kept-of, written, sound-kept, kept-clock, has
 use Rattle.both.specs.Quiet.{passed, quiet-ticks}
 use Rattle.both.specs.Replied.{replied-of}
 use Rattle.both.specs.Does.{Does}
-use Rattle.both.proofs.SoundLaws.{clock-kept, sound-view, tables-kept, kept-back}
+use Rattle.both.proofs.SoundLaws.{clock-kept, is-sound, sound-view, tables-kept, kept-back}
 use Rattle.both.proofs.DoesLaws.{told-as, left-as}
 use Rattle.both.proofs.QuietLaws.{quiet-room}
 use Rattle.fields.specs.Formats.{over}
 use Rattle.answers.specs.declared.Reply.{Reply}
-use Rattle.answers.specs.declared.Reply.the-variants.{Departed, Ticked}
+use Rattle.answers.specs.declared.Reply.the-variants.{Linked, Admitted, Closed, Offered, Noticed, Departed, Ticked}
 use Rattle.answers.specs.Answers.{answer-bytes}
-use Rattle.answers.proofs.WriteLaws.{ticked-low, departed-low}
+use Rattle.answers.proofs.WriteLaws.{linked-low, admitted-low, closed-low, offered-low, noticed-low, ticked-low, departed-low}
 use Rattle.traces.specs.declared.Record.{Record}
-use Rattle.log.specs.Log.{Asked, asks, departure, tick-log, all-done-verdict}
+use Rattle.log.specs.Log.{Asked, one-call, asks, call-log, departure, tick-log, all-done-verdict}
 use Rattle.steps.specs.declared.Phase.{Phase}
 use Rattle.steps.specs.declared.Status.{Status}
 use Rattle.steps.specs.declared.Phase.the-variants.{Reading, Ticking}
 use Rattle.steps.specs.declared.Status.the-variants.{GoOn}
 use Rattle.steps.specs.declared.Stepped.{Stepped}
-use Rattle.steps.specs.declared.reading.Wanted.{Wanted}
+use Rattle.steps.specs.declared.asking.Wanted.{Wanted}
 use Rattle.steps.specs.Wants.{asks-as}
-use Rattle.steps.specs.Steps.{point, goes, asked-next, record-next, one-tick, tick-next}
-use Rattle.steps.specs.Tie.{cursor-at, told-log, Makes}
+use Rattle.steps.specs.Steps.{point, goes, asked-next, record-next, one-tick, tick-next, weight}
+use Rattle.steps.specs.Tie.{cursor-at, link-answer, admission-answer, close-answer, offer-answer, notice-answer, told-log, Makes}
 
 -- ---- a call whose answer is written
 
@@ -48,6 +50,40 @@ pub did-call : (k : Request) (h : Kept) (t u : Tables) (o o′ : List ℕ) (told
     → Makes (goes at Reading (respond k (view h t) .next) used bs) a u 0 o o′
 did-call k h t u o o′ told ok D at used bs reply a b e r =
     record { answers = e ∙ rw (told-as k h t ok told u D, b); tables = left-as k h t ok told u D; room = r ∙ rw b }
+
+-- .. of the call that a record asks for, where the answer record is made of the reply
+pub did-asked : (q : Record) (k : Request) → asks q ≡ one-call k → (h : Kept) (t u : Tables) (o o′ : List ℕ) (told : Replied) → sound-kept h t ≡ true → Does k h t told u
+    → (at used : ℕ) (f : Replied → Reply) (reply : Reply) (a : Stepped) → ((x : Line-reply) → answer-bytes (f (replied-of x)) ≡ call-log k x) → reply ≡ f told
+    → a ≡ record { cursor = cursor-at (at + used) Reading (told .kept); used = used; wrote = length (answer-bytes reply); status = GoOn }
+    → o′ ≡ over (answer-bytes reply) o
+    → Makes (record-next q used at (view h t)) a u 0 o o′ × (weight (a .cursor .phase) ≤ 65536)
+did-asked q k i h t u o o′ told ok D at used f reply a b e w r = (
+  subst (λ (x : Asked). Makes (asked-next x used at (view h t)) a u 0 o o′) (sym i)
+      (did-call k h t u o o′ told ok D (at + used) used (call-log k (respond k (view h t))) reply a
+      (ap answer-bytes (e ∙ ap f (told-as k h t ok told u D)) ∙ b (respond k (view h t))) w r),
+  rw w (omega arith),
+)
+
+-- the answer records of the code are those of the rules' log
+module _ (x : Line-reply) where
+  pub link-logged : answer-bytes (link-answer (replied-of x)) ≡ answer-bytes (Linked (x .verdict))
+  link-logged = linked-low _ _ refl
+
+  pub admission-logged : answer-bytes (admission-answer (replied-of x)) ≡ answer-bytes (Admitted (x .verdict) (x .number) (x .short .level) (x .short .units))
+  admission-logged = admitted-low _ _ _ _ _ _ _ _ refl refl refl refl
+
+  pub close-logged : answer-bytes (close-answer (replied-of x)) ≡ answer-bytes (Closed (x .verdict))
+  close-logged = closed-low _ _ refl
+
+  pub offer-logged : answer-bytes (offer-answer (replied-of x)) ≡ answer-bytes (Offered (x .verdict) (x .number))
+  offer-logged = offered-low _ _ _ _ refl refl
+
+  pub notice-logged : answer-bytes (notice-answer (replied-of x)) ≡ answer-bytes (Noticed (x .verdict) (x .number))
+  notice-logged = noticed-low _ _ _ _ refl refl
+
+-- the units that an admission tells
+pub units-fit : (k : Request) (h : Kept) (t u : Tables) (told : Replied) → sound-kept h t ≡ true → Does k h t told u → told .short .units < beyond-32-bits
+units-fit k h t u told ok D = rw (told-as k h t ok told u D) (answers-fit k (view h t) (is-sound h t ok) .units)
 
 -- ---- a step that leaves the line as it is
 

@@ -1,5 +1,5 @@
 -- What a caller's loop needs of a step: how far it goes, and that less is left to do.
-use Prim.Native.Nat.{ℕ, zero, suc, _+_, _-_, _<_, _≤_}
+use Prim.Native.Nat.{ℕ, _+_, _-_, _<_, _≤_}
 use native.Mathlib.Omega.{arith}
 use mathlib.Core.Path.{_≡_, refl, sym, ap, _∙_, subst}
 use mathlib.Core.Bool.{Bool, true, false, cond}
@@ -10,26 +10,24 @@ use lib.ListN.{length}
 use borrow.Author.Tests.{eqb-false}
 use Rattle.rules.specs.declared.Packet.{Packet}
 use Rattle.rules.proofs.Tests.{never}
-use Rattle.either.specs.Line.{Line, tick, clock-of, respond}
+use Rattle.either.specs.Line.{Line, Request, link-levels, link-frames, admit-level, admit-share, offer, notice, close, tick, Reply, clock-of, respond}
 use Rattle.both.specs.declared.Kept.{Kept}
 use Rattle.both.specs.Quiet.{passed, quiet-ticks}
 use Rattle.both.proofs.QuietLaws.{quiets}
 use Rattle.fields.proofs.NumberLaws.{cond-by}
-use Rattle.traces.specs.declared.Record.{Record}
-use Rattle.traces.specs.declared.Record.the-variants.{Link as LinkRecord, LinkStandBy, LinkWindows, LinkFrames, Admit, AdmitStamped, AdmitShare, Close, Offer, OfferStamped, Notice, Ticks, Malformed}
 use Rattle.traces.specs.Trace.{longest-record}
 use Rattle.answers.specs.declared.Reply.the-variants.{Linked, Admitted, Closed, Offered, Noticed, Departed, Ticked, Broken}
 use Rattle.answers.specs.Answers.{answer-bytes, longest-answer}
 use Rattle.answers.proofs.WriteLaws.{answer-short}
-use Rattle.log.specs.Log.{trace-limit, departure, tick-log, read-at, all-done-verdict}
+use Rattle.log.specs.Log.{trace-limit, Asked, one-call, some-ticks, unread, asks, call-log, departure, tick-log, read-at, all-done-verdict}
 use Rattle.tables.specs.Lent.{Tables}
 use Rattle.steps.specs.declared.Phase.{Phase}
 use Rattle.steps.specs.declared.Phase.the-variants.{Reading, Ticking, Finished}
 use Rattle.steps.specs.declared.Cursor.{Cursor}
 use Rattle.steps.specs.declared.Status.{Status}
-use Rattle.steps.specs.declared.Status.the-variants.{MoreBytes, Done}
+use Rattle.steps.specs.declared.Status.the-variants.{GoOn, MoreBytes, Done}
 use Rattle.steps.specs.declared.Stepped.{Stepped}
-use Rattle.steps.specs.Steps.{Point, point, Next, still, goes, record-next, found-next, read-next, one-tick, tick-next, phase-next, next, is-go, weight}
+use Rattle.steps.specs.Steps.{Point, point, Next, still, goes, asked-next, found-next, read-next, one-tick, tick-next, phase-next, next, is-go, weight}
 use Rattle.steps.specs.Tie.{cursor-at, point-of, stepped-of, nothing-done, Facts}
 
 -- nothing is done
@@ -46,22 +44,28 @@ waits-facts at q q′ h len last r k w g m =
       wants = m;
     }
 
--- ---- a record
+-- ---- an answer is short
 
-record-short : (r : Record) (k at : ℕ) (s : Line) → length (record-next r k at s .bytes) ≤ longest-answer
-record-short (LinkRecord n m silence d1 d2 d3 d4 d5 d6 d7 d8) k at s = answer-short (Linked _)
-record-short (LinkStandBy n m silence early d1 d2 d3 d4 d5 d6 d7 d8) k at s = answer-short (Linked _)
-record-short (LinkWindows n m silence early d1 d2 d3 d4 d5 d6 d7 d8 w1 w2 w3 w4 w5 w6 w7 w8) k at s = answer-short (Linked _)
-record-short (LinkFrames n m silence) k at s = answer-short (Linked _)
-record-short (Admit a b d e f) k at s = answer-short (Admitted _ _ _ _)
-record-short (AdmitStamped a b d e) k at s = answer-short (Admitted _ _ _ _)
-record-short (AdmitShare a b) k at s = answer-short (Admitted _ _ _ _)
-record-short (Close a) k at s = answer-short (Closed _)
-record-short (Offer a b d) k at s = answer-short (Offered _ _)
-record-short (OfferStamped a b d e) k at s = answer-short (Offered _ _)
-record-short (Notice a b) k at s = answer-short (Noticed _ _)
-record-short (Ticks n) k at s = omega arith
-record-short Malformed k at s = answer-short (Broken at)
+departure-short : (o : Option Packet) (finish : ℕ) → length (departure o finish) ≤ longest-answer
+departure-short none finish = omega arith
+departure-short (some p) finish = answer-short (Departed (p .connection) (p .tag) (p .arrival) (p .eligibility) finish)
+
+call-short : (c : Request) (a : Reply) → length (call-log c a) ≤ longest-answer
+call-short (link-levels l) a = answer-short (Linked _)
+call-short (link-frames l) a = answer-short (Linked _)
+call-short (admit-level x) a = answer-short (Admitted _ _ _ _)
+call-short (admit-share x) a = answer-short (Admitted _ _ _ _)
+call-short (offer c len tag st) a = answer-short (Offered _ _)
+call-short (notice len tag) a = answer-short (Noticed _ _)
+call-short (close c) a = answer-short (Closed _)
+call-short tick a = departure-short (a .departed) (clock-of (a .next))
+
+asked-short : (q : Asked) (k at : ℕ) (s : Line) → length (asked-next q k at s .bytes) ≤ longest-answer
+asked-short (one-call c) k at s = call-short c (respond c s)
+asked-short (some-ticks n) k at s = omega arith
+asked-short unread k at s = answer-short (Broken at)
+
+-- ---- a record
 
 -- a record that takes k bytes, and is not malformed
 pub taken-facts : (at k : ℕ) (h : Kept) (len : ℕ) (last : Bool) (r : ℕ) (a : Stepped) → 0 < k → k ≤ len → k ≤ trace-limit - at → a .wrote ≤ r
@@ -78,60 +82,31 @@ taken-facts at k h len last r a p l e b u f w m =
       wants = m;
     }
 
-pub record-facts : (w : Record) (k at : ℕ) (s : Line) (h : Kept) (len : ℕ) (last : Bool) (r : ℕ) (a : Stepped) → a ≡ stepped-of (record-next w k at s)
-    → (k ≡ 0 → w ≡ Malformed) → k ≤ len → k ≤ trace-limit - at → longest-answer ≤ r → weight (a .cursor .phase) ≤ 65536
+pub asked-facts : (q : Asked) (k at : ℕ) (s : Line) (h : Kept) (len : ℕ) (last : Bool) (r : ℕ) (a : Stepped) → a ≡ stepped-of (asked-next q k at s)
+    → (k ≡ 0 → q ≡ unread) → k ≤ len → k ≤ trace-limit - at → longest-answer ≤ r → weight (a .cursor .phase) ≤ 65536
     → Facts (cursor-at at Reading h) len last r a
-record-facts w k at s h len last r a e z l f m b = go w k e z l f
+asked-facts q k at s h len last r a e z l f m b = go q e z
   where
-    short : (v : Record) (j : ℕ) → a ≡ stepped-of (record-next v j at s) → a .wrote ≤ r
-    short v j d = rw d (omega (arith, record-short v j at s))
-
-    go : (v : Record) (j : ℕ) → a ≡ stepped-of (record-next v j at s) → (j ≡ 0 → v ≡ Malformed) → j ≤ len → j ≤ trace-limit - at
+    taken : (v : Asked) → a ≡ stepped-of (asked-next v k at s) → (k ≡ 0 → ⊥) → a .used ≡ k → a .cursor .at ≡ at + k → a .status ≡ GoOn
         → Facts (cursor-at at Reading h) len last r a
-    go (LinkRecord n q silence d1 d2 d3 d4 d5 d6 d7 d8) zero d z i g = never (cc (z refl))
-    go (LinkStandBy n q silence early d1 d2 d3 d4 d5 d6 d7 d8) zero d z i g = never (cc (z refl))
-    go (LinkWindows n q silence early d1 d2 d3 d4 d5 d6 d7 d8 w1 w2 w3 w4 w5 w6 w7 w8) zero d z i g = never (cc (z refl))
-    go (LinkFrames n q silence) zero d z i g = never (cc (z refl))
-    go (Admit x y c p q) zero d z i g = never (cc (z refl))
-    go (AdmitStamped x y c p) zero d z i g = never (cc (z refl))
-    go (AdmitShare x y) zero d z i g = never (cc (z refl))
-    go (Close x) zero d z i g = never (cc (z refl))
-    go (Offer x y c) zero d z i g = never (cc (z refl))
-    go (OfferStamped x y c p) zero d z i g = never (cc (z refl))
-    go (Notice x y) zero d z i g = never (cc (z refl))
-    go (Ticks n) zero d z i g = never (cc (z refl))
-    go (LinkRecord n q silence d1 d2 d3 d4 d5 d6 d7 d8) (suc j) d z i g =
-        taken-facts at (suc j) h len last r a (omega arith) i g (short (LinkRecord n q silence d1 d2 d3 d4 d5 d6 d7 d8) (suc j) d) (rw d) (rw d) b (rw d (λ e. cc))
-    go (LinkStandBy n q silence early d1 d2 d3 d4 d5 d6 d7 d8) (suc j) d z i g =
-        taken-facts at (suc j) h len last r a (omega arith) i g (short (LinkStandBy n q silence early d1 d2 d3 d4 d5 d6 d7 d8) (suc j) d) (rw d) (rw d) b (rw d (λ e. cc))
-    go (LinkWindows n q silence early d1 d2 d3 d4 d5 d6 d7 d8 w1 w2 w3 w4 w5 w6 w7 w8) (suc j) d z i g =
-        taken-facts at (suc j) h len last r a (omega arith) i g (short (LinkWindows n q silence early d1 d2 d3 d4 d5 d6 d7 d8 w1 w2 w3 w4 w5 w6 w7 w8) (suc j) d) (rw d) (rw d) b (rw d (λ e. cc))
-    go (LinkFrames n q silence) (suc j) d z i g = taken-facts at (suc j) h len last r a (omega arith) i g (short (LinkFrames n q silence) (suc j) d) (rw d) (rw d) b (rw d (λ e. cc))
-    go (Admit x y c p q) (suc j) d z i g = taken-facts at (suc j) h len last r a (omega arith) i g (short (Admit x y c p q) (suc j) d) (rw d) (rw d) b (rw d (λ e. cc))
-    go (AdmitStamped x y c p) (suc j) d z i g = taken-facts at (suc j) h len last r a (omega arith) i g (short (AdmitStamped x y c p) (suc j) d) (rw d) (rw d) b (rw d (λ e. cc))
-    go (AdmitShare x y) (suc j) d z i g = taken-facts at (suc j) h len last r a (omega arith) i g (short (AdmitShare x y) (suc j) d) (rw d) (rw d) b (rw d (λ e. cc))
-    go (Close x) (suc j) d z i g = taken-facts at (suc j) h len last r a (omega arith) i g (short (Close x) (suc j) d) (rw d) (rw d) b (rw d (λ e. cc))
-    go (Offer x y c) (suc j) d z i g = taken-facts at (suc j) h len last r a (omega arith) i g (short (Offer x y c) (suc j) d) (rw d) (rw d) b (rw d (λ e. cc))
-    go (OfferStamped x y c p) (suc j) d z i g = taken-facts at (suc j) h len last r a (omega arith) i g (short (OfferStamped x y c p) (suc j) d) (rw d) (rw d) b (rw d (λ e. cc))
-    go (Notice x y) (suc j) d z i g = taken-facts at (suc j) h len last r a (omega arith) i g (short (Notice x y) (suc j) d) (rw d) (rw d) b (rw d (λ e. cc))
-    go (Ticks n) (suc j) d z i g = taken-facts at (suc j) h len last r a (omega arith) i g (short (Ticks n) (suc j) d) (rw d) (rw d) b (rw d (λ e. cc))
-    go Malformed j d z i g =
+    taken v d n u p g = taken-facts at k h len last r a (omega arith) l f (rw d (omega (arith, asked-short v k at s))) u p b (λ i. cc)
+
+    go : (v : Asked) → a ≡ stepped-of (asked-next v k at s) → (k ≡ 0 → v ≡ unread) → Facts (cursor-at at Reading h) len last r a
+    go (one-call c) d y = taken (one-call c) d (λ i. never (cc (y i))) (rw d) (rw d) (rw d)
+    go (some-ticks n) d y = taken (some-ticks n) d (λ i. never (cc (y i))) (rw d) (rw d) (rw d)
+    go unread d y =
         rw d
         (record {
           used = omega arith;
-          wrote = omega (arith, record-short Malformed j at s);
+          wrote = omega (arith, asked-short unread k at s);
           place = omega arith;
-          within = λ l. l;
+          within = λ i. i;
           never-more = omega arith;
-          less = λ e. never cc;
-          wants = λ e. cc;
+          less = λ i. never cc;
+          wants = λ i. cc;
         })
 
 -- ---- a tick
-
-departure-short : (o : Option Packet) (finish : ℕ) → length (departure o finish) ≤ longest-answer
-departure-short none finish = omega arith
-departure-short (some p) finish = answer-short (Departed (p .connection) (p .tag) (p .arrival) (p .eligibility) finish)
 
 goes-facts : (at asked left : ℕ) (h : Kept) (p : Phase) (s : Line) (bs : List ℕ) (len : ℕ) (last : Bool) (r : ℕ) → weight p ≤ left → length bs ≤ longest-answer
     → longest-answer ≤ r → Facts (cursor-at at (Ticking asked left) h) len last r (stepped-of (goes at p s 0 bs))
@@ -215,8 +190,8 @@ phase-short : (q : Phase) (at : ℕ) (s : Line) (w : List ℕ) (last : Bool) →
 unfolding read-next tick-next one-tick
 phase-short Reading at s w last =
     cond-by Short last _ _
-    (λ _. cond-by Short (eqb (length w) 0) _ _ (λ _. omega arith) (λ _. record-short (read-at at w .what) (read-at at w .taken) at s))
-    (λ _. cond-by Short (ltb (length w) longest-record) _ _ (λ _. omega arith) (λ _. record-short (read-at at w .what) (read-at at w .taken) at s))
+    (λ _. cond-by Short (eqb (length w) 0) _ _ (λ _. omega arith) (λ _. asked-short (asks (read-at at w .what)) (read-at at w .taken) at s))
+    (λ _. cond-by Short (ltb (length w) longest-record) _ _ (λ _. omega arith) (λ _. asked-short (asks (read-at at w .what)) (read-at at w .taken) at s))
   where
     Short : Next → Type 0
     Short n = length (n .bytes) ≤ longest-answer

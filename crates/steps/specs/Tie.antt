@@ -1,5 +1,5 @@
 -- THE CONTRACT of a step's code: what the rules' step does, written back. Document 01, "Trace and answer records".
-use Prim.Native.Nat.{ℕ, _+_, _<_, _≤_}
+use Prim.Native.Nat.{ℕ, _+_, _%_, _<_, _≤_}
 use mathlib.Core.Path.{_≡_}
 use mathlib.Core.Bool.{Bool, true, false, cond}
 use mathlib.Core.List.{List, [], _++_}
@@ -10,7 +10,8 @@ use Rattle.both.specs.declared.Kept.{Kept}
 use Rattle.both.specs.declared.Replied.{Replied}
 use Rattle.both.specs.View.{view, kept-of, written, sound-kept, kept-clock}
 use Rattle.fields.specs.Formats.{over}
-use Rattle.answers.specs.declared.Reply.the-variants.{Departed}
+use Rattle.answers.specs.declared.Reply.{Reply}
+use Rattle.answers.specs.declared.Reply.the-variants.{Linked, Admitted, Closed, Offered, Noticed, Departed}
 use Rattle.answers.specs.Answers.{answer-bytes, longest-answer}
 use Rattle.log.specs.Log.{trace-limit}
 use Rattle.steps.specs.declared.Phase.{Phase}
@@ -37,6 +38,22 @@ stepped-of n = record { cursor = cursor-of (n .point); used = n .used; wrote = l
 -- nothing is done, and the status says why
 abbrev pub nothing-done : Cursor → Status → Stepped
 nothing-done c k = record { cursor = c; used = 0; wrote = 0; status = k }
+
+-- the answer record of a reply to a link, an admission, a close, an offer, a notice; a number of one byte by its low byte
+abbrev pub link-answer : Replied → Reply
+link-answer r = Linked (r .verdict % 256)
+
+abbrev pub admission-answer : Replied → Reply
+admission-answer r = Admitted (r .verdict % 256) (r .number % 256) (r .short .level % 256) (r .short .units)
+
+abbrev pub close-answer : Replied → Reply
+close-answer r = Closed (r .verdict % 256)
+
+abbrev pub offer-answer : Replied → Reply
+offer-answer r = Offered (r .verdict % 256) (r .number)
+
+abbrev pub notice-answer : Replied → Reply
+notice-answer r = Noticed (r .verdict % 256) (r .number)
 
 -- the departure that an answer tells, as it is written; its finish is the clock then
 abbrev pub told-log : Replied → List ℕ

@@ -1,15 +1,25 @@
 -- What a record asks, as the code has it.
-use Rattle.either.specs.Line.{link-levels, link-frames, admit-level, admit-share, offer, notice, close}
 use mathlib.Core.List.{[], _∷_}
+use Rattle.rules.specs.declared.Link.{Link}
+use Rattle.either.specs.Line.{link-levels, link-frames, admit-level, admit-share, offer, notice, close}
 use Rattle.connections.specs.Stamps.{stamp-if}
 use Rattle.named.specs.Named.{windows-named}
 use Rattle.log.specs.Log.{Asked, one-call, some-ticks, unread}
-use Rattle.steps.specs.declared.reading.Wanted.{Wanted}
-use Rattle.steps.specs.declared.reading.Wanted.the-variants.{ToLink, ToFrame, ToAdmit, ToShare, ToClose, ToOffer, ToNotice, ToTick, ToEnd}
+use Rattle.steps.specs.declared.asking.LinkNumbers.{LinkNumbers}
+use Rattle.steps.specs.declared.asking.Wanted.{Wanted}
+use Rattle.steps.specs.declared.asking.Wanted.the-variants.{ToLink, ToFrame, ToAdmit, ToShare, ToClose, ToOffer, ToNotice, ToTick, ToEnd}
 
+-- the link that the numbers name
+abbrev pub link-as : LinkNumbers → Link
+link-as l =
+    windows-named
+    (l .levels ∷ l .largest ∷ l .silence ∷ l .early
+    ∷ l .d1 ∷ l .d2 ∷ l .d3 ∷ l .d4 ∷ l .d5 ∷ l .d6 ∷ l .d7 ∷ l .d8
+    ∷ l .w1 ∷ l .w2 ∷ l .w3 ∷ l .w4 ∷ l .w5 ∷ l .w6 ∷ l .w7 ∷ l .w8 ∷ [])
+
+-- what is asked
 abbrev pub asks-as : Wanted → Asked
-asks-as (ToLink n m silence early d1 d2 d3 d4 d5 d6 d7 d8 w1 w2 w3 w4 w5 w6 w7 w8) =
-    one-call (link-levels (windows-named (n ∷ m ∷ silence ∷ early ∷ d1 ∷ d2 ∷ d3 ∷ d4 ∷ d5 ∷ d6 ∷ d7 ∷ d8 ∷ w1 ∷ w2 ∷ w3 ∷ w4 ∷ w5 ∷ w6 ∷ w7 ∷ w8 ∷ [])))
+asks-as (ToLink l) = one-call (link-levels (link-as l))
 asks-as (ToFrame l) = one-call (link-frames l)
 asks-as (ToAdmit x) = one-call (admit-level x)
 asks-as (ToShare x) = one-call (admit-share x)

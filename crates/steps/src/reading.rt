@@ -1,98 +1,38 @@
-// A step where a record is read: its call is made and answered, its ticks begin, or it ends the log.
+// A step where a record is read, and what it asks is done.
 ghost use mathlib.Core.Path.{_≡_};
 ghost use mathlib.Core.Bool.{true, false, cond};
-ghost use Prim.Native.Nat.{_-_, _≤_};
+ghost use Prim.Native.Nat.{_-_, _≤_, _<_};
 ghost use lib.Dec.{eqb, ltb};
 ghost use lib.ListN.{length};
-ghost use Rattle.either.specs.Line.{link-levels, link-frames, admit-level, admit-share, offer, notice, close};
-ghost use Rattle.connections.specs.Stamps.{stamp-if};
+ghost use Rattle.rules.specs.Limits.{beyond-32-bits};
 ghost use Rattle.tables.specs.Lent.{given, before, after};
 ghost use Rattle.both.specs.View.{view, sound-kept};
 ghost use Rattle.fields.specs.Formats.{over};
 ghost use Rattle.traces.specs.Trace.{longest-record};
 ghost use Rattle.answers.specs.declared.Reply.the-variants.{Broken};
 ghost use Rattle.answers.specs.Answers.{answer-bytes, longest-answer};
-ghost use Rattle.log.specs.Log.{trace-limit, asks, read-at};
+ghost use Rattle.log.specs.Log.{trace-limit, read-at};
 ghost use Rattle.steps.specs.declared.Phase.the-variants.{Reading, Ticking, Finished};
 ghost use Rattle.steps.specs.declared.Status.the-variants.{GoOn, Done};
-ghost use Rattle.steps.specs.Steps.{call-next, found-next, read-next, weight};
-ghost use Rattle.steps.specs.Tie.{cursor-at, Makes, Facts};
-ghost use Rattle.steps.specs.Wants.{asks-as};
+ghost use Rattle.steps.specs.Steps.{found-next, read-next, weight};
+ghost use Rattle.steps.specs.Tie.{cursor-at, link-answer, admission-answer, close-answer, offer-answer, notice-answer, Makes, Facts};
 use super::Cursor;
 use super::Phase;
 use super::Status;
 use super::Stepped;
 use super::answered;
+use super::asking::Wanted;
+use super::asking::asked_by;
+use super::asking::link_of;
 use super::waits;
 use answers::Reply;
 use answers::low;
 use both::Kept;
-use frames::Framing;
-use frames::Share;
+use both::Replied;
 use log::TRACE_LIMIT;
-use rules::Connection;
-use rules::Link;
 use traces::Found;
 use traces::LONGEST_RECORD;
 use traces::Record;
-
-// What is offered: a stamp, where it brings one.
-struct Offering {
-    connection: u32,
-    len: u32,
-    tag: u32,
-    brings: bool,
-    stamp: u32,
-}
-
-// What a record asks: a call, with what it is made with; ticks; or the end, where it is malformed.
-enum Wanted {
-    ToLink {
-        levels: u8,
-        largest: u16,
-        silence: u8,
-        early: u8,
-        d1: u16,
-        d2: u16,
-        d3: u16,
-        d4: u16,
-        d5: u16,
-        d6: u16,
-        d7: u16,
-        d8: u16,
-        w1: u16,
-        w2: u16,
-        w3: u16,
-        w4: u16,
-        w5: u16,
-        w6: u16,
-        w7: u16,
-        w8: u16,
-    },
-    ToFrame {
-        l: Framing,
-    },
-    ToAdmit {
-        x: Connection,
-    },
-    ToShare {
-        x: Share,
-    },
-    ToClose {
-        c: u32,
-    },
-    ToOffer {
-        p: Offering,
-    },
-    ToNotice {
-        len: u32,
-        tag: u32,
-    },
-    ToTick {
-        ticks: u16,
-    },
-    ToEnd,
-}
 
 // The record that the bytes start with, at offset `at` of the trace: malformed where it would end beyond the limit.
 fn read_at(s: &[u8], at: u32) -> Found
@@ -115,198 +55,56 @@ fn read_at(s: &[u8], at: u32) -> Found
     f
 }
 
-// `LK`, `LE` and `LW`: the record took `used` bytes and ends at offset `at`.
-fn link_step(
-    h: Kept,
-    members: &[u32],
-    places: &[u32],
-    notices: &[u32],
-    l: Link,
-    at: u32,
-    used: usize,
-    out: &mut [u8],
-) -> Stepped
-    requires { ⌜ (sound-kept h (given members places notices) ≡ true) × (longest-answer ≤ length (now out)) ⌝ }
-    ensures { λ r. ⌜ Makes (call-next (link-levels l) used at (view h (before members places notices))) r (after members places notices) 0 (now (out .entry)) (now (out .exit)) ⌝ }
+// The answer to a link.
+fn linked(told: Replied) -> Reply
+    ensures { λ r. ⌜ r ≡ link-answer told ⌝ }
 {
-    let told = both::link_levels(h, members, places, notices, l);
-    let reply = Reply::Linked {
+    Reply::Linked {
         verdict: low(told.verdict),
-    };
-    answered(at, told.kept, used, reply, out)
+    }
 }
 
-// `LF`, the same.
-fn frame_step(
-    h: Kept,
-    members: &[u32],
-    places: &[u32],
-    notices: &[u32],
-    l: Framing,
-    at: u32,
-    used: usize,
-    out: &mut [u8],
-) -> Stepped
-    requires { ⌜ (sound-kept h (given members places notices) ≡ true) × (longest-answer ≤ length (now out)) ⌝ }
-    ensures { λ r. ⌜ Makes (call-next (link-frames l) used at (view h (before members places notices))) r (after members places notices) 0 (now (out .entry)) (now (out .exit)) ⌝ }
+// The answer to an admission.
+fn admitted(told: Replied) -> Reply
+    requires { ⌜ told .short .units < beyond-32-bits ⌝ }
+    ensures { λ r. ⌜ r ≡ admission-answer told ⌝ }
 {
-    let told = both::link_frames(h, members, places, notices, l);
-    let reply = Reply::Linked {
-        verdict: low(told.verdict),
-    };
-    answered(at, told.kept, used, reply, out)
-}
-
-// `CN` and `CS`, the same.
-fn admit_step(
-    h: Kept,
-    members: &mut [u32],
-    places: &[u32],
-    notices: &[u32],
-    x: Connection,
-    at: u32,
-    used: usize,
-    out: &mut [u8],
-) -> Stepped
-    requires { ⌜ (sound-kept h (given members places notices) ≡ true) × (longest-answer ≤ length (now out)) ⌝ }
-    ensures { λ r. ⌜ Makes (call-next (admit-level x) used at (view h (before members places notices))) r (after members places notices) 0 (now (out .entry)) (now (out .exit)) ⌝ }
-{
-    let told = both::admit_level(h, members, places, notices, x);
     let short = told.short;
-    let reply = Reply::Admitted {
+    Reply::Admitted {
         verdict: low(told.verdict),
         connection: low(told.number),
         level: low(short.level),
         units: short.units as u32,
-    };
-    answered(at, told.kept, used, reply, out)
-}
-
-// `CF`, the same.
-fn share_step(
-    h: Kept,
-    members: &mut [u32],
-    places: &[u32],
-    notices: &[u32],
-    x: Share,
-    at: u32,
-    used: usize,
-    out: &mut [u8],
-) -> Stepped
-    requires { ⌜ (sound-kept h (given members places notices) ≡ true) × (longest-answer ≤ length (now out)) ⌝ }
-    ensures { λ r. ⌜ Makes (call-next (admit-share x) used at (view h (before members places notices))) r (after members places notices) 0 (now (out .entry)) (now (out .exit)) ⌝ }
-{
-    let told = both::admit_share(h, members, places, notices, x);
-    let short = told.short;
-    let reply = Reply::Admitted {
-        verdict: low(told.verdict),
-        connection: low(told.number),
-        level: low(short.level),
-        units: short.units as u32,
-    };
-    answered(at, told.kept, used, reply, out)
-}
-
-// `CL`, the same.
-fn close_step(
-    h: Kept,
-    members: &mut [u32],
-    places: &[u32],
-    notices: &[u32],
-    c: u32,
-    at: u32,
-    used: usize,
-    out: &mut [u8],
-) -> Stepped
-    requires { ⌜ (sound-kept h (given members places notices) ≡ true) × (longest-answer ≤ length (now out)) ⌝ }
-    ensures { λ r. ⌜ Makes (call-next (close c) used at (view h (before members places notices))) r (after members places notices) 0 (now (out .entry)) (now (out .exit)) ⌝ }
-{
-    let told = both::close(h, members, places, notices, c);
-    let reply = Reply::Closed {
-        verdict: low(told.verdict),
-    };
-    answered(at, told.kept, used, reply, out)
-}
-
-// The offer of a `PK`, which brings no stamp.
-fn plain_offer(connection: u8, len: u16, tag: u32) -> Offering
-    ensures { λ r. ⌜ r ≡ record { connection = connection; len = len; tag = tag; brings = false; stamp = 0 } ⌝ }
-{
-    Offering {
-        connection: connection as u32,
-        len: len as u32,
-        tag: tag,
-        brings: false,
-        stamp: 0,
     }
 }
 
-// The offer of a `PS`.
-fn stamped_offer(connection: u8, len: u16, tag: u32, stamp: u32) -> Offering
-    ensures { λ r. ⌜ r ≡ record { connection = connection; len = len; tag = tag; brings = true; stamp = stamp } ⌝ }
+// The answer to a close.
+fn closed(told: Replied) -> Reply
+    ensures { λ r. ⌜ r ≡ close-answer told ⌝ }
 {
-    Offering {
-        connection: connection as u32,
-        len: len as u32,
-        tag: tag,
-        brings: true,
-        stamp: stamp,
+    Reply::Closed {
+        verdict: low(told.verdict),
     }
 }
 
-// `PK` and `PS`, the same.
-fn offer_step(
-    h: Kept,
-    members: &mut [u32],
-    places: &mut [u32],
-    notices: &[u32],
-    p: Offering,
-    at: u32,
-    used: usize,
-    out: &mut [u8],
-) -> Stepped
-    requires { ⌜ (sound-kept h (given members places notices) ≡ true) × (longest-answer ≤ length (now out)) ⌝ }
-    ensures { λ r. ⌜ Makes (call-next (offer (p .connection) (p .len) (p .tag) (stamp-if (p .brings) (p .stamp))) used at (view h (before members places notices))) r (after members places notices) 0 (now (out .entry)) (now (out .exit)) ⌝ }
+// The answer to an offer.
+fn offered(told: Replied) -> Reply
+    ensures { λ r. ⌜ r ≡ offer-answer told ⌝ }
 {
-    let told = both::offer(
-        h,
-        members,
-        places,
-        notices,
-        p.connection,
-        p.len,
-        p.tag,
-        p.brings,
-        p.stamp,
-    );
-    let reply = Reply::Offered {
+    Reply::Offered {
         verdict: low(told.verdict),
         eligibility: told.number,
-    };
-    answered(at, told.kept, used, reply, out)
+    }
 }
 
-// `NQ`, the same.
-fn notice_step(
-    h: Kept,
-    members: &[u32],
-    places: &[u32],
-    notices: &mut [u32],
-    len: u32,
-    tag: u32,
-    at: u32,
-    used: usize,
-    out: &mut [u8],
-) -> Stepped
-    requires { ⌜ (sound-kept h (given members places notices) ≡ true) × (longest-answer ≤ length (now out)) ⌝ }
-    ensures { λ r. ⌜ Makes (call-next (notice len tag) used at (view h (before members places notices))) r (after members places notices) 0 (now (out .entry)) (now (out .exit)) ⌝ }
+// The answer to a notice.
+fn noticed(told: Replied) -> Reply
+    ensures { λ r. ⌜ r ≡ notice-answer told ⌝ }
 {
-    let told = both::notice(h, members, places, notices, len, tag);
-    let reply = Reply::Noticed {
+    Reply::Noticed {
         verdict: low(told.verdict),
         eligibility: told.number,
-    };
-    answered(at, told.kept, used, reply, out)
+    }
 }
 
 // A malformed record: `ER` with its offset, and nothing more.
@@ -346,178 +144,7 @@ fn begin_ticks(h: Kept, ticks: u16, at: u32, used: usize) -> Stepped
     }
 }
 
-// What a record asks. Three kinds of record set a link of levels, two ask for an admission to a level, and two make an offer, so that each step stands in one place of the text and is compiled into the loop of steps.
-fn asked_by(what: Record) -> Wanted
-    ensures { λ r. ⌜ asks-as r ≡ asks what ⌝ }
-{
-    match what {
-        Record::Link {
-            levels,
-            largest,
-            silence,
-            d1,
-            d2,
-            d3,
-            d4,
-            d5,
-            d6,
-            d7,
-            d8,
-        } => Wanted::ToLink {
-            levels: levels,
-            largest: largest,
-            silence: silence,
-            early: 0,
-            d1: d1,
-            d2: d2,
-            d3: d3,
-            d4: d4,
-            d5: d5,
-            d6: d6,
-            d7: d7,
-            d8: d8,
-            w1: 0,
-            w2: 0,
-            w3: 0,
-            w4: 0,
-            w5: 0,
-            w6: 0,
-            w7: 0,
-            w8: 0,
-        },
-        Record::LinkStandBy {
-            levels,
-            largest,
-            silence,
-            early,
-            d1,
-            d2,
-            d3,
-            d4,
-            d5,
-            d6,
-            d7,
-            d8,
-        } => Wanted::ToLink {
-            levels: levels,
-            largest: largest,
-            silence: silence,
-            early: early,
-            d1: d1,
-            d2: d2,
-            d3: d3,
-            d4: d4,
-            d5: d5,
-            d6: d6,
-            d7: d7,
-            d8: d8,
-            w1: 0,
-            w2: 0,
-            w3: 0,
-            w4: 0,
-            w5: 0,
-            w6: 0,
-            w7: 0,
-            w8: 0,
-        },
-        Record::LinkWindows {
-            levels,
-            largest,
-            silence,
-            early,
-            d1,
-            d2,
-            d3,
-            d4,
-            d5,
-            d6,
-            d7,
-            d8,
-            w1,
-            w2,
-            w3,
-            w4,
-            w5,
-            w6,
-            w7,
-            w8,
-        } => Wanted::ToLink {
-            levels: levels,
-            largest: largest,
-            silence: silence,
-            early: early,
-            d1: d1,
-            d2: d2,
-            d3: d3,
-            d4: d4,
-            d5: d5,
-            d6: d6,
-            d7: d7,
-            d8: d8,
-            w1: w1,
-            w2: w2,
-            w3: w3,
-            w4: w4,
-            w5: w5,
-            w6: w6,
-            w7: w7,
-            w8: w8,
-        },
-        Record::LinkFrames {
-            frame,
-            largest,
-            silence,
-        } => Wanted::ToFrame {
-            l: named::framing_named(frame, largest, silence),
-        },
-        Record::Admit {
-            level,
-            gap,
-            size,
-            window,
-            average,
-        } => Wanted::ToAdmit {
-            x: named::connection_named(level, gap, size, window, average),
-        },
-        Record::AdmitStamped {
-            level,
-            gap,
-            size,
-            allowance,
-        } => Wanted::ToAdmit {
-            x: named::stamped_named(level, gap, size, allowance),
-        },
-        Record::AdmitShare { units, places } => Wanted::ToShare {
-            x: named::share_named(units, places),
-        },
-        Record::Close { connection } => Wanted::ToClose {
-            c: connection as u32,
-        },
-        Record::Offer {
-            connection,
-            len,
-            tag,
-        } => Wanted::ToOffer {
-            p: plain_offer(connection, len, tag),
-        },
-        Record::OfferStamped {
-            connection,
-            len,
-            tag,
-            stamp,
-        } => Wanted::ToOffer {
-            p: stamped_offer(connection, len, tag, stamp),
-        },
-        Record::Notice { len, tag } => Wanted::ToNotice {
-            len: len as u32,
-            tag: tag,
-        },
-        Record::Ticks { ticks } => Wanted::ToTick { ticks: ticks },
-        Record::Malformed => Wanted::ToEnd,
-    }
-}
-
-// A record read at offset `at`.
+// A record read at offset `at`: its call is made and answered, its ticks begin, or it ends the log.
 fn record_step(
     f: Found,
     at: u32,
@@ -536,69 +163,46 @@ fn record_step(
     let what = f.what;
     let wanted = asked_by(what);
     match wanted {
-        Wanted::ToLink {
-            levels,
-            largest,
-            silence,
-            early,
-            d1,
-            d2,
-            d3,
-            d4,
-            d5,
-            d6,
-            d7,
-            d8,
-            w1,
-            w2,
-            w3,
-            w4,
-            w5,
-            w6,
-            w7,
-            w8,
-        } => {
-            let l = named::windows_named(
-                levels,
-                largest,
-                silence,
-                early,
-                d1,
-                d2,
-                d3,
-                d4,
-                d5,
-                d6,
-                d7,
-                d8,
-                w1,
-                w2,
-                w3,
-                w4,
-                w5,
-                w6,
-                w7,
-                w8,
-            );
-            link_step(h, members, places, notices, l, to, used, out)
+        Wanted::ToLink(l) => {
+            let link = link_of(l);
+            let told = both::link_levels(h, members, places, notices, link);
+            answered(to, told.kept, used, linked(told), out)
         }
-        Wanted::ToFrame { l } => frame_step(h, members, places, notices, l, to, used, out),
-        Wanted::ToAdmit { x } => admit_step(h, members, places, notices, x, to, used, out),
-        Wanted::ToShare { x } => share_step(h, members, places, notices, x, to, used, out),
-        Wanted::ToClose { c } => close_step(h, members, places, notices, c, to, used, out),
-        Wanted::ToOffer { p } => offer_step(h, members, places, notices, p, to, used, out),
-        Wanted::ToNotice { len, tag } => notice_step(
-            h,
-            members,
-            places,
-            notices,
-            len,
-            tag,
-            to,
-            used,
-            out,
-        ),
-        Wanted::ToTick { ticks } => begin_ticks(h, ticks, to, used),
+        Wanted::ToFrame(l) => {
+            let told = both::link_frames(h, members, places, notices, l);
+            answered(to, told.kept, used, linked(told), out)
+        }
+        Wanted::ToAdmit(x) => {
+            let told = both::admit_level(h, members, places, notices, x);
+            answered(to, told.kept, used, admitted(told), out)
+        }
+        Wanted::ToShare(x) => {
+            let told = both::admit_share(h, members, places, notices, x);
+            answered(to, told.kept, used, admitted(told), out)
+        }
+        Wanted::ToClose(c) => {
+            let told = both::close(h, members, places, notices, c);
+            answered(to, told.kept, used, closed(told), out)
+        }
+        Wanted::ToOffer(p) => {
+            let told = both::offer(
+                h,
+                members,
+                places,
+                notices,
+                p.connection,
+                p.len,
+                p.tag,
+                p.brings,
+                p.stamp,
+            );
+            answered(to, told.kept, used, offered(told), out)
+        }
+        Wanted::ToNotice(len, tag) => {
+            let told = both::notice(h, members, places, notices, len, tag);
+            answered(to, told.kept, used, noticed(told), out)
+        }
+        Wanted::ToTick(ticks) => begin_ticks(h, ticks, to, used),
         Wanted::ToEnd => broken_step(at, h, out),
     }
 }

@@ -1,11 +1,13 @@
 use Rattle.tables.specs.Lent.{tables}
 use Rattle.both.specs.View.{view}
+use Rattle.traces.specs.declared.Record.the-variants.{Malformed}
+use Rattle.log.specs.Log.{asks}
 use Rattle.log.proofs.ReadLaws.{read-lies}
 use Rattle.steps.specs.declared.Phase.the-variants.{Reading, Finished}
 use Rattle.steps.specs.declared.Status.the-variants.{MoreBytes, Done}
 use Rattle.steps.proofs.CallLaws.{did-kept}
-use Rattle.steps.proofs.FactLaws.{waits-facts, record-facts, next-end, next-more, more-mid, next-found}
-use mathlib.Core.Path.{refl, sym, _∙_}
+use Rattle.steps.proofs.FactLaws.{waits-facts, asked-facts, next-end, next-more, more-mid, next-found}
+use mathlib.Core.Path.{_≡_, refl, sym, ap, _∙_}
 use mathlib.Core.List.{[]}
 use native.Mathlib.Omega.{arith}
 use lib.ListN.{length}
@@ -74,10 +76,11 @@ returns-3 c =
     let k = c .before .before .before .before .before .before .before .before .record-step in
     let f = c .before .before .before .before .before .before .before .before .before .before .before .before .before .read-at in
     let lies = read-lies (a .at) (a .window .now) in
-    let e = f .ensures .0 in (
+    let e = f .ensures .0 in
+    let y : f .result .taken ≡ 0 → f .result .what ≡ Malformed = rw e (lies .no-byte) in (
       rw (next-found (a .at) s (a .window .now) (a .last) (sym (c .before .before .before .before .before .before .before .before .before .before .before .before .before .before .before .before .before .ends .ensures) ∙ c .before .before .before .before .before .before .before .before .before .before .before .before .before .before .before .before .if1 .left) (sym (c .before .before .before .before .before .before .before .before .before .before .before .before .before .before .before .lacks .ensures) ∙ c .before .before .before .before .before .before .before .before .before .before .before .before .before .before .if2 .left), ← e) (k .ensures .0),
-      record-facts (f .result .what) (f .result .taken) (a .at) s (a .h) (length (a .window .now)) (a .last) (length (a .out .now)) (k .result) (k .ensures .0 .answers)
-          (rw e (lies .no-byte)) (rw e (lies .fits)) (f .ensures .1) (z .pre .1) (k .ensures .1),
+      asked-facts (asks (f .result .what)) (f .result .taken) (a .at) s (a .h) (length (a .window .now)) (a .last) (length (a .out .now)) (k .result) (k .ensures .0 .answers)
+          (λ i. ap asks (y i)) (rw e (lies .fits)) (f .ensures .1) (z .pre .1) (k .ensures .1),
     )
 
 pub read-step-spec : {M : Type 1} → statement M

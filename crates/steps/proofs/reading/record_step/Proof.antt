@@ -1,10 +1,15 @@
+use native.Mathlib.Omega.{arith}
+use mathlib.Core.Path.{refl, sym, ap, _∙_}
+use mathlib.Core.List.{[]}
+use Rattle.rules.specs.declared.Link.{Link}
+use Rattle.either.specs.Line.{link-levels, link-frames, admit-level, admit-share, offer, notice, close}
 use Rattle.tables.specs.Lent.{tables}
 use Rattle.both.specs.View.{view}
-use Rattle.steps.proofs.CallLaws.{did-kept, as-asked}
-use mathlib.Core.Path.{refl}
-use mathlib.Core.List.{[]}
-use native.Mathlib.Omega.{arith}
+use Rattle.log.specs.Log.{one-call}
 use Rattle.steps.specs.declared.Status.the-variants.{GoOn, Done}
+use Rattle.steps.specs.Tie.{link-answer, admission-answer, close-answer, offer-answer, notice-answer}
+use Rattle.steps.specs.Wants.{asks-as}
+use Rattle.steps.proofs.CallLaws.{did-asked, link-logged, admission-logged, close-logged, offer-logged, notice-logged, units-fit, did-kept, as-asked}
 use borrow.Author.Needs.{needs}
 use Rattle.steps.proofs.reading.record_step.Statement.{statement}
 use Rattle.steps.proofs.reading.record_step.Tie as tie
@@ -21,47 +26,97 @@ asked-by-requires c κs = search needs
 enum-known-wanted : tie.Need-enum-known-wanted
 enum-known-wanted c = search needs
 
-windows-named-requires : tie.Need-windows-named-requires
-windows-named-requires c κs = search needs
+link-of-requires : tie.Need-link-of-requires
+link-of-requires c κs = search needs
 
-link-step-requires : tie.Need-link-step-requires
-link-step-requires c κs = search needs
+link-levels-requires : tie.Need-link-levels-requires
+link-levels-requires c κs = search needs
+
+linked-requires : tie.Need-linked-requires
+linked-requires c κs = search needs
+
+answered-requires : tie.Need-answered-requires
+answered-requires c κs = c .before .before .before .before .before .before .before .before .before .before .before .before .before .before .before .pre .1
 
 enum-known-wanted-2 : tie.Need-enum-known-wanted-2
 enum-known-wanted-2 c = search needs
 
-frame-step-requires : tie.Need-frame-step-requires
-frame-step-requires c κs = search needs
+link-frames-requires : tie.Need-link-frames-requires
+link-frames-requires c κs = search needs
+
+linked-requires-2 : tie.Need-linked-requires-2
+linked-requires-2 c κs = search needs
+
+answered-requires-2 : tie.Need-answered-requires-2
+answered-requires-2 c κs = search needs
 
 enum-known-wanted-3 : tie.Need-enum-known-wanted-3
 enum-known-wanted-3 c = search needs
 
-admit-step-requires : tie.Need-admit-step-requires
-admit-step-requires c κs = search needs
+admit-level-requires : tie.Need-admit-level-requires
+admit-level-requires c κs = search needs
+
+admitted-requires : tie.Need-admitted-requires
+admitted-requires c κs =
+    let z = c .before .before .before .before .before .before .before .before .before .before .before .before .before .before in
+    let a = z .args in
+    let k = c .before .before .admit-level in
+    units-fit (admit-level _) (a .h) (tables (a .members .now) (a .places .now) (a .notices .now)) _ (k .result) (z .pre .0) (k .ensures)
+
+answered-requires-3 : tie.Need-answered-requires-3
+answered-requires-3 c κs = search needs
 
 enum-known-wanted-4 : tie.Need-enum-known-wanted-4
 enum-known-wanted-4 c = search needs
 
-share-step-requires : tie.Need-share-step-requires
-share-step-requires c κs = search needs
+admit-share-requires : tie.Need-admit-share-requires
+admit-share-requires c κs = search needs
+
+admitted-requires-2 : tie.Need-admitted-requires-2
+admitted-requires-2 c κs =
+    let z = c .before .before .before .before .before .before .before .before .before .before .before .before .before .before in
+    let a = z .args in
+    let k = c .before .before .admit-share in
+    units-fit (admit-share _) (a .h) (tables (a .members .now) (a .places .now) (a .notices .now)) _ (k .result) (z .pre .0) (k .ensures)
+
+answered-requires-4 : tie.Need-answered-requires-4
+answered-requires-4 c κs = search needs
 
 enum-known-wanted-5 : tie.Need-enum-known-wanted-5
 enum-known-wanted-5 c = search needs
 
-close-step-requires : tie.Need-close-step-requires
-close-step-requires c κs = search needs
+close-requires : tie.Need-close-requires
+close-requires c κs = search needs
+
+closed-requires : tie.Need-closed-requires
+closed-requires c κs = search needs
+
+answered-requires-5 : tie.Need-answered-requires-5
+answered-requires-5 c κs = search needs
 
 enum-known-wanted-6 : tie.Need-enum-known-wanted-6
 enum-known-wanted-6 c = search needs
 
-offer-step-requires : tie.Need-offer-step-requires
-offer-step-requires c κs = search needs
+offer-requires : tie.Need-offer-requires
+offer-requires c κs = search needs
+
+offered-requires : tie.Need-offered-requires
+offered-requires c κs = search needs
+
+answered-requires-6 : tie.Need-answered-requires-6
+answered-requires-6 c κs = c .before .before .before .before .before .before .before .before .before .before .before .before .before .before .before .before .before .before .pre .1
 
 enum-known-wanted-7 : tie.Need-enum-known-wanted-7
 enum-known-wanted-7 c = search needs
 
-notice-step-requires : tie.Need-notice-step-requires
-notice-step-requires c κs = search needs
+notice-requires : tie.Need-notice-requires
+notice-requires c κs = search needs
+
+noticed-requires : tie.Need-noticed-requires
+noticed-requires c κs = search needs
+
+answered-requires-7 : tie.Need-answered-requires-7
+answered-requires-7 c κs = search needs
 
 enum-known-wanted-8 : tie.Need-enum-known-wanted-8
 enum-known-wanted-8 c = search needs
@@ -89,10 +144,14 @@ same-length-4 c = search needs
 
 returns : tie.Need-returns
 returns c =
-    let a = c .before .before .before .before .before .before .before .before .before .before .before .before .before .before .before .before .args in
-    let q = c .before .before .before .before .before .before .before .before .before .before .before .asked-by in
-    let k = c .before .before .link-step in
-    (as-asked (q .result) (a .f .what) (a .f .taken) (a .at) (view (a .h) (tables (a .members .now) (a .places .now) (a .notices .now))) _ _ _ _ (q .ensures) (rw (c .before .before .before .before .before .before .before .before .before .wanted .given .1) (rw (c .before .before .before .before .before .before .before .windows-named .ensures) at (k .ensures))), rw (k .ensures .answers) (omega arith))
+    let z = c .before .before .before .before .before .before .before .before .before .before .before .before .before .before .before .before .before .before in
+    let a = z .args in
+    let q = c .before .before .before .before .before .before .before .before .before .before .before .before .before .asked-by in
+    let l = c .before .before .before .before .before .before .before .before .before .link-of in
+    let k = c .before .before .before .before .before .link-levels in
+    let m = c .before .before .before .before .linked in
+    let w = c .before .before .answered .ensures in
+    did-asked (a .f .what) (link-levels (l .result)) (sym (q .ensures) ∙ ap asks-as (c .before .before .before .before .before .before .before .before .before .before .before .wanted .given .1) ∙ ap (λ (x : Link). one-call (link-levels x)) (sym (l .ensures))) (a .h) (tables (a .members .now) (a .places .now) (a .notices .now)) _ _ _ (k .result) (z .pre .0) (k .ensures) (a .at) (a .f .taken) link-answer (m .result) _ link-logged (m .ensures) (w .0) (w .1)
 
 same-length-5 : tie.Need-same-length-5
 same-length-5 c = search needs
@@ -108,10 +167,13 @@ same-length-8 c = search needs
 
 returns-2 : tie.Need-returns-2
 returns-2 c =
-    let a = c .before .before .before .before .before .before .before .before .before .before .before .before .before .before .before .args in
-    let q = c .before .before .before .before .before .before .before .before .before .before .asked-by in
-    let k = c .before .before .frame-step in
-    (as-asked (q .result) (a .f .what) (a .f .taken) (a .at) (view (a .h) (tables (a .members .now) (a .places .now) (a .notices .now))) _ _ _ _ (q .ensures) (rw (c .before .before .before .before .before .before .before .before .wanted2 .given .1) (k .ensures)), rw (k .ensures .answers) (omega arith))
+    let z = c .before .before .before .before .before .before .before .before .before .before .before .before .before .before .before .before .before in
+    let a = z .args in
+    let q = c .before .before .before .before .before .before .before .before .before .before .before .before .asked-by in
+    let k = c .before .before .before .before .before .link-frames in
+    let m = c .before .before .before .before .linked2 in
+    let w = c .before .before .answered2 .ensures in
+    did-asked (a .f .what) (link-frames _) (sym (q .ensures) ∙ ap asks-as (c .before .before .before .before .before .before .before .before .before .before .wanted2 .given .1)) (a .h) (tables (a .members .now) (a .places .now) (a .notices .now)) _ _ _ (k .result) (z .pre .0) (k .ensures) (a .at) (a .f .taken) link-answer (m .result) _ link-logged (m .ensures) (w .0) (w .1)
 
 same-length-9 : tie.Need-same-length-9
 same-length-9 c = search needs
@@ -127,10 +189,13 @@ same-length-12 c = search needs
 
 returns-3 : tie.Need-returns-3
 returns-3 c =
-    let a = c .before .before .before .before .before .before .before .before .before .before .before .before .before .before .before .before .before .args in
-    let q = c .before .before .before .before .before .before .before .before .before .before .before .before .asked-by in
-    let k = c .before .before .before .before .admit-step in
-    (as-asked (q .result) (a .f .what) (a .f .taken) (a .at) (view (a .h) (tables (a .members .now) (a .places .now) (a .notices .now))) _ _ _ _ (q .ensures) (rw (c .before .before .before .before .before .before .before .before .before .before .wanted3 .given .1) (k .ensures)), rw (k .ensures .answers) (omega arith))
+    let z = c .before .before .before .before .before .before .before .before .before .before .before .before .before .before .before .before .before .before .before in
+    let a = z .args in
+    let q = c .before .before .before .before .before .before .before .before .before .before .before .before .before .before .asked-by in
+    let k = c .before .before .before .before .before .before .before .admit-level in
+    let m = c .before .before .before .before .admitted in
+    let w = c .before .before .answered3 .ensures in
+    did-asked (a .f .what) (admit-level _) (sym (q .ensures) ∙ ap asks-as (c .before .before .before .before .before .before .before .before .before .before .before .before .wanted3 .given .1)) (a .h) (tables (a .members .now) (a .places .now) (a .notices .now)) _ _ _ (k .result) (z .pre .0) (k .ensures) (a .at) (a .f .taken) admission-answer (m .result) _ admission-logged (m .ensures) (w .0) (w .1)
 
 same-length-13 : tie.Need-same-length-13
 same-length-13 c = search needs
@@ -146,10 +211,13 @@ same-length-16 c = search needs
 
 returns-4 : tie.Need-returns-4
 returns-4 c =
-    let a = c .before .before .before .before .before .before .before .before .before .before .before .before .before .before .before .before .before .args in
-    let q = c .before .before .before .before .before .before .before .before .before .before .before .before .asked-by in
-    let k = c .before .before .before .before .share-step in
-    (as-asked (q .result) (a .f .what) (a .f .taken) (a .at) (view (a .h) (tables (a .members .now) (a .places .now) (a .notices .now))) _ _ _ _ (q .ensures) (rw (c .before .before .before .before .before .before .before .before .before .before .wanted4 .given .1) (k .ensures)), rw (k .ensures .answers) (omega arith))
+    let z = c .before .before .before .before .before .before .before .before .before .before .before .before .before .before .before .before .before .before .before in
+    let a = z .args in
+    let q = c .before .before .before .before .before .before .before .before .before .before .before .before .before .before .asked-by in
+    let k = c .before .before .before .before .before .before .before .admit-share in
+    let m = c .before .before .before .before .admitted2 in
+    let w = c .before .before .answered4 .ensures in
+    did-asked (a .f .what) (admit-share _) (sym (q .ensures) ∙ ap asks-as (c .before .before .before .before .before .before .before .before .before .before .before .before .wanted4 .given .1)) (a .h) (tables (a .members .now) (a .places .now) (a .notices .now)) _ _ _ (k .result) (z .pre .0) (k .ensures) (a .at) (a .f .taken) admission-answer (m .result) _ admission-logged (m .ensures) (w .0) (w .1)
 
 same-length-17 : tie.Need-same-length-17
 same-length-17 c = search needs
@@ -165,10 +233,13 @@ same-length-20 c = search needs
 
 returns-5 : tie.Need-returns-5
 returns-5 c =
-    let a = c .before .before .before .before .before .before .before .before .before .before .before .before .before .before .before .before .before .args in
-    let q = c .before .before .before .before .before .before .before .before .before .before .before .before .asked-by in
-    let k = c .before .before .before .before .close-step in
-    (as-asked (q .result) (a .f .what) (a .f .taken) (a .at) (view (a .h) (tables (a .members .now) (a .places .now) (a .notices .now))) _ _ _ _ (q .ensures) (rw (c .before .before .before .before .before .before .before .before .before .before .wanted5 .given .1) (k .ensures)), rw (k .ensures .answers) (omega arith))
+    let z = c .before .before .before .before .before .before .before .before .before .before .before .before .before .before .before .before .before .before .before in
+    let a = z .args in
+    let q = c .before .before .before .before .before .before .before .before .before .before .before .before .before .before .asked-by in
+    let k = c .before .before .before .before .before .before .before .close in
+    let m = c .before .before .before .before .closed in
+    let w = c .before .before .answered5 .ensures in
+    did-asked (a .f .what) (close _) (sym (q .ensures) ∙ ap asks-as (c .before .before .before .before .before .before .before .before .before .before .before .before .wanted5 .given .1)) (a .h) (tables (a .members .now) (a .places .now) (a .notices .now)) _ _ _ (k .result) (z .pre .0) (k .ensures) (a .at) (a .f .taken) close-answer (m .result) _ close-logged (m .ensures) (w .0) (w .1)
 
 same-length-21 : tie.Need-same-length-21
 same-length-21 c = search needs
@@ -184,10 +255,13 @@ same-length-24 c = search needs
 
 returns-6 : tie.Need-returns-6
 returns-6 c =
-    let a = c .before .before .before .before .before .before .before .before .before .before .before .before .before .before .before .before .before .before .before .args in
-    let q = c .before .before .before .before .before .before .before .before .before .before .before .before .before .before .asked-by in
-    let k = c .before .before .before .before .before .before .offer-step in
-    (as-asked (q .result) (a .f .what) (a .f .taken) (a .at) (view (a .h) (tables (a .members .now) (a .places .now) (a .notices .now))) _ _ _ _ (q .ensures) (rw (c .before .before .before .before .before .before .before .before .before .before .before .before .wanted6 .given .1) (k .ensures)), rw (k .ensures .answers) (omega arith))
+    let z = c .before .before .before .before .before .before .before .before .before .before .before .before .before .before .before .before .before .before .before .before .before in
+    let a = z .args in
+    let q = c .before .before .before .before .before .before .before .before .before .before .before .before .before .before .before .before .asked-by in
+    let k = c .before .before .before .before .before .before .before .before .before .offer in
+    let m = c .before .before .before .before .offered in
+    let w = c .before .before .answered6 .ensures in
+    did-asked (a .f .what) (offer _ _ _ _) (sym (q .ensures) ∙ ap asks-as (c .before .before .before .before .before .before .before .before .before .before .before .before .before .before .wanted6 .given .1)) (a .h) (tables (a .members .now) (a .places .now) (a .notices .now)) _ _ _ (k .result) (z .pre .0) (k .ensures) (a .at) (a .f .taken) offer-answer (m .result) _ offer-logged (m .ensures) (w .0) (w .1)
 
 same-length-25 : tie.Need-same-length-25
 same-length-25 c = search needs
@@ -203,10 +277,13 @@ same-length-28 c = search needs
 
 returns-7 : tie.Need-returns-7
 returns-7 c =
-    let a = c .before .before .before .before .before .before .before .before .before .before .before .before .before .before .before .before .before .args in
-    let q = c .before .before .before .before .before .before .before .before .before .before .before .before .asked-by in
-    let k = c .before .before .before .before .notice-step in
-    (as-asked (q .result) (a .f .what) (a .f .taken) (a .at) (view (a .h) (tables (a .members .now) (a .places .now) (a .notices .now))) _ _ _ _ (q .ensures) (rw (c .before .before .before .before .before .before .before .before .before .before .wanted7 .given .1) (k .ensures)), rw (k .ensures .answers) (omega arith))
+    let z = c .before .before .before .before .before .before .before .before .before .before .before .before .before .before .before .before .before .before .before in
+    let a = z .args in
+    let q = c .before .before .before .before .before .before .before .before .before .before .before .before .before .before .asked-by in
+    let k = c .before .before .before .before .before .before .before .notice in
+    let m = c .before .before .before .before .noticed in
+    let w = c .before .before .answered7 .ensures in
+    did-asked (a .f .what) (notice _ _) (sym (q .ensures) ∙ ap asks-as (c .before .before .before .before .before .before .before .before .before .before .before .before .wanted7 .given .1)) (a .h) (tables (a .members .now) (a .places .now) (a .notices .now)) _ _ _ (k .result) (z .pre .0) (k .ensures) (a .at) (a .f .taken) notice-answer (m .result) _ notice-logged (m .ensures) (w .0) (w .1)
 
 returns-8 : tie.Need-returns-8
 returns-8 c =
@@ -223,8 +300,8 @@ returns-9 : tie.Need-returns-9
 returns-9 c =
     let z = c .before .before .before .before .before .before .before .before .before .before .before in
     let a = z .args in
-    let q = c .before .before .before .before .before .before .asked-by in
     let k = c .before .before .broken-step in
+    let q = c .before .before .before .before .before .before .asked-by in
     (as-asked (q .result) (a .f .what) (a .f .taken) (a .at) (view (a .h) (tables (a .members .now) (a .places .now) (a .notices .now))) _ _ _ _ (q .ensures) (rw (c .before .before .before .before .enum-told .given .1) (did-kept (a .h) (tables (a .members .now) (a .places .now) (a .notices .now)) (z .pre .0) _ _ _ _ Done _ _ _ (k .ensures .0) (k .ensures .1))), rw (k .ensures .0) (omega arith))
 
 pub record-step-spec : {M : Type 1} → statement M
@@ -235,20 +312,34 @@ record-step-spec =
     add-to
     asked-by-requires
     enum-known-wanted
-    windows-named-requires
-    link-step-requires
+    link-of-requires
+    link-levels-requires
+    linked-requires
+    answered-requires
     enum-known-wanted-2
-    frame-step-requires
+    link-frames-requires
+    linked-requires-2
+    answered-requires-2
     enum-known-wanted-3
-    admit-step-requires
+    admit-level-requires
+    admitted-requires
+    answered-requires-3
     enum-known-wanted-4
-    share-step-requires
+    admit-share-requires
+    admitted-requires-2
+    answered-requires-4
     enum-known-wanted-5
-    close-step-requires
+    close-requires
+    closed-requires
+    answered-requires-5
     enum-known-wanted-6
-    offer-step-requires
+    offer-requires
+    offered-requires
+    answered-requires-6
     enum-known-wanted-7
-    notice-step-requires
+    notice-requires
+    noticed-requires
+    answered-requires-7
     enum-known-wanted-8
     begin-ticks-requires
     enum-told

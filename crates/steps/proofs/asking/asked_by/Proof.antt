@@ -1,12 +1,18 @@
 use borrow.Author.Needs.{needs}
-use Rattle.steps.proofs.reading.asked_by.Statement.{statement}
-use Rattle.steps.proofs.reading.asked_by.Tie as tie
+use Rattle.steps.proofs.asking.asked_by.Statement.{statement}
+use Rattle.steps.proofs.asking.asked_by.Tie as tie
 
 enum-known-what : tie.Need-enum-known-what
 enum-known-what c = search needs
 
+without-windows-requires : tie.Need-without-windows-requires
+without-windows-requires c κs = search needs
+
 enum-known-what-2 : tie.Need-enum-known-what-2
 enum-known-what-2 c = search needs
+
+without-windows-requires-2 : tie.Need-without-windows-requires-2
+without-windows-requires-2 c κs = search needs
 
 enum-known-what-3 : tie.Need-enum-known-what-3
 enum-known-what-3 c = search needs
@@ -38,26 +44,26 @@ share-named-requires c κs = search needs
 enum-known-what-8 : tie.Need-enum-known-what-8
 enum-known-what-8 c = search needs
 
-cast-t75 : tie.Need-cast-t75
-cast-t75 c = search needs
+cast-t78 : tie.Need-cast-t78
+cast-t78 c = search needs
 
 enum-known-what-9 : tie.Need-enum-known-what-9
 enum-known-what-9 c = search needs
 
-plain-offer-requires : tie.Need-plain-offer-requires
-plain-offer-requires c κs = search needs
+offer-of-requires : tie.Need-offer-of-requires
+offer-of-requires c κs = search needs
 
 enum-known-what-10 : tie.Need-enum-known-what-10
 enum-known-what-10 c = search needs
 
-stamped-offer-requires : tie.Need-stamped-offer-requires
-stamped-offer-requires c κs = search needs
+offer-of-requires-2 : tie.Need-offer-of-requires-2
+offer-of-requires-2 c κs = search needs
 
 enum-known-what-11 : tie.Need-enum-known-what-11
 enum-known-what-11 c = search needs
 
-cast-t78 : tie.Need-cast-t78
-cast-t78 c = search needs
+cast-t81 : tie.Need-cast-t81
+cast-t81 c = search needs
 
 enum-known-what-12 : tie.Need-enum-known-what-12
 enum-known-what-12 c = search needs
@@ -66,10 +72,10 @@ enum-told : tie.Need-enum-told
 enum-told c = search needs
 
 returns : tie.Need-returns
-returns c = rw (c .before .what .given .1)
+returns c = rw (c .before .before .what .given .1, c .without-windows .ensures)
 
 returns-2 : tie.Need-returns-2
-returns-2 c = rw (c .before .what2 .given .1)
+returns-2 c = rw (c .before .before .what2 .given .1, c .without-windows2 .ensures)
 
 returns-3 : tie.Need-returns-3
 returns-3 c = rw (c .before .what3 .given .1)
@@ -90,10 +96,10 @@ returns-8 : tie.Need-returns-8
 returns-8 c = rw (c .before .what8 .given .1)
 
 returns-9 : tie.Need-returns-9
-returns-9 c = rw (c .before .before .what9 .given .1, c .plain-offer .ensures)
+returns-9 c = rw (c .before .before .what9 .given .1, c .offer-of .ensures)
 
 returns-10 : tie.Need-returns-10
-returns-10 c = rw (c .before .before .what10 .given .1, c .stamped-offer .ensures)
+returns-10 c = rw (c .before .before .what10 .given .1, c .offer-of2 .ensures)
 
 returns-11 : tie.Need-returns-11
 returns-11 c = rw (c .before .what11 .given .1)
@@ -109,7 +115,9 @@ asked-by-spec =
     tie.close
     (tie.spec
     enum-known-what
+    without-windows-requires
     enum-known-what-2
+    without-windows-requires-2
     enum-known-what-3
     enum-known-what-4
     framing-named-requires
@@ -120,13 +128,13 @@ asked-by-spec =
     enum-known-what-7
     share-named-requires
     enum-known-what-8
-    cast-t75
-    enum-known-what-9
-    plain-offer-requires
-    enum-known-what-10
-    stamped-offer-requires
-    enum-known-what-11
     cast-t78
+    enum-known-what-9
+    offer-of-requires
+    enum-known-what-10
+    offer-of-requires-2
+    enum-known-what-11
+    cast-t81
     enum-known-what-12
     enum-told
     returns
