@@ -12,6 +12,7 @@ use Rattle.either.specs.Line.{Line, tick, Reply, by-levels, by-frames, frames-s
 use Rattle.either.proofs.Replies.{levels-told, frames-told}
 use Rattle.either.proofs.Results.{test-is-exact, sound-is-kept}
 use Rattle.rules.proofs.Tests.{not-true-false}
+use Rattle.line.proofs.QuietLaws.{Quiets}
 use Rattle.service.specs.Quiet.{passed as level-passed, quiet-ticks as level-quiet-ticks}
 use Rattle.service.proofs.QuietLaws as level
 use Rattle.framed_service.specs.Quiet.{passed as frame-passed, quiet-ticks as frame-quiet-ticks}
@@ -124,19 +125,14 @@ passed-written s k = cond-ind (λ x. written s ≡ written x) (frames-set s) (λ
 
 -- ---- those that are passed over at once
 
--- they are no more than are left, and nothing happens in them
-pub record Quiets (left : ℕ) (s : Line) (k : ℕ) : Type 0 where
-  pub few : k ≤ left
-  pub quiet : Quiet s k
-
-pub quiets : (left : ℕ) (s : Line) → (quiet-ticks left s ≡ 0 → ⊥) → Quiets left s (quiet-ticks left s)
+pub quiets : (left : ℕ) (s : Line) → (quiet-ticks left s ≡ 0 → ⊥) → Quiets (Quiet s) left (quiet-ticks left s)
 unfolding quiet-ticks
-quiets left s = cond-ind (λ k. (k ≡ 0 → ⊥) → Quiets left s k) (sound-line s) sounds (λ _ n. absurd (n refl))
+quiets left s = cond-ind (λ k. (k ≡ 0 → ⊥) → Quiets (Quiet s) left k) (sound-line s) sounds (λ _ n. absurd (n refl))
   where
     sounds : sound-line s ≡ true → (cond (frames-set s) (frame-quiet-ticks left (s .frames)) (level-quiet-ticks left (s .levels)) ≡ 0 → ⊥)
-        → Quiets left s (cond (frames-set s) (frame-quiet-ticks left (s .frames)) (level-quiet-ticks left (s .levels)))
+        → Quiets (Quiet s) left (cond (frames-set s) (frame-quiet-ticks left (s .frames)) (level-quiet-ticks left (s .levels)))
     sounds ok =
-        cond-ind (λ k. (k ≡ 0 → ⊥) → Quiets left s k) (frames-set s)
+        cond-ind (λ k. (k ≡ 0 → ⊥) → Quiets (Quiet s) left k) (frames-set s)
         (λ f n. let q = frame.quiets left (s .frames) n in
         record {
           few = q .few;
@@ -156,7 +152,7 @@ quiets left s = cond-ind (λ k. (k ≡ 0 → ⊥) → Quiets left s k) (sound-li
           };
         })
 
-pub quiet-room : (left : ℕ) (s : Line) {k : ℕ} → k ≡ quiet-ticks left s → (k ≡ 0 → ⊥) → Quiets left s k
+pub quiet-room : (left : ℕ) (s : Line) {k : ℕ} → k ≡ quiet-ticks left s → (k ≡ 0 → ⊥) → Quiets (Quiet s) left k
 quiet-room left s e n = rw e (quiets left s (λ z. n (e ∙ z)))
 
 -- they are no more than are left, and end before the clock does

@@ -6,21 +6,19 @@ use mathlib.Core.Bool.{true}
 use mathlib.Core.List.{List, [], _∷_}
 use mathlib.Core.Option.{none}
 use lib.ListN.{length, drop}
-use borrow.Author.Tests.{eq-eqb, ne-eqb}
 use Rattle.rules.specs.declared.Packet.{Packet}
 use Rattle.rules.specs.Words.{All, Pairs}
 use Rattle.rules.specs.Limits.{clock-end}
 use Rattle.rules.proofs.Rows.{nil-of}
-use Rattle.frames.specs.Model.{State}
+use Rattle.frames.specs.Model.{State, wire}
 use Rattle.frames.specs.SoundState.{Not-after}
 use Rattle.frames.specs.SoundTest.{sound}
 use Rattle.frames.proofs.SoundExact.{exact}
 use Rattle.tables.specs.Places.{rows, row-at}
 use Rattle.tables.proofs.PlacesLaws.{rows-from}
-use Rattle.line.specs.Quiet.{eligible-from, quiet-for}
-use Rattle.line.proofs.QuietLaws.{eligible-from-le}
+use Rattle.line.specs.Quiet.{eligible-from, quiet-for, quiet-line}
+use Rattle.line.proofs.QuietLaws.{eligible-from-le, without-link, with-link}
 use Rattle.framed_service.specs.Quiet.{quiet-ticks}
-use Rattle.framed_service.proofs.QuietLaws.{Quiets, quiets}
 
 -- ---- the first row tells when a packet is eligible
 
@@ -45,7 +43,7 @@ module _ (t : List ℕ) where
 module _ (s : State) (ok : sound s ≡ true) (left : ℕ) where
   pub none-without-link : s .link .frame ≡ 0 → 0 ≡ quiet-ticks left s
   unfolding quiet-ticks
-  none-without-link z = rw (ok, eq-eqb (s .link .frame) 0 z)
+  none-without-link = without-link (sound s) (s .link .frame) _ ok
 
   module _ (n : s .link .frame ≡ 0 → ⊥) where
     pub clock-in-time : s .clock ≤ clock-end
@@ -55,8 +53,6 @@ module _ (s : State) (ok : sound s ≡ true) (left : ℕ) where
     pub some-quiet : (q m k : ℕ) → q ≡ quiet-for (s .to-go) (s .silent) (s .held) (s .notices) none (s .clock)
         → m ≡ min q (clock-end - s .clock) → k ≡ min m left → k ≡ quiet-ticks left s
     unfolding quiet-ticks
-    some-quiet q m k e f g = rw (ok, ne-eqb (s .link .frame) 0 n) (omega arith)
-
--- they are no more than are left, and the clock does not pass its end
-pub quiet-room : (left : ℕ) (s : State) {k : ℕ} → k ≡ quiet-ticks left s → (k ≡ 0 → ⊥) → Quiets left s k
-quiet-room left s e n = rw e (quiets left s (λ z. n (e ∙ z)))
+    some-quiet q m k e f g =
+        let i : k ≡ min (quiet-line (s .clock) none (wire s)) left = omega arith in
+        i ∙ with-link (sound s) (s .link .frame) _ ok n

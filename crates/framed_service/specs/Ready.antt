@@ -7,12 +7,12 @@ use Rattle.rules.specs.Limits.{notice-number}
 use Rattle.frames.specs.SoundState.{Not-after}
 use Rattle.tables.specs.Places.{rows}
 use Rattle.line.specs.declared.Wire.{Wire}
-use Rattle.line.specs.Wires.{In-place}
+use Rattle.line.specs.Wires.{on-wire, In-place}
 use Rattle.framed_state.specs.declared.Frames.{Frames}
 
 -- the line of a `Frames`
 abbrev pub wire-in : Frames → Wire
-wire-in h = record { serving = h .serving; «to_go» = h .«to_go»; silent = h .silent }
+wire-in h = on-wire (h .serving) (h .«to_go») (h .silent)
 
 pub record Ready (w : Wire) (t q : List ℕ) : Type 0 where
   -- each row names a connection, which has another number than the notices

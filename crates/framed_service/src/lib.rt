@@ -17,7 +17,7 @@ ghost use Rattle.tables.specs.Notices.{notices-formed};
 ghost use Rattle.line.specs.Wires.{line-in, wire-of, option, Leaves};
 ghost use Rattle.framed_state.specs.View.{given, before, after, view, sound-frames};
 ghost use Rattle.framed_state.specs.Does.{Does};
-ghost use Rattle.framed_service.specs.Ready.{wire-in, Ready};
+ghost use Rattle.framed_service.specs.Ready.{Ready};
 ghost use Rattle.framed_service.specs.Gives.{passed-on};
 use framed_state::Frames;
 use framed_state::Said;
@@ -69,17 +69,6 @@ fn run_tick(w: Wire, clock: u32, silence: u32, places: &mut [u32], notices: &mut
     line::send(v, silence, places, notices)
 }
 
-// The line of a `Frames`.
-fn wire_in(h: Frames) -> Wire
-    ensures { λ r. ⌜ r ≡ wire-in h ⌝ }
-{
-    Wire {
-        serving: h.serving,
-        to_go: h.to_go,
-        silent: h.silent,
-    }
-}
-
 // Step 3: the clock moves on. The answer is the departed packet or nothing.
 fn pass(h: Frames, x: Sent) -> Said
     requires { ⌜ h .clock < clock-end ⌝ }
@@ -107,7 +96,7 @@ pub fn run_on(h: Frames, shares: &[u32], places: &mut [u32], notices: &mut [u32]
     requires { ⌜ (sound-frames h (given shares places notices) ≡ true) × (verdict tick (view h (given shares places notices)) ≡ 0) ⌝ }
     ensures { λ r. ⌜ Does tick h (before shares places notices) r (after shares places notices) ⌝ }
 {
-    let w = wire_in(h);
+    let w = line::on_wire(h.serving, h.to_go, h.silent);
     let x = run_tick(w, h.clock, h.link.silence, places, notices);
     pass(h, x)
 }

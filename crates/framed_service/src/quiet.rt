@@ -11,7 +11,6 @@ ghost use Rattle.tables.specs.Notices.{notices-in};
 ghost use Rattle.line.specs.Quiet.{eligible-from, quiet-for};
 ghost use Rattle.framed_state.specs.View.{Tables, given, before, view, frames-of, sound-frames};
 ghost use Rattle.framed_service.specs.Quiet.{passed, quiet-ticks};
-use super::wire_in;
 use framed_state::Frames;
 use limits::CLOCK_END;
 use limits::numbers::least;
@@ -35,7 +34,7 @@ fn quiet_for(h: Frames, places: &[u32], notices: &[u32]) -> u32
     requires { ⌜ Pairs Not-after (rows (now places)) ⌝ }
     ensures { λ r. ⌜ r ≡ quiet-for (h .«to_go») (h .silent) (rows (now (places .entry))) (notices-in (now (notices .entry))) none (h .clock) ⌝ }
 {
-    let w = wire_in(h);
+    let w = line::on_wire(h.serving, h.to_go, h.silent);
     if !line::quiet::awaits(w, notices) {
         return line::quiet::taken_for(w);
     }
@@ -59,9 +58,10 @@ pub fn pass_over(h: Frames, k: u16) -> Frames
     requires { ⌜ h .clock + k ≤ clock-end ⌝ }
     ensures { λ r. ⌜ ((t : Tables) → r ≡ frames-of (passed (view h t) k)) ⌝ }
 {
+    let w = line::quiet::passed(line::on_wire(h.serving, h.to_go, h.silent), k);
     let mut later = h;
     later.clock = h.clock + k as u32;
-    later.to_go = without(h.to_go, k as u32);
-    later.silent = without(h.silent, k as u32);
+    later.to_go = w.to_go;
+    later.silent = w.silent;
     later
 }

@@ -2,26 +2,18 @@
 use Prim.Native.Nat.{_<_}
 use mathlib.Core.Path.{_≡_, refl, ap, _∙_}
 use mathlib.Core.Bool.{false, not}
-use mathlib.Core.Logic.{inl, inr}
 use mathlib.Core.Option.{none}
 use borrow.Author.Tests.{ne-eqb, lt-leb}
 use Rattle.rules.specs.Limits.{clock-end}
 use Rattle.rules.specs.Service.{sent}
-use Rattle.rules.proofs.WireLaws.{Quiet-wire, quiet-tick}
+use Rattle.rules.proofs.WireLaws.{quiet-tick}
 use Rattle.frames.specs.Model.{State, tick, wire}
 use Rattle.frames.specs.Service.{chosen, moves-on}
-use Rattle.frames.specs.SoundState.{Sound-with-link, Sound}
+use Rattle.frames.specs.SoundState.{Sound}
 use Rattle.frames.specs.Calls.{verdicts, verdict, accepted, settle, answer}
 use Rattle.frames.specs.Promises.{Quiet-line, passed-by}
 use Rattle.frames.proofs.SoundTick.{picks}
 use Rattle.frames.proofs.SoundExact.{exact}
-
-module _ (s : State) (S : Sound-with-link s) where
-  -- nothing stands by
-  on-the-wire : Quiet-line s → Quiet-wire (λ _. false) (s .link .largest) (s .link .silence) (s .clock) (wire s) (S .line) (chosen s) none (picks s S)
-  on-the-wire (inl l) = inl l
-  on-the-wire (inr (inl k)) = inr (inl k)
-  on-the-wire (inr (inr k)) = inr (inr (k .0, k .1, k .2, k .3, refl))
 
 verdict-0 : (s : State) → Sound s → (s .link .frame ≡ 0 → ⊥) → s .clock < clock-end → verdict tick s ≡ 0
 unfolding verdicts
@@ -32,4 +24,4 @@ quiet-passes s T n r q =
     let S = T .with-one n in
     ap (settle tick s) (verdict-0 s T n r)
     ∙ ap (moves-on s)
-    (quiet-tick (λ _. false) (s .link .largest) (s .link .silence) (s .clock) (wire s) (S .line) (chosen s) none (picks s S) sent (on-the-wire s S q))
+    (quiet-tick (λ _. false) (s .link .largest) (s .link .silence) (s .clock) (wire s) (S .line) (chosen s) none (picks s S) sent q)

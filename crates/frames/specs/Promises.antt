@@ -2,7 +2,7 @@
 use Prim.Native.Nat.{ℕ, _+_, _-_, _≤_, _<_}
 use mathlib.Core.Path.{_≡_}
 use mathlib.Core.Bool.{true, cond}
-use mathlib.Core.Logic.{_↔_, _⊎_}
+use mathlib.Core.Logic.{_↔_}
 use mathlib.Core.List.{List, [], _∷_, _++_, map}
 use mathlib.Core.Option.{none, some}
 use lib.Dec.{eqb}
@@ -11,7 +11,7 @@ use Rattle.rules.specs.declared.Packet.{Packet}
 use Rattle.rules.specs.Words.{All, total}
 use Rattle.rules.specs.Limits.{max-reserved, clock-end, beyond-32-bits, max-notices, notice-number}
 use Rattle.rules.specs.Model.{no-short}
-use Rattle.rules.specs.Service.{of, begun, passed-wire}
+use Rattle.rules.specs.Service.{of, begun, Quiet-wire, passed-wire}
 use Rattle.rules.specs.Runs.{departures, Exchange}
 use Rattle.rules.specs.Promises.{Packet-fits}
 use Rattle.frames.specs.Limits.{max-units}
@@ -196,12 +196,9 @@ No-other-changes-it =
 
 -- ---- quiet ticks: those in which nothing starts and nothing departs
 
--- the line: more than a unit is to go; or a silence runs; or nothing is in service, no notice waits and no held packet is eligible
+-- the line: `Quiet-wire` (crate `rules`, Service); nothing stands by
 abbrev pub Quiet-line : State → Type 0
-Quiet-line s =
-    (2 ≤ s .to-go)
-    ⊎ (((s .to-go ≡ 0) × (1 ≤ s .silent))
-    ⊎ ((s .to-go ≡ 0) × (s .silent ≡ 0) × (s .notices ≡ []) × All (λ p. s .clock < p .eligibility) (s .held)))
+Quiet-line s = Quiet-wire (s .clock) none (wire s)
 
 -- such a tick moves the clock, and takes a unit or a tick of the silence
 abbrev pub passed-by : State → State

@@ -2,19 +2,19 @@
 use Prim.Native.Nat.{ℕ, zero, suc, _+_, _-_, _≤_, _<_}
 use native.Mathlib.Omega.{arith}
 use mathlib.Core.Path.{_≡_, refl, sym, ap, _∙_}
-use mathlib.Core.Bool.{Bool, true, false, cond, _&&_}
+use mathlib.Core.Bool.{Bool, true, false, not, cond, _&&_}
 use mathlib.Core.List.{List, [], _∷_, map}
 use mathlib.Core.Logic.{_⊎_, inl, inr}
 use mathlib.Core.Option.{Option, none, some}
 use lib.Dec.{eqb}
 use lib.ListN.{length}
-use borrow.Author.Tests.{eqb-true, ne-eqb}
+use borrow.Author.Tests.{eqb-true, eqb-false, eq-eqb, ne-eqb, not-true}
 use Rattle.rules.specs.declared.Packet.{Packet}
 use Rattle.rules.specs.declared.Notice.{Notice}
 use Rattle.rules.specs.Words.{All}
 use Rattle.rules.specs.Limits.{clock-end}
-use Rattle.rules.specs.Service.{Wire as Line, passed-wire}
-use Rattle.rules.proofs.Sums.{cond-is}
+use Rattle.rules.specs.Service.{Wire as Line, Quiet-wire, passed-wire}
+use Rattle.rules.proofs.Sums.{cond-is, cond-ind}
 use Rattle.rules.proofs.Tests.{never, and-true}
 use Rattle.rules.proofs.Lists.{all-map}
 use Rattle.rules.proofs.Rows.{nil-of}
@@ -22,7 +22,7 @@ use Rattle.tables.specs.Places.{rows}
 use Rattle.tables.specs.Notices.{notice-of, notices-in}
 use Rattle.line.specs.declared.Wire.{Wire}
 use Rattle.line.specs.Wires.{idle}
-use Rattle.line.specs.Quiet.{eligible-from, quiet-for, awaits, taken-for}
+use Rattle.line.specs.Quiet.{eligible-from, quiet-for, quiet-line, if-linked, awaits, taken-for}
 
 -- ---- in each case that the code tells apart: with the line w as v, and whether it waits for a packet as b
 
@@ -95,3 +95,65 @@ module _ (t : ℕ) (o : Option Packet) (l : Line) (k : ℕ) where
   still-then (inl (z, y, h, n, b)) = inl (omega arith, omega arith, all-map (λ p a. omega arith) (l .held) h, n, b)
   still-then (inr (inl (z, h))) = inr (inl (omega arith, omega arith))
   still-then (inr (inr h)) = inr (inr (omega arith))
+
+  -- the first of them is a quiet tick of the rules
+  pub quiet-wire : Still t o l (suc k) → Quiet-wire t o l
+  quiet-wire (inl (z, y, h, n, b)) = inr (inr (z, y, n, all-map (λ p a. omega arith) (l .held) h, b))
+  quiet-wire (inr (inl (z, h))) = inr (inl (z, omega arith))
+  quiet-wire (inr (inr h)) = inl (omega arith)
+
+-- ---- a state of either discipline: `Sound` says that it is sound, `set` is the number of its link that is 0 without one, `Rests` what else holds for k ticks
+
+-- with the clock t, the line l and o standing by: for k ticks nothing happens, up to the clock's end
+pub record Quiet (Sound Rests : Type 0) (set t : ℕ) (o : Option Packet) (l : Line) (k : ℕ) : Type 0 where
+  pub sound-state : Sound
+  pub with-link : set ≡ 0 → ⊥
+  pub in-time : t + k ≤ clock-end
+  pub still : Still t o l k
+  pub rests : Rests
+
+module _ {Sound Rests : Type 0} (set t : ℕ) (o : Option Packet) (l : Line) (k : ℕ) where
+  pub quiet-by : Sound → (set ≡ 0 → ⊥) → Rests → 0 < k → k ≤ quiet-line t o l → Quiet Sound Rests set t o l k
+  quiet-by s n r p h = record { sound-state = s; with-link = n; in-time = omega arith; still = still-for t o l k p (omega arith); rests = r }
+
+  -- a tick later
+  pub quiet-then : {Sound-now Rests-now : Type 0} → Quiet Sound-now Rests-now set t o l (suc k) → Sound → Rests → Quiet Sound Rests set (t + 1) o (passed-wire l 1) k
+  quiet-then q s r = record { sound-state = s; with-link = q .with-link; in-time = omega (arith, q .in-time); still = still-then t o l k (q .still); rests = r }
+
+-- what a discipline makes of a clock and a line: after no tick, and after one more
+module _ {S : Type 0} (put : ℕ → Line → S) (t : ℕ) (l : Line) where
+  pub pass-none : put (t + 0) (passed-wire l 0) ≡ put t l
+  pass-none =
+      let e : t + 0 ≡ t = omega arith in
+      let f : l .to-go - 0 ≡ l .to-go = omega arith in
+      let g : l .silent - 0 ≡ l .silent = omega arith in
+      rw (e, f, g)
+
+  pub pass-one-more : (k : ℕ) → put (t + 1 + k) (passed-wire (passed-wire l 1) k) ≡ put (t + suc k) (passed-wire l (suc k))
+  pass-one-more k =
+      let e : t + 1 + k ≡ t + suc k = omega arith in
+      let f : l .to-go - 1 - k ≡ l .to-go - suc k = omega arith in
+      let g : l .silent - 1 - k ≡ l .silent - suc k = omega arith in
+      rw (e, f, g)
+
+-- ---- those that are passed over at once
+
+-- they are no more than are left, and nothing happens in them: `Q k` says that k ticks are quiet
+pub record Quiets (Q : ℕ → Type 0) (left k : ℕ) : Type 0 where
+  pub few : k ≤ left
+  pub quiet : Q k
+
+-- none where the state is not sound or has no link
+module _ (b : Bool) (set k : ℕ) where
+  pub if-linked-quiets : (Q : ℕ → Type 0) (left : ℕ) → (b ≡ true → (set ≡ 0 → ⊥) → 0 < k → Quiets Q left k) → (if-linked b set k ≡ 0 → ⊥) → Quiets Q left (if-linked b set k)
+  if-linked-quiets Q left f =
+      cond-ind (λ m. (m ≡ 0 → ⊥) → Quiets Q left m) (b && not (eqb set 0))
+      (λ e z. let a = and-true b (not (eqb set 0)) e in f (a .0) (eqb-false set 0 (not-true _ (a .1))) (omega (arith, z)))
+      (λ _ z. absurd (z refl))
+
+  module _ (ok : b ≡ true) where
+    pub without-link : set ≡ 0 → 0 ≡ if-linked b set k
+    without-link z = rw (ok, eq-eqb set 0 z)
+
+    pub with-link : (set ≡ 0 → ⊥) → k ≡ if-linked b set k
+    with-link n = rw (ok, ne-eqb set 0 n)

@@ -15,16 +15,20 @@ use Rattle.line.specs.declared.Wire.{Wire}
 use Rattle.line.specs.declared.Best.{Best}
 use Rattle.line.specs.declared.Sent.{Sent}
 
+-- the wire of three numbers
+abbrev pub on-wire : ℕ → ℕ → ℕ → Wire
+on-wire serving to-go silent = record { serving = serving; «to_go» = to-go; silent = silent }
+
 -- the line that a wire, the places table and the table of notices stand for; and the part of it that no table holds
 abbrev pub line-in : Wire → List ℕ → List ℕ → Line
 line-in w t q = record { held = rows t; notices = notices-in q; serving = w .serving; to-go = w .«to_go»; silent = w .silent }
 
 abbrev pub wire-of : Line → Wire
-wire-of l = record { serving = l .serving; «to_go» = l .to-go; silent = l .silent }
+wire-of l = on-wire (l .serving) (l .to-go) (l .silent)
 
 -- an idle line once it has taken what is given: a number and units
 abbrev pub takes-up : ℕ × ℕ → Wire
-takes-up l = record { serving = l .0; «to_go» = l .1; silent = 0 }
+takes-up l = on-wire (l .0) (l .1) 0
 
 -- nothing is in service, and no silence is left to run
 abbrev pub idle : Wire → Bool

@@ -10,7 +10,7 @@ ghost use Prim.Native.Nat.{ℕ};
 ghost use Rattle.rules.specs.Limits.{notice-number};
 ghost use Rattle.rules.specs.Service.{free-line, begun, sends, sent};
 ghost use Rattle.tables.specs.Notices.{notices-formed};
-ghost use Rattle.line.specs.Wires.{line-in, wire-of, takes-up, idle, option, sent-of, Leaves, In-place};
+ghost use Rattle.line.specs.Wires.{line-in, on-wire, wire-of, takes-up, idle, option, sent-of, Leaves, In-place};
 use limits::NOTICE_NUMBER;
 use limits::numbers::without;
 use rules::Packet;
@@ -35,6 +35,17 @@ pub struct Sent {
     pub wire: Wire,
 }
 
+// The wire of three numbers.
+pub fn on_wire(serving: u32, units: u32, silent: u32) -> Wire
+    ensures { λ r. ⌜ r ≡ on-wire serving units silent ⌝ }
+{
+    Wire {
+        serving: serving,
+        to_go: units,
+        silent: silent,
+    }
+}
+
 // Nothing is in service, and no silence is left to run.
 pub fn is_idle(w: Wire) -> bool
     ensures { λ r. ⌜ r ≡ idle w ⌝ }
@@ -46,22 +57,14 @@ pub fn is_idle(w: Wire) -> bool
 fn taken(p: Packet) -> Wire
     ensures { λ r. ⌜ r ≡ takes-up (p .connection, p .len) ⌝ }
 {
-    Wire {
-        serving: p.connection,
-        to_go: p.len,
-        silent: 0,
-    }
+    on_wire(p.connection, p.len, 0)
 }
 
 // The line with nothing in service.
 fn free(silent: u32) -> Wire
     ensures { λ r. ⌜ r ≡ wire-of (free-line [] [] silent) ⌝ }
 {
-    Wire {
-        serving: 0,
-        to_go: 0,
-        silent: silent,
-    }
+    on_wire(0, 0, silent)
 }
 
 // Step 1: an idle line takes the chosen packet, else the first notice, else the packet that stands by. Nothing interrupts what is in service, and nothing

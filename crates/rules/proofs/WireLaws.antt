@@ -12,7 +12,7 @@ use borrow.Author.Tests.{eq-eqb, ne-eqb}
 use Rattle.rules.specs.Words.{upto}
 use Rattle.rules.specs.Limits.{max-notices, notice-number}
 use Rattle.rules.specs.Model.{Packet, Notice, notice-packet, first-notice}
-use Rattle.rules.specs.Service.{first, without, Wire, on-line, free-line, takes, begins, begun, packet-leaves, notice-leaves, sends, wire-tick, passed-wire, Sent, sent}
+use Rattle.rules.specs.Service.{first, without, Wire, on-line, free-line, takes, begins, begun, packet-leaves, notice-leaves, sends, wire-tick, Quiet-wire, passed-wire, Sent, sent}
 use Rattle.rules.specs.SoundLine.{wire-left, Waits, Wire-idle, Packet-on, Notice-on, Wire-sound}
 use Rattle.rules.proofs.Lists.{All, all-map, Sub, sub-refl, total}
 use Rattle.rules.proofs.Sums.{cond-is, upto-yes, upto-no, upto-le}
@@ -196,13 +196,6 @@ module _ (may : ℕ → Bool) (largest q t : ℕ) where
 -- ---- A QUIET TICK: nothing starts and nothing departs, whatever is made of it
 
 module _ (may : ℕ → Bool) (largest q t : ℕ) (w : Wire) (W : Wire-sound may largest q t w) (o b : Option Packet) (P : Picks t (w .held) o) where
-  -- more than a unit is to go; or a silence runs; or nothing is in service, no notice waits, no held packet is eligible and none stands by
-  abbrev pub Quiet-wire : Type 0
-  Quiet-wire =
-      (2 ≤ w .to-go)
-      ⊎ (((w .to-go ≡ 0) × (1 ≤ w .silent))
-      ⊎ ((w .to-go ≡ 0) × (w .silent ≡ 0) × (w .notices ≡ []) × All (λ p. t < p .eligibility) (w .held) × (b ≡ none)))
-
   no-owner : w .to-go ≡ 0 → w .serving ≡ 0
   no-owner e = ⊎-elim (λ z. z .1) (λ k. ⊎-elim (λ r. absurd (omega (arith, r .some-to-go))) (λ r. absurd (omega (arith, r .some-to-go))) k) (W .line)
 
@@ -224,10 +217,10 @@ module _ (may : ℕ → Bool) (largest q t : ℕ) (w : Wire) (W : Wire-sound may
     nothing-goes : w .to-go ≡ 0 → (c : ℕ) → Passes (c, 0)
     nothing-goes e c = line-is 0 0 (w .silent - 1) (sym (no-owner e)) (omega arith) refl
 
-    pub quiet-tick : Quiet-wire → wire-tick q tell o b w ≡ tell none (passed-wire w 1)
+    pub quiet-tick : Quiet-wire t b w → wire-tick q tell o b w ≡ tell none (passed-wire w 1)
     quiet-tick k = go (w .to-go) (w .silent) refl refl k
       where
-        go : (u r : ℕ) → w .to-go ≡ u → w .silent ≡ r → Quiet-wire → Passes (begins o b w u r)
+        go : (u r : ℕ) → w .to-go ≡ u → w .silent ≡ r → Quiet-wire t b w → Passes (begins o b w u r)
         go zero zero e f (inl l) = absurd (omega arith)
         go zero zero e f (inr (inl l)) = absurd (omega (arith, l .1))
         go zero zero e f (inr (inr l)) = subst Passes (sym (takes-nothing (l .2) (l .3) (l .4))) (nothing-goes e 0)

@@ -12,7 +12,7 @@ use Rattle.rules.specs.Limits.{max-levels, max-largest, max-silence, max
 use Rattle.rules.specs.Model.{Link, Connection, Past, Packet, State, Call, link, admit, offer, notice, close, tick, Short, no-short, Answer, no-windows, fresh, no-past, nth, past, figures, closed-at, with-clock, with-line}
 use Rattle.rules.specs.Admission.{rising, cost, link-within, level-within, burst, stamped, average-within, figures-within, owned, stands, joining, windowed, windows-within, window, bound, largest-bound, charge-time, rounded-up, count, reservation, reserved, stand-by-on, distance, ahead, conditions, span, limit-at, level-sum, Level-holds, excess-from, excess, level-test}
 use Rattle.rules.specs.QuickTest.{quick-holds, quick-excess, quick-test}
-use Rattle.rules.specs.Service.{nth-before, next-eligibility, suits, untimely-by, Spaced, of, eligibilities, first, chosen, stand-by, wire, wire-tick, line-after-start, started, tick-answer, moves-on, ticked, charge-over}
+use Rattle.rules.specs.Service.{nth-before, next-eligibility, suits, untimely-by, Spaced, of, eligibilities, first, chosen, stand-by, Quiet-wire, wire, wire-tick, line-after-start, started, tick-answer, moves-on, ticked, charge-over}
 use Rattle.rules.specs.SoundState.{Queue, In-service, Sound}
 use Rattle.rules.specs.SoundTest.{latest-by-gap, latest, sound}
 use Rattle.rules.specs.Calls.{heard, answer, refused-number, eligibility-now, packet}
@@ -663,12 +663,9 @@ Without-stand-by =
 
 -- ---- quiet ticks: those in which nothing starts, nothing departs and no number is freed
 
--- the line: more than a unit is to go; or a silence runs; or nothing is in service, no notice waits, no held packet is eligible and none stands by
+-- the line: `Quiet-wire` (Service) with the packet that stands by
 abbrev pub Quiet-line : State → Type 0
-Quiet-line s =
-    (2 ≤ s .to-go)
-    ⊎ (((s .to-go ≡ 0) × (1 ≤ s .silent))
-    ⊎ ((s .to-go ≡ 0) × (s .silent ≡ 0) × (s .notices ≡ []) × All (λ p. s .clock < p .eligibility) (s .held) × (stand-by s ≡ none)))
+Quiet-line s = Quiet-wire (s .clock) (stand-by s) (wire s)
 
 -- no charge ends with the tick
 abbrev pub Nobody-freed : State → Type 0

@@ -1,11 +1,13 @@
 -- When a packet may go, which goes next, and one tick of the line. Document 01, "Eligibility" and "One tick"; document 02, R-1, R-4, R-6, R-8, R-9, R-11 and R-13.
-use Prim.Native.Nat.{ℕ, zero, suc, _+_, _-_, _≤_, max}
+use Prim.Native.Nat.{ℕ, zero, suc, _+_, _-_, _≤_, _<_, max}
+use mathlib.Core.Path.{_≡_}
 use mathlib.Core.Bool.{Bool, true, false, cond, not, _&&_, _||_}
+use mathlib.Core.Logic.{_⊎_}
 use mathlib.Core.List.{List, [], _∷_, map}
 use mathlib.Core.Option.{Option, none, some}
 use lib.Dec.{leb, ltb, eqb}
 use lib.ListN.{getElem?, take}
-use Rattle.rules.specs.Words.{tabulate}
+use Rattle.rules.specs.Words.{tabulate, All}
 use Rattle.rules.specs.Limits.{max-connections, notice-number, max-remembered}
 use Rattle.rules.specs.Model.{Connection, Past, Packet, Notice, State, Answer, no-short, no-connection, no-past, past, figures, closed-at, notice-packet, with-connections, with-closed, with-clock, with-held, with-notices, with-line}
 use Rattle.rules.specs.Admission.{cost, burst, charge-time, stamped, goes-early}
@@ -179,6 +181,14 @@ module _ {A : Type 0} (q : ℕ) (tell : Option Packet → Wire → A) where
   -- both
   abbrev pub wire-tick : Option Packet → Option Packet → Wire → A
   wire-tick o b w = sends (begun o b w) (begun o b w .to-go)
+
+-- the line is quiet at the tick t, with b standing by: more than a unit is to go; or a silence runs; or nothing is in service, no notice waits, no held packet is
+-- eligible and none stands by
+abbrev pub Quiet-wire : ℕ → Option Packet → Wire → Type 0
+Quiet-wire t b w =
+    (2 ≤ w .to-go)
+    ⊎ (((w .to-go ≡ 0) × (1 ≤ w .silent))
+    ⊎ ((w .to-go ≡ 0) × (w .silent ≡ 0) × (w .notices ≡ []) × All (λ p. t < p .eligibility) (w .held) × (b ≡ none)))
 
 -- the line k ticks on, where nothing starts and nothing departs in them: what is in service, if anything is, has k units fewer to go, and a silence k ticks
 abbrev pub passed-wire : Wire → ℕ → Wire

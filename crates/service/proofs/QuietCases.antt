@@ -8,12 +8,12 @@ use mathlib.Core.Option.{Option, none, some}
 use lib.ListN.{length, getD, drop}
 use lib.Dec.{leb}
 use lib.Seq.{drop-length}
-use borrow.Author.Tests.{leb-true, eq-eqb, ne-eqb}
+use borrow.Author.Tests.{leb-true}
 use Rattle.rules.specs.Limits.{clock-end, beyond-32-bits}
 use Rattle.rules.specs.declared.Packet.{Packet}
 use Rattle.rules.specs.Model.{State}
 use Rattle.rules.specs.Admission.{charge-time}
-use Rattle.rules.specs.Service.{stand-by}
+use Rattle.rules.specs.Service.{stand-by, wire}
 use Rattle.rules.specs.SoundTest.{sound}
 use Rattle.rules.proofs.Tests.{never}
 use Rattle.rules.proofs.Figures.{charge-le}
@@ -21,10 +21,9 @@ use Rattle.rules.proofs.SoundExact.{exact}
 use Rattle.connections.specs.Members.{first-closed}
 use Rattle.tables.specs.Places.{rows, row-at, is-some}
 use Rattle.tables.proofs.PlacesLaws.{rows-stop, rows-more, rows-from}
-use Rattle.line.specs.Quiet.{eligible-from, quiet-for}
-use Rattle.line.proofs.QuietLaws.{eligible-from-le}
+use Rattle.line.specs.Quiet.{eligible-from, quiet-for, quiet-line}
+use Rattle.line.proofs.QuietLaws.{eligible-from-le, without-link, with-link}
 use Rattle.service.specs.Quiet.{least-of-four, Waits, first-starts, charged-for, quiet-ticks}
-use Rattle.service.proofs.QuietLaws.{Quiets, quiets}
 
 -- ---- the first eligibility, row by row
 
@@ -128,7 +127,7 @@ module _ (held : List Packet) (clock : ℕ) where
 module _ (s : State) (ok : sound s ≡ true) (left : ℕ) where
   pub none-without-link : s .link .levels ≡ 0 → 0 ≡ quiet-ticks left s
   unfolding quiet-ticks
-  none-without-link z = rw (ok, eq-eqb (s .link .levels) 0 z)
+  none-without-link = without-link (sound s) (s .link .levels) _ ok
 
   module _ (n : s .link .levels ≡ 0 → ⊥) where
     pub clock-in-time : s .clock ≤ clock-end
@@ -137,13 +136,9 @@ module _ (s : State) (ok : sound s ≡ true) (left : ℕ) where
     pub time-fits : charge-time (s .link) < beyond-32-bits
     time-fits = omega (arith, charge-le (s .link) (exact s .0 ok .with-one n .orderly .link-in))
 
-    pub some-quiet : (k : ℕ) → k ≡ min (min (min (quiet-for (s .to-go) (s .silent) (s .held) (s .notices) (stand-by s) (s .clock)) (clock-end - s .clock)) (charged-for (first-closed (s .pasts) (s .closed)) (charge-time (s .link)) (s .clock))) left → k ≡ quiet-ticks left s
+    pub some-quiet : (k : ℕ) → k ≡ min (min (quiet-line (s .clock) (stand-by s) (wire s)) (charged-for (first-closed (s .pasts) (s .closed)) (charge-time (s .link)) (s .clock))) left → k ≡ quiet-ticks left s
     unfolding quiet-ticks
-    some-quiet k e = rw (ok, ne-eqb (s .link .levels) 0 n) e
-
--- they are no more than are left, and the clock does not pass its end
-pub quiet-room : (left : ℕ) (s : State) {k : ℕ} → k ≡ quiet-ticks left s → (k ≡ 0 → ⊥) → Quiets left s k
-quiet-room left s e n = rw e (quiets left s (λ z. n (e ∙ z)))
+    some-quiet k e = e ∙ with-link (sound s) (s .link .levels) _ ok n
 
 -- ---- the charges
 

@@ -1,45 +1,38 @@
 -- Ticks in which nothing starts and nothing departs: what the rules answer to each, and the state after it.
-use Prim.Native.Nat.{ℕ, zero, suc, _+_, _-_, _≤_, _<_, min}
+use Prim.Native.Nat.{ℕ, zero, suc, _+_, _≤_, _<_, min}
 use native.Mathlib.Omega.{arith}
-use mathlib.Core.Path.{_≡_, refl, sym, subst}
-use mathlib.Core.Bool.{Bool, true, false, not, cond, _&&_}
+use mathlib.Core.Path.{_≡_, sym, subst}
+use mathlib.Core.Bool.{Bool, true, false}
 use mathlib.Core.List.{List, [], _∷_}
-use mathlib.Core.Logic.{inl, inr}
 use mathlib.Core.Option.{none}
-use lib.Dec.{eqb}
 use lib.ListN.{length, getD}
-use borrow.Author.Tests.{lt-leb, eqb-false, not-true}
-use Rattle.rules.specs.Limits.{clock-end}
-use Rattle.rules.specs.Model.{Past, State, tick, Answer, past, closed-at}
+use borrow.Author.Tests.{lt-leb}
+use Rattle.rules.specs.Model.{Past, State, tick, Answer, past, closed-at, with-clock, with-line}
 use Rattle.rules.specs.Admission.{charge-time}
 use Rattle.rules.specs.SoundState.{Sound-with-link, Sound}
 use Rattle.rules.specs.SoundTest.{sound}
-use Rattle.rules.specs.Service.{stand-by, wire, tick-answer, charge-over}
+use Rattle.rules.specs.Service.{stand-by, Wire as Line, wire, tick-answer, charge-over}
 use Rattle.rules.specs.Calls.{answer}
-use Rattle.rules.specs.Promises.{Quiet-line, Nobody-freed}
-use Rattle.rules.proofs.Tests.{never, and-true}
+use Rattle.rules.specs.Promises.{Nobody-freed}
+use Rattle.rules.proofs.Tests.{never}
 use Rattle.rules.proofs.Standing.{unexpired-charged}
-use Rattle.rules.proofs.Lists.{all-map}
 use Rattle.rules.proofs.SoundExact.{exact}
 use Rattle.rules.proofs.SoundKept.{kept}
 use Rattle.rules.proofs.Quiet.{quiet-passes}
 use Rattle.connections.specs.Members.{last-of, first-closed}
 use Rattle.connections.proofs.ClosingLaws.{first-before}
-use Rattle.line.specs.Quiet.{quiet-for}
-use Rattle.line.proofs.QuietLaws.{Still, still-for, still-then}
+use Rattle.line.specs.Quiet.{quiet-line}
+use Rattle.line.proofs.QuietLaws as L
+use Rattle.line.proofs.QuietLaws.{Quiets}
 use Rattle.service.specs.Quiet.{passed, charged-for, quiet-ticks}
 
 -- for k ticks no charge ends: each that is closed has sent, and its time lies behind them
 abbrev Charged : State → ℕ → Type 0
 Charged s k = (c : ℕ) → closed-at s c ≡ true → (1 ≤ length (past s c)) × (s .clock + k < last-of (past s c) + charge-time (s .link))
 
--- a sound hub with a link of which that holds, up to the clock's end
-pub record Quiet (s : State) (k : ℕ) : Type 0 where
-  pub sound-state : Sound s
-  pub set : s .link .levels ≡ 0 → ⊥
-  pub in-time : s .clock + k ≤ clock-end
-  pub still : Still (s .clock) (stand-by s) (wire s) k
-  pub charged : Charged s k
+-- a sound hub with a link of which that holds, and of which the line is still for k ticks, up to the clock's end
+abbrev pub Quiet : State → ℕ → Type 0
+Quiet s k = L.Quiet (Sound s) (Charged s k) (s .link .levels) (s .clock) (stand-by s) (wire s) k
 
 -- ---- one tick
 
@@ -48,46 +41,31 @@ abbrev quiet-answer : State → Answer
 quiet-answer s = tick-answer none (passed s 1)
 
 module _ (s : State) (k : ℕ) (Q : Quiet s (suc k)) where
-  -- the first of them is a quiet tick of the rules
-  line-quiet : Still (s .clock) (stand-by s) (wire s) (suc k) → Quiet-line s
-  line-quiet (inl (z, y, h, n, o)) = inr (inr (z, y, n, all-map (λ p b. omega arith) (s .held) h, o))
-  line-quiet (inr (inl (z, l))) = inr (inl (z, omega arith))
-  line-quiet (inr (inr l)) = inl (omega arith)
-
   nobody-freed : Nobody-freed s
-  nobody-freed c _ e = let q = Q .charged c e in charge-left (past s c) (q .0) (q .1)
+  nobody-freed c _ e = let q = Q .rests c e in charge-left (past s c) (q .0) (q .1)
     where
       charge-left : (h : Past) → 1 ≤ length h → s .clock + suc k < last-of h + charge-time (s .link) → charge-over (charge-time (s .link)) (s .clock + 1) h ≡ false
       charge-left [] l i = absurd (omega arith)
       charge-left (x ∷ h) l i = lt-leb (x + charge-time (s .link)) (s .clock + 1) (omega arith)
 
   pub one-quiet-tick : answer tick s ≡ quiet-answer s
-  one-quiet-tick = quiet-passes s (Q .sound-state) (Q .set) (omega (arith, Q .in-time)) (line-quiet (Q .still)) nobody-freed
+  one-quiet-tick = quiet-passes s (Q .sound-state) (Q .with-link) (omega (arith, Q .in-time)) (L.quiet-wire (s .clock) (stand-by s) (wire s) k (Q .still)) nobody-freed
 
   pub quiet-then : Quiet (passed s 1) k
-  quiet-then = record {
-    sound-state = subst (λ (a : Answer). Sound (a .next)) one-quiet-tick (kept tick s (Q .sound-state));
-    set = Q .set;
-    in-time = omega (arith, Q .in-time);
-    still = still-then (s .clock) (stand-by s) (wire s) k (Q .still);
-    charged = λ c e. let q = Q .charged c e in (q .0, omega (arith, q .1));
-  }
+  quiet-then =
+      L.quiet-then (s .link .levels) (s .clock) (stand-by s) (wire s) k Q (subst (λ (a : Answer). Sound (a .next)) one-quiet-tick (kept tick s (Q .sound-state)))
+      (λ c e. let q = Q .rests c e in (q .0, omega (arith, q .1)))
 
 -- ---- many
 
+abbrev put : State → ℕ → Line → State
+put s t l = with-line (with-clock s t) (l .serving) (l .to-go) (l .silent)
+
 pub pass-none : (s : State) → passed s 0 ≡ s
-pass-none s =
-    let e : s .clock + 0 ≡ s .clock = omega arith in
-    let f : s .to-go - 0 ≡ s .to-go = omega arith in
-    let g : s .silent - 0 ≡ s .silent = omega arith in
-    rw (e, f, g)
+pass-none s = L.pass-none (put s) (s .clock) (wire s)
 
 pub pass-one-more : (s : State) (k : ℕ) → passed (passed s 1) k ≡ passed s (suc k)
-pass-one-more s k =
-    let e : s .clock + 1 + k ≡ s .clock + suc k = omega arith in
-    let f : s .to-go - 1 - k ≡ s .to-go - suc k = omega arith in
-    let g : s .silent - 1 - k ≡ s .silent - suc k = omega arith in
-    rw (e, f, g)
+pass-one-more s = L.pass-one-more (put s) (s .clock) (wire s)
 
 -- ---- those that are passed over at once
 
@@ -111,30 +89,14 @@ charged-still s k S p h c e =
     go zero a b d = absurd (omega arith)
     go (suc f) a b d = omega arith
 
--- they are no more than are left, and nothing happens in them
-pub record Quiets (left : ℕ) (s : State) (k : ℕ) : Type 0 where
-  pub few : k ≤ left
-  pub quiet : Quiet s k
-
-pub quiets : (left : ℕ) (s : State) → (quiet-ticks left s ≡ 0 → ⊥) → Quiets left s (quiet-ticks left s)
+pub quiets : (left : ℕ) (s : State) → (quiet-ticks left s ≡ 0 → ⊥) → Quiets (Quiet s) left (quiet-ticks left s)
 unfolding quiet-ticks
-quiets left s n = go (sound s && not (eqb (s .link .levels) 0)) refl n
-  where
-    k : ℕ
-    k = min (min (min (quiet-for (s .to-go) (s .silent) (s .held) (s .notices) (stand-by s) (s .clock)) (clock-end - s .clock)) (charged-for (first-closed (s .pasts) (s .closed)) (charge-time (s .link)) (s .clock))) left
-
-    go : (b : Bool) → (sound s && not (eqb (s .link .levels) 0)) ≡ b → (cond b k 0 ≡ 0 → ⊥) → Quiets left s (cond b k 0)
-    go true e z =
-        let a = and-true (sound s) _ e in
-        let set = eqb-false _ _ (not-true _ (a .1)) in
-        record {
-          few = omega arith;
-          quiet = record {
-            sound-state = exact s .0 (a .0);
-            set = set;
-            in-time = omega arith;
-            still = still-for (s .clock) (stand-by s) (wire s) k (omega arith) (omega arith);
-            charged = charged-still s k (exact s .0 (a .0) .with-one set) (omega arith) (omega arith);
-          };
-        }
-    go false e z = absurd (z refl)
+quiets left s =
+    let charge = charged-for (first-closed (s .pasts) (s .closed)) (charge-time (s .link)) (s .clock) in
+    let k = min (min (quiet-line (s .clock) (stand-by s) (wire s)) charge) left in
+    L.if-linked-quiets (sound s) (s .link .levels) k (Quiet s) left
+    (λ ok n p. record {
+      few = omega arith;
+      quiet =
+          L.quiet-by (s .link .levels) (s .clock) (stand-by s) (wire s) k (exact s .0 ok) n (charged-still s k (exact s .0 ok .with-one n) p (omega arith)) p (omega arith);
+    })

@@ -2,18 +2,18 @@
 -- R-1, R-4, R-8, R-11 and R-12.
 use Prim.Native.Nat.{ℕ, zero, suc, _+_, _-_, min}
 use mathlib.Core.Path.{_≡_}
-use mathlib.Core.Bool.{Bool, false, not, cond, _&&_}
+use mathlib.Core.Bool.{Bool, false}
 use mathlib.Core.List.{List, [], _∷_}
-use lib.Dec.{eqb, leb}
+use lib.Dec.{leb}
 use lib.ListN.{drop}
 use Rattle.rules.specs.declared.Packet.{Packet}
 use Rattle.rules.specs.Limits.{clock-end}
 use Rattle.rules.specs.Model.{State, with-clock, with-line}
 use Rattle.rules.specs.Admission.{charge-time}
-use Rattle.rules.specs.Service.{stand-by}
+use Rattle.rules.specs.Service.{stand-by, wire}
 use Rattle.rules.specs.SoundTest.{sound}
 use Rattle.tables.specs.Places.{rows, row-at}
-use Rattle.line.specs.Quiet.{eligible-from, quiet-for}
+use Rattle.line.specs.Quiet.{eligible-from, quiet-line, if-linked}
 use Rattle.connections.specs.Members.{first-closed}
 
 -- the state k ticks on, where nothing starts and nothing departs in them: what is in service, if anything is, has k units fewer to go, and a silence k ticks
@@ -42,6 +42,5 @@ charged-for (suc last) time clock = suc last + time - 2 - clock
 -- of `left` ticks those that are passed over at once: none without a link, and none beyond the clock's end
 unfoldable pub quiet-ticks : ℕ → State → ℕ
 quiet-ticks left s =
-    cond (sound s && not (eqb (s .link .levels) 0))
-    (min (min (min (quiet-for (s .to-go) (s .silent) (s .held) (s .notices) (stand-by s) (s .clock)) (clock-end - s .clock)) (charged-for (first-closed (s .pasts) (s .closed)) (charge-time (s .link)) (s .clock))) left)
-    0
+    if-linked (sound s) (s .link .levels)
+    (min (min (quiet-line (s .clock) (stand-by s) (wire s)) (charged-for (first-closed (s .pasts) (s .closed)) (charge-time (s .link)) (s .clock))) left)

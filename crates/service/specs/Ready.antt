@@ -6,12 +6,12 @@ use Rattle.rules.specs.Words.{All}
 use Rattle.rules.specs.Limits.{clock-end, notice-number}
 use Rattle.tables.specs.Places.{rows}
 use Rattle.line.specs.declared.Wire.{Wire}
-use Rattle.line.specs.Wires.{In-place}
+use Rattle.line.specs.Wires.{on-wire, In-place}
 use Rattle.state.specs.declared.Hub.{Hub}
 
 -- the hub's line
 abbrev pub wire-in : Hub → Wire
-wire-in h = record { serving = h .serving; «to_go» = h .«to_go»; silent = h .silent }
+wire-in h = on-wire (h .serving) (h .«to_go») (h .silent)
 
 pub record Ready (h : Hub) (t q : List ℕ) : Type 0 where
   -- each row names a connection, which has another number than the notices

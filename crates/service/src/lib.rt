@@ -13,7 +13,7 @@ ghost use Rattle.connections.specs.Members.{members-length};
 ghost use Rattle.service.specs.Candidates.{best-of, level-in, early-in, Stands-in, Leads, Leads-with, Not-eligible};
 ghost use Rattle.state.specs.View.{before, view};
 ghost use Rattle.service.specs.Gives.{begun-wire, passed-on, Gives};
-ghost use Rattle.service.specs.Ready.{wire-in, Ready};
+ghost use Rattle.service.specs.Ready.{Ready};
 ghost use Rattle.tables.specs.Notices.{notices-formed};
 use limits::PACKET_WIDTH;
 use line::Best;
@@ -160,24 +160,13 @@ fn early_next(chosen: Best, l: Link, members: &[u32], places: &[u32], notices: &
     stand_by(l, members, places)
 }
 
-// The hub's line.
-fn wire_in(h: Hub) -> Wire
-    ensures { λ r. ⌜ r ≡ wire-in h ⌝ }
-{
-    Wire {
-        serving: h.serving,
-        to_go: h.to_go,
-        silent: h.silent,
-    }
-}
-
 // Step 1: an idle line takes the chosen packet, else the first notice, else the packet that stands by. While something is in service or the silence runs no
 // row is looked at.
 fn start(h: Hub, members: &[u32], places: &[u32], notices: &[u32]) -> Wire
     requires { ⌜ (now places ≡ written-places (rows (now places))) × (length (now places) ≡ places-length) × (notices-formed (now notices) ≡ true) × (length (now members) ≡ members-length) ⌝ }
     ensures { λ r. ⌜ r ≡ begun-wire (view h (before members places notices)) ⌝ }
 {
-    let w = wire_in(h);
+    let w = line::on_wire(h.serving, h.to_go, h.silent);
     if !line::is_idle(w) {
         return w;
     }

@@ -15,7 +15,6 @@ ghost use Rattle.service.specs.Candidates.{early-in};
 ghost use Rattle.line.specs.Quiet.{eligible-from, quiet-for};
 ghost use Rattle.service.specs.Quiet.{passed, least-of-four, Waits, first-starts, charged-for, quiet-ticks};
 use super::stand_by;
-use super::wire_in;
 use limits::CLOCK_END;
 use limits::PACKET_WIDTH;
 use limits::numbers::least;
@@ -84,7 +83,7 @@ fn quiet_for(h: Hub, members: &[u32], places: &[u32], notices: &[u32]) -> u32
     requires { ⌜ (now places ≡ written-places (rows (now places))) × (length (now places) ≡ places-length) × (length (now members) ≡ members-length) ⌝ }
     ensures { λ r. ⌜ r ≡ quiet-for (h .«to_go») (h .silent) (rows (now (places .entry))) (notices-in (now (notices .entry))) (first-early (early-in (h .link) (now (members .entry))) (rows (now (places .entry)))) (h .clock) ⌝ }
 {
-    let w = wire_in(h);
+    let w = line::on_wire(h.serving, h.to_go, h.silent);
     if !line::quiet::awaits(w, notices) {
         return line::quiet::taken_for(w);
     }
@@ -145,9 +144,10 @@ pub fn pass_over(h: Hub, k: u16) -> Hub
     requires { ⌜ h .clock + k ≤ clock-end ⌝ }
     ensures { λ r. ⌜ ((t : Tables) → r ≡ hub-of (passed (view h t) k)) ⌝ }
 {
+    let w = line::quiet::passed(line::on_wire(h.serving, h.to_go, h.silent), k);
     let mut later = h;
     later.clock = h.clock + k as u32;
-    later.to_go = without(h.to_go, k as u32);
-    later.silent = without(h.silent, k as u32);
+    later.to_go = w.to_go;
+    later.silent = w.silent;
     later
 }

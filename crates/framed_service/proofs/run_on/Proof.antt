@@ -10,15 +10,15 @@ use Rattle.framed_service.proofs.TickLaws.{tick-acts}
 use Rattle.framed_service.proofs.run_on.Statement.{statement}
 use Rattle.framed_service.proofs.run_on.Tie as tie
 
-wire-in-requires : tie.Need-wire-in-requires
-wire-in-requires c κs = search needs
+on-wire-requires : tie.Need-on-wire-requires
+on-wire-requires c κs = search needs
 
 run-tick-requires : tie.Need-run-tick-requires
 run-tick-requires c κs =
     let w = c .before .before in
     let z = w .before .before .before .before in
     let t = tables (z .args .shares .now) (z .args .places .now) (z .args .notices .now) in
-    subst (λ (v : Wire). Ready v (t .places) (t .notices)) (sym (w .wire-in .ensures)) (ready (z .args .h) t (z .pre .0) (tick-done (view (z .args .h) t) (z .pre .1) .set))
+    subst (λ (v : Wire). Ready v (t .places) (t .notices)) (sym (w .on-wire .ensures)) (ready (z .args .h) t (z .pre .0) (tick-done (view (z .args .h) t) (z .pre .1) .set))
 
 pass-requires : tie.Need-pass-requires
 pass-requires c κs =
@@ -38,7 +38,7 @@ returns c =
     let w = x .before .before .before in
     let z = w .before .before .before .before in
     let t = tables (z .args .shares .now) (z .args .places .now) (z .args .notices .now) in
-    tick-acts (z .args .h) t (z .pre .0) (z .pre .1) _ (w .wire-in .ensures) _ _ _ _ (x .run-tick .ensures) (c .pass .ensures)
+    tick-acts (z .args .h) t (z .pre .0) (z .pre .1) _ (w .on-wire .ensures) _ _ _ _ (x .run-tick .ensures) (c .pass .ensures)
 
 pub run-on-spec : {M : Type 1} → statement M
-run-on-spec = tie.close (tie.spec wire-in-requires run-tick-requires pass-requires same-length same-length-2 returns)
+run-on-spec = tie.close (tie.spec on-wire-requires run-tick-requires pass-requires same-length same-length-2 returns)

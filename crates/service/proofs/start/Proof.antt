@@ -13,8 +13,8 @@ use Rattle.service.proofs.TickLaws as L
 use Rattle.service.proofs.start.Statement.{statement}
 use Rattle.service.proofs.start.Tie as tie
 
-wire-in-requires : tie.Need-wire-in-requires
-wire-in-requires c κs = search needs
+on-wire-requires : tie.Need-on-wire-requires
+on-wire-requires c κs = search needs
 
 is-idle-requires : tie.Need-is-idle-requires
 is-idle-requires c κs = search needs
@@ -25,8 +25,8 @@ returns c =
     let a = g .before .before .before .before .args in
     let o = choice (level-in (a .members .now)) (a .h .clock) (rows (a .places .now)) in
     let b = first-early (early-in (a .h .link) (a .members .now)) (rows (a .places .now)) in
-    stays (g .wire-in .result) o b (a .places .now) (a .notices .now) (sym (c .before .is-idle .ensures) ∙ not-true _ (c .if1 .taken))
-    ∙ ap (λ (v : Wire). wire-of (begun o b (line-in v (a .places .now) (a .notices .now)))) (g .wire-in .ensures)
+    stays (g .on-wire .result) o b (a .places .now) (a .notices .now) (sym (c .before .is-idle .ensures) ∙ not-true _ (c .if1 .taken))
+    ∙ ap (λ (v : Wire). wire-of (begun o b (line-in v (a .places .now) (a .notices .now)))) (g .on-wire .ensures)
 
 choose-requires : tie.Need-choose-requires
 choose-requires c κs = search needs
@@ -45,9 +45,9 @@ returns-2 c =
     let g = i .before .before in
     let a = g .before .before .before .before .args in
     L.begins-with (a .h) (a .members .now) (a .places .now) (a .notices .now) (b .choose .result) (e .early-next .result) (c .begin .result)
-    (ap idle (sym (g .wire-in .ensures)) ∙ sym (i .before .is-idle .ensures) ∙ not-false _ (i .if1 .left)) (b .choose .ensures) (e .early-next .ensures)
+    (ap idle (sym (g .on-wire .ensures)) ∙ sym (i .before .is-idle .ensures) ∙ not-false _ (i .if1 .left)) (b .choose .ensures) (e .early-next .ensures)
     (c .begin .ensures (a .places .now)
-    ∙ ap (λ (v : Wire). wire-of (begun (option (b .choose .result)) (option (e .early-next .result)) (line-in v (a .places .now) (a .notices .now)))) (g .wire-in .ensures))
+    ∙ ap (λ (v : Wire). wire-of (begun (option (b .choose .result)) (option (e .early-next .result)) (line-in v (a .places .now) (a .notices .now)))) (g .on-wire .ensures))
 
 pub start-spec : {M : Type 1} → statement M
-start-spec = tie.close (tie.spec wire-in-requires is-idle-requires returns choose-requires early-next-requires begin-requires returns-2)
+start-spec = tie.close (tie.spec on-wire-requires is-idle-requires returns choose-requires early-next-requires begin-requires returns-2)

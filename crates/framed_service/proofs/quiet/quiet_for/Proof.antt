@@ -7,8 +7,8 @@ use Rattle.framed_service.specs.Ready.{wire-in}
 use Rattle.framed_service.proofs.quiet.quiet_for.Statement.{statement}
 use Rattle.framed_service.proofs.quiet.quiet_for.Tie as tie
 
-wire-in-requires : tie.Need-wire-in-requires
-wire-in-requires c κs = search needs
+on-wire-requires : tie.Need-on-wire-requires
+on-wire-requires c κs = search needs
 
 awaits-requires : tie.Need-awaits-requires
 awaits-requires c κs = search needs
@@ -22,7 +22,7 @@ returns c =
     let w = i .before in
     let a = w .before .before .before .args in
     goes-on (wire-in (a .h)) (a .places .now) (a .notices .now) none (a .h .clock)
-    _ (w .wire-in .ensures) _ (i .awaits .ensures) (not-true _ (c .before .if1 .taken)) _ (c .taken-for .ensures)
+    _ (w .on-wire .ensures) _ (i .awaits .ensures) (not-true _ (c .before .if1 .taken)) _ (c .taken-for .ensures)
 
 wait-requires : tie.Need-wait-requires
 wait-requires c κs = search needs
@@ -33,7 +33,7 @@ returns-2 c =
     let w = i .before in
     let a = w .before .before .before .args in
     awaited (wire-in (a .h)) (a .places .now) (a .notices .now) none (a .h .clock)
-    _ (w .wire-in .ensures) _ (i .awaits .ensures) (not-false _ (c .before .if1 .left)) _ (c .wait .ensures)
+    _ (w .on-wire .ensures) _ (i .awaits .ensures) (not-false _ (c .before .if1 .left)) _ (c .wait .ensures)
 
 pub quiet-for-spec : {M : Type 1} → statement M
-quiet-for-spec = tie.close (tie.spec wire-in-requires awaits-requires taken-for-requires returns wait-requires returns-2)
+quiet-for-spec = tie.close (tie.spec on-wire-requires awaits-requires taken-for-requires returns wait-requires returns-2)
