@@ -14,14 +14,14 @@ use borrow.Author.Tests.{le-leb, lt-leb, eq-eqb, ne-eqb}
 use Rattle.rules.specs.declared.Packet.{Packet}
 use Rattle.rules.specs.Words.{within, every, each}
 use Rattle.rules.specs.Limits.{max-connections, max-reserved, notice-number, beyond-32-bits, clock-end}
-use Rattle.rules.proofs.Sums.{cond-is, split}
+use Rattle.rules.proofs.Sums.{split}
 use Rattle.rules.proofs.Tests.{and-true, within-true}
 use Rattle.frames.specs.declared.Framing.{Framing}
 use Rattle.frames.specs.declared.Share.{Share}
 use Rattle.frames.proofs.Figures.{framing-facts, sum-is, stands-below}
-use Rattle.frames.specs.Model.{State, nth}
+use Rattle.frames.specs.Model.{nth}
 use Rattle.frames.specs.Admission.{framing-within, share-within, stands, frame-sum, all-units, all-places}
-use Rattle.frames.specs.SoundTest.{nothing-used, admissions-sound, row-sound, never-falls, share-sound, rows-sound, heads, in-turn-sound, sound}
+use Rattle.frames.specs.SoundTest.{nothing-used, admissions-sound, row-sound, never-falls, share-sound, rows-sound, heads, in-turn-sound}
 use Rattle.limits.proofs.ChainLaws.{fails, goes-on}
 use Rattle.tables.specs.Places.{rows, row-at}
 use Rattle.tables.specs.Notices.{notice-of}
@@ -31,7 +31,7 @@ use Rattle.shares.proofs.ShareLaws.{share-is}
 use Rattle.line_tests.proofs.LineLaws.{row-holds}
 use Rattle.framed_state.specs.declared.Frames.{Frames}
 use Rattle.framed_state.specs.View.{Tables, view}
-use Rattle.framed_sound.specs.Parts.{unused, linked-sound, Measured}
+use Rattle.framed_sound.specs.Parts.{unused, Measured}
 
 -- ---- with no link set
 
@@ -190,14 +190,3 @@ module _ (h : Frames) (t : Tables) where
       turn-first l is =
           rw (ne-eqb (h .«to_go») 0 n, ne-eqb (h .serving) notice-number m)
           (ap (λ (p : Packet). eqb (p .connection) (h .serving)) is ∙ sym (ap (heads (h .serving)) (rows-from (t .places) 0 l)))
-
--- ---- the whole
-
-module _ (s : State) {r : Bool} where
-  pub sound-unlinked : s .link .frame ≡ 0 → r ≡ nothing-used s → r ≡ sound s
-  unfolding sound
-  sound-unlinked z e = e ∙ sym (cond-is (nothing-used s) (linked-sound s) (eq-eqb (s .link .frame) 0 z))
-
-  pub sound-linked : (s .link .frame ≡ 0 → ⊥) → r ≡ linked-sound s → r ≡ sound s
-  unfolding sound
-  sound-linked n e = e ∙ sym (cond-is (nothing-used s) (linked-sound s) (ne-eqb (s .link .frame) 0 n))

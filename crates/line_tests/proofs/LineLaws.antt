@@ -3,10 +3,10 @@ use Prim.Native.Nat.{ℕ, zero, suc, _+_, _≤_, _<_}
 use native.Mathlib.Omega.{arith}
 use native.Mathlib.Numerals.{add-one}
 use mathlib.Core.Path.{_≡_, refl, sym, ap, _∙_}
-use mathlib.Core.Bool.{Bool, true, false, not, _&&_}
+use mathlib.Core.Bool.{Bool, true, false, not, cond, _&&_}
 use mathlib.Core.List.{List, [], _∷_, map}
 use mathlib.Core.Option.{Option, some}
-use lib.Dec.{leb}
+use lib.Dec.{leb, eqb}
 use lib.ListN.{length, getD, drop, length-map}
 use lib.Seq.{drop-length}
 use borrow.Author.Tests.{not-true, not-false, le-leb, eq-eqb, ne-eqb}
@@ -44,6 +44,14 @@ stops {r} {a} b e n = fails a b (falls e n)
 
 pub passes-on : {r a s b : Bool} → r ≡ a → not r ≡ false → s ≡ b → s ≡ (a && b)
 passes-on {r} {a} {s} {b} e n k = goes-on a b s (holds e n) k
+
+-- by the number of the link that is 0 where none is set: a without a link, b with one
+module _ (n : ℕ) (a b : Bool) {r : Bool} where
+  pub without-link : n ≡ 0 → r ≡ a → r ≡ cond (eqb n 0) a b
+  without-link z e = e ∙ sym (cond-is a b (eq-eqb n 0 z))
+
+  pub with-link : (n ≡ 0 → ⊥) → r ≡ b → r ≡ cond (eqb n 0) a b
+  with-link z e = e ∙ sym (cond-is a b (ne-eqb n 0 z))
 
 -- ---- a test of each element, one by one
 

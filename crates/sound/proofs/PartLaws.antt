@@ -13,11 +13,11 @@ use Rattle.rules.specs.declared.Connection.{Connection}
 use Rattle.rules.specs.declared.Packet.{Packet}
 use Rattle.rules.specs.Words.{within, every, each}
 use Rattle.rules.specs.Limits.{max-connections, max-reserved, max-remembered}
-use Rattle.rules.specs.Model.{State, Past, no-connection, nth}
+use Rattle.rules.specs.Model.{Past, no-connection, nth}
 use Rattle.rules.specs.Admission.{link-within, level-within, figures-within, owned, reserved, passes, goes-early}
 use Rattle.rules.specs.Service.{wire}
 use Rattle.rules.specs.SoundTest.{all-zero, blank, free-sound, one-each, nothing-used, connection-sound, number-sound, admissions-sound, row-sound}
-use Rattle.rules.specs.SoundTest.{notices-sound, line-sound, sound}
+use Rattle.rules.specs.SoundTest.{notices-sound, line-sound}
 use Rattle.rules.specs.SoundLine.{wire-sound}
 use Rattle.rules.proofs.Lists.{all-from}
 use Rattle.rules.proofs.Standing.{owned-below, level-owned, level-free}
@@ -42,7 +42,7 @@ pub use Rattle.line_tests.proofs.LineLaws.{holds, falls, stops, passes-on, each
 use Rattle.state.specs.declared.Hub.{Hub}
 use Rattle.state.specs.View.{Tables, view, tables-formed}
 use Rattle.state.proofs.SoundLaws.{shapes}
-use Rattle.sound.specs.Parts.{unused, linked-sound}
+use Rattle.sound.specs.Parts.{unused}
 use Rattle.sound.specs.Pace.{past-in, Names}
 
 -- ---- the rows of the table of connections, and the two numbers behind them
@@ -314,14 +314,3 @@ pub line-read : (h : Hub) (t : Tables) {early : Bool} → early ≡ goes-early (
     → wire-sound (λ _. early) (h .link .largest) (h .link .silence) (h .clock) (wire (view h t)) ≡ (notices-sound (view h t) && line-sound (view h t))
 unfolding wire-sound notices-sound line-sound
 line-read h t e = ap (λ (b : Bool). wire-sound (λ _. b) (h .link .largest) (h .link .silence) (h .clock) (wire (view h t))) e
-
--- ---- the whole
-
-module _ (s : State) {r : Bool} where
-  pub sound-unlinked : s .link .levels ≡ 0 → r ≡ nothing-used s → r ≡ sound s
-  unfolding sound
-  sound-unlinked z e = e ∙ sym (cond-is (nothing-used s) (linked-sound s) (eq-eqb (s .link .levels) 0 z))
-
-  pub sound-linked : (s .link .levels ≡ 0 → ⊥) → r ≡ linked-sound s → r ≡ sound s
-  unfolding sound
-  sound-linked n e = e ∙ sym (cond-is (nothing-used s) (linked-sound s) (ne-eqb (s .link .levels) 0 n))

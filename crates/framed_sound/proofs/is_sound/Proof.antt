@@ -1,6 +1,8 @@
-use mathlib.Core.Path.{_≡_, sym, ap, _∙_}
+use mathlib.Core.Path.{_∙_}
+use Rattle.frames.specs.SoundTest.{nothing-used, sound}
 use Rattle.framed_state.specs.View.{tables, view, sound-frames}
 use Rattle.framed_state.proofs.SoundLaws.{shapes}
+use Rattle.framed_sound.specs.Parts.{linked-sound}
 use Rattle.framed_sound.proofs.PartLaws as L
 use Rattle.line_tests.proofs.LineLaws as S
 use borrow.Author.Needs.{needs}
@@ -27,15 +29,25 @@ unused-ok-requires : tie.Need-unused-ok-requires
 unused-ok-requires c κs = search needs
 
 returns-2 : tie.Need-returns-2
-unfolding sound-frames
-returns-2 c = let s = c .before .before .before .before .before .before .before .before .before .before .before in S.passes-on (c .before .before .before .before .tables-formed .ensures) (c .before .before .before .if1 .left) (L.sound-unlinked (view (s .args .h) (tables (s .args .shares .now) (s .args .places .now) (s .args .notices .now))) (c .before .if2 .taken) (c .unused-ok .ensures ∙ L.unused-read (s .args .h) (tables (s .args .shares .now) (s .args .places .now) (s .args .notices .now)) (c .before .before .before .before .before .before .before .standing .ensures) (c .before .before .before .before .before .before .held .ensures) (c .before .before .before .before .before .held2 .ensures)))
+unfolding sound-frames sound
+returns-2 c =
+    let n = c .before .before .before .before .before in
+    let s = n .before .before .before .before .before .before in
+    let t = tables (s .args .shares .now) (s .args .places .now) (s .args .notices .now) in
+    let read = L.unused-read (s .args .h) t (n .before .before .standing .ensures) (n .before .held .ensures) (n .held2 .ensures) in
+    S.passes-on (c .before .before .before .before .tables-formed .ensures) (c .before .before .before .if1 .left)
+    (S.without-link (s .args .h .link .frame) (nothing-used (view (s .args .h) t)) (linked-sound (view (s .args .h) t)) (c .before .if2 .taken) (c .unused-ok .ensures ∙ read))
 
 linked-ok-requires : tie.Need-linked-ok-requires
 linked-ok-requires c κs = let s = c .before .before .before .before .before .before .before .before .before .before in let shape = S.holds (c .before .before .before .tables-formed .ensures) (c .before .before .if1 .left) in let f = shapes (tables (s .args .shares .now) (s .args .places .now) (s .args .notices .now)) shape in let k = S.counted (s .args .places .now) (s .args .notices .now) (f .places-shape) (f .notices-shape) (c .before .before .before .before .before .held .ensures) (c .before .before .before .before .held2 .ensures) in (k .0, k .1, f .members-shape, c .before .before .before .before .before .before .standing .ensures)
 
 returns-3 : tie.Need-returns-3
-unfolding sound-frames
-returns-3 c = let s = c .before .before .before .before .before .before .before .before .before .before .before in S.passes-on (c .before .before .before .before .tables-formed .ensures) (c .before .before .before .if1 .left) (L.sound-linked (view (s .args .h) (tables (s .args .shares .now) (s .args .places .now) (s .args .notices .now))) (c .before .if2 .left) (c .linked-ok .ensures))
+unfolding sound-frames sound
+returns-3 c =
+    let s = c .before .before .before .before .before .before .before .before .before .before .before in
+    let t = tables (s .args .shares .now) (s .args .places .now) (s .args .notices .now) in
+    S.passes-on (c .before .before .before .before .tables-formed .ensures) (c .before .before .before .if1 .left)
+    (S.with-link (s .args .h .link .frame) (nothing-used (view (s .args .h) t)) (linked-sound (view (s .args .h) t)) (c .before .if2 .left) (c .linked-ok .ensures))
 
 pub is-sound-spec : {M : Type 1} → statement M
 is-sound-spec =

@@ -1,6 +1,9 @@
 use mathlib.Core.Path.{_∙_}
+use Rattle.rules.specs.SoundTest.{nothing-used, sound}
+use Rattle.line_tests.proofs.LineLaws.{without-link, with-link}
 use Rattle.state.specs.View.{tables, view, sound-hub}
 use Rattle.state.proofs.SoundLaws.{shapes}
+use Rattle.sound.specs.Parts.{linked-sound}
 use Rattle.sound.proofs.PartLaws as S
 use borrow.Author.Needs.{needs}
 use Rattle.sound.proofs.is_sound.Statement.{statement}
@@ -23,14 +26,14 @@ unused-ok-requires : tie.Need-unused-ok-requires
 unused-ok-requires c κs = search needs
 
 returns-2 : tie.Need-returns-2
-unfolding sound-hub
+unfolding sound-hub sound
 returns-2 c =
     let a = c .before .before .before .before .before .before .before .before .before .before .args in
     let t = tables (a .members .now) (a .places .now) (a .notices .now) in
     let shape = S.holds (c .before .before .before .before .tables-formed .ensures) (c .before .before .before .if1 .left) in
     let read = S.unused-read (a .h) t shape (c .before .before .before .before .before .before .held .ensures) (c .before .before .before .before .before .held2 .ensures) in
     S.passes-on (c .before .before .before .before .tables-formed .ensures) (c .before .before .before .if1 .left)
-    (S.sound-unlinked (view (a .h) t) (c .before .if2 .taken) (c .unused-ok .ensures ∙ read))
+    (without-link (a .h .link .levels) (nothing-used (view (a .h) t)) (linked-sound (view (a .h) t)) (c .before .if2 .taken) (c .unused-ok .ensures ∙ read))
 
 linked-ok-requires : tie.Need-linked-ok-requires
 linked-ok-requires c κs =
@@ -42,12 +45,12 @@ linked-ok-requires c κs =
     (k .0, k .1, f .members-shape)
 
 returns-3 : tie.Need-returns-3
-unfolding sound-hub
+unfolding sound-hub sound
 returns-3 c =
     let a = c .before .before .before .before .before .before .before .before .before .before .args in
     let t = tables (a .members .now) (a .places .now) (a .notices .now) in
     S.passes-on (c .before .before .before .before .tables-formed .ensures) (c .before .before .before .if1 .left)
-    (S.sound-linked (view (a .h) t) (c .before .if2 .left) (c .linked-ok .ensures))
+    (with-link (a .h .link .levels) (nothing-used (view (a .h) t)) (linked-sound (view (a .h) t)) (c .before .if2 .left) (c .linked-ok .ensures))
 
 pub is-sound-spec : {M : Type 1} → statement M
 is-sound-spec = tie.close (tie.spec held-requires held-requires-2 tables-formed-requires returns unused-ok-requires returns-2 linked-ok-requires returns-3)
