@@ -209,7 +209,43 @@ impl Frames {
         Ok(self.join(share))
     }
 
-    fn join(&mut self, share: Share) -> u8 {
+    /// One with a link and a clock, as a table has them.
+    pub(crate) fn laid_out(link: Framing, clock: Tick) -> Frames {
+        Frames {
+            link: Some(link),
+            clock,
+            ..Frames::new()
+        }
+    }
+
+    /// A row more, as a table has it, which counts for its connection; nothing where that does not stand.
+    pub(crate) fn lay_out(
+        &mut self,
+        connection: u8,
+        length: u16,
+        tag: u32,
+        arrival: Tick,
+        eligibility: Tick,
+    ) -> Option<()> {
+        let link = self.link?;
+        let member = self.members.get_mut(usize::from(connection))?;
+        member.held += 1;
+        member.used_until = link.next_start(self.clock);
+        if eligibility > self.clock {
+            member.used += link.cost(length);
+        }
+        let row = Row {
+            connection,
+            length,
+            tag,
+            arrival,
+            eligibility,
+        };
+        self.rows.push_back(row);
+        Some(())
+    }
+
+    pub(crate) fn join(&mut self, share: Share) -> u8 {
         let number = self.members.len() as u8;
         self.units += u64::from(share.units);
         self.places += u64::from(share.places);

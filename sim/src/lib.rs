@@ -4,6 +4,7 @@
 //! document 01 that it follows, or the request of document 02 (docs/RULES.md). The simulator tests its own state for soundness
 //! only where it is asked to (`sound`): a trace starts from an empty state, so verdict 1 cannot occur.
 
+pub mod calls;
 pub mod departure;
 pub mod firmware;
 pub mod frames;
@@ -22,4 +23,5 @@ pub mod replay;
 pub mod sound;
 mod sound_frames;
 pub mod stats;
+pub mod tables;
 pub mod verdict;

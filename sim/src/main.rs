@@ -1,8 +1,9 @@
 //! `sim`: a trace on standard input, its answers on standard output.
 
-use std::io::{self, Write};
+use std::io::{self, BufWriter, Write};
 use std::process::ExitCode;
 
+use sim::calls::answer_lines;
 use sim::firmware;
 use sim::replay::{replay, Pace};
 use sim::stats::Stats;
@@ -11,6 +12,7 @@ const USAGE: &str = "\
 sim                        trace on standard input, answers on standard output
 sim --plain                the same, every tick by itself
 sim --tested               the same, the state tested before each record
+sim --calls                calls on lent tables, a line each, in and out
 sim --stats                trace on standard input, counts of verdicts and departures out
 sim --next FLAG LAST GAP NOW   next eligibility, four 32-bit numbers
 sim --level LINK ROWS      level question, both in hexadecimal ('-' is no bytes)
@@ -26,6 +28,7 @@ fn main() -> ExitCode {
         [] => replay(io::stdin().lock(), io::stdout().lock(), Pace::Passing),
         ["--plain"] => replay(io::stdin().lock(), io::stdout().lock(), Pace::Plain),
         ["--tested"] => replay(io::stdin().lock(), io::stdout().lock(), Pace::Tested),
+        ["--calls"] => answer_lines(io::stdin().lock(), BufWriter::new(io::stdout().lock())),
         ["--stats"] => Stats::of(io::stdin().lock()).and_then(|stats| say(&stats.table())),
         ["--next", numbers @ ..] => answer(next_question(numbers)),
         ["--level", link, rows] => answer(level_question(link, rows)),

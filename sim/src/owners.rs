@@ -73,6 +73,23 @@ impl Owner {
         self.reservation * Tick::from(self.connection.gap())
     }
 
+    /// One that is laid out in a table; closed where a moment frees its number.
+    pub fn laid_out(
+        connection: Connection,
+        reservation: u64,
+        recent: Recent,
+        loads: Loads,
+        charge_end: Option<Tick>,
+    ) -> Owner {
+        Owner {
+            connection,
+            reservation,
+            recent,
+            loads,
+            charge_end,
+        }
+    }
+
     pub fn loads(&self) -> &Loads {
         &self.loads
     }
@@ -123,6 +140,24 @@ impl Default for Owners {
 }
 
 impl Owners {
+    /// The numbers as a table has them, summed up.
+    pub fn laid_out(numbers: Vec<Option<Owner>>) -> Owners {
+        let mut owners = Owners::default();
+        for (number, owner) in numbers.iter().enumerate() {
+            if let Some(owner) = owner {
+                add(&mut owners.sums, &owner.loads);
+                owners.reserved += owner.reservation;
+                if let Some(end) = owner.charge_end {
+                    owners.next_end = owners.next_end.min(end);
+                    owners.charges.push(Reverse((end, number as u8)));
+                }
+            }
+        }
+        owners.lowest = numbers.iter().take_while(|one| one.is_some()).count();
+        owners.numbers = numbers;
+        owners
+    }
+
     /// All owners with their numbers.
     pub fn all(&self) -> impl Iterator<Item = (u8, &Owner)> {
         let numbered = |(number, owner): (usize, _)| (number as u8, owner);

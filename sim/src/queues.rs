@@ -74,6 +74,26 @@ impl Queues {
         }
     }
 
+    /// All held packets with their connections, in the order offered.
+    pub fn in_order(&self) -> Vec<(u8, Held)> {
+        let numbered = self.lines.iter().zip(0..);
+        let mut all: Vec<(u8, Held)> = numbered
+            .flat_map(|(line, number)| line.iter().map(move |held| (number, *held)))
+            .collect();
+        all.sort_by_key(|(_, held)| held.turn);
+        all
+    }
+
+    /// The first packet of a connection, as a table has it, is in service: none of these names it.
+    pub fn take_into_service(&mut self, connection: u8) {
+        let eligible = std::mem::take(&mut self.eligible).into_vec().into_iter();
+        let eligible = eligible.filter(|Reverse(first)| first.connection != connection);
+        self.eligible = eligible.collect();
+        let waiting = std::mem::take(&mut self.waiting).into_vec().into_iter();
+        let waiting = waiting.filter(|Reverse((_, first))| first.connection != connection);
+        self.waiting = waiting.collect();
+    }
+
     /// How many packets a connection holds.
     #[inline]
     pub fn held_by(&self, connection: u8) -> usize {

@@ -38,6 +38,15 @@ impl Recent {
         (newest + 1..first_known).all(|back| at(back + packets) + ticks <= at(back))
     }
 
+    /// These are remembered, newest first; at most 16.
+    pub fn of(newest_first: &[u32]) -> Recent {
+        let mut recent = Recent::default();
+        for &eligibility in newest_first.iter().rev() {
+            recent.remember(Tick::from(eligibility));
+        }
+        recent
+    }
+
     #[inline]
     pub fn remember(&mut self, eligibility: Tick) {
         self.ring[self.accepted as usize % REMEMBERED] = eligibility as u32;

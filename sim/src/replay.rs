@@ -101,8 +101,26 @@ impl Job {
         self.hub.clock().max(self.frames.clock())
     }
 
+    /// A line whose disciplines are at hand.
+    pub(crate) fn of(hub: Hub, frames: Frames) -> Job {
+        Job {
+            hub,
+            frames,
+            pace: Pace::Passing,
+        }
+    }
+
+    /// Up to so many ticks, as many as it takes until a packet leaves, by the discipline that is set: the
+    /// verdict of the first, how many were done, and what has left.
+    pub(crate) fn ticks_to_departure(&mut self, asked: Tick) -> (u8, Tick, Option<Departure>) {
+        match ticks_to_departure(&mut self.hub, asked) {
+            (NO_LINK, ..) => ticks_to_departure(&mut self.frames, asked),
+            told => told,
+        }
+    }
+
     /// Whether both disciplines are sound and at most one of them has a link.
-    fn is_sound(&self) -> bool {
+    pub(crate) fn is_sound(&self) -> bool {
         self.hub.is_sound()
             && self.frames.is_sound()
             && !(self.hub.link().is_ok() && self.frames.link().is_ok())
@@ -294,6 +312,25 @@ fn run_ticks<L: Ticking, E>(
         done += 1;
     }
     Ok((DONE, done))
+}
+
+/// The same up to the first departure. A tick that is refused behind others that are done ends them.
+fn ticks_to_departure<L: Ticking>(line: &mut L, asked: Tick) -> (u8, Tick, Option<Departure>) {
+    let mut done = 0;
+    let mut verdict = number_of(&line.has_link());
+    while verdict == DONE && done < asked {
+        done += line.pass_over(asked - done);
+        if done == asked {
+            break;
+        }
+        match line.tick() {
+            Ok(Some(departure)) => return (DONE, done + 1, Some(departure)),
+            Ok(None) => done += 1,
+            Err(_) if done > 0 => break,
+            Err(refusal) => verdict = refusal.number(),
+        }
+    }
+    (verdict, done, None)
 }
 
 /// What the trace holds next.
