@@ -1,20 +1,26 @@
 /* The hub of a ward's line, from C: the hub itself (first part), and three questions that keep nothing (second part). Document 01 and document 02 say what
    it does; the archive's functions are proved to do that and nothing else.
 
-   Link with the archives that `rt staticlib board` and `rt staticlib firmware` write, target/staticlib/libboard.a and libfirmware.a, for x86-64. They need `memcpy`,
-   `memset` and `memmove` of the C library at most, and nothing else; they take no memory but stack, keep nothing between the calls, and every call returns.
+   Link with libmtredovim.a, for x86-64 and its System V calling convention: `make -C examples/firmware` leaves it in target/staticlib. It is two archives put together, each
+   of which can be linked alone: libboard.a, the hub, which `rt staticlib board` writes, and libfirmware.a, the questions, which `rt staticlib firmware` writes. They need
+   `memcpy`, `memmove` and `memset`, the C library's or your own, and nothing else. They have no data of their own and take no memory but stack: a call of the hub some 25,000
+   bytes, one that is tested once (below) some 2,300, a question some 21,000 (measured; docs/BENCHMARKS.md, "From C"). Every call returns.
 
    A tick is the time in which the line sends one unit; how long that is only the board knows. A packet is told apart by a tag, which the hub hands back and never
    looks at: what is in the packet stays with the caller.
 
    The least that there is to do (examples/firmware/board.c is a whole main loop):
 
-       static struct mtredovim_hub hub;                          // all zero: fresh
-       struct mtredovim_link link = {1, 4, 0, 0, {10}, {0}};
+       static struct mtredovim_hub hub;                                      // all zero: fresh
+       struct mtredovim_link_figures link = {1, 4, 0, 0, {10}, {0}};         // one level, packets of up to 4 units, bound 10
        mtredovim_hub_link(&hub, &link);
-       mtredovim_hub_admit(&hub, 1, 10, 4, 0, 0, &admission);    // admission.number names the connection
+       mtredovim_hub_admit(&hub, 1, 10, 4, 0, 0, &admission);                // a packet of up to 4 units every 10 ticks; admission.number names the connection
        mtredovim_hub_offer(&hub, admission.number, 2, tag, &eligibility);
-       mtredovim_hub_tick(&hub, &departure);                     // once in every tick; departure.gone: this packet has left
+       mtredovim_hub_tick(&hub, &departure);                                 // once in every tick; departure.gone: this packet has left
+
+   Each returns a verdict, 0 where it is done. What is proved of any sequence of these calls on a fresh hub: each accepted packet of a level has left by its eligibility plus the
+   bound of its level, whatever other connections do; one that keeps to its gap, and its average, is eligible on arrival and is never refused for room. On a line with frames
+   each accepted packet has left by the end of the frame after that of its arrival. (crates/board/specs/Promises.antt)
 
    Threads and interrupts: the functions have no state of their own. Calls on different hubs may run at the same time. Two calls on one hub may not: the caller
    keeps an interrupt that offers packets out while another call on the same hub runs. */
@@ -45,7 +51,8 @@ enum {
    that applies is given. (14 is of recorded traces and is never returned here.) */
 enum mtredovim_verdict {
     MTREDOVIM_DONE = 0,
-    MTREDOVIM_NOT_SOUND = 1,       /* the tables are not a state of a hub: somebody else wrote to them, or a length is wrong. Every later call says so too: begin anew with zeros */
+    MTREDOVIM_NOT_SOUND = 1,       /* any call: the tables are not a state of a hub: somebody else wrote to them, or a length is wrong. Every later call says so too:
+                                      begin anew with zeros; what was held is lost */
     MTREDOVIM_NO_LINK = 2,         /* no link is set; or what is asked is known to the other discipline only (below) */
     MTREDOVIM_LINK_IS_SET = 3,     /* a link: one is set already, of either discipline */
     MTREDOVIM_LINK_LIMIT = 4,      /* a link: a limit of it is broken */
@@ -60,8 +67,8 @@ enum mtredovim_verdict {
     MTREDOVIM_CLOCK_ENDED = 13,    /* an offer, a notice, a tick: the clock is at 4,000,000,000 */
     MTREDOVIM_NOTICES_FULL = 15,   /* a notice: 64 wait */
     MTREDOVIM_HOLDS_PACKETS = 16,  /* a close: packets of the connection are held */
-    MTREDOVIM_BAD_STAMP = 17,      /* an offer with a stamp: the stamp is not a timely one */
-    MTREDOVIM_TOO_FAR_AHEAD = 18,  /* an offer, with `early` 1: it would be eligible too far ahead */
+    MTREDOVIM_BAD_STAMP = 17,      /* an offer with a stamp: it lies past the present tick, or with the allowance before it or less than a gap after the last eligibility */
+    MTREDOVIM_TOO_FAR_AHEAD = 18,  /* an offer, with `early` 1: it would be eligible more than its places times its gap past the present tick */
     MTREDOVIM_PAST_ITS_UNITS = 19  /* an offer on a line with frames: past the connection's r in this frame */
 };
 
@@ -82,9 +89,9 @@ struct mtredovim_hub {
 
 /* A link of levels. levels: 1 to 8, level 1 the most urgent. largest: S, the longest packet, 1 to 2,048 units. silence: ticks after each packet in which the line is
    quiet, 0 to 64. early: 0, or 1: packets may go before they are eligible while the line would idle. bounds: for each level the ticks within which a packet leaves
-   once it is eligible; the first at least S plus the silence, rising, at most 32,768; 0 past the levels. windows: all 0, or for each level at least its bound and at
+   once it is eligible; the first at least S plus the silence, rising strictly, at most 32,768; 0 past the levels. windows: all 0, or for each level at least its bound and at
    most 32,768, 0 past the levels: a finer admission test (document 02, R-12). */
-struct mtredovim_link {
+struct mtredovim_link_figures {
     uint32_t levels;
     uint32_t largest;
     uint32_t silence;
@@ -114,7 +121,8 @@ struct mtredovim_departure {
 };
 
 /* The functions that are proved. Each is lent the four tables, each with its length in numbers, and what it asks besides; answers come through the pointers behind
-   them, with every verdict: a refused admission is told {255, 0, 0}, all else zeros. Any lengths and any numbers get an answer. The wrappers below call them with a struct mtredovim_hub.
+   them, with every verdict: a refused admission is told {255, 0, 0}, with 8 its level and units in the place of the zeros; all else zeros. Any lengths and any numbers get
+   an answer. The numbers at the end of each comment are the verdicts that it can get besides 0 and 1. The wrappers below call them with a struct mtredovim_hub.
 
    What is not checked is the pointers. The caller sees to it that each is aligned, not null, good for as many numbers as its length says (of an array: as it is
    declared), and that no two of one call overlap, while the function runs.
@@ -170,7 +178,7 @@ uint32_t mtredovim_tick(uint32_t *line, size_t line_len, uint32_t *connections, 
 
 /* Up to n ticks, one by one, at once: up to the first with which a packet leaves, or n, or the clock's end. done: how many. The verdict is that of the first; with 0
    ticks asked it is 1 or 2 where these apply, else 0. Where fewer are done than asked and nothing has left, the clock has ended. Ticks in which nothing starts or
-   ends take no time of their own. 2, 13. */
+   ends are passed over together, up to 65,535 of them at once. 2, 13. */
 uint32_t mtredovim_ticks(uint32_t *line, size_t line_len, uint32_t *connections, size_t connections_len, uint32_t *places, size_t places_len,
     uint32_t *notices, size_t notices_len, uint32_t n, uint32_t *done, uint32_t departure[MTREDOVIM_DEPARTURE]);
 
@@ -183,7 +191,8 @@ uint32_t mtredovim_test(const uint32_t *line, size_t line_len, const uint32_t *c
    The test costs more than the call: it goes over all rows (docs/BENCHMARKS.md, "From C", counts it). Each call above has a second form that leaves it out, with the
    same arguments and, on tables that are sound, the same answer and the same tables.
 
-   THE CALLER'S DUTY: the tables are sound. On others nothing is promised, not even that the function returns or writes only where it may. They are sound
+   THE CALLER'S DUTY: the tables are sound and have their lengths. On others nothing is promised, not even that the function returns or writes only where it may. They
+   are sound
      - when all are zero, or mtredovim_test has answered 0, or a call of the first form has answered anything but 1,
      - and since then nothing has written to them but calls of this header, of either form, each of which leaves sound tables (proved).
    So a board tests once, at its start or when memory may have been damaged, and then calls these. What it gives up is that damage is noticed. */
@@ -217,7 +226,7 @@ uint32_t mtredovim_ticks_tested(uint32_t *line, size_t line_len, uint32_t *conne
 
 /* ---- The same, with a struct mtredovim_hub ---- */
 
-/* The tables of a hub, as every function above takes them first. */
+/* The tables of a hub, as every function above takes them first; `hub` is looked at four times. */
 #define MTREDOVIM_TABLES(hub)                                                                                                  \
     (hub)->line, MTREDOVIM_LINE, (hub)->connections, MTREDOVIM_CONNECTIONS, (hub)->places, MTREDOVIM_PLACES, (hub)->notices, MTREDOVIM_NOTICES
 
@@ -239,12 +248,18 @@ static inline void mtredovim_put_departure(struct mtredovim_departure *departure
     departure->finish = told[6];
 }
 
+/* The present tick: that of frames where a link of frames is set, else that of levels. */
+static inline uint32_t mtredovim_hub_clock(const struct mtredovim_hub *hub)
+{
+    return hub->line[24] != 0 ? hub->line[27] : hub->line[20];
+}
+
 static inline uint32_t mtredovim_hub_test(const struct mtredovim_hub *hub)
 {
     return mtredovim_test(MTREDOVIM_TABLES(hub));
 }
 
-static inline uint32_t mtredovim_hub_link(struct mtredovim_hub *hub, const struct mtredovim_link *link)
+static inline uint32_t mtredovim_hub_link(struct mtredovim_hub *hub, const struct mtredovim_link_figures *link)
 {
     return mtredovim_link(MTREDOVIM_TABLES(hub), link->levels, link->largest, link->silence, link->early, link->bounds, link->windows);
 }
@@ -323,7 +338,7 @@ static inline uint32_t mtredovim_hub_ticks(struct mtredovim_hub *hub, uint32_t n
 }
 
 /* .. and tested once: THE CALLER'S DUTY above. */
-static inline uint32_t mtredovim_hub_link_tested(struct mtredovim_hub *hub, const struct mtredovim_link *link)
+static inline uint32_t mtredovim_hub_link_tested(struct mtredovim_hub *hub, const struct mtredovim_link_figures *link)
 {
     return mtredovim_link_tested(MTREDOVIM_TABLES(hub), link->levels, link->largest, link->silence, link->early, link->bounds, link->windows);
 }

@@ -1,5 +1,6 @@
 /* A board's main loop over the hub: interrupts leave packets in a ring, a timer makes a tick of every unit of the line, what departs goes to the UART. The ward is that of
-   P1, P2, P8, P9 and P10 of document 01, "Table of proved examples"; interrupts, timer and UART are stand-ins. */
+   P1, P2, P8, P9 and P10 of document 01, "Table of proved examples", with one packet more; README.md has what it prints, worked out by hand. Interrupts, timer and UART are
+   stand-ins. */
 #include <stdio.h>
 
 #include "mtredovim.h"
@@ -12,12 +13,13 @@ struct packet {
 
 static struct mtredovim_hub hub; /* all zero: fresh */
 
-/* ---- the stand-ins: a packet arrives at its tick; a departure is printed */
+/* ---- the stand-ins: a packet arrives at its tick, and is lost where the ring is full; a departure is printed */
 
 static const struct packet to_come[] = {{0, 1, 4, 81}, {1, 0, 4, 82}, {1, 0, 4, 9}, {8, 0, 1, 10}, {25, 1, 3, 11}};
 
 static struct packet ring[RING];
-static unsigned filled, drained;
+static volatile unsigned filled; /* interrupts write it */
+static unsigned drained;
 
 static void interrupts(uint32_t tick)
 {
@@ -54,7 +56,7 @@ static void drain(uint32_t tick)
 
 int main(void)
 {
-    const struct mtredovim_link link = {2, 4, 0, 0, {10, 20, 0, 0, 0, 0, 0, 0}, {0, 0, 0, 0, 0, 0, 0, 0}};
+    const struct mtredovim_link_figures link = {2, 4, 0, 0, {10, 20, 0, 0, 0, 0, 0, 0}, {0, 0, 0, 0, 0, 0, 0, 0}};
     struct mtredovim_admission admission;
     struct mtredovim_departure departure;
     uint32_t verdict, done;

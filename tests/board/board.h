@@ -5,6 +5,7 @@
 #include <stdbool.h>
 #include <stddef.h>
 #include <stdint.h>
+#include <stdio.h>
 
 #include "mtredovim.h"
 
@@ -27,6 +28,10 @@ extern const size_t whole[TABLES];
 struct lent lend_tables(const size_t length[TABLES]);
 void return_tables(struct lent *lent);
 
+/* A hub, all zero, up to such a page; given back by return_hub. */
+struct mtredovim_hub *lend_hub(void);
+void return_hub(struct mtredovim_hub *hub);
+
 /* The numbers of one in the place of the other's, as many as both have. */
 void copy_tables(struct lent *to, const struct lent *from);
 bool same_tables(const struct lent *a, const struct lent *b);
@@ -35,10 +40,12 @@ bool same_tables(const struct lent *a, const struct lent *b);
 
 enum kind { LINK, LINK_FRAMES, ADMIT, ADMIT_STAMPED, ADMIT_SHARE, OFFER, OFFER_STAMPED, NOTICE, CLOSE, TICK, TICKS, KINDS };
 
+/* The most numbers that a call asks: a link's, its eight bounds, its eight windows. */
+enum { MOST_ASKED = 4 + 2 * MTREDOVIM_LEVELS };
+
 struct call {
     enum kind kind;
-    uint32_t number[5];
-    struct mtredovim_link link;
+    uint32_t number[MOST_ASKED];
 };
 
 struct told {
@@ -48,13 +55,43 @@ struct told {
     struct mtredovim_departure departure;
 };
 
-/* Makes the call, in the first form or, where `tested`, in the form that leaves the test out. */
+/* The name of a call behind mtredovim_, and how many numbers it asks. */
+extern const char *const name_of[KINDS];
+extern const int asked_by[KINDS];
+
+/* A call whose first numbers are these, in the order of the function's. */
+struct call a_call(enum kind kind, uint32_t a, uint32_t b, uint32_t c, uint32_t d, uint32_t e);
+struct call a_link_call(const struct mtredovim_link_figures *link);
+
+/* Makes the call by the function, in the first form or, where `tested`, in the form that leaves the test out. */
 struct told make_call(struct lent *lent, const struct call *call, bool tested);
 
-/* A call whose numbers stand in this order: as the function's, from connection, level, length or n on. */
-struct call a_call(enum kind kind, uint32_t a, uint32_t b, uint32_t c, uint32_t d, uint32_t e);
+/* The same by the header's wrapper. */
+struct told make_hub_call(struct mtredovim_hub *hub, const struct call *call, bool tested);
 
-/* ---- trace.c: trace records and answer records. */
+/* mtredovim_test. */
+uint32_t test_tables(const struct lent *lent);
+
+/* ---- slips.c: an archive that is wrong, for the test of the test. 0: none. */
+
+enum { SLIPS = 18 };
+extern int slip;
+void slip_before(struct lent *lent, struct call *call);
+void slip_after(struct lent *lent, const struct call *call, bool tested, struct told *told);
+
+/* ---- lines.c: calls and answers as lines of text, as `sim --calls` reads and writes them. */
+
+struct lines {
+    FILE *asked, *answered;
+};
+
+/* The tables are lent: whether they are sound is answered. */
+void say_lent(struct lines *lines, const struct lent *lent);
+
+/* A call, made on tables that stood at `before` and stand at `after`; `kept` where they stay so. */
+void say_call(struct lines *lines, bool kept, const struct call *call, const struct told *told, const struct lent *before, const struct lent *after);
+
+/* ---- trace.c: a trace in, its answers out, by the wrappers; ticks one by one, or of each record the first by itself and then many at once. */
 
 struct bytes {
     uint8_t *at;
@@ -62,22 +99,13 @@ struct bytes {
     size_t room;
 };
 
-void put_bytes(struct bytes *bytes, uint64_t number, unsigned width);
-
-/* The call that the record at `from` asks, and its bytes; 0 where it is malformed. */
-size_t read_record(const uint8_t *from, size_t length, struct call *call);
-
-/* The record that asks a call. A number that its field does not hold is put in by one that breaks the same limit. */
-void put_record(struct bytes *trace, const struct call *call);
-
-/* Makes a call and writes what is answered: TK n as n single ticks, or by many at once. */
-enum pace { ONE_BY_ONE, AT_ONCE };
-void answer_call(struct lent *lent, const struct call *call, bool tested, enum pace pace, struct bytes *answers);
-
-/* A trace in, its answers out. */
+enum pace { ONE_BY_ONE, MIXED };
 void replay(const uint8_t *trace, size_t length, bool tested, enum pace pace, struct bytes *answers);
 
-/* ---- random.c and damage.c */
+/* ---- pipe.c: blocks of numbers in and out, as crates/hub_pipe has them, for tests/hub-cases. */
+void serve_pipe(void);
+
+/* ---- random.c: so many random calls on fresh hubs. */
 
 struct chance {
     uint64_t state;
@@ -87,13 +115,16 @@ uint32_t draw(struct chance *chance);
 /* 0 to n - 1. */
 uint32_t below(struct chance *chance, uint32_t n);
 
-/* So many random calls on fresh hubs, each hub's trace and answers in files of this folder. */
-void random_calls(uint64_t seed, unsigned long calls, const char *folder);
+void random_calls(uint64_t seed, unsigned long calls, struct lines *lines);
 
-/* Random tables, and sound ones damaged in ways of which the documents say whether they are sound then. */
-void damaged_tables(uint64_t seed, unsigned long times);
+/* Makes a call on these tables in both forms, sees that they agree, says it and gives what was told. `before` and `other` are tables of the same lengths to work with. */
+struct told say_both(struct lines *lines, bool kept, const struct call *call, struct lent *lent, struct lent *before, struct lent *other);
 
-/* ---- stack.c: the bytes of stack that the calls take at most. */
+/* ---- damage.c: tables of any length and any content: those of so many hubs in use, changed, and random ones. */
+void damaged_tables(uint64_t seed, unsigned long hubs, struct lines *lines);
+
+/* ---- full.c: a hub with so many rows and connections: the stack of each call on it, and so many calls, behind so many ticks. */
 void show_stack(void);
+void one_call(const char *name, uint32_t rows, uint32_t connections, bool windows, bool tested, uint32_t ticks, uint32_t times);
 
 #endif

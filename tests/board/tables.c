@@ -56,6 +56,16 @@ void return_tables(struct lent *lent)
         return_table(lent->table[i], lent->length[i]);
 }
 
+struct mtredovim_hub *lend_hub(void)
+{
+    return (struct mtredovim_hub *)(void *)lend_table(sizeof(struct mtredovim_hub) / sizeof(uint32_t));
+}
+
+void return_hub(struct mtredovim_hub *hub)
+{
+    return_table((uint32_t *)(void *)hub, sizeof *hub / sizeof(uint32_t));
+}
+
 void copy_tables(struct lent *to, const struct lent *from)
 {
     for (int i = 0; i < TABLES; i++) {

@@ -1,13 +1,12 @@
-/* Trace records and answer records (document 01, "Trace and answer records"; docs/RULES-AFTER-BASE.md): a trace is run by calls of the archive, and what they answer is
+/* Trace records and answer records (document 01, "Trace and answer records"; docs/RULES-AFTER-BASE.md): a trace is run by the header's wrappers, and what they answer is
    written as the trace job writes it. */
 #include <stdlib.h>
-#include <string.h>
 
 #include "board.h"
 
-enum { TRACE_LIMIT = 16777216, MALFORMED = 14, MOST_BYTE = 255, MOST_TWO = 65535 };
+enum { TRACE_LIMIT = 16777216, MALFORMED = 14, MOST_FIELDS = 5 };
 
-void put_bytes(struct bytes *bytes, uint64_t number, unsigned width)
+static void put_bytes(struct bytes *bytes, uint64_t number, unsigned width)
 {
     if (bytes->length + width > bytes->room) {
         bytes->room = 2 * bytes->room + 4096;
@@ -39,7 +38,7 @@ static uint32_t take(const uint8_t **from, unsigned width)
 static const struct layout {
     char mark[3];
     enum kind kind;
-    unsigned width[5];
+    unsigned width[MOST_FIELDS];
 } layouts[] = {
     {"LF", LINK_FRAMES, {2, 2, 1, 0, 0}}, {"CN", ADMIT, {1, 2, 2, 2, 2}}, {"CS", ADMIT_STAMPED, {1, 2, 2, 2, 0}},
     {"CF", ADMIT_SHARE, {2, 2, 0, 0, 0}}, {"CL", CLOSE, {1, 0, 0, 0, 0}}, {"PK", OFFER, {1, 2, 4, 0, 0}},
@@ -55,25 +54,26 @@ static bool has_mark(const uint8_t *from, const char *mark)
 static size_t read_link(const uint8_t *from, size_t length, struct call *call)
 {
     bool set = has_mark(from, "LE") || has_mark(from, "LW"), windows = has_mark(from, "LW");
-    struct mtredovim_link *link = &call->link;
+    struct mtredovim_link_figures link = {0, 0, 0, 0, {0}, {0}};
     size_t levels = length > 2 ? from[2] : 0, size = (set ? 7u : 6u) + (windows ? 4u : 2u) * levels;
 
     if (levels < 1 || levels > MTREDOVIM_LEVELS || length < size)
         return 0;
-    *call = a_call(LINK, 0, 0, 0, 0, 0);
     from += 2;
-    link->levels = take(&from, 1);
-    link->largest = take(&from, 2);
-    link->silence = take(&from, 1);
-    link->early = set ? take(&from, 1) : 0;
+    link.levels = take(&from, 1);
+    link.largest = take(&from, 2);
+    link.silence = take(&from, 1);
+    link.early = set ? take(&from, 1) : 0;
     for (size_t i = 0; i < levels; i++)
-        link->bounds[i] = take(&from, 2);
+        link.bounds[i] = take(&from, 2);
     for (size_t i = 0; windows && i < levels; i++)
-        link->windows[i] = take(&from, 2);
+        link.windows[i] = take(&from, 2);
+    *call = a_link_call(&link);
     return size;
 }
 
-size_t read_record(const uint8_t *from, size_t length, struct call *call)
+/* The call that the record at `from` asks, and its bytes; 0 where it is malformed. */
+static size_t read_record(const uint8_t *from, size_t length, struct call *call)
 {
     if (length < 2)
         return 0;
@@ -83,7 +83,7 @@ size_t read_record(const uint8_t *from, size_t length, struct call *call)
         const struct layout *layout = &layouts[i];
         size_t size = 2;
 
-        for (int k = 0; k < 5; k++)
+        for (int k = 0; k < MOST_FIELDS; k++)
             size += layout->width[k];
         if (!has_mark(from, layout->mark))
             continue;
@@ -91,97 +91,11 @@ size_t read_record(const uint8_t *from, size_t length, struct call *call)
             return 0;
         *call = a_call(layout->kind, 0, 0, 0, 0, 0);
         from += 2;
-        for (int k = 0; k < 5; k++)
+        for (int k = 0; k < MOST_FIELDS; k++)
             call->number[k] = take(&from, layout->width[k]);
         return size;
     }
     return 0;
-}
-
-static bool all_within(const uint32_t *numbers, int from, int to, uint32_t most)
-{
-    for (int i = from; i < to; i++)
-        if (numbers[i] > most)
-            return false;
-    return true;
-}
-
-/* A number that its field does not hold breaks a limit, as the one that is written for it does: any figure of a link (4), an admission's level (5), another figure of it
-   (6, by a gap or an r of 0), the number of a connection (10), a length (11). */
-static struct call narrowed(const struct call *call)
-{
-    struct call c = *call;
-    uint32_t *n = c.number;
-
-    switch (c.kind) {
-    case LINK_FRAMES:
-        if (!all_within(n, 0, 2, MOST_TWO) || n[2] > MOST_BYTE)
-            n[0] = n[1] = n[2] = 0;
-        break;
-    case ADMIT:
-    case ADMIT_STAMPED:
-        if (!all_within(n, 1, 5, MOST_TWO))
-            n[1] = n[2] = n[3] = n[4] = 0;
-        if (n[0] > MOST_BYTE)
-            n[0] = MOST_BYTE;
-        break;
-    case ADMIT_SHARE:
-        if (!all_within(n, 0, 2, MOST_TWO))
-            n[0] = n[1] = 0;
-        break;
-    case OFFER:
-    case OFFER_STAMPED:
-        if (n[0] > MOST_BYTE)
-            n[0] = MOST_BYTE;
-        if (n[1] > MOST_TWO)
-            n[1] = MOST_TWO;
-        break;
-    case CLOSE:
-        if (n[0] > MOST_BYTE)
-            n[0] = MOST_BYTE;
-        break;
-    case NOTICE:
-        if (n[0] > MOST_TWO)
-            n[0] = MOST_TWO;
-        break;
-    default: break;
-    }
-    return c;
-}
-
-/* A link as an LW with eight levels; one that breaks a limit by a number that no LW has as one whose S is 0. */
-static void put_link(struct bytes *trace, const struct mtredovim_link *link)
-{
-    bool named = link->levels >= 1 && link->levels <= MTREDOVIM_LEVELS && link->largest <= MOST_TWO && link->silence <= MOST_BYTE && link->early <= MOST_BYTE;
-    uint32_t levels = named ? link->levels : 1;
-
-    for (uint32_t i = 0; i < MTREDOVIM_LEVELS; i++)
-        named = named && link->bounds[i] <= MOST_TWO && link->windows[i] <= MOST_TWO && (i < levels || (link->bounds[i] == 0 && link->windows[i] == 0));
-    put_mark(trace, "LW");
-    put_bytes(trace, levels, 1);
-    put_bytes(trace, named ? link->largest : 0, 2);
-    put_bytes(trace, named ? link->silence : 0, 1);
-    put_bytes(trace, named ? link->early : 0, 1);
-    for (uint32_t i = 0; i < levels; i++)
-        put_bytes(trace, link->bounds[i], 2);
-    for (uint32_t i = 0; i < levels; i++)
-        put_bytes(trace, link->windows[i], 2);
-}
-
-void put_record(struct bytes *trace, const struct call *call)
-{
-    struct call c = narrowed(call);
-
-    if (c.kind == TICK)
-        c = a_call(TICKS, 1, 0, 0, 0, 0);
-    if (c.kind == LINK)
-        put_link(trace, &c.link);
-    for (size_t i = 0; i < sizeof layouts / sizeof layouts[0]; i++)
-        if (layouts[i].kind == c.kind) {
-            put_mark(trace, layouts[i].mark);
-            for (int k = 0; k < 5; k++)
-                put_bytes(trace, c.number[k], layouts[i].width[k]);
-        }
 }
 
 static void put_departure(struct bytes *answers, const struct mtredovim_departure *d)
@@ -207,36 +121,37 @@ static void put_two(struct bytes *answers, const char mark[2], uint32_t verdict,
 }
 
 /* The asked ticks, up to the first that is refused. */
-static void run_ticks(struct lent *lent, uint32_t asked, bool tested, enum pace pace, struct bytes *answers)
+static void run_ticks(struct mtredovim_hub *hub, uint32_t asked, bool tested, enum pace pace, struct bytes *answers)
 {
     uint32_t done = 0;
-    struct told told = {0, 0, {0, 0, 0}, {0, 0, 0, 0, 0, 0, 0}};
+    struct told told;
 
     do {
         struct call call = a_call(TICKS, asked - done, 0, 0, 0, 0);
 
-        if (pace == ONE_BY_ONE && asked != 0)
+        if (asked != 0 && (pace == ONE_BY_ONE || done == 0))
             call = a_call(TICK, 0, 0, 0, 0, 0);
-        told = make_call(lent, &call, tested);
+        told = make_hub_call(hub, &call, tested);
         if (call.kind == TICK)
             told.number = told.verdict == 0;
         must(told.number <= asked - done, "no more ticks than asked");
         must(told.verdict == 0 || told.number == 0, "a refusal, and no tick is done");
         done += told.number;
         put_departure(answers, &told.departure);
+        must(told.departure.gone == 0 || told.departure.finish == mtredovim_hub_clock(hub), "the finish is the clock");
     } while (told.verdict == 0 && done < asked);
     put_two(answers, "TA", told.verdict, done, 2);
 }
 
-void answer_call(struct lent *lent, const struct call *call, bool tested, enum pace pace, struct bytes *answers)
+static void answer_call(struct mtredovim_hub *hub, const struct call *call, bool tested, enum pace pace, struct bytes *answers)
 {
     struct told told;
 
-    if (call->kind == TICK || call->kind == TICKS) {
-        run_ticks(lent, call->kind == TICK ? 1 : call->number[0], tested, pace, answers);
+    if (call->kind == TICKS) {
+        run_ticks(hub, call->number[0], tested, pace, answers);
         return;
     }
-    told = make_call(lent, call, tested);
+    told = make_hub_call(hub, call, tested);
     switch (call->kind) {
     case LINK:
     case LINK_FRAMES: put_two(answers, "LA", told.verdict, 0, 0); break;
@@ -255,7 +170,7 @@ void answer_call(struct lent *lent, const struct call *call, bool tested, enum p
 
 void replay(const uint8_t *trace, size_t length, bool tested, enum pace pace, struct bytes *answers)
 {
-    struct lent lent = lend_tables(whole);
+    struct mtredovim_hub *hub = lend_hub();
     struct call call;
     size_t at = 0;
 
@@ -266,8 +181,9 @@ void replay(const uint8_t *trace, size_t length, bool tested, enum pace pace, st
             put_two(answers, "ER", MALFORMED, (uint32_t)at, 4);
             break;
         }
-        answer_call(&lent, &call, tested, pace, answers);
+        answer_call(hub, &call, tested, pace, answers);
         at += size;
     }
-    return_tables(&lent);
+    must(mtredovim_hub_test(hub) == MTREDOVIM_DONE, "the trace has left tables that are not sound");
+    return_hub(hub);
 }
