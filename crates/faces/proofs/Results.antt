@@ -1,4 +1,4 @@
--- THE PROOFS of the statements in specs/Promises, each under its name in small letters, for any discipline that has the laws.
+-- THE PROOFS of the statements of a call in specs/Promises, each under its name in small letters, for any discipline that has the laws.
 use mathlib.Core.Path.{_≡_, refl, sym, ap, _∙_, subst}
 use mathlib.Core.Bool.{Bool, true, false}
 use Rattle.rules.proofs.Sums.{cond-is}

@@ -1,5 +1,5 @@
--- WHAT IS PROMISED OF A CALL, whatever the discipline: each says of which of its functions (crates/hub/specs/Promises.antt, crates/framed_hub/specs/Promises.antt). Proved in proofs/Results under the
--- same name in small letters.
+-- WHAT IS PROMISED OF A CALL AND OF ANY CALLS, whatever the discipline: each says of which of its functions (crates/hub/specs/Promises.antt, crates/framed_hub/specs/Promises.antt). Proved under the
+-- same name in small letters, of a call in proofs/Results, of any calls in proofs/Sequences.
 use Prim.Native.Nat.{ℕ, _+_}
 use mathlib.Core.Path.{_≡_}
 use mathlib.Core.Bool.{Bool, true, false}
