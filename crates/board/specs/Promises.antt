@@ -72,10 +72,10 @@ Follows-the-rules-from-C = (ks : List Call) → calls ks ≡ notes-of (run (requ
 
 -- .. and so what is noted of the public calls of the discipline that is set, those of `hub` or of `framed_hub`
 abbrev pub of-level-notes : Level-notes → Notes
-of-level-notes g = record { accepted = g .accepted; departed = g .departed; line = numbers-of (record { hub = g .hub; frames = kept-frames frame-fresh }); tables = g .tables }
+of-level-notes g = record { accepted = g .accepted; departed = g .departed; line = numbers-of (record { hub = g .kept; frames = kept-frames frame-fresh }); tables = g .tables }
 
 abbrev pub of-frame-notes : Frame-notes → Notes
-of-frame-notes g = record { accepted = g .accepted; departed = g .departed; line = numbers-of (record { hub = hub-of level-fresh; frames = g .frames }); tables = unframed (g .tables) }
+of-frame-notes g = record { accepted = g .accepted; departed = g .departed; line = numbers-of (record { hub = hub-of level-fresh; frames = g .kept }); tables = unframed (g .tables) }
 
 abbrev pub Follows-its-discipline-from-C : Type 0
 Follows-its-discipline-from-C =
