@@ -1,5 +1,5 @@
 //! The four tables of numbers that a caller in C lends: the line, the connections, the places, the notices (include/mtredovim.h;
-//! docs/CALLERS.md, "What the caller keeps"; with frames docs/RULES-AFTER-BASE.md, section R-13, "Tables"). The state that they stand
+//! docs/CALLERS.md, "What the caller keeps"; with frames docs/RULES.md, section 13). The state that they stand
 //! for, and what is written of a state.
 
 use crate::departure::Tick;

@@ -1,4 +1,4 @@
-/* Trace records and answer records (document 01, "Trace and answer records"; docs/RULES-AFTER-BASE.md): a trace is run by the header's wrappers, and what they answer is
+/* Trace records and answer records (document 01, "Trace and answer records"; docs/RULES.md): a trace is run by the header's wrappers, and what they answer is
    written as the trace job writes it. */
 #include <stdlib.h>
 
