@@ -2,16 +2,14 @@
 use Prim.Native.Nat.{ℕ, _+_, _-_, _%_, _<_, _≤_}
 use native.Mathlib.Omega.{arith}
 use mathlib.Core.Path.{_≡_, refl, sym, ap, _∙_, subst}
-use mathlib.Core.Bool.{Bool, true, false, cond, not, _||_}
+use mathlib.Core.Bool.{Bool, true, false, cond}
 use mathlib.Core.List.{List, []}
 use mathlib.Core.Option.{Option, none, some}
-use lib.Dec.{eqb}
 use lib.ListN.{length}
 use borrow.Author.Tests.{eq-eqb, ne-eqb}
 use Rattle.rules.specs.declared.Packet.{Packet}
-use Rattle.rules.specs.Limits.{clock-end, beyond-32-bits}
-use Rattle.rules.proofs.Sums.{cond-ind}
-use Rattle.either.specs.Line.{Line, Request, tick, Reply as Line-reply, levels-set, frames-set, clock-of, respond}
+use Rattle.rules.specs.Limits.{beyond-32-bits}
+use Rattle.either.specs.Line.{Line, Request, tick, Reply as Line-reply, clock-of, respond}
 use Rattle.either.proofs.Results.{answers-fit}
 use Rattle.tables.specs.Places.{is-some, packet-or-unused}
 use Rattle.tables.specs.Lent.{Tables}
@@ -21,9 +19,9 @@ use Rattle.both.specs.View.{view, kept-of, written, sound-kept, kept-clock, has
 use Rattle.both.specs.Quiet.{passed, quiet-ticks}
 use Rattle.both.specs.Replied.{replied-of}
 use Rattle.both.specs.Does.{Does}
-use Rattle.both.proofs.SoundLaws.{clock-kept, is-sound, sound-view, tables-kept, kept-back}
+use Rattle.both.proofs.SoundLaws.{is-sound, sound-view, set-seen, tables-kept, kept-back}
 use Rattle.both.proofs.DoesLaws.{told-as, left-as}
-use Rattle.both.proofs.QuietLaws.{quiet-room}
+use Rattle.both.proofs.QuietLaws.{passed-written}
 use Rattle.fields.specs.Formats.{over}
 use Rattle.answers.specs.declared.Reply.{Reply}
 use Rattle.answers.specs.declared.Reply.the-variants.{Linked, Admitted, Closed, Offered, Noticed, Departed, Ticked}
@@ -122,10 +120,6 @@ pub some-told : (told : Replied) (v finish : ℕ) → told .gone ≡ true → v 
 some-told told v finish g e f =
     rw (g, f) (departed-low v (told .packet .connection) (told .packet .tag) (told .packet .arrival) (told .packet .eligibility) (kept-clock (told .kept)) e)
 
--- what is passed over leaves the tables
-passed-written : (s : Line) (k : ℕ) → written s ≡ written (passed s k)
-passed-written s k = cond-ind (λ x. written s ≡ written x) (frames-set s) (λ _. refl) (λ _. refl)
-
 module _ (at asked left : ℕ) (h : Kept) (t : Tables) (ok : sound-kept h t ≡ true) where
   -- all ticks are done
   pub did-all : left ≡ 0 → (v : ℕ) (a : Stepped) (o o′ : List ℕ) → v ≡ all-done-verdict asked (view h t)
@@ -178,25 +172,7 @@ module _ (at asked left : ℕ) (h : Kept) (t : Tables) (ok : sound-kept h t ≡ 
   unfolding tick-next
   did-one l e a u o o′ d = rw (ne-eqb left 0 l, eq-eqb (quiet-ticks left (view h t)) 0 e) d
 
--- quiet ticks are no more than are left, and end before the clock does
-pub quiet-fits : (left : ℕ) (h : Kept) (t : Tables) {k : ℕ} → k ≡ quiet-ticks left (view h t) → (k ≡ 0 → ⊥) → (k ≤ left) × (kept-clock h + k ≤ clock-end)
-quiet-fits left h t e n =
-    let i = quiet-room left (view h t) e n in
-    (i .few, rw (← clock-kept h t) (i .quiet .in-time))
-
 -- ---- the verdict of a `TK` whose ticks are all done
-
--- a link is set, as the code has it
-or-true : (b : Bool) → (b || true) ≡ true
-or-true true = refl
-or-true false = refl
-
-set-seen : (h : Kept) (t : Tables) → (levels-set (view h t) || frames-set (view h t)) ≡ has-link h
-set-seen h t = go (eqb (h .frames .link .frame) 0) refl
-  where
-    go : (b : Bool) → eqb (h .frames .link .frame) 0 ≡ b → (levels-set (view h t) || frames-set (view h t)) ≡ has-link h
-    go true e = rw e
-    go false e = rw e (ap not e ∙ sym (or-true (not (eqb (h .hub .link .levels) 0))))
 
 module _ (h : Kept) (t : Tables) (asked : ℕ) where
   pub some-asked : (asked ≡ 0 → ⊥) → 0 ≡ all-done-verdict asked (view h t)

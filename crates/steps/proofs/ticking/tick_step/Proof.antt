@@ -1,6 +1,7 @@
 use Rattle.tables.specs.Lent.{tables}
 use mathlib.Core.Path.{sym, _∙_}
-use Rattle.steps.proofs.CallLaws.{quiet-fits, did-all, did-quiet, did-one}
+use Rattle.both.proofs.QuietLaws.{quiet-fits}
+use Rattle.steps.proofs.CallLaws.{did-all, did-quiet, did-one}
 use borrow.Author.Needs.{needs}
 use Rattle.steps.proofs.ticking.tick_step.Statement.{statement}
 use Rattle.steps.proofs.ticking.tick_step.Tie as tie
