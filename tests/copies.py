@@ -34,7 +34,8 @@ def add(edit, number, folder):
     copy = changed(edit, body.file, "\n".join(lines))
     if re.search(rf"(?<![\w:.]){old}\(", copy.replace(f"fn {old}(", "", 1)):
         raise BadEdit(f"{old} calls itself")
-    copy = copy.replace(f"fn {old}(", f"fn {new}(", 1)
+    # what C calls has a name of its own there, which a copy has not
+    copy = copy.replace(f'extern "C" fn {old}(', f"fn {old}(", 1).replace(f"fn {old}(", f"fn {new}(", 1)
     is_method = lines[0].startswith(" ")
     write(path, text + (f"\nimpl {body.names[-2]} {{\n{copy}\n}}\n" if is_method else f"\n{copy}\n"))
     add_proof(edit, body, new, folder)

@@ -82,7 +82,8 @@ def leave(crate, folder, names, laws=()):
         lines = text_of(path).split("\n")
         for body in gone:
             if body.file == file:
-                lines[body.line - 1 : body.end] = [""] * (body.end - body.line + 1)
+                first = body.line - 1 - lines[body.line - 2].startswith("#[")
+                lines[first : body.end] = [""] * (body.end - first)
         write(path, USE.sub(lambda line: "\n" if line.group(1) in unnamed else line.group(), "\n".join(lines)))
     for body in gone:
         shutil.rmtree(os.path.join(folder, os.path.dirname(body.proof())), ignore_errors=True)
