@@ -7,6 +7,7 @@ import re
 
 from edit import BadEdit, bodies, text_of
 from part import files_in, write
+from prover import is_cause
 
 
 def is_copied(edit):
@@ -61,3 +62,34 @@ def as_of(said, body, new):
     old = body.names[-1]
     said = said.replace(new.names[-1], old).replace(new.names[-1].replace("_", "-"), old.replace("_", "-"))
     return re.sub(rf"({re.escape(body.file)}:)(\d+):", lambda at: f"{at.group(1)}{int(at.group(2)) - new.line + body.line}:", said)
+
+
+def with_copies(edits, folder):
+    """Each edit that can be made in a copy of its function, and where this stands in a copy of the crate, to which it is added."""
+    for number, edit in enumerate(edits):
+        try:
+            yield edit, add(edit, number, folder)
+        except BadEdit:
+            continue
+
+
+def blocks(said):
+    """What the prover said, message by message: the lines of one that follow its first are further in."""
+    return re.findall(r"^\S.*\n(?:  .*\n)*", said, re.MULTILINE)
+
+
+def own_part(said, crate, body, folder):
+    """What the prover said of a function: messages at its proof, at its lines, and of it by name."""
+    return "".join(block for block in blocks(said) if is_of(block, crate, body, folder))
+
+
+def is_of(block, crate, body, folder):
+    proof = re.escape(os.path.join(folder, body.proof())) + ":"
+    lines = re.escape(os.path.join(folder, body.file)) + r":(\d+):"
+    match = re.match(f"(?:note: )?(?:{proof}|{lines})|fn {'::'.join((crate, *body.names))}:", block)
+    return bool(match) and (not match.group(1) or body.line <= int(match.group(1)) <= body.end)
+
+
+def is_refused_in(part):
+    """Whether the part of a round that is of one edit says that its function is not proved, and why."""
+    return bool(re.search("^fn .*: (not proved|no proof)", part, re.MULTILINE)) and any(map(is_cause, part.splitlines()))

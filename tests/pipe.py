@@ -1,8 +1,8 @@
-"""The hub's numbers and the pipe to `hub_pipe`, the program that makes the hub's public calls: every script that needs the width of a table or a place in a block
-takes it from here.
+"""The hub's numbers and the pipe to the program that makes the hub's calls from C (tests/board, with --pipe): every script that needs the width of a table or a place in
+a block takes it from here.
 
-A block is a request, and with the answer and what the call has left it is the reply: 16,384 numbers of 32 bits, the low byte first, in the order of
-crates/hub_pipe/src/main.rt. All numbers behind the tables are 0.
+A block is a request, and with the answer and what the call has left it is the reply: 16,384 numbers of 32 bits, the low byte first. Which call and what it asks; the hub's
+numbers; how many numbers of each table are lent; the answer (HEAD has their order); then the tables, each with room for 16 rows more. All numbers behind them are 0.
 """
 
 import array
@@ -10,21 +10,22 @@ import os
 import subprocess
 
 ROOT = os.path.dirname(os.path.dirname(os.path.abspath(__file__)))
-PROGRAM = os.path.join(ROOT, "target", "bin", "hub_pipe")
+# the program that tests/c-hub leaves, without sanitizers
+PROGRAM = os.path.join(ROOT, "target", "board", "plain")
 NUMBERS = 16384
 MOST_LEVELS = 8
 MOST_REMEMBERED = 16
 # what notices bear where a connection's number would stand
 NOTICE = 254
-# the calls, by their numbers
-CALLS = ("fresh_hub", "link", "admit", "offer", "notice", "close", "tick", "offer_stamped")
+# the calls, by their numbers: tests/board/pipe.c has the same
+CALLS = ("link", "admit", "admit_stamped", "offer", "offer_stamped", "notice", "close", "tick")
 LINK = ("levels", "largest", "silence", "early", *(f"{what} {level}" for what in ("bound", "window") for level in range(MOST_LEVELS)))
 # a link has the most numbers that are asked for
 MOST_ASKED = len(LINK)
 HUB = LINK + ("clock", "serving", "units", "silent")
 LENT = ("connections lent", "places lent", "notices lent")
 PACKET = ("connection", "length", "tag", "arrival", "eligibility")
-TOLD = ("verdict", "number", "short level", "short units", "short units, high half", "gone", *(f"{name} of the packet" for name in PACKET))
+TOLD = ("verdict", "number", "short level", "short units", "gone", *(f"{name} of the packet" for name in PACKET))
 HEAD = ("call", *(f"asked {number}" for number in range(MOST_ASKED)), *HUB, *LENT, *TOLD)
 # the row of a connection, and what stands behind all rows: the rows up to the last owner's, and one more than the earliest last eligibility of those that are closed
 CONNECTION = ("level", "size", "gap", "window", "average", "kind", "allowance", "mark", "known", *(f"past {k}" for k in range(1, MOST_REMEMBERED + 1)))
@@ -92,7 +93,7 @@ def put(block, at, numbers):
 
 
 def lent_whole():
-    """A block of zeros that lends its tables in their lengths."""
+    """A fresh hub, all zero, that lends its tables in their lengths."""
     block = zeros()
     put(block, AT[LENT[0]], [table.length for table in TABLES])
     return block
@@ -103,16 +104,10 @@ class Ended(Exception):
 
 
 class Pipe:
-    """The running program: one process, asked again and again."""
+    """The program of tests/board, run by these words: one process, asked again and again."""
 
-    def __init__(self, program=PROGRAM, command=None):
-        command = command or [os.path.join(ROOT, "tests", "run"), program]
-        self.running = subprocess.Popen(command, stdin=subprocess.PIPE, stdout=subprocess.PIPE)
-
-    @staticmethod
-    def can_make(call, numbers):
-        """Whether the program makes a call with these numbers."""
-        return True
+    def __init__(self, words):
+        self.running = subprocess.Popen([*words, "--pipe"], stdin=subprocess.PIPE, stdout=subprocess.PIPE)
 
     def reply(self, block):
         """What the program replies to a block."""

@@ -5,6 +5,7 @@ import re
 import shutil
 import subprocess
 import sys
+import tempfile
 
 # What is told of an error that another one brings.
 FOLLOWS = re.compile(r"was not admitted \(it has holes|cannot be unfolded because it was not admitted")
@@ -58,19 +59,38 @@ def check(project, crate, folder, kept, room=None):
     return run(["rt", "check", folder, *deps, "-L", f"dependency={rlib}", *words, "--incremental", kept], project, room)
 
 
+def modules_of(project, crate):
+    """Where the proof of a library has left what it checked, module by module: `rt check` in its rlib, tests/archive in its own folder."""
+    below = os.path.join(project, "target")
+    return [os.path.join(below, "rlib", f"{crate}.rlib", "toolchain", "checked"), os.path.join(below, "checked", crate, "modules")]
+
+
+def proof_of(project, crate):
+    """Whether a library is proved, as `rt check` or tests/archive tell it when they are done; a program, whether it is built."""
+    below = os.path.join(project, "target")
+    return any(os.path.exists(os.path.join(below, *path)) for path in (("stamp", crate), ("checked", crate, "verdict"), ("log", f"{crate}.stamp")))
+
+
 def keep(project, crate, kept):
-    """Puts what the proof of a library has left (target/rlib) where a check with --incremental looks for it. A program's proof leaves nothing.
+    """Puts what the proof of a library has left where a check with --incremental looks for it. A program's proof leaves nothing.
 
     Where the toolchain keeps it otherwise, nothing is found there, and the next check over `kept` is one from nothing.
     """
-    rlib = os.path.join(project, "target", "rlib", f"{crate}.rlib")
-    proved = os.path.join(rlib, "toolchain", "checked")
-    if not os.path.isdir(proved):
+    found = [folder for folder in modules_of(project, crate) if os.path.isdir(folder)]
+    rlibs = os.path.join(project, "target", "rlib")
+    if not found or not os.listdir(rlibs):
         return
-    with open(os.path.join(rlib, "format"), encoding="utf-8") as file:
+    with open(os.path.join(rlibs, sorted(os.listdir(rlibs))[0], "format"), encoding="utf-8") as file:
         build = re.search("^rattle-build (.*)$", file.read(), re.MULTILINE)
     if build:
-        shutil.copytree(proved, os.path.join(kept, build.group(1).replace("/", "_")))
+        shutil.copytree(found[0], os.path.join(kept, build.group(1).replace("/", "_")))
+
+
+def said_of(project, crate, folder, kept, above):
+    """What the prover says of a changed copy of a crate. The copy of what was kept, and those that the prover makes, are in a folder below `above`."""
+    with tempfile.TemporaryDirectory(dir=above) as room:
+        shutil.copytree(kept, os.path.join(room, "kept"))
+        return check(project, crate, folder, os.path.join(room, "kept"), room)
 
 
 def copied(project, crate, folder):

@@ -1,12 +1,11 @@
 //! What must hold of every connection in every generated trace (docs/RULES.md, R-6, by stamps R-9, of
 //! those that stand by R-11), told by the records and their answers alone.
 
-mod told;
 
 use sim::kinds::Kind;
 use sim::link::Connection;
 use sim::record::{Answer, Record};
-use told::{records, By, Line, Told};
+use crate::told::{records, By, Line, Told};
 
 const REMEMBERED: usize = 16;
 

@@ -1,13 +1,12 @@
 //! Numbers, charges and closes of every generated trace (docs/RULES.md, R-8),
 //! told by the records and their answers alone.
 
-mod told;
 
 use sim::hub::CLOCK_END;
 use sim::kinds::Kind;
 use sim::link::{Connection, Figures, Link, MOST_RESERVED};
 use sim::record::{Answer, Record};
-use told::{records, Line, Told};
+use crate::told::{records, Line, Told};
 
 /// What was met.
 #[derive(Debug, Default)]

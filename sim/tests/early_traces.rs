@@ -2,14 +2,13 @@
 //! (docs/RULES.md, R-11), told by the records and their answers alone. Every verdict
 //! 18 is recomputed in `stamp_traces.rs`, with those of all other offers.
 
-mod told;
 
 use sim::hub::CLOCK_END;
 use sim::kinds::Kind;
 use sim::link::{Link, OFF};
 use sim::record::{Answer, Record};
 use sim::replay::{answers, Pace};
-use told::{records, Told};
+use crate::told::{records, Told};
 
 /// What was met.
 #[derive(Debug, Default)]

@@ -1,6 +1,5 @@
 //! Which level was short, and by how much (docs/RULES.md, R-2).
 
-mod told;
 
 use std::collections::BTreeSet;
 
@@ -10,7 +9,7 @@ use sim::link::{Figures, Link};
 use sim::record::{Answer, Record};
 use sim::replay::{answers, Pace};
 use sim::verdict::{Refusal, Shortage};
-use told::{records, Terms, Told};
+use crate::told::{records, Terms, Told};
 
 const LINK_A: &[u8] = b"LK\x02\x04\x00\x00\x0A\x00\x14\x00";
 

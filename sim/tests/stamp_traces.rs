@@ -1,13 +1,12 @@
 //! Every offer of every generated trace (docs/RULES.md, R-9 and R-11): its verdict
 //! and its eligibility, told by the records and answers before it, and what is promised of stamps.
 
-mod told;
 
 use sim::hub::CLOCK_END;
 use sim::kinds::Kind;
 use sim::link::{Link, MOST_CONNECTIONS};
 use sim::record::{Answer, Record};
-use told::{records, Line, Told};
+use crate::told::{records, Line, Told};
 
 /// What was met of offers with a stamp.
 #[derive(Debug, Default)]

@@ -2,7 +2,6 @@
 //! the records and their answers alone. That a charge lasts as long as it must is tested in
 //! `closing_traces.rs`, for all kinds.
 
-mod told;
 
 use sim::kinds::Kind;
 use sim::level_test::shortage_of;
@@ -10,7 +9,7 @@ use sim::link::{Connection, Figures, Link, OFF};
 use sim::random::Random;
 use sim::record::{Answer, Record};
 use sim::replay::{answers, Pace};
-use told::{records, Condition, Terms, Told};
+use crate::told::{records, Condition, Terms, Told};
 
 /// What was met: admissions that were refused by each condition of the first level that fails, those that
 /// were accepted just at the limit of each, those that document 01's test refuses and the other way round,

@@ -102,7 +102,7 @@ struct bytes {
 enum pace { ONE_BY_ONE, MIXED };
 void replay(const uint8_t *trace, size_t length, bool tested, enum pace pace, struct bytes *answers);
 
-/* ---- pipe.c: blocks of numbers in and out, as crates/hub_pipe has them, for tests/hub-cases. */
+/* ---- pipe.c: blocks of numbers in and out, as tests/pipe.py has them, for tests/hub-cases and tests/instructions. */
 void serve_pipe(void);
 
 /* ---- random.c: so many random calls on fresh hubs. */

@@ -4,7 +4,7 @@
        hub --random SEED CALLS ASKED ANSWERED    random calls on fresh hubs; what was asked and what was answered go into two files, a line each
        hub --damage SEED HUBS ASKED ANSWERED     the same of tables of any content and any length
        hub --slip N --random ..                  the same of an archive with a slip, 1 to 18, which must be noticed
-       hub --pipe                                blocks in and out, for tests/hub-cases
+       hub --pipe                                blocks in and out, for tests/hub-cases and tests/instructions
        hub --stack                               the most bytes of stack that a call takes, and in the form that is tested once
        hub --call NAME ROWS CONNECTIONS WINDOWS FORM TICKS TIMES      so many calls on a hub with so many rows and connections, on which so many ticks are done; WINDOWS 1: its link
                                                  has windows; FORM 1: tested once. For tests/instructions */

@@ -1,5 +1,5 @@
-/* The hub's public calls over a pipe, by the archive: a block of numbers in, the same with the answer and with what the call has left out. crates/hub_pipe has the order of
-   the numbers. The discipline of frames stays zero. */
+/* The hub's calls over a pipe: a block of numbers in, the same with the answer and with what the call has left out. tests/pipe.py has the order of the numbers. The
+   discipline of frames stays zero. */
 #include <string.h>
 
 #include "board.h"
@@ -11,14 +11,13 @@ enum {
     HUB_NUMBERS = MOST_ASKED + 4,
     LENGTHS = HUB + HUB_NUMBERS,
     TOLD = LENGTHS + 3,
-    TOLD_NUMBERS = 11,
+    TOLD_NUMBERS = 10,
     FIRST_TABLE = TOLD + TOLD_NUMBERS,
-    MORE = 16,
-    BY_STAMPS = 1
+    MORE = 16
 };
 
-/* The calls by their numbers; any other number: a fresh hub. */
-static const enum kind kinds[] = {KINDS, LINK, ADMIT, OFFER, NOTICE, CLOSE, TICK, OFFER_STAMPED};
+/* The calls by their numbers. */
+static const enum kind kinds[] = {LINK, ADMIT, ADMIT_STAMPED, OFFER, OFFER_STAMPED, NOTICE, CLOSE, TICK};
 
 /* Where a table begins in the block: each has room for 16 rows more. */
 static size_t at_table(int table)
@@ -31,20 +30,14 @@ static size_t at_table(int table)
     return at;
 }
 
-/* An admission has level, gap, size, window, average gap, kind and allowance there. Others than those that C can ask are not sent. */
+/* What is asked stands in the order of the function's numbers. */
 static struct call call_of(const uint32_t *block)
 {
-    const uint32_t *n = block + ASKED;
-    enum kind kind = kinds[block[0]];
-    struct call call = a_call(kind, n[0], n[1], n[2], n[3], n[4]);
+    struct call call;
 
-    if (kind == LINK)
-        memcpy(call.number, n, sizeof call.number);
-    if (kind == ADMIT && n[5] == BY_STAMPS) {
-        must(n[3] == 0 && n[4] == 0, "a connection by stamps has no average");
-        return a_call(ADMIT_STAMPED, n[0], n[1], n[2], n[6], 0);
-    }
-    must(kind != ADMIT || (n[5] == 0 && n[6] == 0), "a connection that C can ask for");
+    must(block[0] < sizeof kinds / sizeof kinds[0], "a call that there is");
+    call.kind = kinds[block[0]];
+    memcpy(call.number, block + ASKED, sizeof call.number);
     return call;
 }
 
@@ -64,7 +57,7 @@ static void put_told(uint32_t *to, enum kind kind, const struct told *told)
     case OFFER:
     case OFFER_STAMPED:
     case NOTICE: to[1] = told->number; break;
-    case TICK: memcpy(to + 5, (uint32_t[]){d->gone, d->connection, d->length, d->tag, d->arrival, d->eligibility}, 6 * sizeof *to); break;
+    case TICK: memcpy(to + 4, (uint32_t[]){d->gone, d->connection, d->length, d->tag, d->arrival, d->eligibility}, 6 * sizeof *to); break;
     default: break;
     }
 }
@@ -92,10 +85,7 @@ void serve_pipe(void)
     static uint32_t block[NUMBERS];
 
     while (fread(block, sizeof block, 1, stdin) == 1) {
-        if (block[0] == 0 || block[0] >= sizeof kinds / sizeof kinds[0])
-            memset(block + HUB, 0, HUB_NUMBERS * sizeof *block);
-        else
-            answer(block);
+        answer(block);
         must(fwrite(block, sizeof block, 1, stdout) == 1 && fflush(stdout) == 0, "a reply can't be written");
     }
 }

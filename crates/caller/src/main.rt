@@ -3,6 +3,7 @@
 use libc::STDOUT_FILENO;
 use rules::Connection;
 use rules::Link;
+use rules::Packet;
 use state::Hub;
 use state::Told;
 
@@ -20,14 +21,12 @@ fn write(text: &[u8], n: u64) {
 }
 
 // A packet that has left. Its finish is the clock after the tick.
-fn show_departure(r: Told) {
-    let p = r.packet;
-    let after = r.hub;
+fn show_departure(p: Packet, finish: u32) {
     write(b"left: connection ", p.connection as u64);
     write(b", tag ", p.tag as u64);
     write(b", arrival ", p.arrival as u64);
     write(b", eligibility ", p.eligibility as u64);
-    write(b", finish ", after.clock as u64);
+    write(b", finish ", finish as u64);
     io::write_all(STDOUT_FILENO, b"\n");
 }
 
@@ -58,13 +57,40 @@ fn ticks(
     let mut i: u32 = 0;
     while i < n {
         let r = hub::tick(h, members, places, notices);
-        if r.gone {
-            show_departure(r);
-        }
         h = r.hub;
+        if r.gone {
+            show_departure(r.packet, h.clock);
+        }
         i += 1;
     }
     h
+}
+
+// An offer, and its answer shown: a connection, a length, a tag. What is in a packet stays with the caller, who finds it again by the tag.
+fn offer(
+    h: Hub,
+    members: &mut Connections,
+    places: &mut Places,
+    notices: &Notices,
+    c: u32,
+    len: u32,
+    tag: u32,
+) -> Hub {
+    show(
+        b"offer",
+        hub::offer(h, members, places, notices, c, len, tag),
+    )
+}
+
+// An admission, and its answer shown.
+fn admit(
+    h: Hub,
+    members: &mut Connections,
+    places: &Places,
+    notices: &Notices,
+    line: Connection,
+) -> Hub {
+    show(b"admit", hub::admit(h, members, places, notices, line))
 }
 
 // A link, and lines that ask to be admitted. A line says its level, the gap that it keeps between packets and their largest size; one that sends in bursts also
@@ -97,26 +123,23 @@ fn open(
         kind: 0,
         allowance: 0,
     };
-    let h = show(b"link", hub::link(fresh, members, places, notices, line));
-    let h = show(b"admit", hub::admit(h, members, places, notices, urgent));
-    let h = show(b"admit", hub::admit(h, members, places, notices, camera));
-    show(b"admit", hub::admit(h, members, places, notices, urgent))
+    let mut h = show(b"link", hub::link(fresh, members, places, notices, line));
+    h = admit(h, members, places, notices, urgent);
+    h = admit(h, members, places, notices, camera);
+    admit(h, members, places, notices, urgent)
 }
 
-// Offers: a connection, a length, a tag. What is in a packet stays with the caller, who finds it again by the tag. A notice has no connection.
+// Packets of both lines, and a notice, which has no connection.
 fn send(opened: Hub, members: &mut Connections, places: &mut Places, notices: &mut Notices) -> Hub {
-    let h = show(
-        b"offer",
-        hub::offer(opened, members, places, notices, 1, 2, 100),
-    );
-    let h = show(b"offer", hub::offer(h, members, places, notices, 1, 2, 101));
-    let h = show(b"offer", hub::offer(h, members, places, notices, 1, 2, 102));
-    let h = ticks(h, members, places, notices, 1);
-    let h = show(b"offer", hub::offer(h, members, places, notices, 0, 3, 90));
-    let h = show(b"offer", hub::offer(h, members, places, notices, 0, 3, 91));
-    let h = show(b"notice", hub::notice(h, members, places, notices, 2, 7));
-    let h = ticks(h, members, places, notices, 7);
-    let h = show(b"offer", hub::offer(h, members, places, notices, 0, 4, 92));
+    let mut h = offer(opened, members, places, notices, 1, 2, 100);
+    h = offer(h, members, places, notices, 1, 2, 101);
+    h = offer(h, members, places, notices, 1, 2, 102);
+    h = ticks(h, members, places, notices, 1);
+    h = offer(h, members, places, notices, 0, 3, 90);
+    h = offer(h, members, places, notices, 0, 3, 91);
+    h = show(b"notice", hub::notice(h, members, places, notices, 2, 7));
+    h = ticks(h, members, places, notices, 7);
+    h = offer(h, members, places, notices, 0, 4, 92);
     ticks(h, members, places, notices, 14)
 }
 
@@ -129,11 +152,11 @@ fn reopen(
     notices: &mut Notices,
     urgent: Connection,
 ) -> Hub {
-    let h = show(b"close", hub::close(sent, members, places, notices, 0));
-    let h = show(b"admit", hub::admit(h, members, places, notices, urgent));
-    let h = ticks(h, members, places, notices, 29);
-    let h = show(b"admit", hub::admit(h, members, places, notices, urgent));
-    let h = show(b"offer", hub::offer(h, members, places, notices, 0, 4, 93));
+    let mut h = show(b"close", hub::close(sent, members, places, notices, 0));
+    h = admit(h, members, places, notices, urgent);
+    h = ticks(h, members, places, notices, 29);
+    h = admit(h, members, places, notices, urgent);
+    h = offer(h, members, places, notices, 0, 4, 93);
     ticks(h, members, places, notices, 4)
 }
 
@@ -154,15 +177,12 @@ fn onward(
         kind: 1,
         allowance: 30,
     };
-    let h = show(
-        b"admit",
-        hub::admit(reopened, members, places, notices, floor),
-    );
+    let mut h = admit(reopened, members, places, notices, floor);
     let r = hub::offer_stamped(h, members, places, notices, 2, 2, 200, 40);
-    let h = show(b"offer with stamp 40", r);
-    let h = show(b"offer", hub::offer(h, members, places, notices, 2, 2, 201));
+    h = show(b"offer with stamp 40", r);
+    h = offer(h, members, places, notices, 2, 2, 201);
     let r = hub::offer_stamped(h, members, places, notices, 2, 2, 202, 56);
-    let h = show(b"offer with stamp 56", r);
+    h = show(b"offer with stamp 56", r);
     ticks(h, members, places, notices, 17)
 }
 
@@ -179,10 +199,10 @@ fn main() {
         kind: 0,
         allowance: 0,
     };
-    let h = open(hub::fresh_hub(), &mut members, &places, &notices, urgent);
-    let h = send(h, &mut members, &mut places, &mut notices);
-    let h = reopen(h, &mut members, &mut places, &mut notices, urgent);
-    let h = onward(h, &mut members, &mut places, &mut notices);
+    let mut h = open(hub::fresh_hub(), &mut members, &places, &notices, urgent);
+    h = send(h, &mut members, &mut places, &mut notices);
+    h = reopen(h, &mut members, &mut places, &mut notices, urgent);
+    h = onward(h, &mut members, &mut places, &mut notices);
     write(b"clock: ", h.clock as u64);
     io::write_all(STDOUT_FILENO, b"\n");
 }

@@ -1,12 +1,20 @@
 -- THE PROOFS of the statements of a call in specs/Promises, each under its name in small letters, for any discipline that has the laws.
 use mathlib.Core.Path.{_≡_, refl, sym, ap, _∙_, subst}
-use mathlib.Core.Bool.{Bool, true, false}
+use mathlib.Core.Bool.{Bool, true, false, cond}
+use mathlib.Core.Option.{Option, none, some}
+use Rattle.rules.specs.declared.Packet.{Packet}
 use Rattle.rules.proofs.Sums.{cond-is}
 use Rattle.tables.specs.Lent.{Tables}
+use Rattle.tables.specs.Places.{is-some, packet-or-unused}
 use Rattle.tables.proofs.CallLaws.{same-outcome}
-use Rattle.faces.specs.Promises.{One-outcome, Refusals-change-nothing-of-the-code, Verdict-1-of-the-code, Sound-is-kept-by-the-code, Answers-as-the-rules}
+use Rattle.faces.specs.Promises.{One-outcome, Refusals-change-nothing-of-the-code, Verdict-1-of-the-code, Sound-is-kept-by-the-code, Answers-as-the-rules, Holds-as-of-the-rules}
 use Rattle.faces.proofs.Discipline.{Discipline}
 use Rattle.faces.proofs.CallLaws.{Does, told-as, left-as}
+
+-- the packet that is told to leave, read as the rules have it
+pub departed-back : (o : Option Packet) → cond (is-some o) (some (packet-or-unused o)) none ≡ o
+departed-back none = refl
+departed-back (some p) = refl
 
 module _ (D : Discipline) where
   open Discipline D using (State, Call, Answer, Sound, answer, next, refused-number, Kept, Told, verdict, number, gone, kept, view, kept-of, written, sound, told-of, refusal, tells, leaves, ruled, kept-told, kept-back, refused-as, is-sound, tables-kept, read-written, written-sound, next-sound, never-1, refuses)
@@ -53,11 +61,17 @@ module _ (D : Discipline) where
   sound-is-kept-by-the-code k h t r u C e =
       with-both k h t r u C e (λ x w. sound x w ≡ true) (written-sound (next (answer k (view h t))) (next-sound k (view h t) (is-sound h t e)))
 
-  pub answers-as-the-rules : Answers-as-the-rules (Does D) sound view kept answer next told-of
-  answers-as-the-rules k h t r u C e = (
-    with-both k h t r u C e (λ x w. view x w ≡ next (answer k (view h t))) (read-written (next (answer k (view h t))) (next-sound k (view h t) (is-sound h t e))),
-    told-as D k h t e r u C,
-  )
+  -- what is told and written of an answer that leaves a sound state is read as this answer
+  module _ (read : Told → Tables → Answer) (read-back : (a : Answer) → Sound (next a) → read (told-of a) (written (next a)) ≡ a) where
+    pub answers-as-the-rules : Answers-as-the-rules (Does D) sound view answer told-of read
+    answers-as-the-rules k h t r u C e =
+        let a = answer k (view h t) in (
+          told-as D k h t e r u C,
+          ap (λ (x : Told). read x u) (told-as D k h t e r u C) ∙ ap (read (told-of a)) (left-as D k h t e r u C) ∙ read-back a (next-sound k (view h t) (is-sound h t e)),
+        )
+
+    pub holds-as-of-the-rules : Holds-as-of-the-rules (Does D) Sound sound view answer read
+    holds-as-of-the-rules k P says h t r u C e = subst (P (view h t)) (sym (answers-as-the-rules k h t r u C e .1)) (says (view h t) (is-sound h t e))
 
   -- a call on what a sound state is written as
   module _ (s : State) (S : Sound s) where

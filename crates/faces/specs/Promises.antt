@@ -44,14 +44,25 @@ module _ {Call Kept Told : Type 0} (Does : Call → Kept → Tables → Told →
       → sound h before ≡ true
       → sound (kept told) after ≡ true
 
-  -- where it is sound, the state that is left and the answer are the rules'
-  abbrev pub Answers-as-the-rules : {State Answer : Type 0} (sound : Kept → Tables → Bool) (view : Kept → Tables → State) (kept : Told → Kept) (answer : Call → State → Answer)
-      (next : Answer → State) (told-of : Answer → Told) → Type 0
-  Answers-as-the-rules sound view kept answer next told-of =
+  -- where it is sound: what is told is the rules' answer, as the code tells it; and what is told with the tables that are left, read as an answer, is the rules' answer
+  abbrev pub Answers-as-the-rules : {State Answer : Type 0} (sound : Kept → Tables → Bool) (view : Kept → Tables → State) (answer : Call → State → Answer)
+      (told-of : Answer → Told) (read : Told → Tables → Answer) → Type 0
+  Answers-as-the-rules sound view answer told-of read =
       (k : Call) (h : Kept) (before : Tables) (told : Told) (after : Tables)
       → Does k h before told after
       → sound h before ≡ true
-      → (view (kept told) after ≡ next (answer k (view h before))) × (told ≡ told-of (answer k (view h before)))
+      → (told ≡ told-of (answer k (view h before))) × (read told after ≡ answer k (view h before))
+
+  -- so whatever holds of the rules' answer to a call on every sound state holds of the code's answer, read so
+  abbrev pub Holds-as-of-the-rules : {State Answer : Type 0} (Sound : State → Type 0) (sound : Kept → Tables → Bool) (view : Kept → Tables → State)
+      (answer : Call → State → Answer) (read : Told → Tables → Answer) → Type 1
+  Holds-as-of-the-rules {State = State} {Answer = Answer} Sound sound view answer read =
+      (k : Call) (P : State → Answer → Type 0)
+      → ((s : State) → Sound s → P s (answer k s))
+      → (h : Kept) (before : Tables) (told : Told) (after : Tables)
+      → Does k h before told after
+      → sound h before ≡ true
+      → P (view h before) (read told after)
 
 -- ---- any calls: said of the answers that the caller has noted and of what the caller keeps, read as a state
 

@@ -1,15 +1,12 @@
 -- THE PROOFS of the statements in specs/Promises, each under its name in small letters.
 use Prim.Native.Nat.{ℕ, _+_, _≤_, _<_}
-use native.Mathlib.Omega.{arith}
 use mathlib.Core.Path.{_≡_, refl, sym, ap, _∙_, subst, transport}
-use mathlib.Core.Bool.{Bool, true, false, cond, _&&_}
-use mathlib.Core.Logic.{_↔_}
+use mathlib.Core.Bool.{cond, _&&_}
 use mathlib.Core.List.{List, _++_, map}
 use mathlib.Core.Option.{Option, none, some}
 use lib.Dec.{eqb}
 use lib.ListN.{getElem?}
 use Rattle.rules.specs.declared.Packet.{Packet}
-use Rattle.rules.specs.declared.Short.{Short}
 use Rattle.rules.specs.Words.{All, push, total}
 use Rattle.rules.specs.Service.{of, wire-tick, sent}
 use Rattle.rules.specs.Runs.{Departure, Exchange}
@@ -19,25 +16,24 @@ use Rattle.frames.specs.Service.{next-frame, leaves-by, used, chosen}
 use Rattle.frames.specs.SoundState.{Sound}
 use Rattle.frames.specs.Calls.{verdict, done, answer}
 use Rattle.frames.specs.Runs.{History, taken, leaving, after, run-from, nothing-yet, run, in-hub, of-connections, exchange, exchanges-from, exchanges, asks, Half-at-most, Keeps-to-half, own-exchanges}
-use Rattle.frames.specs.Promises.{Past-its-units, arrived-now}
+use Rattle.frames.specs.Promises.{arrived-now}
 use Rattle.frames.proofs.Verdicts.{settled}
 use Rattle.frames.proofs.SoundKept.{kept}
 use Rattle.frames.proofs.Every.{fresh-invariant}
-use Rattle.frames.proofs.Results.{nineteen-exactly, over-is-told, over-fits, conservation, in-the-order-offered, use-is-what-arrived, eligible-at-the-next-start, left-by-the-next-end, never-for-room, told-by-its-own, no-other-changes-it}
+use Rattle.frames.proofs.Results.{conservation, in-the-order-offered, use-is-what-arrived, eligible-at-the-next-start, left-by-the-next-end, never-for-room, told-by-its-own, no-other-changes-it}
 use Rattle.tables.specs.Places.{written-places, table-of}
 use Rattle.shares.specs.Shares.{written-shares}
 use Rattle.faces.specs.Sequence.{Noted-by}
 use Rattle.faces.proofs.Results as F
 use Rattle.faces.proofs.Sequences as Q
 use Rattle.framed_state.specs.declared.Said.{Said}
-use Rattle.framed_state.specs.View.{view, frames-of, written, sound-frames}
+use Rattle.framed_state.specs.View.{frames-of, written}
 use Rattle.framed_state.specs.Said.{is-some, packet-or-unused, said-of}
-use Rattle.framed_state.specs.Does.{tells}
 use Rattle.framed_state.proofs.WrittenLaws.{writable, read-written, written-sound}
 use Rattle.framed_state.proofs.SoundLaws.{is-sound, tables-kept}
-use Rattle.framed_state.proofs.DoesLaws.{frames, said-as}
+use Rattle.framed_state.proofs.DoesLaws.{frames}
 use Rattle.framed_hub.specs.Sequence.{Notes, brought, went, blank, calls, state-of, notes-of, noted, all-noted, Seen-to-keep-to-half}
-use Rattle.framed_hub.specs.Promises.{One-outcome, Written-reads-back, Sound-is-written, Refusals-change-nothing-of-the-code, Verdict-1-of-the-code, Sound-is-kept-by-the-code, Answers-as-the-rules, Nineteen-exactly-of-the-code, Over-is-told-of-the-code, Follows-the-rules, Conservation-of-the-code, Counted-of-the-code, In-the-order-offered-of-the-code, Use-is-what-arrived-of-the-code, Eligible-at-the-next-start-of-the-code, Left-by-the-next-end-of-the-code, Never-for-room-of-the-code, Told-by-its-own-of-the-code, No-other-changes-it-of-the-code}
+use Rattle.framed_hub.specs.Promises.{One-outcome, Written-reads-back, Sound-is-written, Refusals-change-nothing-of-the-code, Verdict-1-of-the-code, Sound-is-kept-by-the-code, answer-read, Answers-as-the-rules, Holds-as-of-the-rules, Follows-the-rules, Conservation-of-the-code, Counted-of-the-code, In-the-order-offered-of-the-code, Use-is-what-arrived-of-the-code, Eligible-at-the-next-start-of-the-code, Left-by-the-next-end-of-the-code, Never-for-room-of-the-code, Told-by-its-own-of-the-code, No-other-changes-it-of-the-code}
 
 -- ---- one call
 
@@ -59,32 +55,21 @@ verdict-1-of-the-code = F.verdict-1-of-the-code frames
 pub sound-is-kept-by-the-code : Sound-is-kept-by-the-code
 sound-is-kept-by-the-code = F.sound-is-kept-by-the-code frames
 
+-- what is said and written of an answer is read as this answer
+read-back : (a : Answer) → Sound (a .next) → answer-read (said-of a) (written (a .next)) ≡ a
+read-back a S i = record {
+  verdict = a .verdict;
+  number = a .number;
+  short = a .short;
+  departed = F.departed-back (a .departed) i;
+  next = read-written (a .next) (writable (a .next) S) i;
+}
+
 pub answers-as-the-rules : Answers-as-the-rules
-answers-as-the-rules = F.answers-as-the-rules frames
+answers-as-the-rules = F.answers-as-the-rules frames answer-read read-back
 
--- ---- 19 and 8
-
-pub nineteen-exactly-of-the-code : Nineteen-exactly-of-the-code
-nineteen-exactly-of-the-code c len tag h t r u D e linked =
-    subst (λ (v : ℕ). v ≡ 19 ↔ Past-its-units (view h t) c len)
-    (sym (ap Said.verdict (answers-as-the-rules (offer c len tag) h t r u D e .1)))
-    (nineteen-exactly c len tag (view h t) (is-sound h t e) linked)
-
-pub over-is-told-of-the-code : Over-is-told-of-the-code
-over-is-told-of-the-code x h t r u D z =
-    let a = said-as (admit x) h t good r u D in
-    let v : answer (admit x) (view h t) .verdict ≡ 8 = sym (ap (λ (y : Said). y .verdict) a) ∙ z in
-    let o = over-is-told (admit x) (view h t) .1 x refl v in
-    let s : r .short ≡ answer (admit x) (view h t) .short = ap (λ (y : Said). y .short) a in
-    (o .0, s ∙ o .1, omega (arith, ap (λ (y : Short). y .units) s, over-fits x (view h t) v .0))
-  where
-    -- 8 is given on a sound line only
-    good : sound-frames h t ≡ true
-    good = go (sound-frames h t) refl
-      where
-        go : (b : Bool) → sound-frames h t ≡ b → sound-frames h t ≡ true
-        go true e = e
-        go false e = absurd (omega (arith, z, verdict-1-of-the-code (admit x) h t r u D .0 e))
+pub holds-as-of-the-rules : Holds-as-of-the-rules
+holds-as-of-the-rules = F.holds-as-of-the-rules frames answer-read read-back
 
 -- ---- any calls follow the rules
 

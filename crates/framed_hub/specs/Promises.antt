@@ -1,24 +1,21 @@
 -- THE STATEMENTS of the code of the second discipline, apart from their proofs: each is proved in proofs/Results under the same name in small letters. Document 02, R-13.
-use Prim.Native.Nat.{ℕ, _-_, _≤_, _<_}
+use Prim.Native.Nat.{ℕ, _≤_, _<_}
 use mathlib.Core.Path.{_≡_}
-use mathlib.Core.Bool.{true}
-use mathlib.Core.Logic.{_↔_}
+use mathlib.Core.Bool.{true, cond}
 use mathlib.Core.List.{List, _++_, map}
-use mathlib.Core.Option.{some}
-use lib.ListN.{length, getElem?}
+use mathlib.Core.Option.{none, some}
+use lib.ListN.{getElem?}
 use Rattle.rules.specs.declared.Packet.{Packet}
 use Rattle.rules.specs.Words.{All, total}
 use Rattle.rules.specs.Limits.{notice-number}
 use Rattle.rules.specs.Service.{of}
 use Rattle.rules.specs.Runs.{Departure, Exchange}
-use Rattle.frames.specs.declared.Share.{Share}
-use Rattle.frames.specs.Model.{State, Call, admit, offer, Answer, figures}
-use Rattle.frames.specs.Admission.{frame-sum}
+use Rattle.frames.specs.Model.{State, Call, Answer, figures}
 use Rattle.frames.specs.Service.{next-frame, leaves-by, used}
 use Rattle.frames.specs.SoundState.{Sound}
-use Rattle.frames.specs.Calls.{refused-number, joining, answer}
+use Rattle.frames.specs.Calls.{refused-number, answer}
 use Rattle.frames.specs.Runs.{run, in-hub, of-connections, asks, own-exchanges}
-use Rattle.frames.specs.Promises.{Past-its-units, arrived-now}
+use Rattle.frames.specs.Promises.{arrived-now}
 use Rattle.faces.specs.Sequence.{Noted-by}
 use Rattle.faces.specs.Promises as F
 use Rattle.framed_state.specs.declared.Frames.{Frames}
@@ -52,29 +49,23 @@ Verdict-1-of-the-code = F.Verdict-1-of-the-code Does sound-frames Said.verdict
 abbrev pub Sound-is-kept-by-the-code : Type 0
 Sound-is-kept-by-the-code = F.Sound-is-kept-by-the-code Does sound-frames Said.frames
 
--- on a sound line the answer and the state that is left are the rules'
+-- the rules' answer, read off what a call said and the tables that it left
+abbrev pub answer-read : Said → Tables → Answer
+answer-read said after = record {
+  verdict = said .verdict;
+  number = said .number;
+  short = said .short;
+  departed = cond (said .gone) (some (said .packet)) none;
+  next = view (said .frames) after;
+}
+
+-- on a sound line the answer is the rules', with the state that is left
 abbrev pub Answers-as-the-rules : Type 0
-Answers-as-the-rules = F.Answers-as-the-rules Does sound-frames view Said.frames answer Answer.next said-of
+Answers-as-the-rules = F.Answers-as-the-rules Does sound-frames view answer said-of answer-read
 
--- on a sound line with a link an offer gets 19 exactly where it is of a length from 1 to S, to a connection that stands and has a place, while the clock runs, and with its
--- silence would take the connection past r in this frame
-abbrev pub Nineteen-exactly-of-the-code : Type 0
-Nineteen-exactly-of-the-code =
-    (c len tag : ℕ) (h : Frames) (before : Tables) (said : Said) (after : Tables)
-    → Does (offer c len tag) h before said after
-    → sound-frames h before ≡ true
-    → (h .link .frame ≡ 0 → ⊥)
-    → said .verdict ≡ 19 ↔ Past-its-units (view h before) c len
-
--- an admission that is refused with 8 says level 0 and by how many units the frame is over, with the newcomer counted; it is over, by at most the newcomer's own r
-abbrev pub Over-is-told-of-the-code : Type 0
-Over-is-told-of-the-code =
-    (x : Share) (h : Frames) (before : Tables) (said : Said) (after : Tables)
-    → Does (admit x) h before said after
-    → said .verdict ≡ 8
-    → (h .link .frame < frame-sum (h .link) (joining (view h before) x))
-    × (said .short ≡ record { level = 0; units = frame-sum (h .link) (joining (view h before) x) - h .link .frame })
-    × (said .short .units ≤ x .units)
+-- so whatever the rules say of a call on every sound state (crates/frames/specs/Promises.antt) holds of the code's answer
+abbrev pub Holds-as-of-the-rules : Type 1
+Holds-as-of-the-rules = F.Holds-as-of-the-rules Does Sound sound-frames view answer answer-read
 
 -- ---- any calls
 

@@ -2,46 +2,43 @@
 use Prim.Native.Nat.{ℕ, zero, suc, _+_, _≤_, _<_}
 use native.Mathlib.Omega.{arith}
 use mathlib.Core.Path.{_≡_, refl, sym, ap, _∙_, subst, transport}
-use mathlib.Core.Bool.{Bool, true, false, cond, _&&_, true≢false}
-use mathlib.Core.Logic.{_↔_, _⊎_}
-use mathlib.Core.List.{List, [], _∷_, _++_, map}
+use mathlib.Core.Bool.{Bool, true, false, cond, _&&_}
+use mathlib.Core.List.{List, [], _∷_, _++_}
 use mathlib.Core.Option.{Option, none, some}
 use lib.Dec.{eqb}
-use lib.ListN.{length, getElem?, drop}
+use lib.ListN.{length}
 use Rattle.rules.specs.declared.Packet.{Packet}
 use Rattle.rules.specs.declared.Connection.{Connection}
 use Rattle.rules.specs.Words.{All, push}
 use Rattle.rules.specs.Limits.{clock-end, notice-number}
 use Rattle.rules.specs.declared.Notice.{Notice}
-use Rattle.rules.specs.Model.{State, Call, link, admit, offer, notice, close, tick, Answer, no-past, past, figures}
-use Rattle.rules.specs.Admission.{owned, stands, stamped, joining, reservation, charge-time, stand-by-on, distance}
-use Rattle.rules.specs.Service.{suits, untimely-by, Spaced, of, eligibilities, first, notice-departs, packet-departs, after-unit, started, charge-over}
+use Rattle.rules.specs.Model.{State, Call, link, admit, offer, notice, close, tick, Answer, figures}
+use Rattle.rules.specs.Admission.{stamped}
+use Rattle.rules.specs.Service.{Spaced, of, first, notice-departs, packet-departs, after-unit, started}
 use Rattle.rules.specs.SoundState.{Sound}
 use Rattle.rules.specs.SoundTest.{sound}
 use Rattle.rules.specs.Calls.{heard, verdict, done, settle, answer, eligibility-now}
-use Rattle.rules.specs.Runs.{Departure, History, while-owned, taken, leaving, after, run-from, nothing-yet, run, departures, in-hub, bound-of, allowed, offer-tick, offer-ticks-from, offer-ticks, Keeps-its-word, Exchange, exchange, exchanges-from, exchanges, own-answer, own-stamp-answers}
-use Rattle.rules.specs.Promises.{Conserved-since, Left-by, Kept-promise, Still-charged, Lowest-free, stamp-plus, No-cause, Stamp-promise}
-use Rattle.rules.proofs.Verdicts.{settled, admit-done, short-refused}
-use Rattle.rules.proofs.LevelTest.{test-holds, holds-test}
+use Rattle.rules.specs.Runs.{History, while-owned, taken, leaving, after, run-from, nothing-yet, run, in-hub, bound-of, allowed, offer-tick, offer-ticks-from, offer-ticks, Keeps-its-word, Exchange, exchange, exchanges-from, exchanges, own-answer}
+use Rattle.rules.specs.Promises.{Left-by, Kept-promise, stamp-plus, No-cause, Stamp-promise}
+use Rattle.rules.proofs.Verdicts.{settled}
 use Rattle.rules.proofs.SoundKept.{kept}
 use Rattle.rules.proofs.Every.{fresh-invariant}
 use Rattle.rules.proofs.Alone.{asks}
-use Rattle.rules.proofs.Results.{answer-verdict, finer-test-says, windows-at-the-bounds, runs-are-sound, conservation, conservation-by-owner, demand-3-first, demand-3-second, told-by-its-own, bed-nine-and-bed-ten, close-is-refused, closed-gets-10, closed-or-freed, freed-by-the-tick, charge-lasts, lowest-number-is-given, ten-exactly, seventeen-exactly, no-finish-before, eighteen-exactly, stamps-never-18, never-far-ahead, demand-3-for-stamps, stamps-told-by-their-own, bed-nine-and-bed-ten-with-stamps}
+use Rattle.rules.proofs.Results.{answer-verdict, conservation, demand-3-first, demand-3-second, told-by-its-own, bed-nine-and-bed-ten, demand-3-for-stamps, bed-nine-and-bed-ten-with-stamps}
 use Rattle.tables.specs.Places.{written-places, table-of}
 use Rattle.connections.specs.Members.{written-rows}
 use Rattle.faces.specs.Sequence.{Noted-by}
 use Rattle.faces.proofs.Results as F
 use Rattle.faces.proofs.Sequences as Q
-use Rattle.state.specs.declared.Hub.{Hub}
 use Rattle.state.specs.declared.Told.{Told}
-use Rattle.state.specs.View.{Tables, view, hub-of, written, sound-hub}
+use Rattle.state.specs.View.{Tables, hub-of, written}
 use Rattle.state.specs.Told.{is-some, packet-or-unused, told-of}
-use Rattle.state.specs.Does.{tells, Does}
+use Rattle.state.specs.Does.{Does}
 use Rattle.state.proofs.WrittenLaws.{writable, read-written, written-sound}
 use Rattle.state.proofs.SoundLaws.{is-sound, tables-kept}
-use Rattle.state.proofs.DoesLaws.{levels, told-as}
+use Rattle.state.proofs.DoesLaws.{levels}
 use Rattle.hub.specs.Sequence.{Notes, brought, went, blank, calls, state-of, notes-of, seen-ticks, Seen-to-keep-its-word, noted, all-noted}
-use Rattle.hub.specs.Promises.{One-outcome, Written-reads-back, Sound-is-written, Demand-1-of-the-code, Verdict-1-of-the-code, Sound-is-kept-by-the-code, Answers-as-the-rules, Close-is-refused-of-the-code, Closed-gets-10-of-the-code, Closed-or-freed-of-the-code, Freed-by-the-tick-of-the-code, Charge-lasts-of-the-code, Lowest-number-is-given-of-the-code, Finer-test-of-the-code, Windows-at-the-bounds-of-the-code, Follows-the-rules, Conservation-of-the-code, Noted-since, Conservation-by-owner-of-the-code, Demand-3-first-of-the-code, Kept-by-the-code, Demand-3-second-of-the-code, Told-by-its-own-of-the-code, Bed-nine-and-bed-ten-of-the-code, Counted-of-the-code, Ten-exactly-of-the-code, Seventeen-exactly-of-the-code, No-finish-before-of-the-code, Eighteen-exactly-of-the-code, Stamps-never-18-of-the-code, Never-far-ahead-of-the-code, Stamp-kept-by-the-code, Demand-3-for-stamps-of-the-code, Stamps-told-by-their-own-of-the-code, Bed-nine-and-bed-ten-with-stamps-of-the-code}
+use Rattle.hub.specs.Promises.{One-outcome, Written-reads-back, Sound-is-written, Demand-1-of-the-code, Verdict-1-of-the-code, Sound-is-kept-by-the-code, answer-read, Answers-as-the-rules, Holds-as-of-the-rules, Follows-the-rules, Noted-as-in-the-run, Conservation-of-the-code, Demand-3-first-of-the-code, Kept-by-the-code, Demand-3-second-of-the-code, Told-by-its-own-of-the-code, Bed-nine-and-bed-ten-of-the-code, Counted-of-the-code, Stamp-kept-by-the-code, Demand-3-for-stamps-of-the-code}
 
 -- ---- one call
 
@@ -63,95 +60,21 @@ verdict-1-of-the-code = F.verdict-1-of-the-code levels
 pub sound-is-kept-by-the-code : Sound-is-kept-by-the-code
 sound-is-kept-by-the-code = F.sound-is-kept-by-the-code levels
 
+-- what is told and written of an answer is read as this answer
+read-back : (a : Answer) → Sound (a .next) → answer-read (told-of a) (written (a .next)) ≡ a
+read-back a S i = record {
+  verdict = a .verdict;
+  number = a .number;
+  short = a .short;
+  departed = F.departed-back (a .departed) i;
+  next = read-written (a .next) (writable (a .next) S) i;
+}
+
 pub answers-as-the-rules : Answers-as-the-rules
-answers-as-the-rules = F.answers-as-the-rules levels
+answers-as-the-rules = F.answers-as-the-rules levels answer-read read-back
 
-verdict-as : (k : Call) (h : Hub) (t : Tables) (r : Told) (u : Tables) → Does k h t r u → sound-hub h t ≡ true → r .verdict ≡ answer k (view h t) .verdict
-verdict-as k h t r u D e = ap Told.verdict (answers-as-the-rules k h t r u D e .1)
-
--- ---- closing
-
--- verdict 0 is given on a sound hub only
-done-sound : (k : Call) (h : Hub) (t : Tables) (r : Told) (u : Tables) → Does k h t r u → r .verdict ≡ 0 → sound-hub h t ≡ true
-done-sound k h t r u D z = go (sound-hub h t) refl
-  where
-    go : (b : Bool) → sound-hub h t ≡ b → sound-hub h t ≡ true
-    go true e = e
-    go false e = absurd (omega (arith, z, verdict-1-of-the-code k h t r u D .0 e))
-
-pub close-is-refused-of-the-code : Close-is-refused-of-the-code
-close-is-refused-of-the-code c h t r u D e linked =
-    subst (λ (v : ℕ). (v ≡ 10 ↔ stands (view h t) c ≡ false) × (v ≡ 16 ↔ ((stands (view h t) c ≡ true) × (1 ≤ length (of c (view h t .held))))))
-    (sym (verdict-as (close c) h t r u D e))
-    (close-is-refused c (view h t) (is-sound h t e) linked)
-
-pub closed-gets-10-of-the-code : Closed-gets-10-of-the-code
-closed-gets-10-of-the-code c len tag st h t e is-closed =
-    let ten = closed-gets-10 (view h t) c len tag st (is-sound h t e) is-closed in (
-      λ r u D. verdict-as (offer c len tag st) h t r u D e ∙ ten .0,
-      λ r u D. verdict-as (close c) h t r u D e ∙ ten .1,
-    )
-
-pub closed-or-freed-of-the-code : Closed-or-freed-of-the-code
-closed-or-freed-of-the-code c h t r u D z =
-    let over = charge-over (charge-time (h .link)) (h .clock) (past (view h t) c) in
-    let same = answers-as-the-rules (close c) h t r u D (done-sound (close c) h t r u D z) in
-    subst (λ (n : State). (over ≡ true → owned (n .connections) c ≡ false) × (over ≡ false → Still-charged (view h t) c n))
-    (sym (same .0))
-    (closed-or-freed c (view h t) (sym (ap Told.verdict (same .1)) ∙ z))
-
-pub freed-by-the-tick-of-the-code : Freed-by-the-tick-of-the-code
-freed-by-the-tick-of-the-code c h t r u D z is-closed =
-    let over = charge-over (charge-time (h .link)) (h .clock + 1) (past (view h t) c) in
-    let same = answers-as-the-rules tick h t r u D (done-sound tick h t r u D z) in
-    subst (λ (n : State). (over ≡ true → owned (n .connections) c ≡ false) × (over ≡ false → Still-charged (view h t) c n))
-    (sym (same .0))
-    (freed-by-the-tick c (view h t) (sym (ap Told.verdict (same .1)) ∙ z) is-closed)
-
-pub charge-lasts-of-the-code : Charge-lasts-of-the-code
-charge-lasts-of-the-code k c h t r u D e is-closed =
-    subst (λ (n : State). (charge-over (charge-time (h .link)) (n .clock) (past (view h t) c) ≡ false → Still-charged (view h t) c n)
-    × (charge-over (charge-time (h .link)) (n .clock) (past (view h t) c) ≡ true → owned (n .connections) c ≡ false))
-    (sym (answers-as-the-rules k h t r u D e .0))
-    (charge-lasts k (view h t) c (is-sound h t e) is-closed)
-
-pub lowest-number-is-given-of-the-code : Lowest-number-is-given-of-the-code
-lowest-number-is-given-of-the-code x h t r u D z =
-    let same = answers-as-the-rules (admit x) h t r u D (done-sound (admit x) h t r u D z) in
-    subst (Lowest-free (view h t) x (r .number)) (sym (same .0))
-    (subst (λ (n : ℕ). Lowest-free (view h t) x n (answer (admit x) (view h t) .next)) (sym (ap Told.number (same .1))) (lowest-number-is-given x (view h t) (sym (ap Told.verdict (same .1)) ∙ z)))
-
--- ---- the finer test
-
-pub finer-test-of-the-code : Finer-test-of-the-code
-finer-test-of-the-code x h t r u D own = (
-  λ z m low high.
-      let done = admit-done (view h t) x (as-ruled z (done-sound (admit x) h t r u D z)) in
-      finer-test-says (h .link) cs m own .0 (test-holds (h .link) cs (done .tests-hold) m low high),
-  λ z f.
-      let short = short-refused (view h t) x (as-ruled z (eight-sound z)) in
-      true≢false (sym (holds-test (h .link) cs (λ m low high. finer-test-says (h .link) cs m own .1 (f m low high))) ∙ short .fails),
-)
-  where
-    cs : List Connection
-    cs = joining (view h t .connections) x
-
-    as-ruled : {n : ℕ} → r .verdict ≡ n → sound-hub h t ≡ true → verdict (admit x) (view h t) ≡ n
-    as-ruled z e = sym (answer-verdict (admit x) (view h t)) ∙ sym (verdict-as (admit x) h t r u D e) ∙ z
-
-    -- 8 is given on a sound hub only
-    eight-sound : r .verdict ≡ 8 → sound-hub h t ≡ true
-    eight-sound z = go (sound-hub h t) refl
-      where
-        go : (b : Bool) → sound-hub h t ≡ b → sound-hub h t ≡ true
-        go true e = e
-        go false e = absurd (omega (arith, z, verdict-1-of-the-code (admit x) h t r u D .0 e))
-
-pub windows-at-the-bounds-of-the-code : Windows-at-the-bounds-of-the-code
-windows-at-the-bounds-of-the-code x h t r u D e at =
-    let same = answers-as-the-rules (admit x) h t r u D e in
-    let rule = windows-at-the-bounds .1 (view h t) x at in
-    (ap Told.verdict (same .1) ∙ rule .0, λ z. ap (λ (a : Told). a .short) (told-as (admit x) h t e r u D) ∙ rule .1 (sym (ap Told.verdict (same .1)) ∙ z))
+pub holds-as-of-the-rules : Holds-as-of-the-rules
+holds-as-of-the-rules = F.holds-as-of-the-rules levels answer-read read-back
 
 -- ---- any calls follow the rules
 
@@ -261,24 +184,6 @@ conservation-of-the-code = Q.conservation-of-the-code levels runs in-hub conserv
 pub counted-of-the-code : Counted-of-the-code
 counted-of-the-code = Q.counted-of-the-code levels runs in-hub conservation
 
--- from one moment on, in the notes g of the calls before it and G of all, with the state now
-abbrev Since : Notes → Notes → State → ℕ → Type 0
-Since g G s c =
-    drop (length (of c (g .accepted))) (of c (G .accepted))
-    ≡ map (λ (d : Departure). d .what) (drop (length (departures c (g .departed))) (departures c (G .departed))) ++ of c (in-hub s)
-
-noted-since : (earlier later : List Call) (c : ℕ) → Conserved-since earlier later c → Noted-since earlier later c
-noted-since earlier later c e =
-    subst (λ (g : Notes). Since g (calls (earlier ++ later)) (state-of (calls (earlier ++ later))) c) (sym (follows-the-rules earlier))
-    (subst (λ (s : State). Since (notes-of (run earlier)) (calls (earlier ++ later)) s c) (sym (state-is (earlier ++ later)))
-    (subst (λ (G : Notes). Since (notes-of (run earlier)) G (run (earlier ++ later) .now) c) (sym (follows-the-rules (earlier ++ later))) e))
-
-pub conservation-by-owner-of-the-code : Conservation-by-owner-of-the-code
-conservation-by-owner-of-the-code earlier later x r u D z =
-    let a = told-then earlier (admit x) r u D in
-    subst (Noted-since earlier (admit x ∷ later)) (sym (ap (λ (y : Told). y .number) a))
-    (noted-since earlier (admit x ∷ later) _ (conservation-by-owner earlier later x (sym (ap (λ (y : Told). y .verdict) a) ∙ z)))
-
 -- ---- demand 3
 
 -- a packet that has left in the rules' run has left in the notes: accepted behind the calls `earlier`, with its eligibility e
@@ -364,63 +269,29 @@ noted-is c =
     (exchanges-from c) (λ h es. refl) (λ h es k ks. refl)
     (noted-one c) (λ h es S. ap (λ (s : State). while-owned s c es) (levels .read-written (h .now) S))
 
--- the kind of a connection is the one that the rules have
-kind-is : (ks : List Call) (c : ℕ) (b : Bool) → stamped (figures (state-of (calls ks)) c) ≡ b → stamped (figures (run ks .now) c) ≡ b
-kind-is ks c b e = ap stamped (sym (same-figures ks c)) ∙ e
+pub noted-as-in-the-run : Noted-as-in-the-run
+noted-as-in-the-run ks c = (ticks-are c ks, noted-is c ks)
 
 pub told-by-its-own-of-the-code : Told-by-its-own-of-the-code
 told-by-its-own-of-the-code ks c kind word =
     subst (λ (x : Connection). All (λ (e : Exchange). e ≡ own-answer x (e .asked)) (all-noted c ks)) (sym (same-figures ks c))
-    (subst (All (λ (e : Exchange). e ≡ own-answer (figures (run ks .now) c) (e .asked))) (sym (noted-is c ks)) (told-by-its-own ks c (kind-is ks c false kind) (transport (word-is c ks) word)))
+    (subst (All (λ (e : Exchange). e ≡ own-answer (figures (run ks .now) c) (e .asked))) (sym (noted-is c ks))
+    (told-by-its-own ks c (ap stamped (sym (same-figures ks c)) ∙ kind) (transport (word-is c ks) word)))
 
 pub bed-nine-and-bed-ten-of-the-code : Bed-nine-and-bed-ten-of-the-code
-bed-nine-and-bed-ten-of-the-code ks ms c d alike asked kind word =
-    noted-is c ks
-    ∙ bed-nine-and-bed-ten ks ms c d (sym (same-figures ks c) ∙ alike ∙ same-figures ms d)
-    (ap asks (sym (noted-is c ks)) ∙ asked ∙ ap asks (noted-is d ms)) (kind-is ks c false kind) (transport (word-is c ks) word)
-    ∙ sym (noted-is d ms)
+bed-nine-and-bed-ten-of-the-code ks ms c d alike asked word = noted-is c ks ∙ go (stamped (figures (run ks .now) c)) refl ∙ sym (noted-is d ms)
+  where
+    same : figures (run ks .now) c ≡ figures (run ms .now) d
+    same = sym (same-figures ks c) ∙ alike ∙ same-figures ms d
+
+    offers : asks (exchanges c ks) ≡ asks (exchanges d ms)
+    offers = ap asks (sym (noted-is c ks)) ∙ asked ∙ ap asks (noted-is d ms)
+
+    go : (b : Bool) → stamped (figures (run ks .now) c) ≡ b → exchanges c ks ≡ exchanges d ms
+    go false kind = bed-nine-and-bed-ten ks ms c d same offers kind (transport (word-is c ks) word)
+    go true kind = bed-nine-and-bed-ten-with-stamps ks ms c d same offers kind (transport (word-is c ks) word)
 
 -- ---- connections by stamps
-
-pub ten-exactly-of-the-code : Ten-exactly-of-the-code
-ten-exactly-of-the-code c len tag st h t r u D e linked =
-    subst (λ (v : ℕ). v ≡ 10 ↔ ((stands (view h t) c ≡ true) × (suits (figures (view h t) c) st ≡ true) → ⊥))
-    (sym (verdict-as (offer c len tag st) h t r u D e))
-    (ten-exactly c len tag st (view h t) (is-sound h t e) linked)
-
-pub seventeen-exactly-of-the-code : Seventeen-exactly-of-the-code
-seventeen-exactly-of-the-code c len tag stamp h t r u D e linked =
-    subst (λ (v : ℕ). v ≡ 17
-    ↔ ((allowed (view h t) c len (some stamp) ≡ true)
-    × (length (of c (view h t .held)) < reservation (h .link) (figures (view h t) c))
-    × (h .clock < clock-end)
-    × (No-cause (view h t) c stamp → ⊥)))
-    (sym (verdict-as (offer c len tag (some stamp)) h t r u D e))
-    (seventeen-exactly c len tag stamp (view h t) (is-sound h t e) linked)
-
-module _ (earlier later : List Call) (c len tag : ℕ) (st : Option ℕ) (finish : ℕ) where
-  -- in some notes the packet of the offer has left at `finish`
-  abbrev Ended : Notes → Notes → ℕ → Type 0
-  Ended g after e =
-      getElem? (departures c (after .departed)) (length (of c (g .accepted)))
-      ≡ some (record { what = record { connection = c; len = len; tag = tag; arrival = g .kept .clock; eligibility = e }; finish = finish })
-
-  ended-in-the-run : (e n : ℕ) → n ≡ e → Ended (calls earlier) (calls (earlier ++ offer c len tag st ∷ later)) n → Ended (notes-of (run earlier)) (notes-of (run (earlier ++ offer c len tag st ∷ later))) e
-  ended-in-the-run e n same there =
-      subst (λ (g : Notes). Ended g (notes-of (run (earlier ++ offer c len tag st ∷ later))) e) (follows-the-rules earlier)
-      (subst (λ (g : Notes). Ended (calls earlier) g e) (follows-the-rules (earlier ++ offer c len tag st ∷ later))
-      (subst (λ (k : ℕ). Ended (calls earlier) (calls (earlier ++ offer c len tag st ∷ later)) k) same there))
-
-pub no-finish-before-of-the-code : No-finish-before-of-the-code
-no-finish-before-of-the-code earlier later c len tag st finish r u D z kind there =
-    let s = run earlier .now in
-    let it = offer c len tag st in
-    let a = told-then earlier it r u D in
-    let v : answer it s .verdict ≡ 0 = sym (ap (λ (x : Told). x .verdict) a) ∙ z in
-    let n : r .number ≡ eligibility-now s c st = ap (λ (x : Told). x .number) a ∙ ap (λ (w : ℕ). settle it s w .number) (sym (answer-verdict it s) ∙ v) in
-    let of-kind : (stamped (figures s c) ≡ true) ⊎ (stand-by-on (s .link) ≡ false) = subst (λ (q : State). (stamped (figures q c) ≡ true) ⊎ (stand-by-on (q .link) ≡ false)) (state-is earlier) kind in
-    let least : eligibility-now s c st + len ≤ finish = no-finish-before earlier later c len tag st finish v of-kind (ended-in-the-run earlier later c len tag st finish (eligibility-now s c st) (r .number) n there) in
-    omega (arith, n, least)
 
 module _ (earlier later : List Call) (c len tag stamp : ℕ) (good : allowed (state-of (calls earlier)) c len (some stamp) ≡ true) (cause : No-cause (state-of (calls earlier)) c stamp) where
   stamp-promise : Stamp-promise earlier later c len tag stamp
@@ -447,43 +318,3 @@ module _ (earlier later : List Call) (c len tag stamp : ℕ) (good : allowed (st
 
 pub demand-3-for-stamps-of-the-code : Demand-3-for-stamps-of-the-code
 demand-3-for-stamps-of-the-code earlier later c len tag stamp good cause = stamp-kept earlier later c len tag stamp good cause
-
-pub stamps-told-by-their-own-of-the-code : Stamps-told-by-their-own-of-the-code
-stamps-told-by-their-own-of-the-code ks c kind word =
-    subst (λ (x : Connection). all-noted c ks ≡ own-stamp-answers x no-past (asks (all-noted c ks))) (sym (same-figures ks c))
-    (subst (λ (es : List Exchange). es ≡ own-stamp-answers (figures (run ks .now) c) no-past (asks es)) (sym (noted-is c ks))
-    (stamps-told-by-their-own ks c (kind-is ks c true kind) (transport (word-is c ks) word)))
-
-pub bed-nine-and-bed-ten-with-stamps-of-the-code : Bed-nine-and-bed-ten-with-stamps-of-the-code
-bed-nine-and-bed-ten-with-stamps-of-the-code ks ms c d alike asked kind word =
-    noted-is c ks
-    ∙ bed-nine-and-bed-ten-with-stamps ks ms c d (sym (same-figures ks c) ∙ alike ∙ same-figures ms d)
-    (ap asks (sym (noted-is c ks)) ∙ asked ∙ ap asks (noted-is d ms)) (kind-is ks c true kind) (transport (word-is c ks) word)
-    ∙ sym (noted-is d ms)
-
--- ---- the stand-by queue
-
-pub eighteen-exactly-of-the-code : Eighteen-exactly-of-the-code
-eighteen-exactly-of-the-code c len tag st h t r u D e linked =
-    subst (λ (v : ℕ). v ≡ 18
-    ↔ ((allowed (view h t) c len st ≡ true)
-    × (length (of c (view h t .held)) < reservation (h .link) (figures (view h t) c))
-    × (h .clock < clock-end)
-    × (untimely-by (figures (view h t) c) (past (view h t) c) (h .clock) st ≡ false)
-    × (stand-by-on (h .link) ≡ true)
-    × (h .clock + distance (h .link) (figures (view h t) c) < eligibility-now (view h t) c st)))
-    (sym (verdict-as (offer c len tag st) h t r u D e))
-    (eighteen-exactly c len tag st (view h t) (is-sound h t e) linked)
-
-pub stamps-never-18-of-the-code : Stamps-never-18-of-the-code
-stamps-never-18-of-the-code c len tag stamp h t r u D z = go (sound-hub h t) refl
-  where
-    go : (b : Bool) → sound-hub h t ≡ b → ⊥
-    go true e = stamps-never-18 c len tag stamp (view h t) (sym (verdict-as (offer c len tag (some stamp)) h t r u D e) ∙ z)
-    go false e = absurd (omega (arith, z, verdict-1-of-the-code (offer c len tag (some stamp)) h t r u D .0 e))
-
-pub never-far-ahead-of-the-code : Never-far-ahead-of-the-code
-never-far-ahead-of-the-code ks c on who =
-    subst (λ (s : State). All (λ e. e ≤ s .clock + distance (s .link) (figures s c)) (eligibilities c (s .held)) × All (λ e. e ≤ s .clock + distance (s .link) (figures s c)) (past s c))
-    (sym (state-is ks))
-    (never-far-ahead (run ks .now) (runs-are-sound ks) (subst (λ (s : State). stand-by-on (s .link) ≡ true) (state-is ks) on) c (subst (λ (s : State). owned (s .connections) c ≡ true) (state-is ks) who))
