@@ -170,7 +170,7 @@ fn follow(trace: &[u8], met: &mut Met) {
 fn every_connection_of_every_trace() {
     let mut met = Met::default();
     for kind in Kind::of_levels().filter(|kind| !kind.name.ends_with("limit")) {
-        let seeds = if kind.name.ends_with("end") { 4 } else { 12 };
+        let seeds = if kind.name.ends_with("end") { 4 } else { 6 };
         for seed in 0..seeds {
             follow(&kind.trace(seed, None), &mut met);
         }

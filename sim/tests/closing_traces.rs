@@ -254,7 +254,11 @@ const WITH_CLOSES: [&str; 21] = [
 #[test]
 fn every_number_of_every_trace() {
     for kind in Kind::of_levels().filter(|kind| !kind.name.ends_with("limit")) {
-        let seeds = if kind.name.ends_with("end") { 1 } else { 12 };
+        let seeds = match kind.name {
+            name if name.ends_with("end") => 1,
+            name if name.starts_with("bad") => 12,
+            _ => 5,
+        };
         let met = met_by(kind.name, seeds);
         let closes = met.never_sent + met.time_reached + met.charged;
         let with_closes = kind.name.contains("close") || WITH_CLOSES.contains(&kind.name);

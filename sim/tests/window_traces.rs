@@ -155,7 +155,7 @@ fn with_windows(kind: &&Kind) -> bool {
 #[test]
 fn every_admission_and_every_departure() {
     for kind in Kind::of_levels().filter(with_windows) {
-        let seeds = if kind.name.ends_with("end") { 1 } else { 9 };
+        let seeds = if kind.name.ends_with("end") { 1 } else { 4 };
         follow(kind, seeds);
     }
 }

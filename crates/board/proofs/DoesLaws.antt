@@ -20,7 +20,7 @@ use Rattle.both.proofs.DoesLaws as B
 use Rattle.board.specs.Numbers.{kept-in, numbers-of, sound-lent}
 use Rattle.board.specs.Calls.{Call, asks, reply-to, reply, refused-by, answer-numbers}
 use Rattle.board.specs.Ticks.{run-ticks}
-use Rattle.board.specs.Does.{Spoken, spoken, spoken-of, replied, tells, leaves, Does}
+use Rattle.board.specs.Does.{Spoken, spoken, spoken-of, rules-tell, tells, leaves, Does}
 use Rattle.board.proofs.NumberLaws.{sound-kept-in}
 
 -- what is read of sound tables is sound
@@ -32,7 +32,7 @@ pub units-fit : (j : Request) (h : Kept) (t : Tables) → sound-kept h t ≡ tru
 units-fit j h t ok r u D = omega (arith, answers-fit j (view h t) (is-sound h t ok) .units, ap (λ (x : Replied). x .short .units) (B.told-as j h t ok r u D))
 
 module _ (k : Call) (l : List ℕ) (t : Tables) where
-  ruled : C.Ruled tells leaves k l t (sound-lent l t) (spoken-of k (replied k l t) (numbers-of (replied k l t .kept))) (spoken-of k (refusal (kept-in l) 1 (refused-by (asks k))) l)
+  ruled : C.Ruled tells leaves k l t (sound-lent l t) (rules-tell k (view (kept-in l) t)) (spoken-of k (refusal (kept-in l) 1 (refused-by (asks k))) l)
       (written (reply k (view (kept-in l) t) .next))
   unfolding tells leaves
   ruled = record { tells-is = refl; leaves-is = refl }
@@ -43,7 +43,7 @@ module _ (k : Call) (l : List ℕ) (t : Tables) where
 
   module _ (ok : sound-lent l t ≡ true) where
     -- sound: the reply, written back
-    pub answers : (r : Replied) (u : Tables) (ns l′ : List ℕ) → r ≡ replied k l t → u ≡ written (reply k (view (kept-in l) t) .next) → ns ≡ answer-numbers k r → l′ ≡ numbers-of (r .kept)
+    pub answers : (r : Replied) (u : Tables) (ns l′ : List ℕ) → r ≡ replied-of (reply k (view (kept-in l) t)) → u ≡ written (reply k (view (kept-in l) t) .next) → ns ≡ answer-numbers k r → l′ ≡ numbers-of (r .kept)
         → Does k l t (spoken (r .verdict ∷ ns) l′) u
     answers r u ns l′ e f i g =
         C.answers-as ruled ok (spoken (r .verdict ∷ ns) l′) u
@@ -71,7 +71,7 @@ module _ (k : Call) (l : List ℕ) (t : Tables) where
 
     -- .. and no other
     module _ (told : Spoken) (u : Tables) (D : Does k l t told u) where
-      pub told-as : told ≡ spoken-of k (replied k l t) (numbers-of (replied k l t .kept))
+      pub told-as : told ≡ rules-tell k (view (kept-in l) t)
       told-as = C.told-as ruled ok told u D
 
       pub left-as : u ≡ written (reply k (view (kept-in l) t) .next)

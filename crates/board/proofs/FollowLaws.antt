@@ -18,14 +18,15 @@ use Rattle.either.proofs.Results.{refusals-change-nothing, sound-is-kept}
 use Rattle.tables.specs.Lent.{Tables}
 use Rattle.tables.specs.Places.{is-some, packet-or-unused, written-places, table-of}
 use Rattle.connections.specs.Members.{written-rows}
+use Rattle.faces.specs.Sequence.{calls-from}
 use Rattle.both.specs.View.{view, kept-of, written}
 use Rattle.both.specs.Replied.{replied-of, refusal}
 use Rattle.both.proofs.WrittenLaws.{written-reads-back}
 use Rattle.board.specs.Numbers.{kept-in, numbers-of, sound-lent}
 use Rattle.board.specs.Ticks.{many, run-ticks}
 use Rattle.board.specs.Calls.{Call, link, link-frames, admit, admit-stamped, admit-share, offer, offer-stamped, notice, close, tick, ticks, asks, reply-to, reply, refused-by, departure-numbers}
-use Rattle.board.specs.Does.{Spoken, spoken-of, tells, leaves}
-use Rattle.board.specs.Sequence.{Notes, departure-in, brought, went, call, calls-from, blank, requests-of, requests-from, notes-of}
+use Rattle.board.specs.Does.{Spoken, spoken-of, rules-tell, tells, leaves}
+use Rattle.board.specs.Sequence.{Notes, departure-in, read-off, call, blank, requests-of, requests-from, notes-of}
 use Rattle.board.proofs.NumberLaws.{read-again, lent-sound}
 use Rattle.board.proofs.ReplyLaws.{Eight-line, over-many, sound-next, eights-next, named, is-tick, no-departure, clock-on}
 
@@ -46,8 +47,11 @@ abbrev dated : Option Packet → ℕ → Option Departure
 dated none finish = none
 dated (some p) finish = some (record { what = p; finish = finish })
 
--- the numbers of an answer tell it
-departs : (a : Reply) → departure-in (departure-numbers (replied-of a)) ≡ dated (a .departed) (clock-of (a .next))
+-- the departure that is read off the numbers of an answer
+abbrev departure-told : Reply → Option Departure
+departure-told a = departure-in (departure-numbers (replied-of a))
+
+departs : (a : Reply) → departure-told a ≡ dated (a .departed) (clock-of (a .next))
 departs a = go (a .departed) (clock-of (a .next))
   where
     go : (o : Option Packet) (finish : ℕ)
@@ -98,82 +102,65 @@ module _ (h : Line-history) (S : Sound-line (h .now)) (E : Eight-line (h .now)) 
   abbrev s : Line
   s = h .now
 
-  abbrev pub told : Call → Spoken
-  told k = spoken-of k (replied-of (reply k s)) (numbers-of (kept-of (reply k s .next)))
-
-  pub same-tells : (k : Call) → tells k (numbers-of (kept-of s)) (written s) ≡ told k
+  pub same-tells : (k : Call) → tells k (numbers-of (kept-of s)) (written s) ≡ rules-tell k s
   unfolding tells
   same-tells k =
       cond-is _ (spoken-of k (refusal (kept-in (numbers-of (kept-of s))) 1 (refused-by (asks k))) (numbers-of (kept-of s))) (still-sound s S E)
-      ∙ ap (λ (x : Line). spoken-of k (replied-of (reply k x)) (numbers-of (kept-of (reply k x .next)))) (read s S E)
+      ∙ ap (rules-tell k) (read s S E)
 
   same-leaves : (k : Call) → leaves k (numbers-of (kept-of s)) (written s) ≡ written (reply k s .next)
   unfolding leaves
   same-leaves k = cond-is _ (written s) (still-sound s S E) ∙ ap (λ (x : Line). written (reply k x .next)) (read s S E)
 
-  abbrev call-leaves : Call → Notes
-  call-leaves k = record {
-    accepted = push (h .accepted) (brought k (numbers-of (kept-of s)) (told k));
-    departed = push (h .departed) (went k (told k));
-    line = numbers-of (kept-of (reply k s .next));
-    tables = written (reply k s .next);
+  -- what is noted of a call, told a, that leaves the tables t
+  abbrev noted-of : Call → Spoken → Tables → Notes
+  noted-of k a t = record {
+    accepted = push (h .accepted) (read-off k (numbers-of (kept-of s)) a .0);
+    departed = push (h .departed) (read-off k (numbers-of (kept-of s)) a .1);
+    kept = a .line;
+    tables = t;
   }
 
-  call-is : (k : Call) → call (notes-of h) k ≡ call-leaves k
+  call-is : (k : Call) → call (notes-of h) k ≡ noted-of k (rules-tell k s) (written (reply k s .next))
   call-is k =
-      ap
-      (λ (a : Spoken). record {
-        accepted = push (h .accepted) (brought k (numbers-of (kept-of s)) a);
-        departed = push (h .departed) (went k a);
-        line = a .line;
-        tables = leaves k (numbers-of (kept-of s)) (written s);
-      })
-      (same-tells k)
-      ∙ ap
-      (λ (t : Tables). record {
-        accepted = push (h .accepted) (brought k (numbers-of (kept-of s)) (told k));
-        departed = push (h .departed) (went k (told k));
-        line = numbers-of (kept-of (reply k s .next));
-        tables = t;
-      })
-      (same-leaves k)
+      ap (λ (a : Spoken). noted-of k a (leaves k (numbers-of (kept-of s)) (written s))) (same-tells k) ∙ ap (noted-of k (rules-tell k s)) (same-leaves k)
 
   abbrev noted : List Packet → Option Departure → Line → Notes
-  noted acc o z = record { accepted = acc; departed = push (h .departed) o; line = numbers-of (kept-of z); tables = written z }
+  noted acc o z = record { accepted = acc; departed = push (h .departed) o; kept = numbers-of (kept-of z); tables = written z }
 
   -- no tick: nothing departs
   quietly : (r : Request) → respond r s .departed ≡ none → noted (push (h .accepted) (taken r s (respond r s))) none (respond r s .next) ≡ notes-of (after h r)
   quietly r e = ap (λ (o : Option Packet). noted (push (h .accepted) (taken r s (respond r s))) (leaving s o) (respond r s .next)) (sym e)
 
-  ticking : respond tick-request s .verdict ≡ 0 → noted (h .accepted) (went tick (told tick)) (respond tick-request s .next) ≡ notes-of (after h tick-request)
+  ticking : respond tick-request s .verdict ≡ 0 → noted (h .accepted) (departure-told (respond tick-request s)) (respond tick-request s .next) ≡ notes-of (after h tick-request)
   ticking e = ap (λ (o : Option Departure). noted (h .accepted) o (respond tick-request s .next)) (departs (respond tick-request s) ∙ tick-left s e)
 
-  refused-tick : (respond tick-request s .verdict ≡ 0 → ⊥) → noted (h .accepted) (went tick (told tick)) (respond tick-request s .next) ≡ notes-of (after h tick-request)
+  refused-tick : (respond tick-request s .verdict ≡ 0 → ⊥) → noted (h .accepted) (departure-told (respond tick-request s)) (respond tick-request s .next) ≡ notes-of (after h tick-request)
   refused-tick z =
       let e = refusals-change-nothing tick-request s z .1 in
       ap (λ (o : Option Departure). noted (h .accepted) o (respond tick-request s .next))
       (departs (respond tick-request s) ∙ ap (λ (o : Option Packet). dated o (clock-of (respond tick-request s .next))) e ∙ sym (ap (leaving s) e))
 
-  one-tick : noted (h .accepted) (went tick (told tick)) (respond tick-request s .next) ≡ notes-of (after h tick-request)
+  one-tick : noted (h .accepted) (departure-told (respond tick-request s)) (respond tick-request s .next) ≡ notes-of (after h tick-request)
   one-tick = go (eqb (respond tick-request s .verdict) 0) refl
     where
-      go : (b : Bool) → eqb (respond tick-request s .verdict) 0 ≡ b → noted (h .accepted) (went tick (told tick)) (respond tick-request s .next) ≡ notes-of (after h tick-request)
+      go : (b : Bool) → eqb (respond tick-request s .verdict) 0 ≡ b → noted (h .accepted) (departure-told (respond tick-request s)) (respond tick-request s .next) ≡ notes-of (after h tick-request)
       go true e = ticking (eqb-true _ 0 e)
       go false e = refused-tick (eqb-false _ 0 e)
 
-  many-ticking : (n : ℕ) → noted (h .accepted) (went (ticks n) (told (ticks n))) (run-ticks n s .next) ≡ notes-of (run-from h (requests-of (inr n) s))
+  many-ticking : (n : ℕ) → noted (h .accepted) (departure-told (run-ticks n s)) (run-ticks n s .next) ≡ notes-of (run-from h (requests-of (inr n) s))
   unfolding run-ticks
   many-ticking n =
       ap (λ (o : Option Departure). noted (h .accepted) o (many n s .next)) (departs (run-ticks n s)) ∙ ap notes-of (sym (ticks-run n s (h .accepted) (h .departed)))
 
   -- a call that is no tick
   quiet-call : (k : Call) → is-tick (request-in (asks k)) ≡ false
-      → call-leaves k ≡ noted (push (h .accepted) (taken (request-in (asks k)) s (respond (request-in (asks k)) s))) none (respond (request-in (asks k)) s .next)
+      → noted-of k (rules-tell k s) (written (reply k s .next)) ≡ noted (push (h .accepted) (taken (request-in (asks k)) s (respond (request-in (asks k)) s))) none (respond (request-in (asks k)) s .next)
       → run-from h (requests-of (asks k) s) ≡ after h (request-in (asks k))
       → call (notes-of h) k ≡ notes-of (run-from h (requests-of (asks k) s))
   quiet-call k i e f = call-is k ∙ e ∙ quietly (request-in (asks k)) (no-departure s (request-in (asks k)) i) ∙ ap notes-of (sym f)
 
-  pub follows-one : (k : Call) → call (notes-of h) k ≡ notes-of (run-from h (requests-of (asks k) s))
+  follows-one : (k : Call) → call (notes-of h) k ≡ notes-of (run-from h (requests-of (asks k) s))
   follows-one (link n q silence early bounds windows) = quiet-call (link n q silence early bounds windows) refl refl refl
   follows-one (link-frames frame q silence) = quiet-call (link-frames frame q silence) refl refl refl
   follows-one (admit level gap size window average) = quiet-call (admit level gap size window average) refl refl refl
@@ -186,23 +173,23 @@ module _ (h : Line-history) (S : Sound-line (h .now)) (E : Eight-line (h .now)) 
   follows-one tick = call-is tick ∙ one-tick
   follows-one (ticks n) = call-is (ticks n) ∙ many-ticking n
 
-  pub then-now : (a : Request ⊎ ℕ) → run-from h (requests-of a s) .now ≡ reply-to a s .next
+  then-now : (a : Request ⊎ ℕ) → run-from h (requests-of a s) .now ≡ reply-to a s .next
   unfolding run-ticks
   then-now (inl r) = refl
   then-now (inr n) = ap (λ (g : Line-history). g .now) (ticks-run n s (h .accepted) (h .departed))
 
 -- ---- any calls
 
-pub run-append : (as-first bs : List Request) (h : Line-history) → run-from h (as-first ++ bs) ≡ run-from (run-from h as-first) bs
+run-append : (as-first bs : List Request) (h : Line-history) → run-from h (as-first ++ bs) ≡ run-from (run-from h as-first) bs
 run-append [] bs h = refl
 run-append (r ∷ rs) bs h = run-append rs bs (after h r)
 
-pub follows-from : (ks : List Call) (h : Line-history) → Sound-line (h .now) → Eight-line (h .now) → calls-from (notes-of h) ks ≡ notes-of (run-from h (requests-from (h .now) ks))
+pub follows-from : (ks : List Call) (h : Line-history) → Sound-line (h .now) → Eight-line (h .now) → calls-from call (notes-of h) ks ≡ notes-of (run-from h (requests-from (h .now) ks))
 follows-from [] h S E = refl
 follows-from (k ∷ ks) h S E =
     let H = run-from h (requests-of (asks k) (h .now)) in
     let e = then-now h S E (asks k) in
-    ap (λ (g : Notes). calls-from g ks) (follows-one h S E k)
+    ap (λ (g : Notes). calls-from call g ks) (follows-one h S E k)
     ∙ follows-from ks H (subst Sound-line (sym e) (sound-next k (h .now) S)) (subst Eight-line (sym e) (eights-next k (h .now) (named k) E))
     ∙ ap (λ (x : Line). notes-of (run-from H (requests-from x ks))) e
     ∙ ap notes-of (sym (run-append (requests-of (asks k) (h .now)) (requests-from (reply k (h .now) .next) ks) h))

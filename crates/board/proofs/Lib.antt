@@ -3,6 +3,4 @@ pub mod DoesLaws
 pub mod TickLaws
 pub mod ReplyLaws
 pub mod FollowLaws
-pub mod GatherLaws
-pub mod ShareLaws
 pub mod Results

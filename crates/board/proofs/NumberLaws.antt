@@ -42,9 +42,6 @@ read-again h E =
     with-eights h (eight (h .hub .link .bounds)) (eight (h .hub .link .windows)) (listed-row max-levels (h .hub .link .bounds) (E .bounds))
     (listed-row max-levels (h .hub .link .windows) (E .windows))
 
-pub written-long : (h : Kept) → length (numbers-of h) ≡ line-length
-written-long h = refl
-
 -- ---- the soundness test
 
 module _ (l : List ℕ) (t : Tables) where

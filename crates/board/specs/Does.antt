@@ -2,10 +2,11 @@
 use Prim.Native.Nat.{ℕ}
 use mathlib.Core.Bool.{cond}
 use mathlib.Core.List.{List, _∷_}
+use Rattle.either.specs.Line.{Line}
 use Rattle.tables.specs.Lent.{Tables}
 use Rattle.tables.specs.Calls.{Does-by}
 use Rattle.both.specs.declared.Replied.{Replied}
-use Rattle.both.specs.View.{view, written}
+use Rattle.both.specs.View.{view, kept-of, written}
 use Rattle.both.specs.Replied.{replied-of, refusal}
 use Rattle.board.specs.Numbers.{kept-in, numbers-of, sound-lent}
 use Rattle.board.specs.Calls.{Call, asks, reply, refused-by, answer-numbers}
@@ -21,13 +22,13 @@ spoken answer line = record { answer = answer; line = line }
 abbrev pub spoken-of : Call → Replied → List ℕ → Spoken
 spoken-of k r line = spoken (r .verdict ∷ answer-numbers k r) line
 
--- what is told, and the tables that are left: number 1 and nothing changed ("Verdict numbers"), or what the rules' reply says, written back
-abbrev pub replied : Call → List ℕ → Tables → Replied
-replied k line t = replied-of (reply k (view (kept-in line) t))
+-- .. as the rules reply to it on the line s
+abbrev pub rules-tell : Call → Line → Spoken
+rules-tell k s = spoken-of k (replied-of (reply k s)) (numbers-of (kept-of (reply k s .next)))
 
+-- what is told, and the tables that are left: number 1 and nothing changed ("Verdict numbers"), or what the rules' reply says, written back
 unfoldable pub tells : Call → List ℕ → Tables → Spoken
-tells k line t =
-    cond (sound-lent line t) (spoken-of k (replied k line t) (numbers-of (replied k line t .kept))) (spoken-of k (refusal (kept-in line) 1 (refused-by (asks k))) line)
+tells k line t = cond (sound-lent line t) (rules-tell k (view (kept-in line) t)) (spoken-of k (refusal (kept-in line) 1 (refused-by (asks k))) line)
 
 unfoldable pub leaves : Call → List ℕ → Tables → Tables
 leaves k line t = cond (sound-lent line t) (written (reply k (view (kept-in line) t) .next)) t

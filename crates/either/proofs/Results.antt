@@ -2,40 +2,39 @@
 use Prim.Native.Nat.{ℕ, _<_}
 use native.Mathlib.Omega.{arith}
 use mathlib.Core.Path.{_≡_, refl, sym, ap, _∙_, subst}
-use mathlib.Core.Bool.{Bool, true, false, cond, not, _&&_, true≢false}
-use mathlib.Core.Logic.{_⊎_, inl, inr, ⊎-elim}
+use mathlib.Core.Bool.{Bool, true, false, not, _&&_, true≢false}
+use mathlib.Core.Logic.{inl, inr, ⊎-elim}
 use mathlib.Core.List.{List, [], _∷_, _++_}
 use mathlib.Core.Option.{none, some}
 use lib.Dec.{eqb}
 use Rattle.rules.specs.declared.Link.{Link}
 use Rattle.rules.specs.declared.Connection.{Connection}
 use Rattle.rules.specs.Limits.{no-connection-number, beyond-32-bits}
-use Rattle.rules.specs.Model.{State as Level-state, Call as Level-call, link as level-link, admit as level-admit, offer as level-offer, notice as level-notice, close as level-close, tick as level-tick}
+use Rattle.rules.specs.Model.{State as Level-state, Call as Level-call}
 use Rattle.rules.specs.SoundTest.{sound as level-sound}
 use Rattle.rules.specs.Calls.{refused-number as level-refused-number, answer as level-answer}
 use Rattle.rules.specs.Runs.{run-from as level-run-from, nothing-yet as level-nothing-yet, History as Level-history}
-use Rattle.rules.specs.Promises.{number-limit as level-number-limit}
+use Rattle.rules.specs.Promises.{number-limit, Answer-fits}
 use Rattle.rules.proofs.Sums.{cond-is, cond-ind}
-use Rattle.rules.proofs.Tests.{never, and-true, and-intro, not-true-false}
+use Rattle.rules.proofs.Tests.{and-true, and-intro, not-true-false}
 use Rattle.rules.proofs.Rows.{none-some}
 use Rattle.rules.proofs.Invariant.{Invariant as Level-invariant, clock-le-end as level-clock}
 use Rattle.rules.proofs.Every.{fresh-invariant as level-fresh-invariant}
 use Rattle.rules.proofs.Results.{demand-1-refusals as level-refusals, test-is-exact as level-exact, verdict-1-exactly as level-1-exactly, sound-is-kept as level-kept, answers-fit as level-fits}
 use Rattle.frames.specs.declared.Framing.{Framing}
 use Rattle.frames.specs.declared.Share.{Share}
-use Rattle.frames.specs.Model.{State as Frame-state, Call as Frame-call, link as frame-link, admit as frame-admit, offer as frame-offer, notice as frame-notice, tick as frame-tick}
+use Rattle.frames.specs.Model.{State as Frame-state, Call as Frame-call}
 use Rattle.frames.specs.SoundTest.{sound as frame-sound}
 use Rattle.frames.specs.Calls.{refused-number as frame-refused-number, answer as frame-answer}
-use Rattle.frames.specs.Runs.{run-from as frame-run-from, nothing-yet as frame-nothing-yet, History as Frame-history}
-use Rattle.frames.specs.Promises.{number-limit as frame-number-limit}
+use Rattle.frames.specs.Runs.{run-from as frame-run-from, nothing-yet as frame-nothing-yet}
 use Rattle.frames.proofs.Every.{fresh-invariant as frame-fresh-invariant}
 use Rattle.frames.proofs.Fields.{clock-le-end as frame-clock}
 use Rattle.frames.proofs.Results.{refusals-change-nothing as frame-refusals, test-is-exact as frame-exact, verdict-1-exactly as frame-1-exactly, sound-is-kept as frame-kept, answers-fit as frame-fits}
-use Rattle.either.specs.Line.{Line, Request, link-levels, link-frames, admit-level, admit-share, offer, notice, close, tick, Reply, by-levels, by-frames, refuse, refused-number, levels-set, frames-set, Sound-line, sound-line, turn, respond, Line-history, clock-of, run-from, nothing-yet, run, level-call, frame-call, level-calls, frame-calls}
-use Rattle.either.specs.Promises.{Refusals-change-nothing, Test-is-exact, Verdict-1-exactly, Sound-is-kept, Fresh-is-sound, number-limit, Reply-fits, Answers-fit, of-levels, One-discipline, First-link-decides, Told-by-levels, Told-by-frames, Told-by-its-discipline}
+use Rattle.either.specs.Line.{Line, Request, link-levels, link-frames, admit-level, admit-share, offer, close, Reply, by-levels, by-frames, refuse, refused-number, levels-set, frames-set, Sound-line, sound-line, turn, respond, Line-history, clock-of, run-from, nothing-yet, run, level-call, frame-call, level-calls, frame-calls}
+use Rattle.either.specs.Promises.{Refusals-change-nothing, Test-is-exact, Verdict-1-exactly, Sound-is-kept, Fresh-is-sound, Answers-fit, of-levels, One-discipline, First-link-decides, Told-by-levels, Told-by-frames, Told-by-its-discipline}
 use Rattle.either.proofs.Turns.{level-links, frame-links, level-link-same, frame-link-same, turn-cases}
 use Rattle.either.proofs.Replies.{reply}
-use Rattle.either.proofs.Histories.{frames-refused, levels-told, share-refused, frames-told, levels-refused, level-refused, stamp-refused, close-refused, By-levels, By-frames, Tied, tied-run, levels-on, frames-on}
+use Rattle.either.proofs.Histories.{frames-refused, levels-told, share-refused, frames-told, levels-refused, level-refused, stamp-refused, close-refused, Tied, tied-run, levels-on, frames-on}
 
 -- ---- a refused request changes nothing
 
@@ -132,41 +131,12 @@ clock-fits : (s : Line) → Sound-line s → clock-of s < beyond-32-bits
 clock-fits s S =
     cond-ind (λ t. t < beyond-32-bits) (frames-set s) (λ _. omega (arith, frame-clock (s .frames) (S .frames-sound))) (λ _. omega (arith, level-clock (s .levels) (S .levels-sound)))
 
--- an admission's number has a limit of its own, and an admission is known by the number of its refusal
-limit-for : ℕ → ℕ
-limit-for n = cond (eqb n 0) beyond-32-bits 256
+-- the numbers of a reply to k
+abbrev Reply-fits : Request → Reply → Type 0
+Reply-fits k a = Answer-fits (refused-number k) (a .verdict) (a .number) (a .short) (a .departed) (clock-of (a .next))
 
-limit-is : (k : Request) → number-limit k ≡ limit-for (refused-number k)
-unfolding limit-for
-limit-is (link-levels l) = refl
-limit-is (link-frames l) = refl
-limit-is (admit-level x) = refl
-limit-is (admit-share x) = refl
-limit-is (offer c len tag st) = refl
-limit-is (notice len tag) = refl
-limit-is (close c) = refl
-limit-is tick = refl
-
-level-limit-is : (j : Level-call) → level-number-limit j ≡ limit-for (level-refused-number j)
-unfolding limit-for
-level-limit-is (level-link l) = refl
-level-limit-is (level-admit x) = refl
-level-limit-is (level-offer c len tag st) = refl
-level-limit-is (level-notice len tag) = refl
-level-limit-is (level-close c) = refl
-level-limit-is level-tick = refl
-
-frame-limit-is : (j : Frame-call) → frame-number-limit j ≡ limit-for (frame-refused-number j)
-unfolding limit-for
-frame-limit-is (frame-link l) = refl
-frame-limit-is (frame-admit x) = refl
-frame-limit-is (frame-offer c len tag) = refl
-frame-limit-is (frame-notice len tag) = refl
-frame-limit-is frame-tick = refl
-
-some-limit : 0 < limit-for 0
-unfolding limit-for
-some-limit = omega arith
+some-limit : (n : ℕ) → n ≡ 0 → 0 < number-limit n
+some-limit n e = subst (λ (m : ℕ). 0 < number-limit m) (sym e) (omega arith)
 
 pub answers-fit : Answers-fit
 answers-fit k s S = subst (Reply-fits k) (sym (sound-reply k s S)) (turned (subst (λ (a : Reply). Sound-line (a .next)) (sound-reply k s S) (sound-is-kept k s S)))
@@ -174,11 +144,11 @@ answers-fit k s S = subst (Reply-fits k) (sym (sound-reply k s S)) (turned (subs
     turned : Sound-line (turn k s .next) → Reply-fits k (turn k s)
     turned =
         turn-cases (λ a. Sound-line (a .next) → Reply-fits k a) s k
-        (λ e T. record { verdict = omega arith; number = subst (λ (n : ℕ). 0 < n) (sym (limit-is k ∙ ap limit-for e)) some-limit; level = omega arith; units = omega arith; departed = λ p i. absurd (none-some i); finish = clock-fits s S })
+        (λ e T. record { verdict = omega arith; number = some-limit _ e; level = omega arith; units = omega arith; departed = λ p i. absurd (none-some i); finish = clock-fits s S })
         (λ j e _ T. let f = level-fits j (s .levels) (S .levels-sound) in
         record {
           verdict = f .verdict;
-          number = subst (λ (n : ℕ). level-answer j (s .levels) .number < n) (level-limit-is j ∙ ap limit-for e ∙ sym (limit-is k)) (f .number);
+          number = subst (λ (n : ℕ). level-answer j (s .levels) .number < n) (ap number-limit e) (f .number);
           level = f .level;
           units = f .units;
           departed = f .departed;
@@ -187,7 +157,7 @@ answers-fit k s S = subst (Reply-fits k) (sym (sound-reply k s S)) (turned (subs
         (λ j e _ T. let f = frame-fits j (s .frames) (S .frames-sound) in
         record {
           verdict = f .verdict;
-          number = subst (λ (n : ℕ). frame-answer j (s .frames) .number < n) (frame-limit-is j ∙ ap limit-for e ∙ sym (limit-is k)) (f .number);
+          number = subst (λ (n : ℕ). frame-answer j (s .frames) .number < n) (ap number-limit e) (f .number);
           level = f .level;
           units = f .units;
           departed = f .departed;

@@ -11,8 +11,7 @@ use Rattle.rules.specs.declared.Connection.{Connection}
 use Rattle.rules.specs.declared.Packet.{Packet}
 use Rattle.rules.specs.Words.{first-number, push}
 use Rattle.rules.specs.Limits.{notice-number, no-connection-number}
-use Rattle.rules.specs.declared.Short.{Short}
-use Rattle.rules.specs.Model.{no-short, State as Level-state, Call as Level-call, link as level-link, admit as level-admit, offer as level-offer, notice as level-notice, close as level-close, tick as level-tick, Answer as Level-answer, fresh as level-fresh}
+use Rattle.rules.specs.Model.{Outcome, no-short, State as Level-state, Call as Level-call, link as level-link, admit as level-admit, offer as level-offer, notice as level-notice, close as level-close, tick as level-tick, Answer as Level-answer, fresh as level-fresh}
 use Rattle.rules.specs.SoundState.{Sound as Level-sound}
 use Rattle.rules.specs.SoundTest.{sound as level-sound}
 use Rattle.rules.specs.Calls.{answer as level-answer}
@@ -40,30 +39,15 @@ pub data Request : Type 0 where
   close : ℕ → Request
   tick : Request
 
-pub record Reply : Type 0 where
-  pub verdict : ℕ
-  pub number : ℕ
-  pub short : Short
-  pub departed : Option Packet
-  pub next : Line
+abbrev pub Reply : Type 0
+Reply = Outcome Line
 
+-- what a discipline answers, of a line with this state of it
 abbrev pub by-levels : Line → Level-answer → Reply
-by-levels s a = record {
-  verdict = a .verdict;
-  number = a .number;
-  short = a .short;
-  departed = a .departed;
-  next = record { levels = a .next; frames = s .frames };
-}
+by-levels s a = record { verdict = a .verdict; number = a .number; short = a .short; departed = a .departed; next = record { levels = a .next; frames = s .frames } }
 
 abbrev pub by-frames : Line → Frame-answer → Reply
-by-frames s a = record {
-  verdict = a .verdict;
-  number = a .number;
-  short = a .short;
-  departed = a .departed;
-  next = record { levels = s .levels; frames = a .next };
-}
+by-frames s a = record { verdict = a .verdict; number = a .number; short = a .short; departed = a .departed; next = record { levels = s .levels; frames = a .next } }
 
 abbrev pub refuse : Line → ℕ → ℕ → Reply
 refuse s v n = record { verdict = v; number = n; short = no-short; departed = none; next = s }

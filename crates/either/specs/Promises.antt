@@ -4,21 +4,20 @@ use mathlib.Core.Bool.{true, false}
 use mathlib.Core.Logic.{_⊎_, _↔_}
 use mathlib.Core.List.{List, _++_}
 use mathlib.Core.Option.{none, some}
-use Prim.Native.Nat.{ℕ, _<_}
+use Prim.Native.Nat.{ℕ}
 use Rattle.rules.specs.declared.Link.{Link}
 use Rattle.rules.specs.declared.Connection.{Connection}
-use Rattle.rules.specs.declared.Packet.{Packet}
-use Rattle.rules.specs.Limits.{no-connection-number, beyond-32-bits}
+use Rattle.rules.specs.Limits.{no-connection-number}
 use Rattle.rules.specs.Model.{Call as Level-call, fresh as level-fresh}
 use Rattle.rules.specs.Calls.{answer as level-answer}
 use Rattle.rules.specs.Runs.{History as Level-history, run as level-run}
-use Rattle.rules.specs.Promises.{Packet-fits}
+use Rattle.rules.specs.Promises.{Answer-fits}
 use Rattle.frames.specs.Model.{Call as Frame-call, fresh as frame-fresh}
 use Rattle.frames.specs.Calls.{answer as frame-answer}
 use Rattle.frames.specs.declared.Framing.{Framing}
 use Rattle.frames.specs.declared.Share.{Share}
 use Rattle.frames.specs.Runs.{History as Frame-history, run as frame-run}
-use Rattle.either.specs.Line.{Line, Request, link-levels, link-frames, admit-level, admit-share, offer, notice, close, tick, Reply, by-levels, by-frames, refuse, refused-number, levels-set, frames-set, Sound-line, sound-line, respond, Line-history, clock-of, fresh-line, run, level-call, frame-call, level-calls, frame-calls}
+use Rattle.either.specs.Line.{Line, Request, link-levels, link-frames, admit-level, admit-share, offer, close, by-levels, by-frames, refuse, refused-number, levels-set, frames-set, Sound-line, sound-line, respond, Line-history, clock-of, fresh-line, run, level-call, frame-call, level-calls, frame-calls}
 
 -- ---- a refused request changes nothing
 
@@ -45,29 +44,13 @@ Sound-is-kept = (k : Request) (s : Line) → Sound-line s → Sound-line (respon
 abbrev pub Fresh-is-sound : Type 0
 Fresh-is-sound = Sound-line fresh-line
 
--- ---- a reply's numbers fit the fields of its record, whatever the request: one byte of verdict, one of a connection's number, one of a level, four of units, of an
--- eligibility, of an arrival and of a finish, which is the clock then
-
-abbrev pub number-limit : Request → ℕ
-number-limit (link-levels l) = beyond-32-bits
-number-limit (link-frames l) = beyond-32-bits
-number-limit (admit-level x) = 256
-number-limit (admit-share x) = 256
-number-limit (offer c len tag st) = beyond-32-bits
-number-limit (notice len tag) = beyond-32-bits
-number-limit (close c) = beyond-32-bits
-number-limit tick = beyond-32-bits
-
-pub record Reply-fits (k : Request) (a : Reply) : Type 0 where
-  pub verdict : a .verdict < 256
-  pub number : a .number < number-limit k
-  pub level : a .short .level < 256
-  pub units : a .short .units < beyond-32-bits
-  pub departed : (p : Packet) → a .departed ≡ some p → Packet-fits p
-  pub finish : clock-of (a .next) < beyond-32-bits
+-- ---- a reply's numbers fit the fields of its record, whatever the request
 
 abbrev pub Answers-fit : Type 0
-Answers-fit = (k : Request) (s : Line) → Sound-line s → Reply-fits k (respond k s)
+Answers-fit =
+    (k : Request) (s : Line)
+    → Sound-line s
+    → Answer-fits (refused-number k) (respond k s .verdict) (respond k s .number) (respond k s .short) (respond k s .departed) (clock-of (respond k s .next))
 
 -- ---- one discipline
 

@@ -1,18 +1,14 @@
--- Any calls follow the rules: the caller's notes of them are those of the rules' run, for any discipline that has the laws.
-use Prim.Native.Nat.{ℕ, _+_}
+-- Any calls follow the rules: the caller's notes of them are those of the rules' run, and what a further call is told is the rules' answer, for any discipline that has the laws.
 use mathlib.Core.Path.{_≡_, sym, ap, _∙_, subst}
-use mathlib.Core.List.{List, [], _∷_, _++_, map}
+use mathlib.Core.List.{List, [], _∷_}
 use mathlib.Core.Option.{Option}
-use lib.ListN.{length, length-append, length-map}
 use Rattle.rules.specs.declared.Packet.{Packet}
 use Rattle.rules.specs.Words.{push}
-use Rattle.rules.specs.Service.{of}
-use Rattle.rules.specs.Runs.{Departure, departures}
+use Rattle.rules.specs.Runs.{Departure}
 use Rattle.tables.specs.Lent.{Tables}
-use Rattle.faces.specs.Sequence.{Notes, call-by, calls-from, gathered-from}
-use Rattle.faces.specs.Promises.{Conservation-of-the-code, Counted-of-the-code}
+use Rattle.faces.specs.Sequence.{Notes, call-by, calls-from}
+use Rattle.faces.specs.Promises.{Told-as-in-the-run}
 use Rattle.faces.proofs.Discipline.{Discipline}
-use Rattle.faces.proofs.CallLaws.{Does}
 use Rattle.faces.proofs.Results.{same-tells, same-leaves}
 
 -- the runs of a discipline's rules, and what a caller reads off an answer
@@ -36,7 +32,7 @@ pub record Runs (D : Discipline) : Type 1 where
   pub blank-is : blank ≡ record { accepted = accepted start; departed = departed start; kept = D .kept-of (now start); tables = D .written (now start) }
 
 module _ (D : Discipline) (R : Runs D) where
-  open Discipline D using (State, Call, Sound, answer, next, Kept, Told, kept, view, kept-of, written, told-of, tells, leaves, kept-told, read-written, next-sound)
+  open Discipline D using (Call, Answer, Sound, answer, next, Kept, Told, kept, kept-of, written, told-of, tells, leaves, kept-told, next-sound)
   open Runs R using (History, accepted, departed, now, after, run-from, start, brought, went, blank, run-none, run-more, now-after, accepted-after, departed-after, start-sound, blank-is)
 
   abbrev notes-of : History → Notes Kept
@@ -50,9 +46,6 @@ module _ (D : Discipline) (R : Runs D) where
 
   abbrev run : List Call → History
   run ks = run-from start ks
-
-  abbrev state-of : Notes Kept → State
-  state-of g = view (g .kept) (g .tables)
 
   sound-after : (h : History) (k : Call) → Sound (now h) → Sound (now (after h k))
   sound-after h k S = subst Sound (sym (now-after h k)) (next-sound k (now h) S)
@@ -71,7 +64,7 @@ module _ (D : Discipline) (R : Runs D) where
   }
 
   -- a call on what a state of the rules is written as
-  pub follows-one : (h : History) (k : Call) → Sound (now h) → call (notes-of h) k ≡ notes-of (after h k)
+  follows-one : (h : History) (k : Call) → Sound (now h) → call (notes-of h) k ≡ notes-of (after h k)
   unfolding noting
   follows-one h k S =
       ap (λ (r : Told). noting h k r (leaves k (kept-of (now h)) (written (now h)))) (same-tells D (now h) S k)
@@ -93,48 +86,13 @@ module _ (D : Discipline) (R : Runs D) where
   runs-sound : (ks : List Call) → Sound (now (run ks))
   runs-sound ks = sound-from ks start start-sound
 
-  -- what the caller keeps stands for the state of the rules
-  pub state-is : (ks : List Call) → state-of (calls ks) ≡ now (run ks)
-  state-is ks = ap state-of (follows-the-rules ks) ∙ read-written (now (run ks)) (runs-sound ks)
-
-  -- what holds of the notes of the rules' run and of its state holds of the caller's notes and of what the caller keeps
-  pub by-the-rules : (P : Notes Kept → State → Type 0) (ks : List Call) → P (notes-of (run ks)) (now (run ks)) → P (calls ks) (state-of (calls ks))
-  by-the-rules P ks h = subst (P (calls ks)) (sym (state-is ks)) (subst (λ (g : Notes Kept). P g (now (run ks))) (sym (follows-the-rules ks)) h)
-
-  -- an answer to what the caller keeps is the rules' answer to their state
-  pub told-then : (ks : List Call) (k : Call) (r : Told) (u : Tables) → Does D k (calls ks .kept) (calls ks .tables) r u → r ≡ told-of (answer k (now (run ks)))
-  told-then ks k r u C = C .answers ∙ ap (λ (g : Notes Kept). tells k (g .kept) (g .tables)) (follows-the-rules ks) ∙ same-tells D (now (run ks)) (runs-sound ks) k
-
-  -- what is gathered from the calls is what is gathered, by G, from the rules' run
-  module _ {A : Type 0} (seen : Notes Kept → Call → Option A) (still : Notes Kept → List A → List A) (had : History → Call → Option A) (stays : History → List A → List A)
-      (G : History → List A → List Call → List A)
-      (G-none : (h : History) (xs : List A) → G h xs [] ≡ xs)
-      (G-more : (h : History) (xs : List A) (k : Call) (ks : List Call) → G h xs (k ∷ ks) ≡ G (after h k) (stays (after h k) (push xs (had h k))) ks)
-      (seen-as : (h : History) (k : Call) → Sound (now h) → seen (notes-of h) k ≡ had h k)
-      (still-as : (h : History) (xs : List A) → Sound (now h) → still (notes-of h) xs ≡ stays h xs) where
-    gathered-each : (ks : List Call) (h : History) (xs : List A) → Sound (now h) → gathered-from call seen still (notes-of h) xs ks ≡ G h xs ks
-    gathered-each [] h xs S = sym (G-none h xs)
-    gathered-each (k ∷ ks) h xs S =
-        let ys = push xs (had h k) in
-        ap (λ (o : Option A). gathered-from call seen still (call (notes-of h) k) (still (call (notes-of h) k) (push xs o)) ks) (seen-as h k S)
-        ∙ ap (λ (g : Notes Kept). gathered-from call seen still g (still g ys) ks) (follows-one h k S)
-        ∙ ap (λ (zs : List A). gathered-from call seen still (notes-of (after h k)) zs ks) (still-as (after h k) ys (sound-after h k S))
-        ∙ gathered-each ks (after h k) (stays (after h k) ys) (sound-after h k S)
-        ∙ sym (G-more h xs k ks)
-
-    pub gathered-is : (ks : List Call) → gathered-from call seen still blank [] ks ≡ G start [] ks
-    gathered-is ks = ap (λ (g : Notes Kept). gathered-from call seen still g [] ks) blank-is ∙ gathered-each ks start [] start-sound
-
-  -- conservation
-  module _ (in-hub : State → List Packet)
-      (conservation : (ks : List Call) (c : ℕ) → of c (accepted (run ks)) ≡ map (λ (d : Departure). d .what) (departures c (departed (run ks))) ++ of c (in-hub (now (run ks)))) where
-    pub conservation-of-the-code : Conservation-of-the-code calls state-of in-hub
-    conservation-of-the-code ks c =
-        by-the-rules (λ g s. of c (g .accepted) ≡ map (λ (d : Departure). d .what) (departures c (g .departed)) ++ of c (in-hub s)) ks (conservation ks c)
-
-    pub counted-of-the-code : Counted-of-the-code calls state-of in-hub
-    counted-of-the-code ks c =
-        let gone = departures c (calls ks .departed) in
-        ap length (conservation-of-the-code ks c)
-        ∙ length-append (map (λ (d : Departure). d .what) gone) (of c (in-hub (state-of (calls ks))))
-        ∙ ap (λ (n : ℕ). n + length (of c (in-hub (state-of (calls ks))))) (length-map gone (λ (d : Departure). d .what))
+  -- what is told and written of an answer that leaves a sound state is read as this answer
+  module _ (read : Told → Tables → Answer) (read-back : (a : Answer) → Sound (next a) → read (told-of a) (written (next a)) ≡ a) where
+    pub told-as-in-the-run : Told-as-in-the-run tells leaves calls (λ ks. now (run ks)) answer read
+    told-as-in-the-run ks k =
+        let s = now (run ks) in
+        let S = runs-sound ks in
+        ap (λ (g : Notes Kept). read (tells k (g .kept) (g .tables)) (leaves k (g .kept) (g .tables))) (follows-the-rules ks)
+        ∙ ap (λ (r : Told). read r (leaves k (kept-of s) (written s))) (same-tells D s S k)
+        ∙ ap (read (told-of (answer k s))) (same-leaves D s S k)
+        ∙ read-back (answer k s) (next-sound k s S)

@@ -1,13 +1,9 @@
 -- WHAT IS PROMISED OF A CALL AND OF ANY CALLS, whatever the discipline: each says of which of its functions (crates/hub/specs/Promises.antt, crates/framed_hub/specs/Promises.antt). Proved under the
 -- same name in small letters, of a call in proofs/Results, of any calls in proofs/Sequences.
-use Prim.Native.Nat.{ℕ, _+_}
+use Prim.Native.Nat.{ℕ}
 use mathlib.Core.Path.{_≡_}
 use mathlib.Core.Bool.{Bool, true, false}
-use mathlib.Core.List.{List, _++_, map}
-use lib.ListN.{length}
-use Rattle.rules.specs.declared.Packet.{Packet}
-use Rattle.rules.specs.Service.{of}
-use Rattle.rules.specs.Runs.{Departure, departures}
+use mathlib.Core.List.{List}
 use Rattle.tables.specs.Lent.{Tables}
 use Rattle.faces.specs.Sequence.{Notes}
 
@@ -64,17 +60,13 @@ module _ {Call Kept Told : Type 0} (Does : Call → Kept → Tables → Told →
       → sound h before ≡ true
       → P (view h before) (read told after)
 
--- ---- any calls: said of the answers that the caller has noted and of what the caller keeps, read as a state
+-- ---- any calls
 
-module _ {Call Kept State : Type 0} (calls : List Call → Notes Kept) (state-of : Notes Kept → State) (in-hub : State → List Packet) where
-  -- for each connection, and for the notices under their number, what the answers accepted is what they let go, followed by what waits
-  abbrev pub Conservation-of-the-code : Type 0
-  Conservation-of-the-code =
-      (ks : List Call) (c : ℕ)
-      → of c (calls ks .accepted) ≡ map (λ (d : Departure). d .what) (departures c (calls ks .departed)) ++ of c (in-hub (state-of (calls ks)))
-
-  -- .. and counted: accepted since the line was fresh = departed plus what waits
-  abbrev pub Counted-of-the-code : Type 0
-  Counted-of-the-code =
-      (ks : List Call) (c : ℕ)
-      → length (of c (calls ks .accepted)) ≡ length (departures c (calls ks .departed)) + length (of c (in-hub (state-of (calls ks))))
+-- `tells` and `leaves`: the answer that a contract allows, and the tables. Behind the calls ks the caller has the notes `calls ks`, and the rules' run the state `run-state ks`
+module _ {Call Kept Told State Answer : Type 0} (tells : Call → Kept → Tables → Told) (leaves : Call → Kept → Tables → Tables) (calls : List Call → Notes Kept)
+    (run-state : List Call → State) (answer : Call → State → Answer) (read : Told → Tables → Answer) where
+  -- behind any calls what a further call is told, with the tables that it leaves, read as an answer, is the rules' answer in the state of the run
+  abbrev pub Told-as-in-the-run : Type 0
+  Told-as-in-the-run =
+      (ks : List Call) (k : Call)
+      → read (tells k (calls ks .kept) (calls ks .tables)) (leaves k (calls ks .kept) (calls ks .tables)) ≡ answer k (run-state ks)

@@ -34,11 +34,6 @@ module _ {Call Kept : Type 0} (call : Notes Kept → Call → Notes Kept) where
   calls-from g [] = g
   calls-from g (k ∷ ks) = calls-from (call g k) ks
 
-  -- what `seen` sees in each call, in order, behind xs; of what has been seen so far only what `still` keeps stays, which it reads off the notes after the call
-  abbrev pub gathered-from : {A : Type 0} → (Notes Kept → Call → Option A) → (Notes Kept → List A → List A) → Notes Kept → List A → List Call → List A
-  gathered-from seen still g xs [] = xs
-  gathered-from seen still g xs (k ∷ ks) = gathered-from seen still (call g k) (still (call g k) (push xs (seen g k))) ks
-
 -- in some notes the i-th departure of number c is the packet p, with a finish no later than the deadline
 pub record Noted-by {Kept : Type 0} (g : Notes Kept) (c i : ℕ) (p : Packet) (deadline : ℕ) : Type 0 where
   pub finish : ℕ

@@ -1,39 +1,29 @@
 -- THE PROOFS of the statements in specs/Promises, each under its name in small letters.
-use Prim.Native.Nat.{ℕ, _+_, _≤_, _<_}
-use mathlib.Core.Path.{_≡_, refl, sym, ap, _∙_, subst, transport}
-use mathlib.Core.Bool.{cond, _&&_}
-use mathlib.Core.List.{List, _++_, map}
+use Prim.Native.Nat.{_+_}
+use mathlib.Core.Path.{_≡_, refl, sym, ap}
+use mathlib.Core.Bool.{cond}
 use mathlib.Core.Option.{Option, none, some}
-use lib.Dec.{eqb}
-use lib.ListN.{getElem?}
 use Rattle.rules.specs.declared.Packet.{Packet}
-use Rattle.rules.specs.Words.{All, push, total}
-use Rattle.rules.specs.Service.{of, wire-tick, sent}
-use Rattle.rules.specs.Runs.{Departure, Exchange}
-use Rattle.frames.specs.Model.{State, Call, link, admit, offer, notice, tick, Answer, wire, figures}
-use Rattle.frames.specs.Admission.{stands}
-use Rattle.frames.specs.Service.{next-frame, leaves-by, used, chosen}
+use Rattle.rules.specs.Words.{push}
+use Rattle.rules.specs.Service.{wire-tick, sent}
+use Rattle.frames.specs.Model.{State, Call, link, admit, offer, notice, tick, Answer, wire}
+use Rattle.frames.specs.Service.{chosen}
 use Rattle.frames.specs.SoundState.{Sound}
 use Rattle.frames.specs.Calls.{verdict, done, answer}
-use Rattle.frames.specs.Runs.{History, taken, leaving, after, run-from, nothing-yet, run, in-hub, of-connections, exchange, exchanges-from, exchanges, asks, Half-at-most, Keeps-to-half, own-exchanges}
-use Rattle.frames.specs.Promises.{arrived-now}
+use Rattle.frames.specs.Runs.{History, taken, leaving, after, run-from, nothing-yet}
 use Rattle.frames.proofs.Verdicts.{settled}
-use Rattle.frames.proofs.SoundKept.{kept}
 use Rattle.frames.proofs.Every.{fresh-invariant}
-use Rattle.frames.proofs.Results.{conservation, in-the-order-offered, use-is-what-arrived, eligible-at-the-next-start, left-by-the-next-end, never-for-room, told-by-its-own, no-other-changes-it}
 use Rattle.tables.specs.Places.{written-places, table-of}
 use Rattle.shares.specs.Shares.{written-shares}
-use Rattle.faces.specs.Sequence.{Noted-by}
 use Rattle.faces.proofs.Results as F
 use Rattle.faces.proofs.Sequences as Q
-use Rattle.framed_state.specs.declared.Said.{Said}
 use Rattle.framed_state.specs.View.{frames-of, written}
 use Rattle.framed_state.specs.Said.{is-some, packet-or-unused, said-of}
 use Rattle.framed_state.proofs.WrittenLaws.{writable, read-written, written-sound}
 use Rattle.framed_state.proofs.SoundLaws.{is-sound, tables-kept}
 use Rattle.framed_state.proofs.DoesLaws.{frames}
-use Rattle.framed_hub.specs.Sequence.{Notes, brought, went, blank, calls, state-of, notes-of, noted, all-noted, Seen-to-keep-to-half}
-use Rattle.framed_hub.specs.Promises.{One-outcome, Written-reads-back, Sound-is-written, Refusals-change-nothing-of-the-code, Verdict-1-of-the-code, Sound-is-kept-by-the-code, answer-read, Answers-as-the-rules, Holds-as-of-the-rules, Follows-the-rules, Conservation-of-the-code, Counted-of-the-code, In-the-order-offered-of-the-code, Use-is-what-arrived-of-the-code, Eligible-at-the-next-start-of-the-code, Left-by-the-next-end-of-the-code, Never-for-room-of-the-code, Told-by-its-own-of-the-code, No-other-changes-it-of-the-code}
+use Rattle.framed_hub.specs.Sequence.{brought, went, blank, notes-of}
+use Rattle.framed_hub.specs.Promises.{One-outcome, Written-reads-back, Sound-is-written, Refusals-change-nothing-of-the-code, Verdict-1-of-the-code, Sound-is-kept-by-the-code, answer-read, Answers-as-the-rules, Holds-as-of-the-rules, Follows-the-rules, Told-as-in-the-run}
 
 -- ---- one call
 
@@ -123,85 +113,5 @@ runs = record {
 pub follows-the-rules : Follows-the-rules
 follows-the-rules = Q.follows-the-rules frames runs
 
--- what holds of the notes of the rules' run and of its state holds of the caller's notes and of what the caller keeps
-by-the-rules : (P : Notes → State → Type 0) (ks : List Call) → P (notes-of (run ks)) (run ks .now) → P (calls ks) (state-of (calls ks))
-by-the-rules = Q.by-the-rules frames runs
-
--- ---- conservation, order, eligibility
-
-pub conservation-of-the-code : Conservation-of-the-code
-conservation-of-the-code = Q.conservation-of-the-code frames runs in-hub conservation
-
-pub counted-of-the-code : Counted-of-the-code
-counted-of-the-code = Q.counted-of-the-code frames runs in-hub conservation
-
-pub in-the-order-offered-of-the-code : In-the-order-offered-of-the-code
-in-the-order-offered-of-the-code ks =
-    by-the-rules (λ g s. of-connections (g .accepted) ≡ of-connections (map (λ (d : Departure). d .what) (g .departed)) ++ s .held) ks (in-the-order-offered ks)
-
-pub use-is-what-arrived-of-the-code : Use-is-what-arrived-of-the-code
-use-is-what-arrived-of-the-code ks c n =
-    by-the-rules (λ g s. used (g .kept .link) (g .kept .clock) c (s .held) ≡ total (arrived-now s) (of c (g .accepted))) ks (use-is-what-arrived ks c n)
-
-pub eligible-at-the-next-start-of-the-code : Eligible-at-the-next-start-of-the-code
-eligible-at-the-next-start-of-the-code ks c n =
-    by-the-rules (λ g s. All (λ p. p .eligibility ≡ next-frame (g .kept .link .frame) (p .arrival)) (of c (g .accepted))) ks (eligible-at-the-next-start ks c n)
-
--- ---- by the end of the next frame
-
-pub left-by-the-next-end-of-the-code : Left-by-the-next-end-of-the-code
-left-by-the-next-end-of-the-code ks c i p n =
-    by-the-rules
-    (λ g s. getElem? (of c (g .accepted)) i ≡ some p → leaves-by (g .kept .link .frame) (p .arrival) ≤ g .kept .clock
-    → (N : Noted-by g c i p (leaves-by (g .kept .link .frame) (p .arrival))) × (next-frame (g .kept .link .frame) (p .arrival) < N .finish))
-    ks
-    (λ there over. let L = left-by-the-next-end ks c i p n there over in (record { finish = L .finish; is-departure = L .is-departure; in-time = L .in-time }, L .not-early))
-
--- ---- what a connection is told
-
--- what is noted of a state of the rules as it is written
-noted-one : (c : ℕ) (h : History) (k : Call) → Sound (h .now) → noted c (notes-of h) k ≡ exchange c (h .now) k
-noted-one c h (link l) S = refl
-noted-one c h (admit x) S = refl
-noted-one c h (offer d len tag) S =
-    ap (λ (r : Said). listen (state-of (notes-of h)) r) (F.same-tells frames (h .now) S (offer d len tag))
-    ∙ ap (λ (s : State). listen s (said-of (answer (offer d len tag) (h .now)))) (frames .read-written (h .now) S)
-  where
-    listen : State → Said → Option Exchange
-    listen s r =
-        cond (eqb d c && stands (s .connections) c) (some (record { asked = record { at = h .now .clock; len = len; tag = tag; stamp = none }; verdict = r .verdict; eligibility = r .number })) none
-noted-one c h (notice len tag) S = refl
-noted-one c h tick S = refl
-
--- so what is noted is what the rules say
-noted-is : (c : ℕ) (ks : List Call) → all-noted c ks ≡ exchanges c ks
-noted-is c =
-    Q.gathered-is frames runs (noted c) (λ g es. es) (λ h k. exchange c (h .now) k) (λ h es. es)
-    (exchanges-from c) (λ h es. refl) (λ h es k ks. refl) (noted-one c) (λ h es S. refl)
-
-same-link : (ks : List Call) → calls ks .kept .link ≡ run ks .now .link
-same-link ks = ap (λ (g : Notes). g .kept .link) (follows-the-rules ks)
-
-same-figures : (ks : List Call) (c : ℕ) → figures (state-of (calls ks)) c ≡ figures (run ks .now) c
-same-figures ks c = by-the-rules (λ g s. figures s c ≡ figures (run ks .now) c) ks refl
-
--- to be seen to keep to half is to keep to it in the rules' run
-half-is : (c : ℕ) (ks : List Call) → Seen-to-keep-to-half c ks ≡ Keeps-to-half c ks
-half-is c ks i = Half-at-most (same-link ks i) (same-figures ks c i) (asks (noted-is c ks i))
-
-pub never-for-room-of-the-code : Never-for-room-of-the-code
-never-for-room-of-the-code ks c half =
-    subst (All (λ (e : Exchange). e .verdict ≡ 12 → ⊥)) (sym (noted-is c ks)) (never-for-room ks c (transport (half-is c ks) half))
-
-pub told-by-its-own-of-the-code : Told-by-its-own-of-the-code
-told-by-its-own-of-the-code ks c half =
-    noted-is c ks
-    ∙ told-by-its-own ks c (transport (half-is c ks) half)
-    ∙ sym (λ i. own-exchanges (same-link ks i) (same-figures ks c i) (asks (noted-is c ks i)))
-
-pub no-other-changes-it-of-the-code : No-other-changes-it-of-the-code
-no-other-changes-it-of-the-code ks ms c d links alike asked half =
-    noted-is c ks
-    ∙ no-other-changes-it ks ms c d (sym (same-link ks) ∙ links ∙ same-link ms) (sym (same-figures ks c) ∙ alike ∙ same-figures ms d)
-    (ap asks (sym (noted-is c ks)) ∙ asked ∙ ap asks (noted-is d ms)) (transport (half-is c ks) half)
-    ∙ sym (noted-is d ms)
+pub told-as-in-the-run : Told-as-in-the-run
+told-as-in-the-run = Q.told-as-in-the-run frames runs answer-read read-back

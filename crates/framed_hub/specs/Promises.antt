@@ -1,29 +1,19 @@
 -- THE STATEMENTS of the code of the second discipline, apart from their proofs: each is proved in proofs/Results under the same name in small letters. Document 02, R-13.
-use Prim.Native.Nat.{ℕ, _≤_, _<_}
 use mathlib.Core.Path.{_≡_}
 use mathlib.Core.Bool.{true, cond}
-use mathlib.Core.List.{List, _++_, map}
+use mathlib.Core.List.{List}
 use mathlib.Core.Option.{none, some}
-use lib.ListN.{getElem?}
-use Rattle.rules.specs.declared.Packet.{Packet}
-use Rattle.rules.specs.Words.{All, total}
-use Rattle.rules.specs.Limits.{notice-number}
-use Rattle.rules.specs.Service.{of}
-use Rattle.rules.specs.Runs.{Departure, Exchange}
-use Rattle.frames.specs.Model.{State, Call, Answer, figures}
-use Rattle.frames.specs.Service.{next-frame, leaves-by, used}
+use Rattle.frames.specs.Model.{State, Call, Answer}
 use Rattle.frames.specs.SoundState.{Sound}
 use Rattle.frames.specs.Calls.{refused-number, answer}
-use Rattle.frames.specs.Runs.{run, in-hub, of-connections, asks, own-exchanges}
-use Rattle.frames.specs.Promises.{arrived-now}
-use Rattle.faces.specs.Sequence.{Noted-by}
+use Rattle.frames.specs.Runs.{run}
 use Rattle.faces.specs.Promises as F
 use Rattle.framed_state.specs.declared.Frames.{Frames}
 use Rattle.framed_state.specs.declared.Said.{Said}
 use Rattle.framed_state.specs.View.{Tables, view, frames-of, written, sound-frames}
 use Rattle.framed_state.specs.Said.{said-of}
-use Rattle.framed_state.specs.Does.{Does}
-use Rattle.framed_hub.specs.Sequence.{calls, state-of, notes-of, all-noted, Seen-to-keep-to-half}
+use Rattle.framed_state.specs.Does.{tells, leaves, Does}
+use Rattle.framed_hub.specs.Sequence.{calls, notes-of}
 
 -- any two answers and tables that a contract allows are equal
 abbrev pub One-outcome : Type 0
@@ -69,69 +59,12 @@ Holds-as-of-the-rules = F.Holds-as-of-the-rules Does Sound sound-frames view ans
 
 -- ---- any calls
 
--- for any calls of the public functions, each given what the last one left, from the fresh line and zero tables, the answers are those of the rules' run
+-- for any calls of the public functions, each given what the last one left, from the fresh line and zero tables, the caller's notes are those of the rules' run: what was
+-- accepted, what departed, the `Frames` and the tables
 abbrev pub Follows-the-rules : Type 0
 Follows-the-rules = (ks : List Call) → calls ks ≡ notes-of (run ks)
 
--- All that follows is said of the calls, of the answers that the caller has noted and of what the caller keeps, read as a state: no run of the rules is named.
-
--- for each connection, and for the notices under their number, what the answers accepted is what they let go, followed by what waits
-abbrev pub Conservation-of-the-code : Type 0
-Conservation-of-the-code = F.Conservation-of-the-code calls state-of in-hub
-
--- .. and counted: accepted since the line was fresh = departed plus what waits
-abbrev pub Counted-of-the-code : Type 0
-Counted-of-the-code = F.Counted-of-the-code calls state-of in-hub
-
--- "eligible packets go in the order offered": of all connections together, what the answers accepted is what they let go, in this order, followed by what is held
-abbrev pub In-the-order-offered-of-the-code : Type 0
-In-the-order-offered-of-the-code =
-    (ks : List Call)
-    → of-connections (calls ks .accepted) ≡ of-connections (map (λ (d : Departure). d .what) (calls ks .departed)) ++ state-of (calls ks) .held
-
--- "past r in the arrival frame": what a connection has used is what its packets take that the answers accepted in this frame, each its length and the silence
-abbrev pub Use-is-what-arrived-of-the-code : Type 0
-Use-is-what-arrived-of-the-code =
-    (ks : List Call) (c : ℕ)
-    → (c ≡ notice-number → ⊥)
-    → used (calls ks .kept .link) (calls ks .kept .clock) c (state-of (calls ks) .held) ≡ total (arrived-now (state-of (calls ks))) (of c (calls ks .accepted))
-
--- "a packet arriving in one frame is eligible at the start of the next"
-abbrev pub Eligible-at-the-next-start-of-the-code : Type 0
-Eligible-at-the-next-start-of-the-code =
-    (ks : List Call) (c : ℕ)
-    → (c ≡ notice-number → ⊥)
-    → All (λ p. p .eligibility ≡ next-frame (calls ks .kept .link .frame) (p .arrival)) (of c (calls ks .accepted))
-
--- "from a fresh line, each accepted packet has left by the end of the frame after its arrival frame, once the clock has got there": in the caller's own notes of the answers.
--- The i-th packet of c that the answers accepted is then the i-th departure of c that they tell, with a finish no later; and it did not leave before the frame in which it is
--- eligible
-abbrev pub Left-by-the-next-end-of-the-code : Type 0
-Left-by-the-next-end-of-the-code =
-    (ks : List Call) (c i : ℕ) (p : Packet)
-    → (c ≡ notice-number → ⊥)
-    → getElem? (of c (calls ks .accepted)) i ≡ some p
-    → leaves-by (calls ks .kept .link .frame) (p .arrival) ≤ calls ks .kept .clock
-    → (N : Noted-by (calls ks) c i p (leaves-by (calls ks .kept .link .frame) (p .arrival))) × (next-frame (calls ks .kept .link .frame) (p .arrival) < N .finish)
-
--- "a connection that offers at most p / 2 packets in each frame never gets 12"
-abbrev pub Never-for-room-of-the-code : Type 0
-Never-for-room-of-the-code = (ks : List Call) (c : ℕ) → Seen-to-keep-to-half c ks → All (λ (e : Exchange). e .verdict ≡ 12 → ⊥) (all-noted c ks)
-
--- ".. and no other changes its verdicts": through any calls, each answer to such a connection is the one that the link, its own figures and its own offers decide
-abbrev pub Told-by-its-own-of-the-code : Type 0
-Told-by-its-own-of-the-code =
-    (ks : List Call) (c : ℕ)
-    → Seen-to-keep-to-half c ks
-    → all-noted c ks ≡ own-exchanges (calls ks .kept .link) (figures (state-of (calls ks)) c) (asks (all-noted c ks))
-
--- so through any two sequences of calls with the same link a connection with the same figures and the same offers at the same ticks gets the same answers, whatever its number
--- in each
-abbrev pub No-other-changes-it-of-the-code : Type 0
-No-other-changes-it-of-the-code =
-    (ks ms : List Call) (c d : ℕ)
-    → calls ks .kept .link ≡ calls ms .kept .link
-    → figures (state-of (calls ks)) c ≡ figures (state-of (calls ms)) d
-    → asks (all-noted c ks) ≡ asks (all-noted d ms)
-    → Seen-to-keep-to-half c ks
-    → all-noted c ks ≡ all-noted d ms
+-- .. and behind any calls what a further call is told, with the tables that it leaves, read as an answer, is the rules' answer to it in the state of their run. With
+-- `Follows-the-rules` and this whatever the rules say of a run, of what is accepted, departs and is told in it (crates/frames/specs/Promises.antt), holds of the caller's calls
+abbrev pub Told-as-in-the-run : Type 0
+Told-as-in-the-run = F.Told-as-in-the-run tells leaves calls (λ ks. run ks .now) answer answer-read

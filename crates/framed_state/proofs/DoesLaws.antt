@@ -1,5 +1,6 @@
 -- The laws of the discipline of frames, as the shared proofs ask for them; how a refusal and a call done meet the contract.
 use mathlib.Core.Path.{refl, ap}
+use Rattle.rules.specs.Model.{Outcome}
 use Rattle.frames.specs.Model.{State, Call, Answer}
 use Rattle.frames.specs.SoundState.{Sound}
 use Rattle.frames.specs.Calls.{verdict, refused-number, refused-short, settle, answer}
@@ -28,7 +29,7 @@ frames = record {
   Answer = Answer;
   Sound = Sound;
   answer = answer;
-  next = Answer.next;
+  next = Outcome.next;
   refused-number = refused-number;
   Kept = Frames;
   Told = Said;

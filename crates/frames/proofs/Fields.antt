@@ -15,25 +15,28 @@ use Rattle.rules.specs.Words.{All, within, first-number}
 use Rattle.rules.specs.Limits.{max-connections, max-reserved, clock-end, beyond-32-bits}
 use Rattle.rules.specs.Service.{sent}
 use Rattle.rules.specs.SoundLine.{Waits}
-use Rattle.rules.specs.Promises.{Packet-fits}
+use Rattle.rules.specs.Promises.{number-limit, Packet-fits, Answer-fits}
 use Rattle.rules.proofs.Lists.{all-zip}
 use Rattle.rules.proofs.Sums.{same, cond-ind}
 use Rattle.rules.proofs.Tests.{and-true, within-true}
 use Rattle.rules.proofs.Rows.{none-some, some-inj, first-all}
 use Rattle.frames.specs.Limits.{max-units, max-places}
-use Rattle.frames.specs.Model.{Share, State, Call, link, admit, offer, notice, tick}
+use Rattle.frames.specs.Model.{Share, State, Call, link, admit, offer, notice, tick, Answer}
 use Rattle.frames.specs.Admission.{share-within, frame-sum, all-places}
 use Rattle.frames.specs.Service.{next-frame, ticked}
 use Rattle.frames.specs.SoundState.{Fits, Dated, Sound-with-link, Sound}
 use Rattle.frames.specs.SoundTest.{sound}
 use Rattle.frames.specs.Calls.{verdicts, verdict, done, refused-number, refused-short, settle, answer}
-use Rattle.frames.specs.Promises.{number-limit, Answer-fits}
 use Rattle.frames.proofs.FrameLaws.{next-near}
 use Rattle.rules.proofs.WireLaws.{sent-cases}
 use Rattle.frames.proofs.Figures.{sum-is, stands-below, sum-snoc}
 use Rattle.frames.proofs.Verdicts.{admit-done, offer-done, tick-done}
 use Rattle.frames.proofs.SoundTick.{facts, rows-sized, ready, ready-sound}
 use Rattle.frames.proofs.SoundExact.{exact}
+
+-- the numbers of an answer to k
+abbrev Fits-for : Call → Answer → Type 0
+Fits-for k a = Answer-fits (refused-number k) (a .verdict) (a .number) (a .short) (a .departed) (a .next .clock)
 
 number-le : (n : ℕ) (rs : List (ℕ × Bool)) → All (λ r. r .0 ≤ n) rs → first-number rs ≤ n
 number-le n [] h = omega arith
@@ -110,12 +113,12 @@ module _ (s : State) (S : Sound-with-link s) (running : s .clock < clock-end) wh
       (record { connection = omega arith; arrival = omega (arith, f .arrived, S .clock-le); eligibility = omega (arith, f .arrived, S .clock-le) }))
       (λ u e k p i. absurd (none-some i))
 
-  ticked-fits : Answer-fits tick (ticked s)
+  ticked-fits : Fits-for tick (ticked s)
   ticked-fits = record { verdict = omega arith; number = omega arith; level = omega arith; units = omega arith; departed = departed-fits; finish = omega (arith, running) }
 
 -- ---- every call
 
-done-fits : (k : Call) (s : State) → Sound s → verdict k s ≡ 0 → Answer-fits k (done k s)
+done-fits : (k : Call) (s : State) → Sound s → verdict k s ≡ 0 → Fits-for k (done k s)
 done-fits (link l) s S e = record { verdict = omega arith; number = omega arith; level = omega arith; units = omega arith; departed = λ p i. absurd (none-some i); finish = omega (arith, clock-le-end s S) }
 done-fits (admit x) s S e =
     record { verdict = omega arith; number = omega (arith, admit-done s x e .few); level = omega arith; units = omega arith; departed = λ p i. absurd (none-some i); finish = omega (arith, clock-le-end s S) }
@@ -142,17 +145,17 @@ refused-small (offer c len tag) s v e = (refl, omega arith)
 refused-small (notice len tag) s v e = (refl, omega arith)
 refused-small tick s v e = (refl, omega arith)
 
-small-number : (k : Call) → refused-number k < number-limit k
+small-number : (k : Call) → refused-number k < number-limit (refused-number k)
 small-number (link l) = omega arith
 small-number (admit x) = omega arith
 small-number (offer c len tag) = omega arith
 small-number (notice len tag) = omega arith
 small-number tick = omega arith
 
-pub answer-fits : (k : Call) (s : State) → Sound s → Answer-fits k (answer k s)
+pub answer-fits : (k : Call) (s : State) → Sound s → Fits-for k (answer k s)
 answer-fits k s S = go (verdict k s) refl
   where
-    go : (v : ℕ) → verdict k s ≡ v → Answer-fits k (settle k s v)
+    go : (v : ℕ) → verdict k s ≡ v → Fits-for k (settle k s v)
     go zero e = done-fits k s S e
     go (suc v) e = record {
       verdict = omega (arith, verdict-le k s);

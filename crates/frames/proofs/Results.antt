@@ -1,17 +1,16 @@
 -- THE PROOFS of the statements in specs/Promises, each under its name in small letters.
-use Prim.Native.Nat.{ℕ, zero, suc, _-_, _≤_, _<_, _+_}
+use Prim.Native.Nat.{ℕ, zero, suc, _≤_, _<_, _+_}
 use native.Mathlib.Omega.{arith}
 use mathlib.Core.Path.{_≡_, refl, sym, ap, _∙_, subst}
 use mathlib.Core.Bool.{Bool, true, false, cond, not}
 use mathlib.Core.Logic.{_⊎_, inl, inr, ⊎-elim, _↔_}
-use mathlib.Core.List.{List, [], _∷_, _++_}
+use mathlib.Core.List.{List, []}
 use mathlib.Core.Option.{Option, none, some}
 use lib.ListN.{length}
 use lib.Dec.{leb, ltb, eqb}
 use borrow.Author.Tests.{ne-eqb, leb-false, lt-leb, ltb-true, lt-ltb}
 use Rattle.rules.specs.declared.Packet.{Packet}
 use Rattle.rules.specs.Words.{All, within, total}
-use Rattle.rules.specs.declared.Short.{Short}
 use Rattle.rules.specs.Limits.{max-reserved, beyond-32-bits, notice-number, clock-end, max-notices}
 use Rattle.rules.specs.Model.{no-short}
 use Rattle.rules.specs.Service.{of, takes, begins}

@@ -1,11 +1,10 @@
 -- What the rules of the second discipline speak of: the state of a framed line, the calls on it and their answers. Document 02, R-13.
 use Prim.Native.Nat.{ℕ}
 use mathlib.Core.List.{List, []}
-use mathlib.Core.Option.{Option}
 use lib.ListN.{getD}
 use Rattle.rules.specs.declared.Packet.{Packet}
 use Rattle.rules.specs.declared.Notice.{Notice}
-use Rattle.rules.specs.declared.Short.{Short}
+use Rattle.rules.specs.Model.{Outcome}
 use Rattle.rules.specs.Service.{Wire}
 pub use Rattle.frames.specs.declared.Framing.{Framing}
 pub use Rattle.frames.specs.declared.Share.{Share}
@@ -31,14 +30,9 @@ pub data Call : Type 0 where
   notice : ℕ → ℕ → Call
   tick : Call
 
--- `number`: the connection that an admission gives, the eligibility that an offer or a notice gives, else 0. `short`: of an admission that is refused with 8, level 0 and the
--- units by which the frame is over (document 02, R-2). `departed`: the packet that a tick sends off, if it does
-pub record Answer : Type 0 where
-  pub verdict : ℕ
-  pub number : ℕ
-  pub short : Short
-  pub departed : Option Packet
-  pub next : State
+-- its `short`, of an admission that is refused with 8: level 0 and the units by which the frame is over (document 02, R-2)
+abbrev pub Answer : Type 0
+Answer = Outcome State
 
 abbrev pub no-framing : Framing
 no-framing = record { frame = 0; largest = 0; silence = 0 }

@@ -3,7 +3,7 @@ use Prim.Native.Nat.{ℕ, _+_, _-_, _≤_, _<_}
 use mathlib.Core.Path.{_≡_}
 use mathlib.Core.Bool.{true, cond}
 use mathlib.Core.Logic.{_↔_}
-use mathlib.Core.List.{List, [], _∷_, _++_, map}
+use mathlib.Core.List.{List, _++_, map}
 use mathlib.Core.Option.{none, some}
 use lib.Dec.{eqb}
 use lib.ListN.{length, getElem?}
@@ -13,9 +13,9 @@ use Rattle.rules.specs.Limits.{max-reserved, clock-end, beyond-32-bits, max-not
 use Rattle.rules.specs.Model.{no-short}
 use Rattle.rules.specs.Service.{of, begun, Quiet-wire, passed-wire}
 use Rattle.rules.specs.Runs.{departures, Exchange}
-use Rattle.rules.specs.Promises.{Packet-fits}
+use Rattle.rules.specs.Promises.{Answer-fits}
 use Rattle.frames.specs.Limits.{max-units}
-use Rattle.frames.specs.Model.{Share, State, Call, link, admit, offer, notice, tick, Answer, wire, fresh, figures, with-clock, with-wire}
+use Rattle.frames.specs.Model.{Share, State, Call, link, admit, offer, notice, tick, wire, fresh, figures, with-clock, with-wire}
 use Rattle.frames.specs.Admission.{cost, stands, frame-sum}
 use Rattle.frames.specs.Service.{frame-of, next-frame, leaves-by, used, chosen}
 use Rattle.frames.specs.SoundState.{Sound}
@@ -100,25 +100,12 @@ Over-is-told =
 abbrev pub Over-fits : Type 0
 Over-fits = (x : Share) (s : State) → answer (admit x) s .verdict ≡ 8 → (answer (admit x) s .short .units ≤ x .units) × (x .units ≤ max-units)
 
--- an answer's numbers fit the fields of its record, whatever the call: one byte of verdict, one of a connection's number, one of a level, four of units over, of an
--- eligibility, of an arrival and of a finish, which is the clock then
-abbrev pub number-limit : Call → ℕ
-number-limit (link l) = beyond-32-bits
-number-limit (admit x) = 256
-number-limit (offer c len tag) = beyond-32-bits
-number-limit (notice len tag) = beyond-32-bits
-number-limit tick = beyond-32-bits
-
-pub record Answer-fits (k : Call) (a : Answer) : Type 0 where
-  pub verdict : a .verdict < 256
-  pub number : a .number < number-limit k
-  pub level : a .short .level < 256
-  pub units : a .short .units < beyond-32-bits
-  pub departed : (p : Packet) → a .departed ≡ some p → Packet-fits p
-  pub finish : a .next .clock < beyond-32-bits
-
+-- an answer's numbers fit the fields of its record, whatever the call
 abbrev pub Answers-fit : Type 0
-Answers-fit = (k : Call) (s : State) → Sound s → Answer-fits k (answer k s)
+Answers-fit =
+    (k : Call) (s : State)
+    → Sound s
+    → Answer-fits (refused-number k) (answer k s .verdict) (answer k s .number) (answer k s .short) (answer k s .departed) (answer k s .next .clock)
 
 -- ---- conservation: for each connection, and for the notices under their number, accepted = departed followed by what waits, as lists
 

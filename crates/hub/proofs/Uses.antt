@@ -1,29 +1,32 @@
--- HOW A STATEMENT OF THE RULES IS HAD OF THE CODE, on five of them: of one call by `Holds-as-of-the-rules`, of any calls by `Follows-the-rules` and `Noted-as-in-the-run`.
-use Prim.Native.Nat.{ℕ, _≤_}
+-- HOW A STATEMENT OF THE RULES IS HAD OF THE CODE, on six of them: of one call by `Holds-as-of-the-rules`, of any calls by `Follows-the-rules` and `Told-as-in-the-run`.
+use Prim.Native.Nat.{ℕ, _+_, _≤_, _<_}
 use native.Mathlib.Omega.{arith}
-use mathlib.Core.Path.{_≡_, refl, sym, ap, _∙_, transport}
+use mathlib.Core.Path.{_≡_, refl, sym, ap, _∙_, subst, transport}
 use mathlib.Core.Bool.{Bool, true, false, true≢false}
 use mathlib.Core.Logic.{_↔_}
-use mathlib.Core.List.{List, map}
-use mathlib.Core.Option.{Option}
+use mathlib.Core.List.{List, [], _∷_, _++_}
+use mathlib.Core.Option.{Option, none}
 use lib.ListN.{length}
 use Rattle.rules.specs.declared.Link.{Link}
 use Rattle.rules.specs.declared.Connection.{Connection}
-use Rattle.rules.specs.Model.{State, Call, admit, offer, close, no-past, figures}
-use Rattle.rules.specs.Admission.{stands, stamped, joining, windowed}
-use Rattle.rules.specs.Service.{suits, Spaced, of}
-use Rattle.rules.specs.Calls.{answer}
-use Rattle.rules.specs.Runs.{run, Keeps-its-word, Exchange, own-stamp-answers}
+use Rattle.rules.specs.Limits.{clock-end}
+use Rattle.rules.specs.Model.{State, Call, admit, offer, close, Answer, figures}
+use Rattle.rules.specs.Admission.{stands, joining, windowed}
+use Rattle.rules.specs.Service.{suits, of}
+use Rattle.rules.specs.Calls.{eligibility-now, settle, answer}
+use Rattle.rules.specs.Runs.{run, bound-of, allowed, Keeps-its-word}
 use Rattle.rules.specs.Promises.{Accepts-at, Lowest-free}
 use Rattle.rules.proofs.Verdicts.{admit-done, short-refused}
 use Rattle.rules.proofs.LevelTest.{test-holds, holds-test}
-use Rattle.rules.proofs.Results.{answer-verdict, runs-are-sound, finer-test-says, close-is-refused, lowest-number-is-given, ten-exactly, stamps-told-by-their-own}
+use Rattle.rules.proofs.Results.{answer-verdict, runs-are-sound, finer-test-says, demand-3-first, demand-3-second, close-is-refused, lowest-number-is-given, ten-exactly}
+use Rattle.faces.specs.Sequence.{Noted-by}
 use Rattle.state.specs.declared.Hub.{Hub}
 use Rattle.state.specs.declared.Told.{Told}
 use Rattle.state.specs.View.{Tables, view, sound-hub}
 use Rattle.state.specs.Does.{Does}
-use Rattle.hub.specs.Sequence.{calls, state-of, Seen-to-keep-its-word, all-noted}
-use Rattle.hub.proofs.Results.{written-reads-back, verdict-1-of-the-code, holds-as-of-the-rules, follows-the-rules, noted-as-in-the-run}
+use Rattle.hub.specs.Sequence.{Notes, calls, state-of, notes-of}
+use Rattle.hub.specs.Promises.{answer-read}
+use Rattle.hub.proofs.Results.{written-reads-back, verdict-1-of-the-code, holds-as-of-the-rules, follows-the-rules, told-as-in-the-run}
 
 -- ---- one call
 
@@ -87,17 +90,59 @@ finer-test-of-the-code x =
 
 -- ---- any calls
 
--- the state that the caller keeps is the run's, and so a connection is seen to keep its word exactly where it keeps it in the run
+-- the state that the caller keeps is the run's
 state-is : (ks : List Call) → state-of (calls ks) ≡ run ks .now
 state-is ks = ap state-of (follows-the-rules ks) ∙ written-reads-back (run ks .now) (runs-are-sound ks) .0
 
-word-is : (ks : List Call) (c : ℕ) → Seen-to-keep-its-word c ks ≡ Keeps-its-word c ks
-word-is ks c i = Spaced (figures (state-is ks i) c) (noted-as-in-the-run ks c .0 i)
+-- an answer to a further call that the contract allows, read so, is the rules'
+told-is : (ks : List Call) (k : Call) (told : Told) (after : Tables) → Does k (calls ks .kept) (calls ks .tables) told after → answer-read told after ≡ answer k (run ks .now)
+told-is ks k told after D = (λ i. answer-read (D .answers i) (D .tables i)) ∙ told-as-in-the-run ks k
 
--- `Stamps-told-by-their-own`
-stamps-told-by-their-own-of-the-code : (ks : List Call) (c : ℕ) → stamped (figures (state-of (calls ks)) c) ≡ true → Seen-to-keep-its-word c ks
-    → all-noted c ks ≡ own-stamp-answers (figures (state-of (calls ks)) c) no-past (map (λ (e : Exchange). e .asked) (all-noted c ks))
-stamps-told-by-their-own-of-the-code ks c kind word =
-    noted-as-in-the-run ks c .1
-    ∙ stamps-told-by-their-own ks c (ap (λ (s : State). stamped (figures s c)) (sym (state-is ks)) ∙ kind) (transport (word-is ks c) word)
-    ∙ sym (λ i. own-stamp-answers (figures (state-is ks i) c) no-past (map (λ (e : Exchange). e .asked) (noted-as-in-the-run ks c .1 i)))
+-- `Demand-3-first`, of the caller's notes: any calls `earlier`, an offer of c that is accepted, any calls `later`. Once the clock has got there the packet is among the
+-- departures, with a finish no later than the eligibility that its answer gave plus the bound of c's owner at the offer
+module _ (earlier later : List Call) (c len tag : ℕ) (st : Option ℕ) where
+  abbrev all : List Call
+  all = earlier ++ offer c len tag st ∷ later
+
+  -- in the notes g of the calls before it and G of all, with the state s at the offer and its eligibility n; and with its answer a
+  abbrev In-time : Notes → Notes → State → ℕ → Type 0
+  In-time g G s n =
+      n + bound-of s c ≤ G .kept .clock
+      → Noted-by G c (length (of c (g .accepted))) (record { connection = c; len = len; tag = tag; arrival = g .kept .clock; eligibility = n }) (n + bound-of s c)
+
+  abbrev If-accepted : Notes → Notes → State → Answer → Type 0
+  If-accepted g G s a = a .verdict ≡ 0 → In-time g G s (a .number)
+
+  in-the-run : If-accepted (notes-of (run earlier)) (notes-of (run all)) (run earlier .now) (answer (offer c len tag st) (run earlier .now))
+  in-the-run z =
+      subst (In-time (notes-of (run earlier)) (notes-of (run all)) s) (sym number-is)
+      (λ over. let left = demand-3-first earlier later c len tag st z over in record { finish = left .finish; is-departure = left .is-departure; in-time = left .in-time })
+    where
+      s : State
+      s = run earlier .now
+
+      number-is : answer (offer c len tag st) s .number ≡ eligibility-now s c st
+      number-is = ap (λ (v : ℕ). settle (offer c len tag st) s v .number) (sym (answer-verdict (offer c len tag st) s) ∙ z)
+
+  demand-3-first-of-the-code : (told : Told) (after : Tables) → Does (offer c len tag st) (calls earlier .kept) (calls earlier .tables) told after
+      → told .verdict ≡ 0
+      → told .number + bound-of (state-of (calls earlier)) c ≤ calls all .kept .clock
+      → Noted-by (calls all) c (length (of c (calls earlier .accepted)))
+      (record { connection = c; len = len; tag = tag; arrival = calls earlier .kept .clock; eligibility = told .number })
+      (told .number + bound-of (state-of (calls earlier)) c)
+  demand-3-first-of-the-code told after D =
+      transport (sym (λ i. If-accepted (follows-the-rules earlier i) (follows-the-rules all i) (state-is earlier i) (told-is earlier (offer c len tag st) told after D i))) in-the-run
+
+-- `Demand-3-second`, but for the departure: what an offer of allowed length is told where c has kept its word, with this offer. Never 12; while the clock runs it is
+-- accepted, eligible on arrival
+demand-3-second-of-the-code : (earlier : List Call) (c len tag : ℕ) (told : Told) (after : Tables) → Does (offer c len tag none) (calls earlier .kept) (calls earlier .tables) told after
+    → Keeps-its-word c (earlier ++ offer c len tag none ∷ [])
+    → allowed (state-of (calls earlier)) c len none ≡ true
+    → (told .verdict ≡ 12 → ⊥) × (calls earlier .kept .clock < clock-end → (told .verdict ≡ 0) × (told .number ≡ calls earlier .kept .clock))
+demand-3-second-of-the-code earlier c len tag told after D word =
+    transport (sym (λ i. Accepted (follows-the-rules earlier i) (state-is earlier i) (told-is earlier (offer c len tag none) told after D i)))
+    (λ good. let kept = demand-3-second earlier [] c len tag word good in (kept .never-for-room, λ runs. (kept .accepted runs, kept .eligible runs)))
+  where
+    Accepted : Notes → State → Answer → Type 0
+    Accepted g s a =
+        allowed s c len none ≡ true → (a .verdict ≡ 12 → ⊥) × (g .kept .clock < clock-end → (a .verdict ≡ 0) × (a .number ≡ g .kept .clock))

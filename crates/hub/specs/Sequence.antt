@@ -1,15 +1,11 @@
 -- A sequence of public calls, each given what the last one left, and what a caller reads off the answers.
-use Prim.Native.Nat.{ℕ}
-use mathlib.Core.Bool.{cond, _&&_}
+use mathlib.Core.Bool.{cond}
 use mathlib.Core.List.{List, []}
 use mathlib.Core.Option.{Option, none, some}
-use lib.Dec.{eqb}
 use Rattle.rules.specs.declared.Packet.{Packet}
 use Rattle.rules.specs.Limits.{notice-number}
-use Rattle.rules.specs.Model.{State, Call, link, admit, offer, notice, close, tick, fresh, figures}
-use Rattle.rules.specs.Service.{Spaced}
-use Rattle.rules.specs.Calls.{heard}
-use Rattle.rules.specs.Runs.{Departure, History, while-owned, if-done, offer-tick, Exchange}
+use Rattle.rules.specs.Model.{State, Call, link, admit, offer, notice, close, tick, fresh}
+use Rattle.rules.specs.Runs.{Departure, History, if-done}
 use Rattle.faces.specs.Sequence as F
 use Rattle.state.specs.declared.Hub.{Hub}
 use Rattle.state.specs.declared.Told.{Told}
@@ -51,31 +47,3 @@ state-of g = view (g .kept) (g .tables)
 -- the same notes of a run of the rules
 abbrev pub notes-of : History → Notes
 notes-of h = record { accepted = h .accepted; departed = h .departed; kept = hub-of (h .now); tables = written (h .now) }
-
--- ---- a connection that keeps its word, seen in the calls and in what the caller keeps between them
-
--- the ticks of the offers of allowed length to the present owner of number c, in order
-abbrev pub seen-ticks : ℕ → List Call → List ℕ
-seen-ticks c ks = F.gathered-from call (λ g k. offer-tick c (state-of g) k) (λ g ts. while-owned (state-of g) c ts) blank [] ks
-
--- they keep the spacing of c: its gap and, with an average, I behind the n-th before (document 02, R-6)
-abbrev pub Seen-to-keep-its-word : ℕ → List Call → Type 0
-Seen-to-keep-its-word c ks = Spaced (figures (state-of (calls ks)) c) (seen-ticks c ks)
-
--- ---- what a connection asks and is told, read off the answers (document 02, R-3)
-
-abbrev pub noted : ℕ → Notes → Call → Option Exchange
-noted c g (link l) = none
-noted c g (admit x) = none
-noted c g (offer d len tag st) =
-    let r = tells (offer d len tag st) (g .kept) (g .tables) in
-    cond (eqb d c && heard (state-of g) c st)
-    (some (record { asked = record { at = g .kept .clock; len = len; tag = tag; stamp = st }; verdict = r .verdict; eligibility = r .number }))
-    none
-noted c g (notice len tag) = none
-noted c g (close d) = none
-noted c g tick = none
-
--- all offers to the present owner of number c that it hears, in order, each with its answer
-abbrev pub all-noted : ℕ → List Call → List Exchange
-all-noted c ks = F.gathered-from call (noted c) (λ g es. while-owned (state-of g) c es) blank [] ks

@@ -16,7 +16,7 @@ use Rattle.rules.specs.Admission.{owned, stands, stamped, reservation}
 use Rattle.rules.specs.Service.{untimely-by, remember-all, Spaced, of, eligibilities, level-of}
 use Rattle.rules.specs.Calls.{heard, too-far, verdict, eligibility-now, packet, done, answer}
 use Rattle.rules.specs.Runs.{History, while-owned, taken, after, run, bound-of, allowed, offer-tick, offer-ticks, Keeps-its-word, Asked, Exchange, exchange, exchanges, given, own-stamp-answer, own-stamp-answers}
-use Rattle.rules.specs.Promises.{Stamps-told-by-their-own, Bed-nine-and-bed-ten-with-stamps}
+use Rattle.rules.specs.Promises.{Stamps-told-by-their-own}
 use Rattle.rules.proofs.Lists.{Sub, nil, sub-snoc, sub-more, sub-trans, all-map, all-zip, all-snoc, all-sub, all-filter, total-snoc}
 use Rattle.rules.proofs.Sums.{same, cond-is, upto-yes}
 use Rattle.rules.proofs.Tests.{never, and-true, and-intro, within-intro}
@@ -386,7 +386,8 @@ told-with-stamps ks c second word = go (same c notice-number)
         (sym (no-exchanges c ks (subst (λ (j : ℕ). owned (run ks .now .connections) j ≡ false) (sym n) (no-owner (run ks .now) (invariant ks .sound))))) refl
     go (inr level) = told-own c level ks second word
 
-pub alike-with-stamps : Bed-nine-and-bed-ten-with-stamps
+pub alike-with-stamps : (ks ms : List Call) (c d : ℕ) → figures (run ks .now) c ≡ figures (run ms .now) d → map (λ (e : Exchange). e .asked) (exchanges c ks) ≡ map (λ (e : Exchange). e .asked) (exchanges d ms)
+    → stamped (figures (run ks .now) c) ≡ true → Keeps-its-word c ks → exchanges c ks ≡ exchanges d ms
 alike-with-stamps ks ms c d alike asked second word =
     told-with-stamps ks c second word
     ∙ ap (own-stamp-answers (figures (run ks .now) c) no-past) asked

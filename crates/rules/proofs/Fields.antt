@@ -100,7 +100,11 @@ notice-fits s T n e =
     let f = subst (All (Notice-fits (s .link) (s .clock))) (k .1) (T .notices-fit) .0 in
     record { connection = omega arith; arrival = omega (arith, f .arrived, T .clock-le); eligibility = omega (arith, f .arrived, T .clock-le) }
 
-ticked-fits : (s : State) → Sound s → Orderly s → s .clock < clock-end → Answer-fits tick (done tick s)
+-- the numbers of an answer to k
+abbrev Fits-for : Call → Answer → Type 0
+Fits-for k a = Answer-fits (refused-number k) (a .verdict) (a .number) (a .short) (a .departed) (a .next .clock)
+
+ticked-fits : (s : State) → Sound s → Orderly s → s .clock < clock-end → Fits-for tick (done tick s)
 ticked-fits s S T r = record {
   verdict = omega (arith, says .no-refusal);
   number = omega (arith, says .no-number);
@@ -117,7 +121,7 @@ ticked-fits s S T r = record {
     says : Unit-says (started s) (ticked s)
     says = unit-says (started s) (started s .to-go)
 
-done-fits : (k : Call) (s : State) → Sound s → verdict k s ≡ 0 → Answer-fits k (done k s)
+done-fits : (k : Call) (s : State) → Sound s → verdict k s ≡ 0 → Fits-for k (done k s)
 done-fits (link l) s S e = record { verdict = omega arith; number = omega arith; level = omega arith; units = omega arith; departed = λ p i. absurd (none-some i); finish = omega (arith, clock-le-end s S) }
 done-fits (admit x) s S e = record { verdict = omega arith; number = omega (arith, admit-done s x e .free); level = omega arith; units = omega arith; departed = λ p i. absurd (none-some i); finish = omega (arith, clock-le-end s S) }
 done-fits (offer c len tag st) s S e =
@@ -151,10 +155,10 @@ refused-small (notice len tag) s v e = (omega arith, omega arith)
 refused-small (close c) s v e = (omega arith, omega arith)
 refused-small tick s v e = (omega arith, omega arith)
 
-refused-fits : (k : Call) (s : State) (v : ℕ) → Sound s → v < 256 → Small-short (refused-short k s v) → Answer-fits k (refused k s v)
+refused-fits : (k : Call) (s : State) (v : ℕ) → Sound s → v < 256 → Small-short (refused-short k s v) → Fits-for k (refused k s v)
 refused-fits k s v S l t = record { verdict = l; number = small k; level = t .0; units = t .1; departed = λ p i. absurd (none-some i); finish = omega (arith, clock-le-end s S) }
   where
-    small : (k : Call) → refused-number k < number-limit k
+    small : (k : Call) → refused-number k < number-limit (refused-number k)
     small (link l) = omega arith
     small (admit x) = omega arith
     small (offer c len tag st) = omega arith
@@ -162,9 +166,9 @@ refused-fits k s v S l t = record { verdict = l; number = small k; level = t .0;
     small (close c) = omega arith
     small tick = omega arith
 
-pub answer-fits : (k : Call) (s : State) → Sound s → Answer-fits k (answer k s)
+pub answer-fits : (k : Call) (s : State) → Sound s → Fits-for k (answer k s)
 answer-fits k s S = go (verdict k s) refl
   where
-    go : (v : ℕ) → verdict k s ≡ v → Answer-fits k (settle k s v)
+    go : (v : ℕ) → verdict k s ≡ v → Fits-for k (settle k s v)
     go zero e = done-fits k s S e
     go (suc v) e = refused-fits k s (suc v) S (omega (arith, verdict-le k s)) (refused-small k s (suc v) e)

@@ -16,7 +16,8 @@ use Rattle.rules.specs.Model.{Link, Connection, no-windows, nth}
 use Rattle.rules.specs.Admission.{rising, windowed, windows-from, windows-within, link-within, bound, window, largest-bound, charge-time, cost, load-by, conditions, span, limit-at, level-sum, Level-holds, excess-from, excess, short-from, level-test}
 use Rattle.rules.specs.QuickTest.{descend, quick-holds, quick-excess, quick-from, quick-test}
 use Rattle.rules.specs.WithoutWindows.{bounds-link-within, bounds-sum, bounds-from, bounds-test}
-use Rattle.rules.specs.Promises.{b-of, b-at, b-before, Accepts-at, As-without-windows}
+use Rattle.rules.specs.Promises.{b-of, b-at, b-before, Accepts-at}
+use Rattle.rules.specs.Before.{As-without-windows}
 use Rattle.rules.proofs.Sums.{split, same, cond-is, cond-ind, sum-le, sum-eq, sum-add, upto-yes, upto-no, upto-mono}
 use Rattle.rules.proofs.Tests.{and-true, and-intro}
 use Rattle.rules.proofs.Count.{count-rises}

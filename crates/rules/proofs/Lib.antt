@@ -37,7 +37,6 @@ pub mod KeptByNotice
 pub mod Every
 pub mod InTime
 pub mod Through
-pub mod InTheLog
 pub mod Bounds
 pub mod Room
 pub mod Lower

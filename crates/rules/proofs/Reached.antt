@@ -1,7 +1,7 @@
 -- The count is exact: for each length of window there are eligibilities, spaced as the rules ask, of which a window holds as many.
-use Prim.Native.Nat.{ℕ, zero, suc, _+_, _*_, _-_, _/_, _%_, _≤_, _<_, min, max}
+use Prim.Native.Nat.{ℕ, zero, suc, _+_, _*_, _-_, _/_, _%_, _≤_, _<_, min}
 use native.Mathlib.Omega.{arith}
-use native.Mathlib.Nat.{le-div-iff-mul-le, mul-le-mul-right, mul-le-mul-left, div-mul-le-self, div-add-mod', mod-lt, div-eq-of-lt, mod-eq-of-lt, mul-add-div-right, mul-add-mod-self-right}
+use native.Mathlib.Nat.{le-div-iff-mul-le, mul-le-mul-right, div-add-mod', mod-lt, div-eq-of-lt, mod-eq-of-lt, mul-add-div-right, mul-add-mod-self-right}
 use mathlib.Core.Path.{_≡_, refl, sym, ap, _∙_, subst}
 use mathlib.Core.Bool.{true}
 use mathlib.Core.Logic.{_⊎_, inl, inr}
@@ -12,9 +12,9 @@ use Rattle.rules.specs.Model.{Link, Connection}
 use Rattle.rules.specs.Admission.{figures-within, burst, rounded-up, average-count, count}
 use Rattle.rules.specs.Service.{nth-before, ticks-after, earliest, Spaced}
 use Rattle.rules.specs.SoundState.{in-order}
-use Rattle.rules.proofs.Lists.{All, all-map, total}
+use Rattle.rules.proofs.Lists.{All, total}
 use Rattle.rules.proofs.Sums.{split}
-use Rattle.rules.proofs.Rows.{none-some, some-inj}
+use Rattle.rules.proofs.Rows.{find-below, some-inj}
 use Rattle.rules.proofs.Spacing.{earliest-is, Back, spaced-in-order}
 use Rattle.rules.proofs.Count.{hit, hits, hit-yes, some-window, count-plain, count-average, no-window-more}
 use Rattle.rules.proofs.Figures.{figures-facts, packets-fit}
@@ -35,11 +35,6 @@ module _ (c : Connection) where
   unfolding greedy
   greedy-length zero = refl
   greedy-length (suc k) = ap suc (greedy-length k)
-
-  find-below : (l : List ℕ) (i a : ℕ) → getElem? l i ≡ some a → i < length l
-  find-below [] i a e = absurd (none-some e)
-  find-below (x ∷ l) zero a e = omega arith
-  find-below (x ∷ l) (suc i) a e = omega (arith, find-below l i a e)
 
   -- each no later than B allows, by its number
   module _ (B : ℕ → ℕ) (steps : (m : ℕ) → B m + c .gap ≤ B (suc m)) (windows : (j m : ℕ) → burst c ≡ suc j → B m + c .window ≤ B (m + suc j)) where

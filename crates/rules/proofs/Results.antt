@@ -19,11 +19,12 @@ use Rattle.rules.specs.SoundState.{Sound}
 use Rattle.rules.specs.SoundTest.{sound}
 use Rattle.rules.specs.Calls.{causes, heard, verdicts, verdict, eligibility-now, packet, done, refused-number, settle, answer}
 use Rattle.rules.specs.Runs.{Departure, History, logged, after, run-from, nothing-yet, run, departures, in-hub, bound-of, allowed, offer-ticks, Keeps-its-word, Exchange, exchanges, own-answer}
-use Rattle.rules.specs.Promises.{Demand-1-refusals, Test-is-exact, Verdict-1-exactly, No-link-means-zero, Sound-is-kept, Runs-are-sound, Rows-fit, Notices-fit, Notices-come-last, The-same-line, Fifteen-after-thirteen, Names-the-lowest, Level-test-tells, Short-is-told, Units-are-missing, Units-fit, Finer-test-says, At-the-bounds, Windows-at-the-bounds, Without-windows, Late-betas-never-decide, Flat-betas-never-decide, Quick-holds-exactly, Quick-excess-is-exact, Quick-test-is-exact, Sums-fit, Eligibilities-fit, Charges-fit, Distances-fit, Answers-fit, Conservation, Conservation-since, Conservation-by-owner, Left-by, Demand-3-first, Demand-3-in-the-log, Each-has-a-bound, Demand-3-second, Told-by-its-own, Bed-nine-and-bed-ten, Counted, Spacing-says, No-window-holds-more, The-count-is-reached, The-count-never-falls, Without-average, Without-silence, Close-is-refused, Closed-gets-10, Closed-or-freed, Freed-by-the-tick, Charge-lasts, Lowest-number-is-given, First-kind, Second-kind, Level-test-counts-alike, Ten-exactly, No-cause, Seventeen-exactly, No-finish-before, Demand-3-for-stamps, Stamps-told-by-their-own, Bed-nine-and-bed-ten-with-stamps, Early-comes-last, Early-never-idles, Eighteen-exactly, Stamps-never-18, Never-far-ahead, Without-stand-by, Quiet-ticks-pass}
+use Rattle.rules.specs.Promises.{Demand-1-refusals, Test-is-exact, Verdict-1-exactly, No-link-means-zero, Sound-is-kept, Runs-are-sound, Rows-fit, Notices-fit, Notices-come-last, The-same-line, Fifteen-after-thirteen, Names-the-lowest, Level-test-tells, Short-is-told, Units-are-missing, Units-fit, Finer-test-says, At-the-bounds, Windows-at-the-bounds, Quick-test-is-exact, Sums-fit, Eligibilities-fit, Charges-fit, Distances-fit, Answers-fit, Conservation, Conservation-since, Conservation-by-owner, Left-by, Demand-3-first, Demand-3-second, Told-by-its-own, Bed-nine-and-bed-ten, Counted, Spacing-says, No-window-holds-more, The-count-is-reached, The-count-never-falls, Close-is-refused, Closed-gets-10, Closed-or-freed, Freed-by-the-tick, Charge-lasts, Lowest-number-is-given, Second-kind, Level-test-counts-alike, Ten-exactly, No-cause, Seventeen-exactly, No-finish-before, Demand-3-for-stamps, Stamps-told-by-their-own, Early-comes-last, Early-never-idles, Eighteen-exactly, Stamps-never-18, Never-far-ahead, Quiet-ticks-pass}
+use Rattle.rules.specs.Before.{Without-windows, Without-average, Without-silence, First-kind, Without-stand-by}
 use Rattle.rules.proofs.Sums.{same, cond-is}
 use Rattle.rules.proofs.Tests.{and-true, and-intro, not-true-false, never-number}
 use Rattle.rules.proofs.Lists.{All, all-map}
-use Rattle.rules.proofs.Rows.{some-inj, of-append, length-map}
+use Rattle.rules.proofs.Rows.{find-below, some-inj, of-append, length-map}
 use Rattle.rules.proofs.Standing.{stands-owned, stands-below}
 use Rattle.rules.proofs.Figures.{never-stamped, never-off}
 use Rattle.rules.proofs.Verdicts.{causes-from-2, settled, heard-parts, refused-leaves, short-refused, offer-done}
@@ -36,8 +37,7 @@ use Rattle.rules.proofs.WithoutAverage.{says, hits-are, as-before}
 use Rattle.rules.proofs.Count.{no-window-more, count-mono}
 use Rattle.rules.proofs.Reached.{count-reached}
 use Rattle.rules.proofs.InTime.{conserved-lists, Waits, Either}
-use Rattle.rules.proofs.Through.{either-through}
-use Rattle.rules.proofs.InTheLog.{find-below, in-the-log, over-left}
+use Rattle.rules.proofs.Through.{either-through, over-left}
 use Rattle.rules.proofs.ByOwner.{since, by-owner}
 use Rattle.rules.proofs.Closing.{refusals, tens, closes, tick-frees, lasts, lowest-given}
 use Rattle.rules.proofs.Bounds.{rows-fit-places, notices-fit-places, eligibilities-fit-32, charges-fit-32, distances-fit-32}
@@ -46,7 +46,7 @@ use Rattle.rules.proofs.Fields.{unit-done, unit-short, short-fits, answ
 use Rattle.rules.proofs.Shortage.{tells, names, sums-le, reserved-most}
 use Rattle.rules.proofs.Room.{near-arrival, not-for-room, welcome}
 use Rattle.rules.proofs.Lower.{call-begun, begun}
-use Rattle.rules.proofs.Finer.{late-left-out, flat-left-out, quick-exact, quick-excess-exact, quick-test-exact, finer-says, bounds-where-equal, as-without, no-windows-asked}
+use Rattle.rules.proofs.Finer.{quick-test-exact, finer-says, bounds-where-equal, as-without, no-windows-asked}
 use Rattle.rules.proofs.Keeper.{run-append, All-taken, all-taken, Word-before, word-before, on-arrival, has-room}
 use Rattle.rules.proofs.Alone.{Own, own-ticks, told-by-own, ticks-are-own, no-exchanges, own-answers}
 use Rattle.rules.proofs.AloneStamped.{told-with-stamps, alike-with-stamps}
@@ -222,18 +222,6 @@ windows-at-the-bounds = (
 pub without-windows : Without-windows
 without-windows = (no-windows-asked, as-without)
 
-pub late-betas-never-decide : Late-betas-never-decide
-late-betas-never-decide l cs m = late-left-out l cs m
-
-pub flat-betas-never-decide : Flat-betas-never-decide
-flat-betas-never-decide l cs m β k n flat h = flat-left-out l cs m β k n flat h
-
-pub quick-holds-exactly : Quick-holds-exactly
-quick-holds-exactly l cs m = quick-exact l cs m
-
-pub quick-excess-is-exact : Quick-excess-is-exact
-quick-excess-is-exact l cs m = quick-excess-exact l cs m
-
 pub quick-test-is-exact : Quick-test-is-exact
 quick-test-is-exact l cs = quick-test-exact l cs
 
@@ -320,14 +308,6 @@ pub demand-3-first : Demand-3-first
 demand-3-first earlier later c len tag st e over =
     left-in-time earlier c len tag st (sym (answer-verdict (offer c len tag st) (run earlier .now)) ∙ e) later over
 
-pub demand-3-in-the-log : Demand-3-in-the-log
-demand-3-in-the-log ks c i p d level e f over =
-    let G = over-left c i p level d true (run ks) (invariant ks) (in-the-log c level ks .each i p d e f) over in
-    record { finish = G .0; is-departure = G .1; in-time = G .2 }
-
-pub each-has-a-bound : Each-has-a-bound
-each-has-a-bound ks c level = in-the-log c level ks .as-many
-
 -- ---- the second sentence
 
 module _ (earlier : List Call) (c len tag : ℕ) (word : Keeps-its-word c (earlier ++ offer c len tag none ∷ [])) (ok : allowed (run earlier .now) c len none ≡ true) where
@@ -376,7 +356,7 @@ pub demand-3-second : Demand-3-second
 demand-3-second earlier later c len tag word ok = record {
   never-for-room = λ e. not-for-room (run earlier) (invariant earlier) c len tag none ok (free-place earlier c len tag word ok) refl (near-arrival (run earlier .now) c none (arrival earlier c len tag word ok)) (sym (answer-verdict (offer c len tag none) (run earlier .now)) ∙ e);
   accepted = λ running. answer-verdict (offer c len tag none) (run earlier .now) ∙ welcomed earlier c len tag word ok running;
-  on-arrival = λ running.
+  eligible = λ running.
       ap (λ (v : ℕ). settle (offer c len tag none) (run earlier .now) v .number) (welcomed earlier c len tag word ok running) ∙ arrival earlier c len tag word ok;
   in-time = λ running over. leaves earlier c len tag word ok running later over;
 }
@@ -390,8 +370,10 @@ told-by-its-own ks c kind word = go (same c notice-number)
     go (inl n) = subst (All (Own (figures (run ks .now) c))) (sym (no-exchanges c ks (subst (λ (j : ℕ). owned (run ks .now .connections) j ≡ false) (sym n) (no-owner (run ks .now) (invariant ks .sound))))) tt
     go (inr level) = told-by-own c level ks kind word
 
-pub bed-nine-and-bed-ten : Bed-nine-and-bed-ten
-bed-nine-and-bed-ten ks ms c d alike asked kind word =
+-- of the first kind
+of-first : (ks ms : List Call) (c d : ℕ) → figures (run ks .now) c ≡ figures (run ms .now) d → map (λ (e : Exchange). e .asked) (exchanges c ks) ≡ map (λ (e : Exchange). e .asked) (exchanges d ms)
+    → stamped (figures (run ks .now) c) ≡ false → Keeps-its-word c ks → exchanges c ks ≡ exchanges d ms
+of-first ks ms c d alike asked kind word =
     own-answers x (exchanges c ks) (told-by-its-own ks c kind word)
     ∙ ap (map (own-answer x)) asked
     ∙ ap (λ (y : Connection). map (own-answer y) (map (λ (e : Exchange). e .asked) (exchanges d ms))) alike
@@ -497,8 +479,12 @@ demand-3-for-stamps earlier later c len tag stamp ok n =
 pub stamps-told-by-their-own : Stamps-told-by-their-own
 stamps-told-by-their-own ks c second word = told-with-stamps ks c second word
 
-pub bed-nine-and-bed-ten-with-stamps : Bed-nine-and-bed-ten-with-stamps
-bed-nine-and-bed-ten-with-stamps ks ms c d alike asked second word = alike-with-stamps ks ms c d alike asked second word
+pub bed-nine-and-bed-ten : Bed-nine-and-bed-ten
+bed-nine-and-bed-ten ks ms c d alike asked word = go (stamped (figures (run ks .now) c)) refl
+  where
+    go : (b : Bool) → stamped (figures (run ks .now) c) ≡ b → exchanges c ks ≡ exchanges d ms
+    go true second = alike-with-stamps ks ms c d alike asked second word
+    go false first-kind = of-first ks ms c d alike asked first-kind word
 
 -- ---- the stand-by queue
 

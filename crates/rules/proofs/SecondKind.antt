@@ -19,7 +19,8 @@ use Rattle.rules.specs.SoundTest.{latest-by-gap, latest}
 use Rattle.rules.specs.Calls.{heard, too-far, verdict}
 use Rattle.rules.specs.WithoutAverage.{Apart, base-figures-within, Base-spaced, Memory-kept}
 use Rattle.rules.specs.Runs.{History, run, allowed}
-use Rattle.rules.specs.Promises.{First-kind, Second, Second-kind, by-its-gap, Level-test-counts-alike, No-cause}
+use Rattle.rules.specs.Promises.{Second, Second-kind, by-its-gap, Level-test-counts-alike, No-cause}
+use Rattle.rules.specs.Before.{First-kind}
 use Rattle.rules.proofs.Lists.{all-map}
 use Rattle.rules.proofs.Sums.{split, cond-is, sum-eq}
 use Rattle.rules.proofs.Tests.{never, and-true, and-intro}

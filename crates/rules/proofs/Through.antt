@@ -4,7 +4,7 @@ use Prim.Native.Nat.{ℕ, zero, suc, _+_, _≤_, _<_}
 use native.Mathlib.Omega.{arith}
 use mathlib.Core.Path.{_≡_, refl, sym, ap, _∙_, subst}
 use mathlib.Core.Bool.{Bool, true, false, cond}
-use mathlib.Core.Logic.{_⊎_, inl, inr}
+use mathlib.Core.Logic.{_⊎_, inl, inr, ⊎-elim}
 use mathlib.Core.List.{List, [], _∷_, _++_, map, append-nil}
 use mathlib.Core.Option.{Option, none, some}
 use lib.Dec.{eqb}
@@ -16,13 +16,13 @@ use Rattle.rules.specs.Model.{Packet, State, Call, link, admit, offer, n
 use Rattle.rules.specs.Service.{of, early-at, ticked, swept}
 use Rattle.rules.specs.Calls.{verdict, packet, done, refused, answer}
 use Rattle.rules.specs.Runs.{Departure, History, leaving, logged, after, run-from, departures, in-hub, bound-of}
-use Rattle.rules.proofs.Sums.{split}
+use Rattle.rules.proofs.Sums.{split, same}
 use Rattle.rules.proofs.Rows.{none-some, some-inj, of-append}
 use Rattle.rules.proofs.Verdicts.{settled}
 use Rattle.rules.proofs.Invariant.{whats, Invariant}
 use Rattle.rules.proofs.Lower.{Begun, call-begun, Well-timed, well-timed-done, early-stays, bound-stays}
 use Rattle.rules.proofs.Every.{keeps}
-use Rattle.rules.proofs.InTime.{find-more, find-place, departures-append, conserved-lists, Gone-in-time, Waits, Either, holds-one}
+use Rattle.rules.proofs.InTime.{find-more, find-place, departures-append, conserved-lists, Gone-in-time, Waits, Either, holds-one, its-owner, not-over}
 
 pub push-is : {A : Type 0} (xs : List A) (o : Option A) → (ys : List A) × (push xs o ≡ xs ++ ys)
 push-is xs none = ([], sym (append-nil xs))
@@ -176,3 +176,14 @@ module _ (c i : ℕ) (p : Packet) (level : c ≡ notice-number → ⊥) (d : ℕ
   pub either-through : (ks : List Call) (h : History) → Invariant h → Begun (h .now) → Either c i p level d early h → Either c i p level d early (run-from h ks)
   either-through [] h I B E = E
   either-through (k ∷ ks) h I B E = either-through ks (after h k) (keeps h k I) (call-begun h I B k) (either-on h k I B E)
+
+-- what is in time, or waits, has left once its time is over
+pub over-left : (c i : ℕ) (p : Packet) (level : c ≡ notice-number → ⊥) (d : ℕ) (early : Bool) (h : History) → Invariant h → Either c i p level d early h → p .eligibility + d ≤ h .now .clock
+    → (f : ℕ) × (getElem? (departures c (h .departed)) i ≡ some (record { what = p; finish = f })) × (f ≤ p .eligibility + d)
+over-left c i p level d early h I (inl G) over = (G .0, G .1, G .2)
+over-left c i p level d early h I (inr W) over =
+    absurd
+    (⊎-elim
+    (λ z. holds-one c i p level d early h I W (omega (arith, ap (λ (r : State). length (of c (r .held))) (I .sound .with-no-link z))))
+    (λ n. omega (arith, not-over c i p level d early h I W (its-owner c i p level d early h I W (I .sound .with-one n .orderly))))
+    (same (h .now .link .levels) 0))

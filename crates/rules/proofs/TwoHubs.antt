@@ -16,12 +16,12 @@ use Rattle.rules.specs.Admission.{owned, stands, stamped}
 use Rattle.rules.specs.Service.{Spaced, of, eligibilities, early-at}
 use Rattle.rules.specs.Calls.{heard, verdict, eligibility-now, packet, done, answer}
 use Rattle.rules.specs.Runs.{Departure, History, taken, leaving, after, run-from, nothing-yet, run, in-hub, departures, own-departures, bound-of, allowed, offer-tick, offer-ticks, Keeps-its-word, Asked, Exchange, exchange, exchanges}
-use Rattle.rules.specs.Promises.{Left-by, No-cause, Stamp-promise}
+use Rattle.rules.specs.Promises.{Left-by, stamp-plus, No-cause, Kept-promise}
 use Rattle.rules.specs.TwoHubs.{Follows, Carried, Carries, asked-of, Passed-on, Two-hubs-in-a-row, Goes-through, All-go-through}
 use Rattle.rules.proofs.Lists.{Sub, nil, sub-snoc, sub-more, all-map, all-snoc, all-sub, all-filter, all-every}
 use Rattle.rules.proofs.Sums.{split, same, cond-is}
 use Rattle.rules.proofs.Tests.{never, and-true, and-intro, within-intro}
-use Rattle.rules.proofs.Rows.{none-some, length-map, map-append, all-of-map, all-map-of, eligibilities-snoc-same, eligibilities-snoc-other}
+use Rattle.rules.proofs.Rows.{find-below, none-some, length-map, map-append, all-of-map, all-map-of, eligibilities-snoc-same, eligibilities-snoc-other}
 use Rattle.rules.proofs.Notices.{of-none}
 use Rattle.rules.proofs.Memory.{all-remember-all}
 use Rattle.rules.proofs.Standing.{stands-owned}
@@ -31,7 +31,6 @@ use Rattle.rules.proofs.Invariant.{whats, Invariant}
 use Rattle.rules.proofs.KeptBySweep.{of-filter}
 use Rattle.rules.proofs.Every.{no-owner, keeps, invariant}
 use Rattle.rules.proofs.InTime.{find-all, conserved-lists}
-use Rattle.rules.proofs.InTheLog.{find-below}
 use Rattle.rules.proofs.Keeper.{run-append, from-end, run-last, owner-stays, kind-before, All-taken, all-taken, word-before, on-arrival}
 use Rattle.rules.proofs.Alone.{exchanges-last, no-exchanges, asks}
 use Rattle.rules.proofs.OwnLine.{no-own, Sent, own-line, own-all, own-spaced, own-lengths}
@@ -342,7 +341,7 @@ module _ (ks earlier later : List Call) (c c2 delay len tag : ℕ) (F : Follows 
       gap-after = λ last i. find-all Earlier (past s c2) 0 last past-earlier i;
     }
 
-    promise : Stamp-promise earlier later c2 len tag (d .what .eligibility)
+    promise : Kept-promise earlier later c2 len tag (some (d .what .eligibility)) (stamp-plus (run earlier .now) c2 (d .what .eligibility))
     promise = demand-3-for-stamps earlier later c2 len tag (d .what .eligibility) ok no-cause
 
     abbrev total-delay : ℕ

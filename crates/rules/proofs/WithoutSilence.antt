@@ -16,8 +16,8 @@ use Rattle.rules.specs.Admission.{link-within, bound, count, cost}
 use Rattle.rules.specs.WithoutWindows.{bounds-sum, bounds-from, bounds-test}
 use Rattle.rules.specs.Service.{started, packet-departs, notice-departs, after-unit, ticked}
 use Rattle.rules.specs.SoundState.{Sound}
-use Rattle.rules.specs.Calls.{verdict, done, answer}
-use Rattle.rules.specs.Promises.{base-within, base-sum, base-short, As-in-the-base, No-silence-runs}
+use Rattle.rules.specs.Calls.{verdict, done}
+use Rattle.rules.specs.Before.{base-within, base-sum, base-short, As-in-the-base, No-silence-runs}
 use Rattle.rules.proofs.Sums.{same, sum-eq}
 use Rattle.rules.proofs.Verdicts.{settled}
 use Rattle.rules.proofs.Finer.{as-without}

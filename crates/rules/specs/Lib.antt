@@ -1,4 +1,4 @@
--- Read in this order: Words, Limits, Model, Admission, QuickTest, Service, SoundState, SoundTest, SoundLine, Calls, Runs, WithoutAverage, WithoutStandBy, WithoutWindows, Promises, TwoHubs, Examples, WorkedLimits, WorkedWindows.
+-- Read in this order: Words, Limits, Model, Admission, QuickTest, Service, SoundState, SoundTest, SoundLine, Calls, Runs, WithoutAverage, WithoutStandBy, WithoutWindows, Promises, Before, TwoHubs, Examples, WorkedLimits, WorkedWindows.
 pub mod Words
 pub mod Limits
 pub mod Model
@@ -14,6 +14,7 @@ pub mod WithoutAverage
 pub mod WithoutStandBy
 pub mod WithoutWindows
 pub mod Promises
+pub mod Before
 pub mod TwoHubs
 pub mod Examples
 pub mod WorkedLimits

@@ -48,12 +48,16 @@ no-short = record { level = 0; units = 0 }
 
 -- `number`: the connection that an admission gives, the eligibility that an offer or a notice gives, else 0. `short`: what the level test said of an
 -- admission that is refused for it. `departed`: the packet that a tick sends off, if it does
-pub record Answer : Type 0 where
+-- `next`: the state that is left, of whichever discipline
+pub record Outcome (State : Type 0) : Type 0 where
   pub verdict : ℕ
   pub number : ℕ
   pub short : Short
   pub departed : Option Packet
   pub next : State
+
+abbrev pub Answer : Type 0
+Answer = Outcome State
 
 -- what a link without windows has for them (document 02, R-12)
 abbrev pub no-windows : List ℕ

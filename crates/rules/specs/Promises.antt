@@ -1,25 +1,24 @@
 -- THE STATEMENTS, apart from their proofs: each is proved in proofs/Results under the same name in small letters.
-use Prim.Native.Nat.{ℕ, zero, suc, _+_, _*_, _-_, _≤_, _<_, min}
+use Prim.Native.Nat.{ℕ, suc, _+_, _*_, _-_, _≤_, _<_, min}
 use mathlib.Core.Path.{_≡_}
-use mathlib.Core.Bool.{Bool, true, false, cond, _&&_}
+use mathlib.Core.Bool.{true, false, cond, _&&_}
 use mathlib.Core.Logic.{_⊎_, _↔_}
 use mathlib.Core.List.{List, [], _∷_, _++_, map}
 use mathlib.Core.Option.{Option, none, some}
 use lib.Dec.{leb, eqb}
 use lib.ListN.{length, getElem?, drop}
-use Rattle.rules.specs.Words.{within, upto, sum, first-number, All}
-use Rattle.rules.specs.Limits.{max-levels, max-largest, max-silence, max-bound, max-level-window, max-allowance, max-connections, max-reserved, clock-end, beyond-32-bits, max-notices, notice-number}
-use Rattle.rules.specs.Model.{Link, Connection, Past, Packet, State, Call, link, admit, offer, notice, close, tick, Short, no-short, Answer, no-windows, fresh, no-past, nth, past, figures, closed-at, with-clock, with-line}
-use Rattle.rules.specs.Admission.{rising, cost, link-within, level-within, burst, stamped, average-within, figures-within, owned, stands, joining, windowed, windows-within, window, bound, largest-bound, charge-time, rounded-up, count, reservation, reserved, stand-by-on, distance, ahead, conditions, span, limit-at, level-sum, Level-holds, excess-from, excess, level-test}
-use Rattle.rules.specs.QuickTest.{quick-holds, quick-excess, quick-test}
-use Rattle.rules.specs.Service.{nth-before, next-eligibility, suits, untimely-by, Spaced, of, eligibilities, first, chosen, stand-by, Quiet-wire, wire, wire-tick, line-after-start, started, tick-answer, moves-on, ticked, charge-over}
-use Rattle.rules.specs.SoundState.{Queue, In-service, Sound}
-use Rattle.rules.specs.SoundTest.{latest-by-gap, latest, sound}
-use Rattle.rules.specs.Calls.{heard, answer, refused-number, eligibility-now, packet}
-use Rattle.rules.specs.WithoutAverage.{Plain, Apart, in-ticks, base-figures-within, base-count, base-eligibility, Base-spaced, Base-queue, Memory-kept}
-use Rattle.rules.specs.WithoutStandBy.{only-link-within, only-start, Only-queue, Only-in-service, only-verdicts}
-use Rattle.rules.specs.WithoutWindows.{bounds-link-within, bounds-sum, bounds-test, bounds-verdicts}
-use Rattle.rules.specs.Runs.{History, run, departures, in-hub, bound-of, sender-bounds, allowed, Keeps-its-word, Exchange, exchanges, own-answer, own-stamp-answers}
+use Rattle.rules.specs.Words.{upto, sum, first-number, All}
+use Rattle.rules.specs.Limits.{max-largest, max-silence, max-bound, max-level-window, max-allowance, max-connections, max-reserved, clock-end, beyond-32-bits, max-notices, notice-number}
+use Rattle.rules.specs.Model.{Link, Connection, Past, Packet, State, Call, link, admit, offer, notice, close, tick, Short, no-short, fresh, no-past, nth, past, figures, closed-at, with-clock, with-line}
+use Rattle.rules.specs.Admission.{cost, link-within, level-within, burst, stamped, figures-within, owned, stands, joining, windowed, window, bound, charge-time, rounded-up, count, reservation, reserved, stand-by-on, distance, ahead, conditions, span, limit-at, level-sum, Level-holds, level-test}
+use Rattle.rules.specs.QuickTest.{quick-test}
+use Rattle.rules.specs.Service.{nth-before, suits, untimely-by, Spaced, of, eligibilities, first, chosen, stand-by, Quiet-wire, wire, wire-tick, started, tick-answer, moves-on, ticked, charge-over}
+use Rattle.rules.specs.SoundState.{Queue, Sound}
+use Rattle.rules.specs.SoundTest.{sound}
+use Rattle.rules.specs.Calls.{answer, refused-number, eligibility-now, packet}
+use Rattle.rules.specs.WithoutAverage.{Apart, in-ticks, base-figures-within, base-count, Base-spaced, Memory-kept}
+use Rattle.rules.specs.WithoutWindows.{bounds-test, bounds-verdicts}
+use Rattle.rules.specs.Runs.{History, run, departures, in-hub, bound-of, allowed, Keeps-its-word, Exchange, exchanges, own-answer, own-stamp-answers}
 
 -- ---- demand 1: any call on any state ends with an answer or a numbered refusal (`answer` is a function); a refused call changes nothing
 
@@ -200,68 +199,35 @@ Windows-at-the-bounds =
     → (answer (admit x) s .verdict ≡ first-number (bounds-verdicts x s))
     × (answer (admit x) s .verdict ≡ 8 → answer (admit x) s .short ≡ bounds-test (s .link) (joining (s .connections) x)))
 
--- on a link without windows all is as it was: a level has one condition, document 01's sum is at most d; the test says what it said, and R-8's charge is the one
--- that it was
-pub record As-without-windows (l : Link) : Type 0 where
-  pub one-condition : (m : ℕ) → conditions l m ≡ 1
-  pub sum-is : (cs : List Connection) (m : ℕ) → level-sum l cs m 0 ≡ bounds-sum l cs m
-  pub limit-is : (m : ℕ) → limit-at l m 0 ≡ bound l m
-  pub test-is : (cs : List Connection) → level-test l cs ≡ bounds-test l cs
-  pub charge-is : charge-time l ≡ largest-bound l
-
--- .. and one whose windows are all 0 has none, with the limits that it had
-abbrev pub Without-windows : Type 0
-Without-windows =
-    ((l : Link) → l .windows ≡ no-windows → (windowed l ≡ false) × (link-within l ≡ bounds-link-within l))
-    × ((l : Link) → windowed l ≡ false → As-without-windows l)
-
--- β from w - d on never decides: the w condition and those of β below w - d give the first excess, whatever the link and the connections
-abbrev pub Late-betas-never-decide : Type 0
-Late-betas-never-decide = (l : Link) (cs : List Connection) (m : ℕ) → excess l cs m ≡ excess-from l cs m 0 (suc (window l m - bound l m))
-
--- nor does a β with the sum of a smaller one that holds: only those decide at which some count rises
-abbrev pub Flat-betas-never-decide : Type 0
-Flat-betas-never-decide =
-    (l : Link) (cs : List Connection) (m β k n : ℕ)
-    → ((j : ℕ) → j ≤ k → level-sum l cs m (suc (β + j)) ≡ level-sum l cs m (suc β))
-    → level-sum l cs m (suc β) ≤ limit-at l m (suc β)
-    → excess-from l cs m (suc β) (suc k + n) ≡ excess-from l cs m (suc (β + suc k)) n
-
--- the quick test (QuickTest) says what the level test says: whether a level holds, its first excess, and the first failing level
-abbrev pub Quick-holds-exactly : Type 0
-Quick-holds-exactly = (l : Link) (cs : List Connection) (m : ℕ) → quick-holds l cs m ≡ true ↔ Level-holds l cs m
-
-abbrev pub Quick-excess-is-exact : Type 0
-Quick-excess-is-exact = (l : Link) (cs : List Connection) (m : ℕ) → quick-excess l cs m ≡ excess l cs m
-
+-- the quick test (QuickTest) says what the level test says: the first failing level and its first excess
 abbrev pub Quick-test-is-exact : Type 0
 Quick-test-is-exact = (l : Link) (cs : List Connection) → quick-test l cs ≡ level-test l cs
 
--- an answer's numbers fit the fields of its record (document 01, "Trace and answer records"), whatever the call: one byte of verdict and of level, one of a connection's
--- number, four of units, of an eligibility, of an arrival and of a finish, which is the clock then. A departed packet's tag is as it was offered (`Conservation`)
-abbrev pub number-limit : Call → ℕ
-number-limit (link l) = beyond-32-bits
-number-limit (admit x) = 256
-number-limit (offer c len tag st) = beyond-32-bits
-number-limit (notice len tag) = beyond-32-bits
-number-limit (close c) = beyond-32-bits
-number-limit tick = beyond-32-bits
+-- an answer's numbers fit the fields of its record (document 01, "Trace and answer records"), whatever the call: one byte of verdict and of level, four of units, of an eligibility, of an
+-- arrival and of a finish, which is the clock then; one byte of a connection's number, which is the number of an answer whose refusal gives 255. A departed packet's tag is as it was offered
+-- (`Conservation`)
+abbrev pub number-limit : ℕ → ℕ
+number-limit refused = cond (eqb refused 0) beyond-32-bits 256
 
 pub record Packet-fits (p : Packet) : Type 0 where
   pub connection : p .connection < 256
   pub arrival : p .arrival < beyond-32-bits
   pub eligibility : p .eligibility < beyond-32-bits
 
-pub record Answer-fits (k : Call) (a : Answer) : Type 0 where
-  pub verdict : a .verdict < 256
-  pub number : a .number < number-limit k
-  pub level : a .short .level < 256
-  pub units : a .short .units < beyond-32-bits
-  pub departed : (p : Packet) → a .departed ≡ some p → Packet-fits p
-  pub finish : a .next .clock < beyond-32-bits
+-- of any discipline: the number of its refusal, its verdict, its number, what was short, what departed, the clock then
+pub record Answer-fits (refused v n : ℕ) (o : Short) (d : Option Packet) (t : ℕ) : Type 0 where
+  pub verdict : v < 256
+  pub number : n < number-limit refused
+  pub level : o .level < 256
+  pub units : o .units < beyond-32-bits
+  pub departed : (p : Packet) → d ≡ some p → Packet-fits p
+  pub finish : t < beyond-32-bits
 
 abbrev pub Answers-fit : Type 0
-Answers-fit = (k : Call) (s : State) → Sound s → Answer-fits k (answer k s)
+Answers-fit =
+    (k : Call) (s : State)
+    → Sound s
+    → Answer-fits (refused-number k) (answer k s .verdict) (answer k s .number) (answer k s .short) (answer k s .departed) (answer k s .next .clock)
 
 -- ---- conservation: for each connection, and for the notices under their number, accepted = departed followed by what waits, as lists. Over all time, so
 -- through every owner of a number
@@ -308,40 +274,27 @@ Demand-3-first =
     → Left-by (run (earlier ++ offer c len tag st ∷ later)) c (length (of c (run earlier .accepted))) (packet (run earlier .now) c len tag st)
     (eligibility-now (run earlier .now) c st + bound-of (run earlier .now) c)
 
--- .. and the same in the form of the log: the i-th accepted packet of number c, and the bound of the connection that sent it
-abbrev pub Demand-3-in-the-log : Type 0
-Demand-3-in-the-log =
-    (ks : List Call) (c i : ℕ) (p : Packet) (d : ℕ)
-    → (c ≡ notice-number → ⊥)
-    → getElem? (of c (run ks .accepted)) i ≡ some p
-    → getElem? (sender-bounds c ks) i ≡ some d
-    → p .eligibility + d ≤ run ks .now .clock
-    → Left-by (run ks) c i p (p .eligibility + d)
+-- ---- demand 3, second sentence: a connection that keeps its word is never refused for room and leaves within the bound of its arrival
 
--- .. for each there is one
-abbrev pub Each-has-a-bound : Type 0
-Each-has-a-bound = (ks : List Call) (c : ℕ) → (c ≡ notice-number → ⊥) → length (sender-bounds c ks) ≡ length (of c (run ks .accepted))
-
--- ---- demand 3, second sentence: a connection that keeps its word is never refused for room and leaves within the bound of its arrival. It speaks of the first
--- kind; of the second `Demand-3-for-stamps` does (document 02, R-9).
--- Any calls `earlier`, an offer of c of allowed length, any calls `later`; c has kept its word up to this offer
-
-pub record Kept-promise (earlier later : List Call) (c len tag : ℕ) : Type 0 where
-  pub never-for-room : answer (offer c len tag none) (run earlier .now) .verdict ≡ 12 → ⊥
-  pub accepted : run earlier .now .clock < clock-end → answer (offer c len tag none) (run earlier .now) .verdict ≡ 0
-  pub on-arrival : run earlier .now .clock < clock-end → answer (offer c len tag none) (run earlier .now) .number ≡ run earlier .now .clock
+-- any calls `earlier`, an offer of c, any calls `later`: it is never refused for room; while the clock runs it is accepted, with the eligibility e, and leaves within the bound of that
+pub record Kept-promise (earlier later : List Call) (c len tag : ℕ) (st : Option ℕ) (e : ℕ) : Type 0 where
+  pub never-for-room : answer (offer c len tag st) (run earlier .now) .verdict ≡ 12 → ⊥
+  pub accepted : run earlier .now .clock < clock-end → answer (offer c len tag st) (run earlier .now) .verdict ≡ 0
+  pub eligible : run earlier .now .clock < clock-end → answer (offer c len tag st) (run earlier .now) .number ≡ e
   pub in-time : run earlier .now .clock < clock-end
-      → run earlier .now .clock + bound-of (run earlier .now) c ≤ run (earlier ++ offer c len tag none ∷ later) .now .clock
-      → Left-by (run (earlier ++ offer c len tag none ∷ later)) c (length (of c (run earlier .accepted)))
-      (record { connection = c; len = len; tag = tag; arrival = run earlier .now .clock; eligibility = run earlier .now .clock })
-      (run earlier .now .clock + bound-of (run earlier .now) c)
+      → e + bound-of (run earlier .now) c ≤ run (earlier ++ offer c len tag st ∷ later) .now .clock
+      → Left-by (run (earlier ++ offer c len tag st ∷ later)) c (length (of c (run earlier .accepted)))
+      (record { connection = c; len = len; tag = tag; arrival = run earlier .now .clock; eligibility = e })
+      (e + bound-of (run earlier .now) c)
 
+-- so it is, with its arrival as its eligibility, where the offer is of allowed length and c has kept its word up to it. This speaks of the first kind; of the second
+-- `Demand-3-for-stamps` does (document 02, R-9)
 abbrev pub Demand-3-second : Type 0
 Demand-3-second =
     (earlier later : List Call) (c len tag : ℕ)
     → Keeps-its-word c (earlier ++ offer c len tag none ∷ [])
     → allowed (run earlier .now) c len none ≡ true
-    → Kept-promise earlier later c len tag
+    → Kept-promise earlier later c len tag none (run earlier .now .clock)
 
 -- ---- bed nine and bed ten (document 02, R-3): nothing that another connection does changes what a connection that keeps its word is told
 
@@ -354,14 +307,13 @@ Told-by-its-own =
     → Keeps-its-word c ks
     → All (λ (e : Exchange). e ≡ own-answer (figures (run ks .now) c) (e .asked)) (exchanges c ks)
 
--- so in any two runs such a connection with the same figures and the same offers at the same ticks is told the same, whatever its number in each. That the links are
--- the same and that it was accepted at the same tick need not even be asked
+-- so in any two runs a connection that keeps its word, of either kind, with the same figures and the same offers at the same ticks is told the same, whatever its number in each. That the
+-- links are the same and that it was accepted at the same tick need not even be asked. Of the second kind (document 02, R-9): `Stamps-told-by-their-own`
 abbrev pub Bed-nine-and-bed-ten : Type 0
 Bed-nine-and-bed-ten =
     (ks ms : List Call) (c d : ℕ)
     → figures (run ks .now) c ≡ figures (run ms .now) d
     → map (λ e. e .asked) (exchanges c ks) ≡ map (λ e. e .asked) (exchanges d ms)
-    → stamped (figures (run ks .now) c) ≡ false
     → Keeps-its-word c ks
     → exchanges c ks ≡ exchanges d ms
 
@@ -370,42 +322,6 @@ abbrev pub Counted : Type 0
 Counted =
     (ks : List Call) (c : ℕ)
     → length (of c (run ks .accepted)) ≡ length (departures c (run ks .departed)) + length (of c (in-hub (run ks .now)))
-
--- ---- the silence (document 02, R-4): where a link asks for none, what a packet costs, the link's limits and the level test are document 01's own, and no
--- silence runs. First its formulas, each written out once
-
--- "Link, connections, places": 1 to 8 levels, S from 1 to its limit, bounds that rise strictly, the first at least S; the stand-by queue is off or on (document 02,
--- R-11), and windows are as R-12 says
-abbrev pub base-within : Link → Bool
-base-within l =
-    within 1 max-levels (l .levels)
-    && (within 1 max-largest (l .largest) && (leb (l .early) 1 && (rising (l .largest) (l .levels) (l .bounds) && windows-within l)))
-
--- "The level test": over all connections of levels 1 to m, d divided by X, rounded up, times size; add S
-abbrev pub base-sum : Link → List Connection → ℕ → ℕ
-base-sum l cs m = sum (length cs) (λ c. upto (nth cs c .level) m (count (nth cs c) (bound l m) * nth cs c .size)) + l .largest
-
--- .. the sum must be at most d: of the k levels from m on the lowest where it is not, and by how many units
-abbrev pub base-short : Link → List Connection → ℕ → ℕ → Short
-base-short l cs m zero = no-short
-base-short l cs m (suc k) =
-    cond (leb (base-sum l cs m) (bound l m)) (base-short l cs (suc m) k) (record { level = m; units = base-sum l cs m - bound l m })
-
--- a packet takes the line for its length; the link's limits are these, and, without windows, the level test, its sums, its level and its units
-pub record As-in-the-base (l : Link) : Type 0 where
-  pub cost-is : (len : ℕ) → cost l len ≡ len
-  pub limits-are : link-within l ≡ base-within l
-  pub sum-is : windowed l ≡ false → (cs : List Connection) (m : ℕ) → level-sum l cs m 0 ≡ base-sum l cs m
-  pub test-is : windowed l ≡ false → (cs : List Connection) → level-test l cs ≡ base-short l cs 1 (l .levels)
-
--- in a sound state no silence is still to run, nor after any call on it; and a tick of any state leaves no longer one than it found
-pub record No-silence-runs (s : State) : Type 0 where
-  pub now : Sound s → s .silent ≡ 0
-  pub after-a-call : (k : Call) → Sound s → answer k s .next .silent ≡ 0
-  pub after-a-tick : ticked s .next .silent ≤ s .silent
-
-abbrev pub Without-silence : Type 0
-Without-silence = ((l : Link) → l .silence ≡ 0 → As-in-the-base l) × ((s : State) → s .link .silence ≡ 0 → No-silence-runs s)
 
 -- ---- average rates (document 02, R-6)
 
@@ -424,17 +340,6 @@ The-count-is-reached = (l : Link) (c : Connection) → figures-within l c ≡ tr
 -- a longer window counts no less
 abbrev pub The-count-never-falls : Type 0
 The-count-never-falls = (c : Connection) → 1 ≤ c .gap → (w v : ℕ) → w ≤ v → count c w ≤ count c v
-
--- a connection without an average has document 01's limits, count, eligibility and spacing, and its rows in a sound state, where the stand-by
--- queue is off, are as document 01 says, beside what is asked of the memory
-abbrev pub Without-average : Type 0
-Without-average =
-    (c : Connection) → Plain c
-    → ((l : Link) → figures-within l c ≡ base-figures-within l c)
-    × ((w : ℕ) → count c w ≡ base-count c w)
-    × ((h : Past) (now : ℕ) → next-eligibility c h now ≡ base-eligibility c h now)
-    × ((es : List ℕ) → Spaced c es ↔ Base-spaced c es)
-    × ((t : ℕ) (h : Past) (es : List ℕ) → Queue c none t h es ↔ (Base-queue c t h es × Memory-kept c t h es))
 
 -- ---- closing (document 02, R-8)
 
@@ -489,16 +394,6 @@ Lowest-number-is-given =
     (x : Connection) (s : State) → answer (admit x) s .verdict ≡ 0 → Lowest-free s x (answer (admit x) s .number) (answer (admit x) s .next)
 
 -- ---- a second hub behind the first (document 02, R-9): connections of the second kind. The first sentence of demand 3 is theirs too (`Demand-3-first`)
-
--- a connection of the first kind is as it was: its limits, its reservation, how late its rows may be in a sound state, and who hears an offer without a
--- stamp. Its count, its spacing and its next eligibility do not look at the kind
-abbrev pub First-kind : Type 0
-First-kind =
-    (c : Connection) → c .kind ≡ 0 → c .allowance ≡ 0
-    → ((l : Link) → figures-within l c ≡ (base-figures-within l c && average-within c))
-    × ((l : Link) → reservation l c ≡ count c (bound l (c .level)))
-    × ((t : ℕ) (h : Past) → latest c t h ≡ latest-by-gap c t h)
-    × ((s : State) (n : ℕ) → figures s n ≡ c → (heard s n none ≡ stands s n) × ((stamp : ℕ) → heard s n (some stamp) ≡ false))
 
 -- a connection of the second kind
 abbrev pub Second : Connection → Type 0
@@ -561,25 +456,13 @@ No-finish-before =
     ≡ some (record { what = packet (run earlier .now) c len tag st; finish = finish })
     → eligibility-now (run earlier .now) c st + len ≤ finish
 
--- in place of the second sentence of demand 3: an offer of allowed length to which no cause of 17 applies is never refused for room; while the clock runs it is
--- accepted, with the stamp plus the allowance as its eligibility, and it leaves within the bound of that. Any calls `earlier`, the offer, any calls `later`
-pub record Stamp-promise (earlier later : List Call) (c len tag stamp : ℕ) : Type 0 where
-  pub never-for-room : answer (offer c len tag (some stamp)) (run earlier .now) .verdict ≡ 12 → ⊥
-  pub accepted : run earlier .now .clock < clock-end → answer (offer c len tag (some stamp)) (run earlier .now) .verdict ≡ 0
-  pub eligible : run earlier .now .clock < clock-end
-      → answer (offer c len tag (some stamp)) (run earlier .now) .number ≡ stamp-plus (run earlier .now) c stamp
-  pub in-time : run earlier .now .clock < clock-end
-      → stamp-plus (run earlier .now) c stamp + bound-of (run earlier .now) c ≤ run (earlier ++ offer c len tag (some stamp) ∷ later) .now .clock
-      → Left-by (run (earlier ++ offer c len tag (some stamp) ∷ later)) c (length (of c (run earlier .accepted)))
-      (record { connection = c; len = len; tag = tag; arrival = run earlier .now .clock; eligibility = stamp-plus (run earlier .now) c stamp })
-      (stamp-plus (run earlier .now) c stamp + bound-of (run earlier .now) c)
-
+-- in place of the second sentence of demand 3: so it is, with the stamp plus the allowance as its eligibility, where the offer is of allowed length and no cause of 17 applies
 abbrev pub Demand-3-for-stamps : Type 0
 Demand-3-for-stamps =
     (earlier later : List Call) (c len tag stamp : ℕ)
     → allowed (run earlier .now) c len (some stamp) ≡ true
     → No-cause (run earlier .now) c stamp
-    → Stamp-promise earlier later c len tag stamp
+    → Kept-promise earlier later c len tag (some stamp) (stamp-plus (run earlier .now) c stamp)
 
 -- bed nine and bed ten for these (document 02, R-3), where the offers of allowed length come a gap apart, whatever their stamps: each answer is the one that its
 -- own figures and its own offers so far decide, so in any two runs one with the same figures and the same offers at the same ticks is told the same. Offers
@@ -590,15 +473,6 @@ Stamps-told-by-their-own =
     → stamped (figures (run ks .now) c) ≡ true
     → Keeps-its-word c ks
     → exchanges c ks ≡ own-stamp-answers (figures (run ks .now) c) no-past (map (λ e. e .asked) (exchanges c ks))
-
-abbrev pub Bed-nine-and-bed-ten-with-stamps : Type 0
-Bed-nine-and-bed-ten-with-stamps =
-    (ks ms : List Call) (c d : ℕ)
-    → figures (run ks .now) c ≡ figures (run ms .now) d
-    → map (λ e. e .asked) (exchanges c ks) ≡ map (λ e. e .asked) (exchanges d ms)
-    → stamped (figures (run ks .now) c) ≡ true
-    → Keeps-its-word c ks
-    → exchanges c ks ≡ exchanges d ms
 
 -- ---- the stand-by queue (document 02, R-11). Nothing above asks whether it is on, but where that is said: demand 3, R-3, conservation, R-8 and R-9 hold in both
 -- settings
@@ -647,19 +521,6 @@ Never-far-ahead =
     (s : State) → Sound s → stand-by-on (s .link) ≡ true → (c : ℕ) → owned (s .connections) c ≡ true
     → All (λ e. e ≤ s .clock + distance (s .link) (figures s c)) (eligibilities c (s .held))
     × All (λ e. e ≤ s .clock + distance (s .link) (figures s c)) (past s c)
-
--- where it is off all is as it was: what an idle line takes, what a sound state asks of a connection's rows and of the packet in service, and the verdict of an offer
-pub record As-without-stand-by (s : State) : Type 0 where
-  pub line-is : (u q : ℕ) → line-after-start s u q ≡ only-start s u q
-  pub rows-are : (c : Connection) (t : ℕ) (h : Past) (es : List ℕ) → Queue c (ahead (s .link) c) t h es ↔ Only-queue c t h es
-  pub service-is : In-service s ↔ Only-in-service (s .held) (s .serving) (s .to-go) (s .clock)
-  pub verdict-is : (c len tag : ℕ) (st : Option ℕ) → answer (offer c len tag st) s .verdict ≡ first-number (only-verdicts c len st s)
-
--- .. and a link that does not ask for it is off, with the limits that it had
-abbrev pub Without-stand-by : Type 0
-Without-stand-by =
-    ((l : Link) → l .early ≡ 0 → (stand-by-on l ≡ false) × (link-within l ≡ only-link-within l))
-    × ((s : State) → stand-by-on (s .link) ≡ false → As-without-stand-by s)
 
 -- ---- quiet ticks: those in which nothing starts, nothing departs and no number is freed
 

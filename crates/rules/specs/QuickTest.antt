@@ -1,5 +1,5 @@
--- The level test in few steps, as code can afford it (document 02, R-12). It need not be believed: `Quick-holds-exactly`, `Quick-excess-is-exact` and
--- `Quick-test-is-exact` (Promises) say that it is the level test.
+-- The level test in few steps, as code can afford it (document 02, R-12). It need not be believed: `Quick-test-is-exact` (Promises)
+-- says that it is the level test.
 use Prim.Native.Nat.{ℕ, zero, suc, _+_, _-_}
 use mathlib.Core.Bool.{Bool, true, cond, _&&_}
 use mathlib.Core.List.{List}

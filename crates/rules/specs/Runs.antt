@@ -96,23 +96,6 @@ in-hub s = s .held ++ map notice-packet (s .notices)
 abbrev pub bound-of : State → ℕ → ℕ
 bound-of s c = bound (s .link) (figures s c .level)
 
--- of an offer of c that is accepted, the bound of the connection that sends it
-abbrev pub sender-bound : ℕ → Call → State → Answer → Option ℕ
-sender-bound c (link l) s a = none
-sender-bound c (admit x) s a = none
-sender-bound c (offer d len tag st) s a = cond (eqb d c) (if-done (a .verdict) (bound-of s c)) none
-sender-bound c (notice len tag) s a = none
-sender-bound c (close d) s a = none
-sender-bound c tick s a = none
-
-abbrev pub sender-bounds-from : ℕ → History → List ℕ → List Call → List ℕ
-sender-bounds-from c h bs [] = bs
-sender-bounds-from c h bs (k ∷ ks) = sender-bounds-from c (after h k) (push bs (sender-bound c k (h .now) (answer k (h .now)))) ks
-
--- for each accepted packet of number c, in order, the bound of the connection that sent it
-abbrev pub sender-bounds : ℕ → List Call → List ℕ
-sender-bounds c ks = sender-bounds-from c nothing-yet [] ks
-
 -- ---- a connection that keeps its word
 
 -- an offer to c that c hears, of allowed length; one given 10 is no connection's offer ("Verdict numbers")

@@ -21,7 +21,7 @@ use Rattle.rules.specs.Model.{Past, nth, no-past}
 use Rattle.rules.specs.Admission.{bound, burst, stamped, owned, charge-time, reservation, goes-early, distance, ahead}
 use Rattle.rules.specs.Service.{earliest, nth-before, ticks-after, remember, remember-all, of, eligibilities, charge-over}
 use Rattle.rules.specs.SoundState.{departed-of, settles, margin}
-use Rattle.rules.specs.SoundTest.{latest-by-gap, latest, latest-early, last-tick, in-pace, departed-by, paced, left-in-time, left-sound, same-numbers, before-pass, behind-pass, closed-sound}
+use Rattle.rules.specs.SoundTest.{latest-by-gap, latest, latest-early, last-tick, in-pace, departed-by, paced, left-in-time, left-sound, same-numbers, before-pass, behind-pass, queues-sound, closed-sound}
 use Rattle.rules.proofs.Count.{count-le}
 use Rattle.rules.proofs.Figures.{reservation-is, ahead-on, ahead-off}
 use Rattle.rules.proofs.Lists.{all-at, all-from, all-set}
@@ -48,7 +48,7 @@ use Rattle.line_tests.proofs.CountLaws.{rows-next}
 use Rattle.state.specs.declared.Hub.{Hub}
 use Rattle.state.specs.View.{Tables, view}
 use Rattle.sound.specs.Pace.{past-in, with-past, Remembers, past-with, Names, left-with, closed-with, Reserves}
-use Rattle.sound.proofs.PartLaws.{both-ways}
+use Rattle.sound.proofs.PartLaws.{both-ways, stops, passes-on}
 
 -- ---- a table that remembers
 
@@ -474,6 +474,18 @@ module _ (h : Hub) (t : Tables) (names : Names (t .members) (t .places)) (seen :
           both-ways (same-numbers (t .members) v) (every max-connections (behind-pass (view h t)))
           (λ e. every-intro max-connections (behind-pass (view h t)) (kept-as (same-true (t .members) v e)))
           (λ e. ap (same-numbers (t .members)) (sym (kept-back (every-true max-connections (behind-pass (view h t)) e))) ∙ same-intro (t .members))
+
+    -- the test ends where what has left fails, where the pass does, or with what is remembered
+    module _ (a : Bool) (is-left : a ≡ every max-connections (λ c. left-with h u (getD seen c 0) c)) where
+      pub left-ends : not a ≡ true → false ≡ queues-sound (view h t)
+      left-ends n = stops _ (is-left ∙ before-all) n
+
+      module _ (n : not a ≡ false) (b : Bool) (is-paced : b ≡ paced (h .link) (connections-in u) (h .clock) (past-in u) [] held) where
+        pub pass-ends : not b ≡ true → false ≡ queues-sound (view h t)
+        pass-ends m = passes-on (is-left ∙ before-all) n (stops _ (is-paced ∙ paced-all) m)
+
+        pub memory-ends : not b ≡ false → (v : List ℕ) → Remembers u v (past-with u held) → (r : Bool) → r ≡ same-numbers (t .members) v → r ≡ queues-sound (view h t)
+        memory-ends m v W r e = passes-on (is-left ∙ before-all) n (passes-on (is-paced ∙ paced-all) m (e ∙ behind-all v W))
 
 -- ---- those that are closed
 

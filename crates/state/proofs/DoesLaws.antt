@@ -1,6 +1,6 @@
 -- The laws of the discipline of levels, as the shared proofs ask for them; how a refusal and a call done meet the contract.
 use mathlib.Core.Path.{refl, ap}
-use Rattle.rules.specs.Model.{State, Call, Answer}
+use Rattle.rules.specs.Model.{State, Call, Answer, Outcome}
 use Rattle.rules.specs.SoundState.{Sound}
 use Rattle.rules.specs.Calls.{verdict, refused-number, refused-short, settle, answer}
 use Rattle.rules.proofs.SoundKept.{kept}
@@ -28,7 +28,7 @@ levels = record {
   Answer = Answer;
   Sound = Sound;
   answer = answer;
-  next = Answer.next;
+  next = Outcome.next;
   refused-number = refused-number;
   Kept = Hub;
   Told = Told;

@@ -1,5 +1,5 @@
 -- THE PROOFS of the statements in specs/Promises, each under its name in small letters.
-use Prim.Native.Nat.{ℕ}
+use Prim.Native.Nat.{ℕ, _^_, _<_, _≤_}
 use native.Mathlib.Omega.{arith}
 use mathlib.Core.Path.{_≡_, refl, sym, _∙_}
 use mathlib.Core.Bool.{Bool, true, false}
@@ -8,9 +8,10 @@ use mathlib.Core.Logic.{inl, inr, ⊎-elim}
 use borrow.Author.Tests.{eqb-true}
 use Rattle.rules.proofs.Tests.{never}
 use Rattle.replay.proofs.Results.{writes-nothing-else, never-refused, asks-when-short}
+use Rattle.turns.specs.Turns.{first-turn, turns-left}
 use Rattle.turns.specs.Runs.Turns.{none, turn}
-use Rattle.turns.specs.Promises.{The-program-writes-the-log, It-tells-the-malformed, Whole-at-the-end, It-writes-nothing-else, It-ends-for-no-other-reason, A-read-has-room, So-many-turns, A-turn-goes-on, The-last-turn-ends-the-log}
-use Rattle.turns.proofs.TurnLaws.{reads-only, turn-keeps, turn-ends}
+use Rattle.turns.specs.Promises.{The-program-writes-the-log, It-tells-the-malformed, Whole-at-the-end, It-writes-nothing-else, It-ends-for-no-other-reason, A-read-has-room}
+use Rattle.turns.proofs.TurnLaws.{reads-only, turn-ends}
 use Rattle.turns.proofs.RunLaws.{ended-then, going, fails-written, fails-read, ended-tells}
 
 pub the-program-writes-the-log : The-program-writes-the-log
@@ -52,11 +53,6 @@ a-read-has-room given wrote v t w S o r t2 o2 w2 T e =
     asks-when-short (given ++ []) wrote (v .cursor) t w [] (going S [] (λ _. refl)) (v .last) (λ _. refl) o (T .answer) t2 o2 (inr (T .pumps))
     (reads-only (r .taken) (T .answer .status) e .1)
 
-pub so-many-turns : So-many-turns
+-- the bound on the turns that are left, before the first of them, with a buffer of at most 65,536 bytes
+pub so-many-turns : (n : ℕ) → n ≤ 65_536 → turns-left n (first-turn .cursor) (first-turn .from) (first-turn .to) (first-turn .last) < 2 ^ 41
 so-many-turns n h = omega arith
-
-pub a-turn-goes-on : A-turn-goes-on
-a-turn-goes-on = turn-keeps
-
-pub the-last-turn-ends-the-log : The-last-turn-ends-the-log
-the-last-turn-ends-the-log = turn-ends

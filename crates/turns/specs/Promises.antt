@@ -1,22 +1,20 @@
 -- THE STATEMENTS of a program that makes turns, apart from their proofs: each is proved in proofs/Results under the same name in small letters. Its turns are such
 -- as are spoken of here: of mtredovim, which writes out what the steps wrote, by the contract of `replay_all`; of the checker, which holds it against a log, by that of
 -- `check_all`, whose moves make them.
-use Prim.Native.Nat.{ℕ, _^_, _<_, _≤_}
+use Prim.Native.Nat.{ℕ, _<_}
 use mathlib.Core.Path.{_≡_}
-use mathlib.Core.Bool.{Bool, true, false}
+use mathlib.Core.Bool.{true, false}
 use mathlib.Core.List.{List, [], _++_}
 use mathlib.Core.Option.{none, some}
 use lib.ListN.{length, take, drop}
 use lib.Signed.{nonNeg}
 use Rattle.tables.specs.Lent.{Tables}
-use Rattle.steps.specs.declared.Cursor.{Cursor}
 use Rattle.log.specs.Log.{log}
 use Rattle.log.specs.Bad.{bad-at}
 use Rattle.traces.specs.Trace.{longest-record}
-use Rattle.replay.specs.Sessions.{Session}
 use Rattle.turns.specs.declared.End.the-variants.{Whole, Malformed, ReadFailed, NotTaken}
 use Rattle.turns.specs.declared.Turn.{Turn}
-use Rattle.turns.specs.Turns.{Ends-log, reads, first-turn, turns-left, Turned}
+use Rattle.turns.specs.Turns.{Ends-log, reads, Turned}
 use Rattle.turns.specs.Runs.{Turns}
 
 -- ---- all turns from the start: `given` is what the reads gave, `wrote` what the steps wrote, and the program handed on
@@ -57,27 +55,3 @@ A-read-has-room =
     → (o : List ℕ) (r : Turn) (t2 : Tables) (o2 w2 : List ℕ) (T : Turned (v .cursor) t w (v .last) o r t2 o2 w2)
     → reads (r .taken) (T .answer .status) ≡ true
     → length (drop (T .answer .used) w) < longest-record
-
--- the bound on the turns that are left, before the first of them, with a buffer of at most 65,536 bytes
-abbrev pub So-many-turns : Type 0
-So-many-turns = (n : ℕ) → n ≤ 65_536 → turns-left n (first-turn .cursor) (first-turn .from) (first-turn .to) (first-turn .last) < 2 ^ 41
-
--- ---- one turn, in any session of the replay
-
--- of a turn: P of the trace, all that was written with it, the turn, the tables and the window then, what was unread before it, and what its read gave
-abbrev pub Of-a-turn : (List ℕ → List ℕ → Turn → Tables → List ℕ → List ℕ → List ℕ → Type 0) → Type 0
-Of-a-turn P =
-    (trace wrote : List ℕ) (c : Cursor) (t : Tables) (w unread : List ℕ)
-    → Session trace wrote c t w unread
-    → (last : Bool) → (last ≡ true → unread ≡ []) → (o : List ℕ) (v : Turn) (t2 : Tables) (o2 w2 : List ℕ)
-    → (T : Turned c t w last o v t2 o2 w2)
-    → P trace (wrote ++ take (T .answer .wrote) o2) v t2 w2 unread (T .follows .got)
-
--- a turn goes on with the session: what the read gave are the next bytes of the trace
-abbrev pub A-turn-goes-on : Type 0
-A-turn-goes-on =
-    Of-a-turn (λ trace wrote v t w unread got. (then : List ℕ) → unread ≡ got ++ then → Session trace wrote (v .cursor) t w then)
-
--- a turn that ends the log: what was written is the log
-abbrev pub The-last-turn-ends-the-log : Type 0
-The-last-turn-ends-the-log = Of-a-turn (λ trace wrote v t w unread got. Ends-log (v .end) → wrote ≡ log trace)

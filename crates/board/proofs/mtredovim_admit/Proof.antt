@@ -33,7 +33,7 @@ same-length-4 : tie.Need-same-length-4
 same-length-4 c = search needs
 
 returns-2 : tie.Need-returns-2
-returns-2 c = search needs
+returns-2 c = c .before .before .before .before .mtredovim-admit-tested .ensures
 
 pub mtredovim-admit-spec : {M : Type 1} → statement M
 mtredovim-admit-spec =

@@ -18,7 +18,7 @@ link-tested-requires : tie.Need-link-tested-requires
 link-tested-requires c κs = sym (c .before .is-sound .ensures) ∙ not-false _ (c .if1 .left)
 
 returns-2 : tie.Need-returns-2
-returns-2 c = search needs
+returns-2 c = c .link-tested .ensures
 
 pub link-spec : {M : Type 1} → statement M
 link-spec =

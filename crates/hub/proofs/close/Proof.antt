@@ -31,7 +31,7 @@ same-length-2 c = search needs
 
 -- src/lib.rt:97:1
 returns-2 : tie.Need-returns-2
-returns-2 c = search needs
+returns-2 c = c .before .before .close-tested .ensures
 
 pub close-spec : {M : Type 1} → statement M
 close-spec =

@@ -23,7 +23,7 @@ link-tested-requires c κs = sym (c .before .is-sound .ensures) ∙ not-false _ 
 
 -- src/lib.rt:42:1
 returns-2 : tie.Need-returns-2
-returns-2 c = search needs
+returns-2 c = c .link-tested .ensures
 
 pub link-spec : {M : Type 1} → statement M
 link-spec =

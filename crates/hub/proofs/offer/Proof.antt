@@ -39,7 +39,7 @@ same-length-4 c = search needs
 
 -- src/lib.rt:62:1
 returns-2 : tie.Need-returns-2
-returns-2 c = search needs
+returns-2 c = c .before .before .before .before .offer-tested .ensures
 
 pub offer-spec : {M : Type 1} → statement M
 offer-spec =

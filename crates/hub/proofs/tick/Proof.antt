@@ -47,7 +47,7 @@ same-length-6 c = search needs
 
 -- src/lib.rt:107:1
 returns-2 : tie.Need-returns-2
-returns-2 c = search needs
+returns-2 c = c .before .before .before .before .before .before .tick-tested .ensures
 
 pub tick-spec : {M : Type 1} → statement M
 tick-spec =

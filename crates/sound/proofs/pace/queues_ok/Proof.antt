@@ -1,8 +1,6 @@
 use Rattle.sound.proofs.PaceLaws as L
-use Rattle.sound.proofs.PartLaws as S
 use Rattle.connections.proofs.WrittenLaws as W
 use native.Mathlib.Omega.{arith}
-use mathlib.Core.Path.{_∙_}
 use borrow.Author.Tests.{not-false}
 use Rattle.state.specs.View.{tables}
 use borrow.Author.Needs.{needs}
@@ -38,7 +36,7 @@ returns c =
     let a = s .args in
     let whole = L.whole-copy (a .members .now) _ (s .pre .1 .0) (c .before .before .before .before .before .before .before .copy .ensures) in
     let kept = L.forgotten-of (a .members .now) _ _ (a .seen .now) whole (c .before .before .before .before .forget-rows .ensures) in
-    λ q. S.stops _ (c .before .each-left-ok .ensures ∙ L.before-all (a .h) (tables (a .members .now) (a .places .now) q) (s .pre .1 .1) (a .seen .now) (s .pre .0 .1) (s .pre .1 .0) _ kept) (c .if1 .taken)
+    λ q. L.left-ends (a .h) (tables (a .members .now) (a .places .now) q) (s .pre .1 .1) (a .seen .now) (s .pre .0 .1) (s .pre .1 .0) _ kept _ (c .before .each-left-ok .ensures) (c .if1 .taken)
 
 slice-aggregate-scan : tie.Need-slice-aggregate-scan
 slice-aggregate-scan c = search needs
@@ -57,9 +55,7 @@ returns-2 c =
     let a = s .args in
     let whole = L.whole-copy (a .members .now) _ (s .pre .1 .0) (c .before .before .before .before .before .before .before .before .before .before .before .copy .ensures) in
     let kept = L.forgotten-of (a .members .now) _ _ (a .seen .now) whole (c .before .before .before .before .before .before .before .before .forget-rows .ensures) in
-    λ q.
-    S.passes-on (c .before .before .before .before .before .each-left-ok .ensures ∙ L.before-all (a .h) (tables (a .members .now) (a .places .now) q) (s .pre .1 .1) (a .seen .now) (s .pre .0 .1) (s .pre .1 .0) _ kept) (c .before .before .before .before .if1 .left)
-    (S.stops _ (c .before .before .scan .ensures .0 ∙ L.paced-all (a .h) (tables (a .members .now) (a .places .now) q) (s .pre .1 .1) (a .seen .now) (s .pre .0 .1) (s .pre .1 .0) _ kept) (c .if2 .taken))
+    λ q. L.pass-ends (a .h) (tables (a .members .now) (a .places .now) q) (s .pre .1 .1) (a .seen .now) (s .pre .0 .1) (s .pre .1 .0) _ kept _ (c .before .before .before .before .before .each-left-ok .ensures) (c .before .before .before .before .if1 .left) _ (c .before .before .scan .ensures .0) (c .if2 .taken)
 
 slice-aggregate-same : tie.Need-slice-aggregate-same
 slice-aggregate-same c = search needs
@@ -73,10 +69,7 @@ returns-3 c =
     let a = s .args in
     let whole = L.whole-copy (a .members .now) _ (s .pre .1 .0) (c .before .before .before .before .before .before .before .before .before .before .before .before .before .copy .ensures) in
     let kept = L.forgotten-of (a .members .now) _ _ (a .seen .now) whole (c .before .before .before .before .before .before .before .before .before .before .forget-rows .ensures) in
-    λ q.
-    S.passes-on (c .before .before .before .before .before .before .before .each-left-ok .ensures ∙ L.before-all (a .h) (tables (a .members .now) (a .places .now) q) (s .pre .1 .1) (a .seen .now) (s .pre .0 .1) (s .pre .1 .0) _ kept) (c .before .before .before .before .before .before .if1 .left)
-    (S.passes-on (c .before .before .before .before .scan .ensures .0 ∙ L.paced-all (a .h) (tables (a .members .now) (a .places .now) q) (s .pre .1 .1) (a .seen .now) (s .pre .0 .1) (s .pre .1 .0) _ kept) (c .before .before .if2 .left)
-    (c .same .ensures ∙ L.behind-all (a .h) (tables (a .members .now) (a .places .now) q) (s .pre .1 .1) (a .seen .now) (s .pre .0 .1) (s .pre .1 .0) _ kept _ (c .before .before .before .before .scan .ensures .1 (not-false _ (c .before .before .if2 .left)))))
+    λ q. L.memory-ends (a .h) (tables (a .members .now) (a .places .now) q) (s .pre .1 .1) (a .seen .now) (s .pre .0 .1) (s .pre .1 .0) _ kept _ (c .before .before .before .before .before .before .before .each-left-ok .ensures) (c .before .before .before .before .before .before .if1 .left) _ (c .before .before .before .before .scan .ensures .0) (c .before .before .if2 .left) _ (c .before .before .before .before .scan .ensures .1 (not-false _ (c .before .before .if2 .left))) _ (c .same .ensures)
 
 pub queues-ok-spec : {M : Type 1} → statement M
 queues-ok-spec = tie.close (tie.spec slice-aggregate-copy copy-requires slice-aggregate-forget-rows forget-rows-requires slice-aggregate-each-left-ok each-left-ok-requires returns slice-aggregate-scan scan-requires returns-2 slice-aggregate-same same-requires returns-3)
