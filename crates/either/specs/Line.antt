@@ -42,7 +42,7 @@ pub data Request : Type 0 where
 abbrev pub Reply : Type 0
 Reply = Outcome Line
 
--- what a discipline answers, of a line with this state of it
+-- the answer of one discipline as the reply of the line: the state of the other stays
 abbrev pub by-levels : Line → Level-answer → Reply
 by-levels s a = record { verdict = a .verdict; number = a .number; short = a .short; departed = a .departed; next = record { levels = a .next; frames = s .frames } }
 

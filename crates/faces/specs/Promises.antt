@@ -1,4 +1,4 @@
--- WHAT IS PROMISED OF A CALL AND OF ANY CALLS, whatever the discipline: each says of which of its functions (crates/hub/specs/Promises.antt, crates/framed_hub/specs/Promises.antt). Proved under the
+-- WHAT IS PROMISED OF A CALL AND OF ANY CALLS, whatever the discipline: each says of which of its functions (specs/Promises.antt of `hub`, `framed_hub` and `board`). Proved under the
 -- same name in small letters, of a call in proofs/Results, of any calls in proofs/Sequences.
 use Prim.Native.Nat.{ℕ}
 use mathlib.Core.Path.{_≡_}

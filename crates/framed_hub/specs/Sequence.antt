@@ -5,12 +5,12 @@ use mathlib.Core.Option.{Option, none, some}
 use Rattle.rules.specs.declared.Packet.{Packet}
 use Rattle.rules.specs.Limits.{notice-number}
 use Rattle.rules.specs.Runs.{Departure, if-done}
-use Rattle.frames.specs.Model.{State, Call, link, admit, offer, notice, tick, fresh}
+use Rattle.frames.specs.Model.{Call, link, admit, offer, notice, tick, fresh}
 use Rattle.frames.specs.Runs.{History}
 use Rattle.faces.specs.Sequence as F
 use Rattle.framed_state.specs.declared.Frames.{Frames}
 use Rattle.framed_state.specs.declared.Said.{Said}
-use Rattle.framed_state.specs.View.{zero-tables, view, frames-of, written}
+use Rattle.framed_state.specs.View.{zero-tables, frames-of, written}
 use Rattle.framed_state.specs.Does.{tells, leaves}
 
 -- a caller's notes (crates/faces/specs/Sequence.antt)
@@ -39,10 +39,6 @@ blank = record { accepted = []; departed = []; kept = frames-of fresh; tables = 
 
 abbrev pub calls : List Call → Notes
 calls ks = F.calls-from call blank ks
-
--- the state that what the caller keeps stands for
-abbrev pub state-of : Notes → State
-state-of g = view (g .kept) (g .tables)
 
 -- the same notes of a run of the rules
 abbrev pub notes-of : History → Notes

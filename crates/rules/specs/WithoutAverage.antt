@@ -1,5 +1,5 @@
--- Document 01's own words for one connection, which `Without-average` holds against the rules, and the spacing of document 02, R-6, said of any two packets, for
--- `Spacing-says` (both in Promises).
+-- Document 01's own words for one connection, which `Without-average` (Before) holds against the rules, and the spacing of document 02, R-6, said of any two packets, for
+-- `Spacing-says` (Promises).
 use Prim.Native.Nat.{ℕ, zero, suc, _+_, _-_, _/_, _≤_, _<_, max}
 use mathlib.Core.Path.{_≡_}
 use mathlib.Core.Bool.{Bool, _&&_}

@@ -1,4 +1,4 @@
--- What document 02, R-11, amends, as it is where the stand-by queue is off: `Without-stand-by` (Promises) holds it against the rules.
+-- What document 02, R-11, amends, as it is where the stand-by queue is off: `Without-stand-by` (Before) holds it against the rules.
 use Prim.Native.Nat.{ℕ, zero, suc, _≤_, _<_}
 use mathlib.Core.Path.{_≡_}
 use mathlib.Core.Bool.{Bool, not, _&&_}

@@ -1,4 +1,4 @@
--- What document 02, R-12, amends, as it is on a link without windows: `Without-windows` and `Windows-at-the-bounds` (Promises) hold it against the rules.
+-- What document 02, R-12, amends, as it is on a link without windows: `Without-windows` (Before) and `Windows-at-the-bounds` (Promises) hold it against the rules.
 use Prim.Native.Nat.{ℕ, zero, suc, _+_, _-_}
 use mathlib.Core.Bool.{Bool, cond, not, _&&_}
 use mathlib.Core.List.{List, [], _∷_}
