@@ -5,7 +5,7 @@ use mathlib.Core.Option.{Option, some, none}
 use Prim.Native.Nat.{ℕ}
 use Rattle.fields.specs.Kinds.{Kind}
 use Rattle.answers.specs.Kinds.{LA, CA, CD, PA, NA, DP, TA, ER}
-use Rattle.fields.specs.Formats.{Format, read-kinds, laid}
+use Rattle.fields.specs.Formats.{read-kinds, laid}
 use Rattle.answers.specs.declared.Reply.{Reply}
 use Rattle.answers.specs.declared.Reply.the-variants.{Linked, Admitted, Closed, Offered, Noticed, Departed, Ticked, Broken, Malformed}
 use Rattle.answers.specs.declared.FoundReply.{FoundReply}
@@ -17,15 +17,14 @@ answer-layout (Admitted verdict connection level units) = some (CA, verdict ∷ 
 answer-layout (Closed verdict) = some (CD, verdict ∷ [])
 answer-layout (Offered verdict eligibility) = some (PA, verdict ∷ eligibility ∷ [])
 answer-layout (Noticed verdict eligibility) = some (NA, verdict ∷ eligibility ∷ [])
-answer-layout (Departed connection tag arrival eligibility finish) =
-    some (DP, connection ∷ tag ∷ arrival ∷ eligibility ∷ finish ∷ [])
+answer-layout (Departed connection tag arrival eligibility finish) = some (DP, connection ∷ tag ∷ arrival ∷ eligibility ∷ finish ∷ [])
 answer-layout (Ticked verdict ticks) = some (TA, verdict ∷ ticks ∷ [])
 answer-layout (Broken offset) = some (ER, 14 ∷ offset ∷ [])
 answer-layout Malformed = none
 
--- The format of answers: the six answer kinds, the answer to a close behind the one to an admission, and the answer to a notice behind the one to an offer.
-abbrev pub answers : Format Reply
-answers = record { kinds = LA ∷ CA ∷ CD ∷ PA ∷ NA ∷ DP ∷ TA ∷ ER ∷ []; layout = answer-layout }
+-- The kinds of answers: the six answer kinds, the answer to a close behind the one to an admission, and the answer to a notice behind the one to an offer.
+abbrev pub answer-kinds : List (Kind Reply)
+answer-kinds = LA ∷ CA ∷ CD ∷ PA ∷ NA ∷ DP ∷ TA ∷ ER ∷ []
 
 -- What reading answers: nothing found is malformed, and takes no byte.
 abbrev pub found-reply : Option (Reply × ℕ) → FoundReply
@@ -34,11 +33,11 @@ found-reply (some (r, n)) = record { what = r; taken = n }
 
 -- Reading an answer record.
 abbrev pub read-answer : List ℕ → FoundReply
-read-answer bs = found-reply (read-kinds (answers .kinds) bs)
+read-answer bs = found-reply (read-kinds answer-kinds bs)
 
 -- The bytes of an answer record.
 abbrev pub answer-bytes : Reply → List ℕ
-answer-bytes r = laid (answers .layout r)
+answer-bytes r = laid (answer-layout r)
 
 -- The tables' column "Bytes".
 abbrev pub answer-table : Reply → ℕ

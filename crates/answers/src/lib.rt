@@ -1,13 +1,15 @@
 // The answer records of document 01, "Trace and answer records", and of document 02, R-1, R-2 and R-8: their kinds as values, read and written.
 ghost use mathlib.Core.Path.{_≡_};
-ghost use mathlib.Core.Option.{none};
+ghost use mathlib.Core.Bool.{cond};
+ghost use mathlib.Core.Option.{some, none};
 ghost use Prim.Native.Nat.{_%_};
+ghost use lib.Dec.{ltb};
 ghost use lib.ListN.{length, getD};
 ghost use Rattle.fields.specs.Drafts.{Holds};
-ghost use Rattle.fields.specs.Formats.{whole, read-kind, mark-among, fitting, over};
+ghost use Rattle.fields.specs.Formats.{read-kind, mark-among, fitting, over};
 ghost use Rattle.answers.specs.declared.Reply.the-variants.{Departed};
 ghost use Rattle.answers.specs.Kinds.{CA, DP, ER};
-ghost use Rattle.answers.specs.Answers.{answers, found-reply, read-answer, answer-bytes};
+ghost use Rattle.answers.specs.Answers.{answer-kinds, found-reply, read-answer, answer-bytes};
 use fields::Draft;
 use fields::read::four;
 use fields::read::known;
@@ -91,7 +93,7 @@ fn nothing() -> FoundReply
 
 // An answer of so many bytes, where they are all there.
 fn whole_of(s: &[u8], size: usize, what: Reply) -> FoundReply
-    ensures { λ r. ⌜ r ≡ found-reply (whole size what (now (s .entry))) ⌝ }
+    ensures { λ r. ⌜ r ≡ found-reply (cond (ltb (length (now (s .entry))) size) none (some (what, size))) ⌝ }
 {
     if s.len() < size {
         return nothing();
@@ -104,7 +106,7 @@ fn whole_of(s: &[u8], size: usize, what: Reply) -> FoundReply
 
 // The mark that the bytes start with, as a number; 0 where it is none of an answer's.
 fn mark_of(s: &[u8]) -> u16
-    ensures { λ r. ⌜ r ≡ mark-among (answers .kinds) (now (s .entry)) ⌝ }
+    ensures { λ r. ⌜ r ≡ mark-among answer-kinds (now (s .entry)) ⌝ }
 {
     let mark = known(s, ER, 0);
     let mark = known(s, TA, mark);

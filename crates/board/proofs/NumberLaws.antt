@@ -15,7 +15,8 @@ use Rattle.tables.specs.Lent.{Tables}
 use Rattle.tables.proofs.TableLaws.{listed-row}
 use Rattle.both.specs.declared.Kept.{Kept}
 use Rattle.both.specs.View.{sound-kept}
-use Rattle.board.specs.Numbers.{eight, line-length, kept-in, numbers-of, sound-lent}
+use Rattle.named.specs.Named.{eight-from}
+use Rattle.board.specs.Numbers.{line-length, kept-in, numbers-of, sound-lent}
 
 -- numbers copied over all of a table
 pub copied-whole : (l v : List ℕ) → length l ≡ length v → sets l 0 v ≡ v
@@ -39,7 +40,7 @@ with-eights h ds ws e f = rw (e, f)
 -- WRITTEN AND READ AGAIN, a `Kept` is itself
 pub read-again : (h : Kept) → Eights h → kept-in (numbers-of h) ≡ h
 read-again h E =
-    with-eights h (eight (h .hub .link .bounds)) (eight (h .hub .link .windows)) (listed-row max-levels (h .hub .link .bounds) (E .bounds))
+    with-eights h (eight-from 0 (h .hub .link .bounds)) (eight-from 0 (h .hub .link .windows)) (listed-row max-levels (h .hub .link .bounds) (E .bounds))
     (listed-row max-levels (h .hub .link .windows) (E .windows))
 
 -- ---- the soundness test

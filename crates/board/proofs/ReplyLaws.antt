@@ -4,7 +4,7 @@ use Prim.Native.Nat.{ℕ, zero, suc, _+_}
 use native.Mathlib.Omega.{arith}
 use mathlib.Core.Path.{_≡_, refl, sym, ap, _∙_, subst}
 use mathlib.Core.Bool.{Bool, true, false, not, _||_, true≢false}
-use mathlib.Core.Logic.{_⊎_, inl, inr}
+use mathlib.Core.Logic.{inl, inr}
 use mathlib.Core.Option.{none, some}
 use lib.Dec.{eqb}
 use lib.ListN.{length}
@@ -16,18 +16,20 @@ use Rattle.rules.specs.Calls.{verdict as level-verdict, done as level-done, ans
 use Rattle.rules.proofs.Verdicts.{settled as level-settled}
 use Rattle.rules.proofs.Line.{tick-leaves}
 use Rattle.rules.proofs.Sums.{cond-is, cond-ind}
-use Rattle.frames.specs.Model.{Call as Frame-call, link as frame-link, admit as frame-admit, offer as frame-offer, notice as frame-notice, tick as frame-tick}
+use Rattle.frames.specs.Model.{Call as Frame-call, link as frame-link, admit as frame-admit, offer as frame-offer, notice as frame-notice, tick as frame-tick, Answer as Frame-answer}
 use Rattle.frames.specs.Calls.{verdict as frame-verdict, done as frame-done, answer as frame-answer}
+use Rattle.frames.proofs.Names.{ticked-is}
 use Rattle.frames.proofs.Verdicts.{settled as frame-settled}
 use Rattle.either.specs.Line.{Line, Request, link-levels, link-frames, admit-level, admit-share, offer, notice, close, tick, Reply, by-levels, by-frames, levels-set, frames-set, Sound-line, sound-line, turn, respond, resting-verdict, clock-of}
 use Rattle.either.proofs.Turns.{level-link-same}
 use Rattle.either.proofs.Results.{refusals-change-nothing, verdict-1-exactly, sound-is-kept, test-is-exact}
 use Rattle.tables.specs.Places.{is-some}
 use Rattle.both.specs.View.{kept-of}
-use Rattle.board.specs.Ticks.{Many, many, many-verdict, run-ticks}
-use Rattle.board.specs.Calls.{Call, link, link-frames as link-frames-call, admit as admit-call, admit-stamped, admit-share as admit-share-call, offer as offer-call, offer-stamped, notice as notice-call, close as close-call, tick as tick-call, ticks, asks, reply-to, reply}
+use Rattle.board.specs.Ticks.{run-ticks}
+use Rattle.board.specs.Calls.{Call, reply}
+use Rattle.board.specs.Promises.{From-the-header}
 use Rattle.board.proofs.NumberLaws.{Eights}
-use Rattle.board.proofs.TickLaws.{refused-first, departed-first, one-first, first-told}
+use Rattle.board.proofs.TickLaws.{Many, many, many-verdict, refused-first, departed-first, one-first, first-told, run-is}
 
 -- ---- many ticks, by what the first does
 
@@ -49,12 +51,10 @@ module _ (P : Line → Many → Type 0) (stays : (s : Line) → P s (record { do
 
 module _ (n : ℕ) (s : Line) where
   ticks-next : run-ticks n s .next ≡ many n s .next
-  unfolding run-ticks
-  ticks-next = refl
+  ticks-next = ap (λ (a : Reply). a .next) (run-is n s)
 
   ticks-verdict : run-ticks n s .verdict ≡ many-verdict n s
-  unfolding run-ticks
-  ticks-verdict = refl
+  ticks-verdict = ap (λ (a : Reply). a .verdict) (run-is n s)
 
 ticks-refused : (n : ℕ) (s : Line) → (run-ticks n s .verdict ≡ 0 → ⊥) → run-ticks n s .next ≡ s
 unfolding many
@@ -64,34 +64,25 @@ ticks-refused (suc n) s z =
     ∙ ap (λ (m : Many). m .next) (refused-first n s (λ e. z (ticks-verdict (suc n) s ∙ first-told (suc n) s (λ i. omega arith) ∙ e)))
 
 pub refusal-stays : (k : Call) (s : Line) → (reply k s .verdict ≡ 0 → ⊥) → reply k s .next ≡ s
-refusal-stays k s = go (asks k)
-  where
-    go : (a : Request ⊎ ℕ) → (reply-to a s .verdict ≡ 0 → ⊥) → reply-to a s .next ≡ s
-    go (inl r) z = refusals-change-nothing r s z .0
-    go (inr n) z = ticks-refused n s z
+refusal-stays (inl r) s z = refusals-change-nothing r s z .0
+refusal-stays (inr n) s z = ticks-refused n s z
 
 ticks-sound : (n : ℕ) (s : Line) → Sound-line s → Sound-line (many n s .next)
 ticks-sound = over-many (λ s m. Sound-line s → Sound-line (m .next)) (λ s S. S) (λ s e f S. sound-is-kept tick s S) (λ s m e f ih S. ih (sound-is-kept tick s S))
 
 pub sound-next : (k : Call) (s : Line) → Sound-line s → Sound-line (reply k s .next)
-sound-next k s S = go (asks k)
-  where
-    go : (a : Request ⊎ ℕ) → Sound-line (reply-to a s .next)
-    go (inl r) = sound-is-kept r s S
-    go (inr n) = subst Sound-line (sym (ticks-next n s)) (ticks-sound n s S)
+sound-next (inl r) s S = sound-is-kept r s S
+sound-next (inr n) s S = subst Sound-line (sym (ticks-next n s)) (ticks-sound n s S)
 
 resting-not-1 : (s : Line) → Sound-line s → resting-verdict s ≡ 1 → ⊥
 resting-not-1 s S = rw (test-is-exact s .1 S) (cond-ind (λ (x : ℕ). x ≡ 1 → ⊥) (not (levels-set s || frames-set s)) {x = 2} {y = 0} (λ _ z. absurd (omega arith)) (λ _ z. absurd (omega arith)))
 
-pub not-verdict-1 : (k : Call) (s : Line) → Sound-line s → reply k s .verdict ≡ 1 → ⊥
-not-verdict-1 k s S = go (asks k)
-  where
-    ticks-not-1 : (n : ℕ) → many-verdict n s ≡ 1 → ⊥
-    ticks-not-1 n = cond-ind (λ x. x ≡ 1 → ⊥) (eqb n 0) (λ _. resting-not-1 s S) (λ _ z. verdict-1-exactly tick s .0 z S)
+ticks-not-1 : (n : ℕ) (s : Line) → Sound-line s → many-verdict n s ≡ 1 → ⊥
+ticks-not-1 n s S = cond-ind (λ x. x ≡ 1 → ⊥) (eqb n 0) (λ _. resting-not-1 s S) (λ _ z. verdict-1-exactly tick s .0 z S)
 
-    go : (a : Request ⊎ ℕ) → reply-to a s .verdict ≡ 1 → ⊥
-    go (inl r) z = verdict-1-exactly r s .0 z S
-    go (inr n) z = ticks-not-1 n (sym (ticks-verdict n s) ∙ z)
+pub not-verdict-1 : (k : Call) (s : Line) → Sound-line s → reply k s .verdict ≡ 1 → ⊥
+not-verdict-1 (inl r) s S z = verdict-1-exactly r s .0 z S
+not-verdict-1 (inr n) s S z = ticks-not-1 n s S (sym (ticks-verdict n s) ∙ z)
 
 -- ---- bounds and windows are eight
 
@@ -142,30 +133,20 @@ module _ (s : Line) (E : Eight-line s) where
 ticks-eights : (n : ℕ) (s : Line) → Eight-line s → Eight-line (many n s .next)
 ticks-eights = over-many (λ s m. Eight-line s → Eight-line (m .next)) (λ s E. E) (λ s e f E. request-eights s E tick refl) (λ s m e f ih E. ih (request-eights s E tick refl))
 
--- the request that a call is
-abbrev Named-asked : Request ⊎ ℕ → Type 0
-Named-asked (inl r) = Named r
-Named-asked (inr n) = _≡_ {A = ℕ} 0 0
+-- a link that numbers name has eight bounds and eight windows
+named : (r : Request) → From-the-header (inl r) → Named r
+named (link-levels l) F = subst of-eights (sym (F l refl .1)) (refl, refl)
+named (link-frames l) F = refl
+named (admit-level x) F = refl
+named (admit-share x) F = refl
+named (offer c len tag st) F = refl
+named (notice len tag) F = refl
+named (close c) F = refl
+named tick F = refl
 
-pub eights-next : (k : Call) (s : Line) → Named-asked (asks k) → Eight-line s → Eight-line (reply k s .next)
-eights-next k s = go (asks k)
-  where
-    go : (a : Request ⊎ ℕ) → Named-asked a → Eight-line s → Eight-line (reply-to a s .next)
-    go (inl r) o E = request-eights s E r o
-    go (inr n) o E = subst Eight-line (sym (ticks-next n s)) (ticks-eights n s E)
-
-pub named : (k : Call) → Named-asked (asks k)
-named (link n q silence early bounds windows) = (refl, refl)
-named (link-frames-call frame q silence) = refl
-named (admit-call level gap size window average) = refl
-named (admit-stamped level gap size allowance) = refl
-named (admit-share-call units places) = refl
-named (offer-call c len tag) = refl
-named (offer-stamped c len tag stamp) = refl
-named (notice-call len tag) = refl
-named (close-call c) = refl
-named tick-call = refl
-named (ticks n) = refl
+pub eights-next : (k : Call) (s : Line) → From-the-header k → Eight-line s → Eight-line (reply k s .next)
+eights-next (inl r) s F E = request-eights s E r (named r F)
+eights-next (inr n) s F E = subst Eight-line (sym (ticks-next n s)) (ticks-eights n s E)
 
 -- ---- departures
 
@@ -215,7 +196,9 @@ module _ (s : Line) where
   frame-later : frames-set s ≡ true → Later (by-frames s (frame-answer frame-tick (s .frames)))
   frame-later f =
       frame-settled (λ a. Later (by-frames s a)) frame-tick (s .frames) (frame-verdict frame-tick (s .frames))
-      (λ _ _. cond-is (frame-done frame-tick (s .frames) .next .clock) (s .levels .clock) f ∙ ap (λ (t : ℕ). t + 1) (sym (cond-is (s .frames .clock) (s .levels .clock) f)))
+      (λ _.
+      subst (λ (a : Frame-answer). Later (by-frames s a)) (sym (ticked-is (s .frames)))
+      (λ _. cond-is (s .frames .clock + 1) (s .levels .clock) f ∙ ap (λ (t : ℕ). t + 1) (sym (cond-is (s .frames .clock) (s .levels .clock) f))))
       (λ w z. absurd (omega arith))
 
   pub clock-on : respond tick s .verdict ≡ 0 → clock-of (respond tick s .next) ≡ clock-of s + 1

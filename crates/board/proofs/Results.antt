@@ -1,54 +1,46 @@
--- THE PROOFS of the statements in specs/Promises, each under its name in small letters.
+-- THE PROOF of the statements in specs/Promises: `from-c`, at the end.
 use Prim.Native.Nat.{ℕ, _+_, _≤_, _<_}
 use native.Mathlib.Omega.{arith}
 use mathlib.Core.Path.{_≡_, refl, sym, ap, _∙_, subst}
 use mathlib.Core.Bool.{Bool, true, false, true≢false}
-use mathlib.Core.Logic.{inl, inr, ⊎-elim}
-use mathlib.Core.List.{List, [], _∷_, _++_, append-assoc}
+use mathlib.Core.Logic.{_↔_, inl, ⊎-elim}
+use mathlib.Core.List.{List, [], _∷_, _++_, append-assoc, filterMap}
 use mathlib.Core.Option.{Option, none, some}
 use lib.ListN.{length, getElem?}
 use Rattle.rules.specs.declared.Packet.{Packet}
-use Rattle.rules.specs.Model.{Call as Level-call, offer as level-offer, fresh as level-fresh}
+use Rattle.rules.specs.Model.{Call as Level-call, offer as level-offer}
+use Rattle.rules.specs.Words.{All}
+use Rattle.rules.specs.Limits.{notice-number}
 use Rattle.rules.specs.Service.{of}
 use Rattle.rules.specs.Calls.{settle as level-settle, answer as level-answer, eligibility-now}
-use Rattle.rules.specs.Runs.{Departure, History as Level-history, run as level-run, departures, bound-of}
+use Rattle.rules.specs.Runs.{History as Level-history, run as level-run, departures, bound-of}
 use Rattle.rules.specs.Promises.{Left-by}
-use Rattle.rules.proofs.Sums.{cond-is}
+use Rattle.rules.proofs.Sums.{cond-is, cond-ind}
 use Rattle.rules.proofs.Tests.{not-true-false}
 use Rattle.rules.proofs.Results.{answer-verdict, demand-3-first}
 use Rattle.frames.specs.Service.{next-frame, leaves-by}
-use Rattle.frames.specs.Runs.{History as Frame-history, run as frame-run}
-use Rattle.frames.proofs.Results.{left-by-the-next-end}
-use Rattle.either.specs.Line.{Line, Request, offer as offer-request, Reply, by-levels, levels-set, frames-set, Sound-line, respond, Line-history, fresh-line, nothing-yet, run, level-call, and-then, level-calls, frame-calls}
-use Rattle.either.specs.Promises.{of-levels, of-frames}
+use Rattle.frames.specs.Runs.{run as frame-run}
+use Rattle.frames.proofs.Names.{History as Frame-history}
+use Rattle.frames.proofs.Results.{every-run as every-frame-run}
+use Rattle.either.specs.Line.{Line, Request, offer, Reply, by-levels, levels-set, frames-set, Sound-line, clock-of, respond, fresh-line, run}
+use Rattle.either.proofs.Names.{Line-history, nothing-yet, and-then, calls-step, level-call, level-calls, frame-calls, of-levels, of-frames}
 use Rattle.either.proofs.Results.{fresh-is-sound, one-discipline, first-link-decides, told-by-its-discipline}
 use Rattle.tables.specs.Lent.{Tables}
 use Rattle.tables.proofs.CallLaws.{same-outcome}
-use Rattle.faces.specs.Sequence.{calls-from, Noted-by}
-use Rattle.both.specs.View.{view, kept-of, written, unframed}
+use Rattle.tables.specs.Calls.{calls-from}
+use Rattle.both.specs.View.{has-frames, view, kept-of, written}
+use Rattle.both.proofs.Views.{of-levels as levels-view, of-frames as frames-view}
 use Rattle.both.specs.Replied.{refusal}
 use Rattle.both.proofs.SoundLaws.{is-sound, tables-kept, kept-back}
-use Rattle.state.specs.View.{written as level-written}
-use Rattle.framed_state.specs.View.{written as frame-written}
-use Rattle.hub.specs.Sequence.{calls as level-hub-calls}
-use Rattle.hub.proofs.Results.{follows-the-rules as levels-follow}
-use Rattle.framed_hub.specs.Sequence.{calls as frame-hub-calls}
-use Rattle.framed_hub.proofs.Results.{follows-the-rules as frames-follow}
 use Rattle.board.specs.Numbers.{kept-in, numbers-of, sound-lent}
-use Rattle.board.specs.Calls.{Call, offer, offer-stamped, asks, reply, refused-by}
-use Rattle.board.specs.Does.{Spoken, spoken-of, tells, leaves, Does}
-use Rattle.board.specs.Sequence.{Notes, verdict-in, number-in, clock-in, call, calls, line-of, requests-of, requests-from, notes-of, offered}
-use Rattle.board.specs.Promises.{Line-is-written-back, One-outcome, Refusals-change-nothing-from-C, Verdict-1-from-C, Sound-is-kept-from-C, Follows-the-rules-from-C, Told-as-in-the-run, of-level-notes, of-frame-notes, Follows-its-discipline-from-C, Has-levels, Demand-3-first-from-C, Has-frames, Left-by-the-next-end-from-C}
+use Rattle.board.specs.Calls.{Call, reply, refused-by, Spoken, spoken-of}
+use Rattle.board.specs.Does.{rules-tell, tells, leaves, Does}
+use Rattle.board.specs.Sequence.{Notes, line-of, number-in, call, calls, requests-from}
+use Rattle.board.specs.Promises.{From-the-header, Of-a-call, Of-calls, From-C}
 use Rattle.board.proofs.NumberLaws.{Eights, line-back, sound-long, sound-kept-in}
-use Rattle.board.proofs.DoesLaws.{told-as, left-as}
-use Rattle.board.proofs.ReplyLaws.{Eight-line, refusal-stays, sound-next, not-verdict-1, eights-next, named}
-use Rattle.board.proofs.FollowLaws.{read, still-sound, same-tells, blank-is, follows-from, eights-from, runs-well, fresh-eights}
-
-pub line-is-written-back : Line-is-written-back
-line-is-written-back = line-back
-
-pub one-outcome : One-outcome
-one-outcome = same-outcome tells leaves
+use Rattle.board.proofs.DoesLaws.{verdict-of, line-left, told-as, left-as}
+use Rattle.board.proofs.ReplyLaws.{Eight-line, refusal-stays, sound-next, not-verdict-1, eights-next}
+use Rattle.board.proofs.FollowLaws.{notes-of, read, still-sound, requests-of, first-requests, same-tells, blank-is, follows-from, eights-from, runs-well, fresh-eights}
 
 -- ---- what sound tables stand for
 
@@ -66,11 +58,24 @@ module _ (l : List ℕ) (t : Tables) (ok : sound-lent l t ≡ true) where
   here-eights : Eight-line here
   here-eights = subst Eights (kept-back (kept-in l) t (sound-kept-in l t ok)) (record { bounds = refl; windows = refl })
 
--- ---- refusals, verdict 1, soundness
+-- ---- the test is exact
+
+-- whatever the numbers, the line that they stand for has eights
+eights-in : (l : List ℕ) (t : Tables) → Eight-line (view (kept-in l) t)
+eights-in l t = cond-ind Eight-line (has-frames (kept-in l)) {x = frames-view (kept-in l) t} {y = levels-view (kept-in l) t}
+    (λ _. record { bounds = refl; windows = refl }) (λ _. record { bounds = refl; windows = refl })
+
+exact : (l : List ℕ) (t : Tables) → sound-lent l t ≡ true ↔ ((l ≡ numbers-of (kept-of (view (kept-in l) t))) × (t ≡ written (view (kept-in l) t)) × Sound-line (view (kept-in l) t))
+exact l t = (
+  λ ok. (sym (line-kept l t ok), tables-kept (kept-in l) t (sound-kept-in l t ok), here-sound l t ok),
+  λ w. ap (λ (x : List ℕ). sound-lent x t) (w .0) ∙ ap (sound-lent (numbers-of (kept-of (view (kept-in l) t)))) (w .1) ∙ still-sound (view (kept-in l) t) (w .2) (eights-in l t),
+)
+
+-- ---- a call
 
 module _ (k : Call) (l : List ℕ) (t : Tables) (told : Spoken) (u : Tables) (D : Does k l t told u) where
   module _ (off : sound-lent l t ≡ false) where
-    unsound-told : told ≡ spoken-of k (refusal (kept-in l) 1 (refused-by (asks k))) l
+    unsound-told : told ≡ spoken-of k (refusal (kept-in l) 1 (refused-by k)) l
     unfolding tells
     unsound-told = D .answers ∙ cond-is _ _ off
 
@@ -79,77 +84,62 @@ module _ (k : Call) (l : List ℕ) (t : Tables) (told : Spoken) (u : Tables) (D 
     unsound-left = D .tables ∙ cond-is _ _ off
 
   module _ (ok : sound-lent l t ≡ true) where
-    verdict-is : verdict-in told ≡ reply k (here l t ok) .verdict
-    verdict-is = ap verdict-in (told-as k l t ok told u D)
+    verdict-is : told .verdict ≡ reply k (here l t ok) .verdict
+    verdict-is = ap (λ (x : Spoken). x .verdict) (told-as k l t ok told u D) ∙ verdict-of k _ _
 
     line-is : told .line ≡ numbers-of (kept-of (reply k (here l t ok) .next))
-    line-is = ap (λ (x : Spoken). x .line) (told-as k l t ok told u D)
+    line-is = ap (λ (x : Spoken). x .line) (told-as k l t ok told u D) ∙ line-left k _ _
 
-pub refusals-change-nothing-from-c : Refusals-change-nothing-from-C
-refusals-change-nothing-from-c k l t told u D n = go (sound-lent l t) refl
-  where
-    go : (b : Bool) → sound-lent l t ≡ b → (told .line ≡ l) × (u ≡ t)
-    go true ok =
-        let e = refusal-stays k (here l t ok) (λ z. n (verdict-is k l t told u D ok ∙ z)) in (
-          line-is k l t told u D ok ∙ ap (λ (s : Line). numbers-of (kept-of s)) e ∙ line-kept l t ok,
-          left-as k l t ok told u D ∙ ap written e ∙ sym (tables-kept (kept-in l) t (sound-kept-in l t ok)),
-        )
-    go false off = (ap (λ (x : Spoken). x .line) (unsound-told k l t told u D off), unsound-left k l t told u D off)
+  changes-nothing : (told .verdict ≡ 0 → ⊥) → (told .line ≡ l) × (u ≡ t)
+  changes-nothing n = go (sound-lent l t) refl
+    where
+      go : (b : Bool) → sound-lent l t ≡ b → (told .line ≡ l) × (u ≡ t)
+      go true ok =
+          let e = refusal-stays k (here l t ok) (λ z. n (verdict-is ok ∙ z)) in (
+            line-is ok ∙ ap (λ (s : Line). numbers-of (kept-of s)) e ∙ line-kept l t ok,
+            left-as k l t ok told u D ∙ ap written e ∙ sym (tables-kept (kept-in l) t (sound-kept-in l t ok)),
+          )
+      go false off = (ap (λ (x : Spoken). x .line) (unsound-told off) ∙ line-left k _ _, unsound-left off)
 
-pub verdict-1-from-c : Verdict-1-from-C
-verdict-1-from-c k l t told u D = (
-  λ off. ap verdict-in (unsound-told k l t told u D off),
-  λ ok z. not-verdict-1 k (here l t ok) (here-sound l t ok) (sym (verdict-is k l t told u D ok) ∙ z),
-)
+  stays-sound : From-the-header k → sound-lent l t ≡ true → sound-lent (told .line) u ≡ true
+  stays-sound F ok =
+      let S = sound-next k (here l t ok) (here-sound l t ok) in
+      let E = eights-next k (here l t ok) F (here-eights l t ok) in
+      ap (λ (x : List ℕ). sound-lent x u) (line-is ok)
+      ∙ ap (sound-lent (numbers-of (kept-of (reply k (here l t ok) .next)))) (left-as k l t ok told u D)
+      ∙ still-sound (reply k (here l t ok) .next) S E
 
-pub sound-is-kept-from-c : Sound-is-kept-from-C
-sound-is-kept-from-c k l t told u D ok =
-    let S = sound-next k (here l t ok) (here-sound l t ok) in
-    let E = eights-next k (here l t ok) (named k) (here-eights l t ok) in
-    ap (λ (x : List ℕ). sound-lent x u) (line-is k l t told u D ok)
-    ∙ ap (sound-lent (numbers-of (kept-of (reply k (here l t ok) .next)))) (left-as k l t ok told u D)
-    ∙ still-sound (reply k (here l t ok) .next) S E
+  of-a-call : Of-a-call k l t told u
+  of-a-call = record {
+    one-outcome = λ told′ u′ D′. same-outcome tells leaves k l t told told′ u u′ D D′;
+    refusals-change-nothing = changes-nothing;
+    verdict-1-exactly = (
+      λ z. not-true-false (sound-lent l t) (λ ok. not-verdict-1 k (here l t ok) (here-sound l t ok) (sym (verdict-is ok) ∙ z)),
+      λ off. ap (λ (x : Spoken). x .verdict) (unsound-told off) ∙ verdict-of k _ _,
+    );
+    sound-is-kept = stays-sound;
+  }
 
-pub follows-the-rules-from-c : Follows-the-rules-from-C
-follows-the-rules-from-c ks = ap (λ (g : Notes). calls-from call g ks) blank-is ∙ follows-from ks nothing-yet fresh-is-sound fresh-eights
+-- ---- any calls
 
--- ---- what a further call is told, and the discipline that is set
+follows : (ks : List Call) → All From-the-header ks → calls ks ≡ notes-of (run (requests-from fresh-line ks))
+follows ks F = ap (λ (g : Notes). calls-from call g ks) blank-is ∙ follows-from ks nothing-yet F fresh-is-sound fresh-eights
 
-module _ (ks : List Call) where
-  abbrev rs : List Request
-  rs = requests-from fresh-line ks
+abbrev rs : List Call → List Request
+rs ks = requests-from fresh-line ks
 
-  run-sound : Sound-line (run rs .now)
-  run-sound = runs-well rs nothing-yet fresh-is-sound
+module _ (ks : List Call) (F : All From-the-header ks) where
+  run-sound : Sound-line (run (rs ks) .now)
+  run-sound = runs-well (rs ks) nothing-yet fresh-is-sound
 
-  run-eights : Eight-line (run rs .now)
-  run-eights = eights-from ks nothing-yet fresh-is-sound fresh-eights
+  run-eights : Eight-line (run (rs ks) .now)
+  run-eights = eights-from ks nothing-yet F fresh-is-sound fresh-eights
 
-  same-line : line-of (calls ks) ≡ run rs .now
-  same-line = ap line-of (follows-the-rules-from-c ks) ∙ read (run rs .now) run-sound run-eights
+  same-line : line-of (calls ks) ≡ run (rs ks) .now
+  same-line = ap line-of (follows ks F) ∙ read (run (rs ks) .now) run-sound run-eights
 
-  levels-noted : run rs ≡ of-levels (level-run (level-calls rs)) → calls ks ≡ of-level-notes (level-hub-calls (level-calls rs))
-  levels-noted e = follows-the-rules-from-c ks ∙ ap notes-of e ∙ ap of-level-notes (sym (levels-follow (level-calls rs)))
-
-  frames-noted : frames-set (run rs .now) ≡ true → run rs ≡ of-frames (frame-run (frame-calls rs)) → calls ks ≡ of-frame-notes (frame-hub-calls (frame-calls rs))
-  frames-noted f e =
-      let H = frame-run (frame-calls rs) in
-      follows-the-rules-from-c ks
-      ∙ ap notes-of e
-      ∙ ap
-      (λ (t : Tables). record { accepted = H .accepted; departed = H .departed; kept = numbers-of (kept-of (of-frames H .now)); tables = t })
-      (cond-is (unframed (frame-written (H .now))) (level-written level-fresh) (sym (ap (λ (g : Line-history). frames-set (g .now)) e) ∙ f))
-      ∙ ap of-frame-notes (sym (frames-follow (frame-calls rs)))
-
-pub told-as-in-the-run : Told-as-in-the-run
-told-as-in-the-run ks k = ap (λ (g : Notes). tells k (g .kept) (g .tables)) (follows-the-rules-from-c ks) ∙ same-tells (run (rs ks)) (run-sound ks) (run-eights ks) k
-
-pub follows-its-discipline-from-c : Follows-its-discipline-from-C
-follows-its-discipline-from-c ks =
-    ⊎-elim
-    (λ e. inl (ap frames-set (same-line ks) ∙ e .0, levels-noted ks (e .1)))
-    (λ e. inr (ap frames-set (same-line ks) ∙ e .0, frames-noted ks (e .0) (e .1)))
-    (one-discipline (rs ks))
+  told-in-the-run : (k : Call) → tells k (calls ks .kept) (calls ks .tables) ≡ rules-tell k (run (rs ks) .now)
+  told-in-the-run k = ap (λ (g : Notes). tells k (g .kept) (g .tables)) (follows ks F) ∙ same-tells (run (rs ks)) run-sound run-eights k
 
 -- ---- calls behind others
 
@@ -161,89 +151,103 @@ line-behind s (k ∷ ks) = line-behind (reply k s .next) ks
 requests-append : (ks ms : List Call) (s : Line) → requests-from s (ks ++ ms) ≡ requests-from s ks ++ requests-from (line-behind s ks) ms
 requests-append [] ms s = refl
 requests-append (k ∷ ks) ms s =
-    ap (λ (l : List Request). requests-of (asks k) s ++ l) (requests-append ks ms (reply k s .next))
-    ∙ sym (append-assoc (requests-of (asks k) s) (requests-from (reply k s .next) ks) (requests-from (line-behind (reply k s .next) ks) ms))
+    first-requests k (ks ++ ms) s
+    ∙ ap (λ (l : List Request). requests-of k s ++ l) (requests-append ks ms (reply k s .next))
+    ∙ sym (append-assoc (requests-of k s) (requests-from (reply k s .next) ks) (requests-from (line-behind (reply k s .next) ks) ms))
+    ∙ ap (λ (l : List Request). l ++ requests-from (line-behind (reply k s .next) ks) ms) (sym (first-requests k ks s))
+
+headers-append : (ks ms : List Call) → All From-the-header ks → All From-the-header ms → All From-the-header (ks ++ ms)
+headers-append [] ms F G = G
+headers-append (k ∷ ks) ms F G = (F .0, headers-append ks ms (F .1) G)
 
 levels-append : (qs ps : List Request) → level-calls (qs ++ ps) ≡ level-calls qs ++ level-calls ps
+unfolding filterMap
 levels-append [] ps = refl
-levels-append (q ∷ qs) ps = go (level-call q) (levels-append qs ps)
+levels-append (q ∷ qs) ps =
+    calls-step level-call q (qs ++ ps)
+    ∙ go (level-call q) (levels-append qs ps)
+    ∙ ap (λ (l : List Level-call). l ++ level-calls ps) (sym (calls-step level-call q qs))
   where
     go : (o : Option Level-call) → level-calls (qs ++ ps) ≡ level-calls qs ++ level-calls ps → and-then o (level-calls (qs ++ ps)) ≡ and-then o (level-calls qs) ++ level-calls ps
     go none ih = ih
     go (some j) ih = ap (λ (l : List Level-call). j ∷ l) ih
 
 -- a link of levels stays
-still-levels : (ks ms : List Call) → Has-levels ks → Has-levels (ks ++ ms)
-still-levels ks ms set =
-    ap levels-set (same-line (ks ++ ms))
+still-levels : (ks ms : List Call) → All From-the-header ks → All From-the-header ms → levels-set (line-of (calls ks)) ≡ true → levels-set (line-of (calls (ks ++ ms))) ≡ true
+still-levels ks ms F G set =
+    ap levels-set (same-line (ks ++ ms) (headers-append ks ms F G))
     ∙ ap (λ (l : List Request). levels-set (run l .now)) (requests-append ks ms fresh-line)
-    ∙ first-link-decides (rs ks) (requests-from (line-behind fresh-line ks) ms) .0 (ap levels-set (sym (same-line ks)) ∙ set)
+    ∙ first-link-decides (rs ks) (requests-from (line-behind fresh-line ks) ms) .0 (ap levels-set (sym (same-line ks F)) ∙ set)
 
 -- ---- the run of the discipline of levels
 
 abbrev js : List Call → List Level-call
 js ks = level-calls (rs ks)
 
-module _ (ks : List Call) (set : Has-levels ks) where
+module _ (ks : List Call) (F : All From-the-header ks) (set : levels-set (line-of (calls ks)) ≡ true) where
   unframed-run : frames-set (run (rs ks) .now) ≡ false
   unframed-run =
       not-true-false (frames-set (run (rs ks) .now))
-      (λ f. run-sound ks .never-both (ap levels-set (sym (same-line ks)) ∙ set) f)
+      (λ f. run-sound ks F .never-both (ap levels-set (sym (same-line ks F)) ∙ set) f)
 
   level-history : run (rs ks) ≡ of-levels (level-run (js ks))
   level-history = ⊎-elim (λ e. e .1) (λ e. absurd (true≢false (sym (e .0) ∙ unframed-run))) (one-discipline (rs ks))
 
-  level-notes : calls ks ≡ notes-of (of-levels (level-run (js ks)))
-  level-notes = follows-the-rules-from-c ks ∙ ap notes-of level-history
+  level-line : line-of (calls ks) ≡ of-levels (level-run (js ks)) .now
+  level-line = same-line ks F ∙ ap (λ (h : Line-history). h .now) level-history
 
-  same-clock : clock-in (calls ks .kept) ≡ level-run (js ks) .now .clock
-  same-clock = ap (λ (g : Notes). clock-in (g .kept)) level-notes
+  level-notes : calls ks ≡ notes-of (of-levels (level-run (js ks)))
+  level-notes = follows ks F ∙ ap notes-of level-history
+
+  same-clock : clock-of (line-of (calls ks)) ≡ level-run (js ks) .now .clock
+  same-clock = ap clock-of level-line
 
   same-bound : (c : ℕ) → bound-of (line-of (calls ks) .levels) c ≡ bound-of (level-run (js ks) .now) c
-  same-bound c = ap (λ (s : Line). bound-of (s .levels) c) (same-line ks) ∙ ap (λ (h : Line-history). bound-of (h .now .levels) c) level-history
+  same-bound c = ap (λ (s : Line). bound-of (s .levels) c) level-line
 
   -- what an offer is told is the rules' answer
-  answered : (c len tag : ℕ) (st : Option ℕ) (told : Spoken) (u : Tables) → Does (offered c len tag st) (calls ks .kept) (calls ks .tables) told u
-      → (verdict-in told ≡ level-answer (level-offer c len tag st) (level-run (js ks) .now) .verdict) × (number-in told ≡ level-answer (level-offer c len tag st) (level-run (js ks) .now) .number)
-  answered c len tag st told u D = go st D
-    where
-      as-levels : (st : Option ℕ) → respond (offer-request c len tag st) (run (rs ks) .now) ≡ by-levels (run (rs ks) .now) (level-answer (level-offer c len tag st) (level-run (js ks) .now))
-      as-levels st = told-by-its-discipline (rs ks) .0 unframed-run .0 (offer-request c len tag st) (level-offer c len tag st) refl
+  module _ (c len tag : ℕ) (st : Option ℕ) where
+    abbrev told : Spoken
+    told = tells (inl (offer c len tag st)) (calls ks .kept) (calls ks .tables)
 
-      go : (st : Option ℕ) → Does (offered c len tag st) (calls ks .kept) (calls ks .tables) told u
-          → (verdict-in told ≡ level-answer (level-offer c len tag st) (level-run (js ks) .now) .verdict) × (number-in told ≡ level-answer (level-offer c len tag st) (level-run (js ks) .now) .number)
-      go none D = let e = D .answers ∙ told-as-in-the-run ks (offer c len tag) in (
-        ap verdict-in e ∙ ap (λ (a : Reply). a .verdict) (as-levels none),
-        ap number-in e ∙ ap (λ (a : Reply). a .number) (as-levels none),
-      )
-      go (some stamp) D = let e = D .answers ∙ told-as-in-the-run ks (offer-stamped c len tag stamp) in (
-        ap verdict-in e ∙ ap (λ (a : Reply). a .verdict) (as-levels (some stamp)),
-        ap number-in e ∙ ap (λ (a : Reply). a .number) (as-levels (some stamp)),
-      )
+    as-levels : respond (offer c len tag st) (run (rs ks) .now) ≡ by-levels (run (rs ks) .now) (level-answer (level-offer c len tag st) (level-run (js ks) .now))
+    as-levels = told-by-its-discipline (rs ks) .0 unframed-run .known (offer c len tag st) (level-offer c len tag st) refl
+
+    answered : (told .verdict ≡ level-answer (level-offer c len tag st) (level-run (js ks) .now) .verdict) × (number-in told ≡ level-answer (level-offer c len tag st) (level-run (js ks) .now) .number)
+    answered = let e = told-in-the-run ks F (inl (offer c len tag st)) in (
+      ap (λ (a : Spoken). a .verdict) e ∙ ap (λ (a : Reply). a .verdict) as-levels,
+      ap number-in e ∙ ap (λ (a : Reply). a .number) as-levels,
+    )
 
 -- ---- demand 3
 
-module _ (earlier later : List Call) (c len tag : ℕ) (st : Option ℕ) (set : Has-levels earlier) where
+module _ (earlier later : List Call) (F : All From-the-header earlier) (G : All From-the-header later) (c len tag : ℕ) (st : Option ℕ) (set : levels-set (line-of (calls earlier)) ≡ true) where
+  abbrev rest : List Call
+  rest = inl (offer c len tag st) ∷ later
+
   abbrev all : List Call
-  all = earlier ++ offered c len tag st ∷ later
+  all = earlier ++ rest
 
   abbrev behind : List Level-call
-  behind = level-calls (requests-from (reply (offered c len tag st) (line-behind fresh-line earlier) .next) later)
+  behind = level-calls (requests-from (respond (offer c len tag st) (line-behind fresh-line earlier) .next) later)
 
   parted : js all ≡ js earlier ++ level-offer c len tag st ∷ behind
   parted =
-      ap level-calls (requests-append earlier (offered c len tag st ∷ later) fresh-line)
-      ∙ levels-append (rs earlier) (requests-from (line-behind fresh-line earlier) (offered c len tag st ∷ later))
-      ∙ ap (λ (l : List Level-call). js earlier ++ l) (go st)
-    where
-      go : (st : Option ℕ)
-          → level-calls (requests-from (line-behind fresh-line earlier) (offered c len tag st ∷ later))
-          ≡ level-offer c len tag st ∷ level-calls (requests-from (reply (offered c len tag st) (line-behind fresh-line earlier) .next) later)
-      go none = refl
-      go (some stamp) = refl
+      ap level-calls (requests-append earlier rest fresh-line)
+      ∙ levels-append (rs earlier) (requests-from (line-behind fresh-line earlier) rest)
+      ∙ ap (λ (l : List Level-call). js earlier ++ l) (calls-step level-call (offer c len tag st) (requests-from (respond (offer c len tag st) (line-behind fresh-line earlier) .next) later))
 
-  all-set : Has-levels all
-  all-set = still-levels earlier (offered c len tag st ∷ later) set
+  rest-named : All From-the-header rest
+  rest-named = (no-link, G)
+    where
+      no-link : From-the-header (inl (offer c len tag st))
+      no-link l e = let z : _≡_ {A = ℕ} 0 1 = cc in absurd (omega arith)
+
+  all-named : All From-the-header all
+  all-named = headers-append earlier rest F rest-named
+
+  all-set : levels-set (line-of (calls all)) ≡ true
+  all-set = still-levels earlier rest F rest-named set
 
   abbrev history : Level-history
   history = level-run (js earlier ++ level-offer c len tag st ∷ behind)
@@ -254,72 +258,85 @@ module _ (earlier later : List Call) (c len tag : ℕ) (st : Option ℕ) (set : 
 
   abbrev Left : ℕ → Type 0
   Left e =
-      e + bound-of (line-of (calls earlier) .levels) c ≤ clock-in (calls all .kept)
-      → Noted-by (calls all) c (length (of c (calls earlier .accepted))) (packet (clock-in (calls earlier .kept)) e) (e + bound-of (line-of (calls earlier) .levels) c)
+      e + bound-of (line-of (calls earlier) .levels) c ≤ clock-of (line-of (calls all))
+      → Left-by (calls all .departed) c (length (of c (calls earlier .accepted))) (packet (clock-of (line-of (calls earlier))) e) (e + bound-of (line-of (calls earlier) .levels) c)
 
   -- it has, where it has in the rules' run
   has-left : (e : ℕ)
       → (e + bound-of (level-run (js earlier) .now) c ≤ history .now .clock
-      → Left-by history c (length (of c (level-run (js earlier) .accepted))) (packet (level-run (js earlier) .now .clock) e) (e + bound-of (level-run (js earlier) .now) c))
+      → Left-by (history .departed) c (length (of c (level-run (js earlier) .accepted))) (packet (level-run (js earlier) .now .clock) e) (e + bound-of (level-run (js earlier) .now) c))
       → Left e
   has-left e leaves over =
-      let clock-is : clock-in (calls all .kept) ≡ history .now .clock = same-clock all all-set ∙ ap (λ (l : List Level-call). level-run l .now .clock) parted in
-      let q = leaves (omega (arith, over, clock-is, same-bound earlier set c)) in
+      let clock-is : clock-of (line-of (calls all)) ≡ history .now .clock = same-clock all all-named all-set ∙ ap (λ (l : List Level-call). level-run l .now .clock) parted in
+      let q = leaves (omega (arith, over, clock-is, same-bound earlier F set c)) in
       record {
         finish = q .finish;
         is-departure =
-            ap (λ (g : Notes). getElem? (departures c (g .departed)) (length (of c (calls earlier .accepted)))) (level-notes all all-set)
+            ap (λ (g : Notes). getElem? (departures c (g .departed)) (length (of c (calls earlier .accepted)))) (level-notes all all-named all-set)
             ∙ ap (λ (l : List Level-call). getElem? (departures c (level-run l .departed)) (length (of c (calls earlier .accepted)))) parted
-            ∙ ap (λ (g : Notes). getElem? (departures c (history .departed)) (length (of c (g .accepted)))) (level-notes earlier set)
+            ∙ ap (λ (g : Notes). getElem? (departures c (history .departed)) (length (of c (g .accepted)))) (level-notes earlier F set)
             ∙ q .is-departure
-            ∙ ap (λ (t : ℕ). some (record { what = packet t e; finish = q .finish })) (sym (same-clock earlier set));
-        in-time = omega (arith, q .in-time, same-bound earlier set c);
+            ∙ ap (λ (t : ℕ). some (record { what = packet t e; finish = q .finish })) (sym (same-clock earlier F set));
+        in-time = omega (arith, q .in-time, same-bound earlier F set c);
       }
 
-pub demand-3-first-from-c : Demand-3-first-from-C
-demand-3-first-from-c earlier later c len tag st told u set D z =
-    let s = level-run (js earlier) .now in
-    let it = level-offer c len tag st in
-    let a = answered earlier set c len tag st told u D in
-    let v : level-answer it s .verdict ≡ 0 = sym (a .0) ∙ z in
-    let n : number-in told ≡ eligibility-now s c st = a .1 ∙ ap (λ (w : ℕ). level-settle it s w .number) (sym (answer-verdict it s) ∙ v) in
-    subst (Left earlier later c len tag st set) (sym n)
-    (has-left earlier later c len tag st set (eligibility-now s c st) (demand-3-first (js earlier) (behind earlier later c len tag st set) c len tag st v))
+  left-in-time : told earlier F set c len tag st .verdict ≡ 0 → Left (number-in (told earlier F set c len tag st))
+  left-in-time z =
+      let s = level-run (js earlier) .now in
+      let it = level-offer c len tag st in
+      let a = answered earlier F set c len tag st in
+      let v : level-answer it s .verdict ≡ 0 = sym (a .0) ∙ z in
+      let n : number-in (told earlier F set c len tag st) ≡ eligibility-now s c st = a .1 ∙ ap (λ (w : ℕ). level-settle it s w .number) (sym (answer-verdict it s) ∙ v) in
+      subst Left (sym n) (has-left (eligibility-now s c st) (demand-3-first (js earlier) behind c len tag st v))
 
 -- ---- a line with frames
 
-module _ (ks : List Call) (f : Has-frames ks) where
+module _ (ks : List Call) (F : All From-the-header ks) (f : frames-set (line-of (calls ks)) ≡ true) where
   abbrev frame-history : Frame-history
   frame-history = frame-run (frame-calls (rs ks))
 
   as-frames : run (rs ks) ≡ of-frames frame-history
-  as-frames = ⊎-elim (λ e. absurd (true≢false (sym f ∙ ap frames-set (same-line ks) ∙ e .0))) (λ e. e .1) (one-discipline (rs ks))
+  as-frames = ⊎-elim (λ e. absurd (true≢false (sym f ∙ ap frames-set (same-line ks F) ∙ e .0))) (λ e. e .1) (one-discipline (rs ks))
+
+  frame-line : line-of (calls ks) ≡ of-frames frame-history .now
+  frame-line = same-line ks F ∙ ap (λ (h : Line-history). h .now) as-frames
 
   same-frame : line-of (calls ks) .frames .link .frame ≡ frame-history .now .link .frame
-  same-frame = ap (λ (s : Line). s .frames .link .frame) (same-line ks) ∙ ap (λ (h : Line-history). h .now .frames .link .frame) as-frames
+  same-frame = ap (λ (s : Line). s .frames .link .frame) frame-line
 
-  frame-clock : clock-in (calls ks .kept) ≡ frame-history .now .clock
+  frame-clock : clock-of (line-of (calls ks)) ≡ frame-history .now .clock
   frame-clock =
-      ap (λ (g : Notes). clock-in (g .kept)) (follows-the-rules-from-c ks)
-      ∙ cond-is (run (rs ks) .now .frames .clock) (run (rs ks) .now .levels .clock) (ap frames-set (sym (same-line ks)) ∙ f)
-      ∙ ap (λ (h : Line-history). h .now .frames .clock) as-frames
+      cond-is (line-of (calls ks) .frames .clock) (line-of (calls ks) .levels .clock) f
+      ∙ ap (λ (s : Line). s .frames .clock) frame-line
 
-  frame-accepted : calls ks .accepted ≡ frame-history .accepted
-  frame-accepted = ap (λ (g : Notes). g .accepted) (follows-the-rules-from-c ks) ∙ ap (λ (h : Line-history). h .accepted) as-frames
+  frame-notes : calls ks ≡ notes-of (of-frames frame-history)
+  frame-notes = follows ks F ∙ ap notes-of as-frames
 
-  frame-departed : calls ks .departed ≡ frame-history .departed
-  frame-departed = ap (λ (g : Notes). g .departed) (follows-the-rules-from-c ks) ∙ ap (λ (h : Line-history). h .departed) as-frames
+  module _ (c i : ℕ) (p : Packet) (n : c ≡ notice-number → ⊥) (at : getElem? (of c (calls ks .accepted)) i ≡ some p)
+      (over : leaves-by (line-of (calls ks) .frames .link .frame) (p .arrival) ≤ clock-of (line-of (calls ks))) where
+    left-by-then : (N : Left-by (calls ks .departed) c i p (leaves-by (line-of (calls ks) .frames .link .frame) (p .arrival)))
+        × (next-frame (line-of (calls ks) .frames .link .frame) (p .arrival) < N .finish)
+    left-by-then =
+        let q =
+        every-frame-run (frame-calls (rs ks)) .left-by-the-next-end c i p n (ap (λ (g : Notes). getElem? (of c (g .accepted)) i) (sym frame-notes) ∙ at)
+        (subst (λ (t : ℕ). leaves-by (frame-history .now .link .frame) (p .arrival) ≤ t) frame-clock (subst (λ (x : ℕ). leaves-by x (p .arrival) ≤ clock-of (line-of (calls ks))) same-frame over)) in (
+          record {
+            finish = q .0 .finish;
+            is-departure = ap (λ (g : Notes). getElem? (departures c (g .departed)) i) frame-notes ∙ q .0 .is-departure;
+            in-time = subst (λ (x : ℕ). q .0 .finish ≤ leaves-by x (p .arrival)) (sym same-frame) (q .0 .in-time);
+          },
+          subst (λ (x : ℕ). next-frame x (p .arrival) < q .0 .finish) (sym same-frame) (q .1),
+        )
 
-pub left-by-the-next-end-from-c : Left-by-the-next-end-from-C
-left-by-the-next-end-from-c ks c i p f n at over =
-    let same = same-frame ks f in
-    let q =
-    left-by-the-next-end (frame-calls (rs ks)) c i p n (ap (λ (ps : List Packet). getElem? (of c ps) i) (sym (frame-accepted ks f)) ∙ at)
-    (subst (λ (t : ℕ). leaves-by (frame-history ks f .now .link .frame) (p .arrival) ≤ t) (frame-clock ks f) (subst (λ (x : ℕ). leaves-by x (p .arrival) ≤ clock-in (calls ks .kept)) same over)) in (
-      record {
-        finish = q .finish;
-        is-departure = ap (λ (ds : List Departure). getElem? (departures c ds) i) (frame-departed ks f) ∙ q .is-departure;
-        in-time = subst (λ (x : ℕ). q .finish ≤ leaves-by x (p .arrival)) (sym same) (q .in-time);
-      },
-      subst (λ (x : ℕ). next-frame x (p .arrival) < q .finish) (sym same) (q .not-early),
-    )
+-- ---- all of them
+
+of-calls : (ks : List Call) → All From-the-header ks → Of-calls ks
+of-calls ks F = record {
+  follows-the-rules = follows ks F;
+  told-as-in-the-run = told-in-the-run ks F;
+  demand-3-first = λ later c len tag st G set. left-in-time ks later F G c len tag st set;
+  left-by-the-next-end = λ c i p f n at over. left-by-then ks F f c i p n at over;
+}
+
+pub from-c : From-C
+from-c = record { line-is-written-back = line-back; test-is-exact = exact; a-call = of-a-call; any-calls = of-calls }

@@ -5,12 +5,13 @@ use mathlib.Core.Path.{_≡_, refl, sym, ap, _∙_, subst}
 use mathlib.Core.Bool.{Bool, true, false, cond, not, _||_, true≢false}
 use mathlib.Core.Logic.{_⊎_, inl, inr}
 use mathlib.Core.Option.{Option, none}
+use Rattle.rules.specs.declared.Packet.{Packet}
 use lib.Dec.{eqb}
 use borrow.Author.Tests.{eq-eqb, ne-eqb, eqb-true, eqb-false, not-false}
 use Rattle.rules.specs.Limits.{clock-end, beyond-32-bits}
 use Rattle.rules.specs.Model.{no-short}
 use Rattle.rules.proofs.Sums.{cond-is, cond-ind}
-use Rattle.either.specs.Line.{Line, tick, Reply, Sound-line, respond, resting-verdict}
+use Rattle.either.specs.Line.{Line, tick, Reply, Sound-line, refuse, respond, resting-verdict}
 use Rattle.either.proofs.Results.{refusals-change-nothing, sound-is-kept}
 use Rattle.tables.specs.Places.{is-some, packet-or-unused}
 use Rattle.tables.specs.Lent.{Tables}
@@ -22,8 +23,43 @@ use Rattle.both.specs.Quiet.{passed}
 use Rattle.both.proofs.SoundLaws.{set-seen, is-sound, sound-view, tables-kept, kept-back}
 use Rattle.both.proofs.WrittenLaws.{written-reads-back}
 use Rattle.both.proofs.QuietLaws.{Quiet, quiet-reply, one-quiet-tick, over-quiet, passed-written, quiet-room, quiet-fits}
-use Rattle.board.specs.Ticks.{Many, no-ticks, later, many, many-verdict, run-ticks}
+use Rattle.board.specs.Ticks.{run-ticks}
 use Rattle.board.specs.Stretch.{most-at-once, quiet-of, counted, quiet-stretch, stretch, undeparted, last-of, counted-told}
+
+-- ---- many ticks, apart from their verdict
+
+-- the ticks that were done, the packet that departed with the last of them, if one did, and the line then
+pub record Many : Type 0 where
+  pub done : ℕ
+  pub departed : Option Packet
+  pub next : Line
+
+abbrev no-ticks : Line → Many
+no-ticks s = record { done = 0; departed = none; next = s }
+
+-- k ticks before them, with which no packet departed
+abbrev later : ℕ → Many → Many
+later k m = record { done = k + m .done; departed = m .departed; next = m .next }
+
+unfoldable pub many : ℕ → Line → Many
+many zero s = no-ticks s
+many (suc n) s =
+    cond (eqb (respond tick s .verdict) 0)
+    (cond (is-some (respond tick s .departed))
+    (record { done = 1; departed = respond tick s .departed; next = respond tick s .next })
+    (later 1 (many n (respond tick s .next))))
+    (no-ticks s)
+
+-- the verdict is that of the first tick, where one is asked
+abbrev pub many-verdict : ℕ → Line → ℕ
+many-verdict n s = cond (eqb n 0) (resting-verdict s) (respond tick s .verdict)
+
+-- as a reply
+abbrev pub as-reply : ℕ → Many → Reply
+as-reply v m = record { verdict = v; number = m .done; short = no-short; departed = m .departed; next = m .next }
+
+abbrev one-more-than : Reply → Reply
+one-more-than a = record { verdict = 0; number = 1 + a .number; short = no-short; departed = a .departed; next = a .next }
 
 -- ---- the first tick
 
@@ -40,6 +76,51 @@ module _ (n : ℕ) (s : Line) where
     pub one-first : is-some (respond tick s .departed) ≡ false → many (suc n) s ≡ later 1 (many n (respond tick s .next))
     unfolding many
     one-first g = rw (eq-eqb (respond tick s .verdict) 0 e, g)
+
+-- ---- .. and with it
+
+module _ (n : ℕ) (s : Line) where
+  run-refused : (respond tick s .verdict ≡ 0 → ⊥) → run-ticks (suc n) s ≡ refuse s (respond tick s .verdict) 0
+  unfolding run-ticks
+  run-refused z = rw (ne-eqb (respond tick s .verdict) 0 z)
+
+  module _ (e : respond tick s .verdict ≡ 0) where
+    run-departed : is-some (respond tick s .departed) ≡ true
+        → run-ticks (suc n) s ≡ record { verdict = 0; number = 1; short = no-short; departed = respond tick s .departed; next = respond tick s .next }
+    unfolding run-ticks
+    run-departed g = rw (eq-eqb (respond tick s .verdict) 0 e, g)
+
+    run-one : is-some (respond tick s .departed) ≡ false → run-ticks (suc n) s ≡ one-more-than (run-ticks n (respond tick s .next))
+    unfolding run-ticks
+    run-one g = rw (eq-eqb (respond tick s .verdict) 0 e, g)
+
+  pub first-told : (n ≡ 0 → ⊥) → many-verdict n s ≡ respond tick s .verdict
+  first-told z = cond-is (resting-verdict s) (respond tick s .verdict) (ne-eqb n 0 z)
+
+pub run-is : (n : ℕ) (s : Line) → run-ticks n s ≡ as-reply (many-verdict n s) (many n s)
+unfolding run-ticks many
+run-is zero s = refl
+run-is (suc n) s = go (eqb (respond tick s .verdict) 0) refl (is-some (respond tick s .departed)) refl (run-is n (respond tick s .next))
+  where
+    first : many-verdict (suc n) s ≡ respond tick s .verdict
+    first = first-told (suc n) s (λ i. omega arith)
+
+    go : (b : Bool) → eqb (respond tick s .verdict) 0 ≡ b → (d : Bool) → is-some (respond tick s .departed) ≡ d
+        → run-ticks n (respond tick s .next) ≡ as-reply (many-verdict n (respond tick s .next)) (many n (respond tick s .next))
+        → run-ticks (suc n) s ≡ as-reply (many-verdict (suc n) s) (many (suc n) s)
+    go true e true f ih =
+        run-departed n s (eqb-true _ 0 e) f
+        ∙ ap (as-reply 0) (sym (departed-first n s (eqb-true _ 0 e) f))
+        ∙ ap (λ (v : ℕ). as-reply v (many (suc n) s)) (sym (first ∙ eqb-true _ 0 e))
+    go true e false f ih =
+        run-one n s (eqb-true _ 0 e) f
+        ∙ ap one-more-than ih
+        ∙ ap (as-reply 0) (sym (one-first n s (eqb-true _ 0 e) f))
+        ∙ ap (λ (v : ℕ). as-reply v (many (suc n) s)) (sym (first ∙ eqb-true _ 0 e))
+    go false e d f ih =
+        run-refused n s (eqb-false _ 0 e)
+        ∙ ap (as-reply (respond tick s .verdict)) (sym (refused-first n s (eqb-false _ 0 e)))
+        ∙ ap (λ (v : ℕ). as-reply v (many (suc n) s)) (sym first)
 
 -- ---- ticks before others
 
@@ -204,12 +285,10 @@ as-told v m = record { verdict = v; number = m .done; short = no-short; gone = i
 
 module _ (n : ℕ) (s : Line) where
   run-told : replied-of (run-ticks n s) ≡ as-told (many-verdict n s) (many n s)
-  unfolding run-ticks
-  run-told = refl
+  run-told = ap replied-of (run-is n s)
 
   run-next : run-ticks n s .next ≡ many n s .next
-  unfolding run-ticks
-  run-next = refl
+  run-next = ap (λ (a : Reply). a .next) (run-is n s)
 
   same-told : (v : ℕ) (m : Many) → many-verdict n s ≡ v → many n s ≡ m
       → (as-told v m ≡ replied-of (run-ticks n s)) × (written (m .next) ≡ written (run-ticks n s .next))
@@ -217,9 +296,6 @@ module _ (n : ℕ) (s : Line) where
     sym (run-told ∙ ap (λ (x : ℕ). as-told x (many n s)) e ∙ ap (as-told v) f),
     sym (ap written run-next ∙ ap (λ (x : Many). written (x .next)) f),
   )
-
-  pub first-told : (n ≡ 0 → ⊥) → many-verdict n s ≡ respond tick s .verdict
-  first-told z = cond-is (resting-verdict s) (respond tick s .verdict) (ne-eqb n 0 z)
 
 module _ (n : ℕ) (s : Line) (h : Kept) (t : Tables) (done : ℕ) (G : Going n s h t done) where
   module _ (l : done < n) (r : Replied) (u : Tables) (D : (r ≡ replied-of (stretch (n - done) (view h t))) × (u ≡ written (stretch (n - done) (view h t) .next))) where

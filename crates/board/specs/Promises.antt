@@ -1,113 +1,84 @@
--- THE STATEMENTS of the hub from C, apart from their proofs: each is proved in proofs/Results under the same name in small letters.
+-- THE STATEMENTS of the hub from C, apart from their proof, which is `from-c` in proofs/Results.
 use Prim.Native.Nat.{ℕ, _+_, _≤_, _<_}
 use mathlib.Core.Path.{_≡_}
 use mathlib.Core.Bool.{true, false}
-use mathlib.Core.Logic.{_⊎_}
+use mathlib.Core.Logic.{_↔_, inl}
 use mathlib.Core.List.{List, _∷_, _++_}
 use mathlib.Core.Option.{Option, some}
 use lib.ListN.{length, getElem?}
+use Rattle.rules.specs.declared.Link.{Link}
 use Rattle.rules.specs.declared.Packet.{Packet}
+use Rattle.rules.specs.Words.{All}
 use Rattle.rules.specs.Limits.{notice-number}
-use Rattle.rules.specs.Model.{fresh as level-fresh}
 use Rattle.rules.specs.Service.{of}
 use Rattle.rules.specs.Runs.{bound-of}
-use Rattle.frames.specs.Model.{fresh as frame-fresh}
 use Rattle.frames.specs.Service.{next-frame, leaves-by}
-use Rattle.either.specs.Line.{fresh-line, levels-set, frames-set, run, level-calls, frame-calls}
+use Rattle.either.specs.Line.{link-levels, offer, levels-set, frames-set, Sound-line, clock-of, fresh-line, run}
 use Rattle.tables.specs.Lent.{Tables}
-use Rattle.faces.specs.Sequence.{Noted-by}
-use Rattle.faces.specs.Promises as F
-use Rattle.state.specs.View.{hub-of}
-use Rattle.framed_state.specs.View.{frames-of}
-use Rattle.hub.specs.Sequence.{Notes as Level-notes, calls as level-hub-calls}
-use Rattle.framed_hub.specs.Sequence.{Notes as Frame-notes, calls as frame-hub-calls}
-use Rattle.both.specs.View.{unframed}
+use Rattle.rules.specs.Promises.{Left-by}
+use Rattle.named.specs.Named.{link-named}
+use Rattle.both.specs.View.{view, kept-of, written}
 use Rattle.board.specs.Numbers.{line-length, kept-in, numbers-of, sound-lent}
-use Rattle.board.specs.Calls.{Call}
-use Rattle.board.specs.Does.{Spoken, rules-tell, tells, Does}
-use Rattle.board.specs.Sequence.{Notes, verdict-in, number-in, clock-in, calls, line-of, requests-from, notes-of, offered}
+use Rattle.board.specs.Calls.{Call, Spoken}
+use Rattle.board.specs.Does.{rules-tell, tells, Does}
+use Rattle.board.specs.Sequence.{line-of, number-in, calls, requests-from}
 
--- a line's table, read and written back, is itself
-abbrev pub Line-is-written-back : Type 0
-Line-is-written-back = (line : List ℕ) → length line ≡ line-length → numbers-of (kept-in line) ≡ line
+-- a call as the contracts name it: the link that it asks for, if it asks for one of levels, is named by numbers, and so has eight bounds and eight windows
+abbrev pub From-the-header : Call → Type 0
+From-the-header k = (l : Link) → k ≡ inl (link-levels l) → (xs : List ℕ) × (l ≡ link-named xs)
 
--- any two answers and tables that a contract allows are equal
-abbrev pub One-outcome : Type 0
-One-outcome = F.One-outcome Does
+-- ---- a call that its contract allows to tell `told` and to leave the tables `after`
 
--- demand 1: a refused call changes no number of any table
-abbrev pub Refusals-change-nothing-from-C : Type 0
-Refusals-change-nothing-from-C =
-    (k : Call) (line : List ℕ) (before : Tables) (told : Spoken) (after : Tables)
-    → Does k line before told after
-    → (verdict-in told ≡ 0 → ⊥)
-    → (told .line ≡ line) × (after ≡ before)
+pub record Of-a-call (k : Call) (line : List ℕ) (before : Tables) (told : Spoken) (after : Tables) : Type 0 where
+  -- document 01, "What the hub's answers must settle": it allows nothing else
+  pub one-outcome : (told′ : Spoken) (after′ : Tables) → Does k line before told′ after′ → (told ≡ told′) × (after ≡ after′)
+  -- demand 1: a refused call changes no number of any table
+  pub refusals-change-nothing : (told .verdict ≡ 0 → ⊥) → (told .line ≡ line) × (after ≡ before)
+  -- verdict 1 is given exactly where the tables are not sound
+  pub verdict-1-exactly : told .verdict ≡ 1 ↔ sound-lent line before ≡ false
+  -- a call on sound tables leaves sound ones: a caller that has tested once need not test again
+  pub sound-is-kept : From-the-header k → sound-lent line before ≡ true → sound-lent (told .line) after ≡ true
 
--- verdict 1 is given exactly where the tables are not sound
-abbrev pub Verdict-1-from-C : Type 0
-Verdict-1-from-C = F.Verdict-1-of-the-code Does sound-lent verdict-in
+-- ---- any calls ks, from four tables of zeros, each lent what the last one left
 
--- a call on sound tables leaves sound ones: a caller that has tested once need not test again
-abbrev pub Sound-is-kept-from-C : Type 0
-Sound-is-kept-from-C = F.Sound-is-kept-by-the-code Does sound-lent Spoken.line
+pub record Of-calls (ks : List Call) : Type 0 where
+  -- what the caller notes is the rules' run of the requests that the calls are
+  pub follows-the-rules : let h = run (requests-from fresh-line ks) in
+      calls ks ≡ record { accepted = h .accepted; departed = h .departed; kept = numbers-of (kept-of (h .now)); tables = written (h .now) }
+  -- .. and what a further call is told is what the rules reply to it behind that run. With both, whatever the rules say of a run holds of the caller's calls and answers
+  pub told-as-in-the-run : (k : Call) → tells k (calls ks .kept) (calls ks .tables) ≡ rules-tell k (run (requests-from fresh-line ks) .now)
+  -- What follows is said of the calls, of the answers that the caller has noted and of what the four tables stand for: no run of the rules is named.
+  -- demand 3, where a link of levels is set: an offer of c that is accepted, and any calls `later`. The packet has left by its eligibility plus its level's bound, once the clock
+  -- has got there, whatever the other connections and the notices do; the bound is the one of c's owner at the offer (document 02, R-8)
+  pub demand-3-first : (later : List Call) (c len tag : ℕ) (st : Option ℕ)
+      → All From-the-header later
+      → levels-set (line-of (calls ks)) ≡ true
+      → let told = tells (inl (offer c len tag st)) (calls ks .kept) (calls ks .tables) in
+      let deadline = number-in told + bound-of (line-of (calls ks) .levels) c in
+      let then = calls (ks ++ inl (offer c len tag st) ∷ later) in
+      told .verdict ≡ 0
+      → deadline ≤ clock-of (line-of then)
+      → Left-by (then .departed) c (length (of c (calls ks .accepted)))
+      (record { connection = c; len = len; tag = tag; arrival = clock-of (line-of (calls ks)); eligibility = number-in told }) deadline
+  -- document 02, R-13, where a link of frames is set: each accepted packet has left by the end of the frame after its arrival frame, once the clock has got there, and not before
+  -- the frame in which it is eligible
+  pub left-by-the-next-end : (c i : ℕ) (p : Packet)
+      → frames-set (line-of (calls ks)) ≡ true
+      → (c ≡ notice-number → ⊥)
+      → getElem? (of c (calls ks .accepted)) i ≡ some p
+      → let frame = line-of (calls ks) .frames .link .frame in
+      leaves-by frame (p .arrival) ≤ clock-of (line-of (calls ks))
+      → (N : Left-by (calls ks .departed) c i p (leaves-by frame (p .arrival))) × (next-frame frame (p .arrival) < N .finish)
 
--- ---- any calls
+-- ---- all of them
 
--- from four tables of zeros, each call lent what the last one left, what the caller notes is the rules' run of the requests that the calls are
-abbrev pub Follows-the-rules-from-C : Type 0
-Follows-the-rules-from-C = (ks : List Call) → calls ks ≡ notes-of (run (requests-from fresh-line ks))
-
--- .. and what a further call is told is what the rules reply to it behind that run. With both, whatever the rules say of a run holds of the caller's calls and answers
-abbrev pub Told-as-in-the-run : Type 0
-Told-as-in-the-run = (ks : List Call) (k : Call) → tells k (calls ks .kept) (calls ks .tables) ≡ rules-tell k (run (requests-from fresh-line ks) .now)
-
--- what the caller notes is what is noted of the public calls of the discipline that is set, those of `hub` or of `framed_hub`
-abbrev pub of-level-notes : Level-notes → Notes
-of-level-notes g = record { accepted = g .accepted; departed = g .departed; kept = numbers-of (record { hub = g .kept; frames = frames-of frame-fresh }); tables = g .tables }
-
-abbrev pub of-frame-notes : Frame-notes → Notes
-of-frame-notes g = record { accepted = g .accepted; departed = g .departed; kept = numbers-of (record { hub = hub-of level-fresh; frames = g .kept }); tables = unframed (g .tables) }
-
-abbrev pub Follows-its-discipline-from-C : Type 0
-Follows-its-discipline-from-C =
-    (ks : List Call)
-    → ((frames-set (line-of (calls ks)) ≡ false) × (calls ks ≡ of-level-notes (level-hub-calls (level-calls (requests-from fresh-line ks)))))
-    ⊎ ((frames-set (line-of (calls ks)) ≡ true) × (calls ks ≡ of-frame-notes (frame-hub-calls (frame-calls (requests-from fresh-line ks)))))
-
--- What follows is said of the calls, of the answers that the caller has noted and of what the four tables stand for: no run of the rules is named.
-
--- ---- demand 3, on a line of levels
-
--- a link of levels is set
-abbrev pub Has-levels : List Call → Type 0
-Has-levels ks = levels-set (line-of (calls ks)) ≡ true
-
--- each accepted packet of a level has left by its eligibility plus its level's bound, once the clock has got there, whatever the other connections and the notices do: in the
--- caller's own notes of the answers. Any calls `earlier`, an offer of c that is accepted, any calls `later`; the bound is the one of c's owner at the offer (document 02, R-8)
-abbrev pub Demand-3-first-from-C : Type 0
-Demand-3-first-from-C =
-    (earlier later : List Call) (c len tag : ℕ) (st : Option ℕ) (told : Spoken) (after : Tables)
-    → Has-levels earlier
-    → Does (offered c len tag st) (calls earlier .kept) (calls earlier .tables) told after
-    → verdict-in told ≡ 0
-    → number-in told + bound-of (line-of (calls earlier) .levels) c ≤ clock-in (calls (earlier ++ offered c len tag st ∷ later) .kept)
-    → Noted-by (calls (earlier ++ offered c len tag st ∷ later)) c (length (of c (calls earlier .accepted)))
-    (record { connection = c; len = len; tag = tag; arrival = clock-in (calls earlier .kept); eligibility = number-in told })
-    (number-in told + bound-of (line-of (calls earlier) .levels) c)
-
--- ---- the same on a line with frames (document 02, R-13)
-
--- a link of frames is set
-abbrev pub Has-frames : List Call → Type 0
-Has-frames ks = frames-set (line-of (calls ks)) ≡ true
-
--- each accepted packet has left by the end of the frame after its arrival frame, once the clock has got there, and not before the frame in which it is eligible
-abbrev pub Left-by-the-next-end-from-C : Type 0
-Left-by-the-next-end-from-C =
-    (ks : List Call) (c i : ℕ) (p : Packet)
-    → Has-frames ks
-    → (c ≡ notice-number → ⊥)
-    → getElem? (of c (calls ks .accepted)) i ≡ some p
-    → leaves-by (line-of (calls ks) .frames .link .frame) (p .arrival) ≤ clock-in (calls ks .kept)
-    → (N : Noted-by (calls ks) c i p (leaves-by (line-of (calls ks) .frames .link .frame) (p .arrival)))
-    × (next-frame (line-of (calls ks) .frames .link .frame) (p .arrival) < N .finish)
+pub record From-C : Type 0 where
+  -- a line's table, read and written back, is itself
+  pub line-is-written-back : (line : List ℕ) → length line ≡ line-length → numbers-of (kept-in line) ≡ line
+  -- the test is exact: true where the line that the four tables stand for is sound, and they are what is written of it; the line's table has its length then
+  pub test-is-exact : (line : List ℕ) (t : Tables)
+      → let s = view (kept-in line) t in sound-lent line t ≡ true ↔ ((line ≡ numbers-of (kept-of s)) × (t ≡ written s) × Sound-line s)
+  -- whatever a contract allows
+  pub a-call : (k : Call) (line : List ℕ) (before : Tables) (told : Spoken) (after : Tables) → Does k line before told after → Of-a-call k line before told after
+  -- whatever calls are made
+  pub any-calls : (ks : List Call) → All From-the-header ks → Of-calls ks

@@ -2,40 +2,19 @@
 -- Document 01, "One tick".
 use Prim.Native.Nat.{ℕ, zero, suc, _+_}
 use mathlib.Core.Bool.{cond}
-use mathlib.Core.Option.{Option, none}
 use lib.Dec.{eqb}
-use Rattle.rules.specs.declared.Packet.{Packet}
 use Rattle.rules.specs.Model.{no-short}
-use Rattle.either.specs.Line.{Line, tick, Reply, respond, resting-verdict}
+use Rattle.either.specs.Line.{Line, tick, Reply, refuse, respond, resting-verdict}
 use Rattle.tables.specs.Places.{is-some}
 
--- the ticks that were done, the packet that departed with the last of them, if one did, and the line then
-pub record Many : Type 0 where
-  pub done : ℕ
-  pub departed : Option Packet
-  pub next : Line
-
-abbrev pub no-ticks : Line → Many
-no-ticks s = record { done = 0; departed = none; next = s }
-
--- k ticks before them, with which no packet departed
-abbrev pub later : ℕ → Many → Many
-later k m = record { done = k + m .done; departed = m .departed; next = m .next }
-
-unfoldable pub many : ℕ → Line → Many
-many zero s = no-ticks s
-many (suc n) s =
-    cond (eqb (respond tick s .verdict) 0)
-    (cond (is-some (respond tick s .departed))
-    (record { done = 1; departed = respond tick s .departed; next = respond tick s .next })
-    (later 1 (many n (respond tick s .next))))
-    (no-ticks s)
-
--- the verdict is that of the first tick, where one is asked: where it is not 0, none was done
-abbrev pub many-verdict : ℕ → Line → ℕ
-many-verdict n s = cond (eqb n 0) (resting-verdict s) (respond tick s .verdict)
-
--- as a reply: `number` tells the ticks done
+-- `number` tells the ticks that were done. The verdict is that of the first tick, where one is asked: where it is not 0, none was done
 unfoldable pub run-ticks : ℕ → Line → Reply
-run-ticks n s =
-    record { verdict = many-verdict n s; number = many n s .done; short = no-short; departed = many n s .departed; next = many n s .next }
+run-ticks zero s = refuse s (resting-verdict s) 0
+run-ticks (suc n) s =
+    let a = respond tick s in
+    let m = run-ticks n (a .next) in
+    cond (eqb (a .verdict) 0)
+    (cond (is-some (a .departed))
+    (record { verdict = 0; number = 1; short = no-short; departed = a .departed; next = a .next })
+    (record { verdict = 0; number = 1 + m .number; short = no-short; departed = m .departed; next = m .next }))
+    (refuse s (a .verdict) 0)

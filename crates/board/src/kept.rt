@@ -1,13 +1,15 @@
 // The line's table, read as what `both` keeps of a line and written back; whether the four tables are sound; a link that a caller names; the numbers of an answer.
 ghost use mathlib.Core.Path.{_≡_};
 ghost use mathlib.Core.Bool.{cond};
+ghost use mathlib.Core.List.{_∷_, _++_};
 ghost use Prim.Native.Nat.{_<_};
 ghost use lib.ListN.{length};
 ghost use Rattle.rules.specs.Limits.{beyond-32-bits};
 ghost use Rattle.tables.specs.Lent.{before};
+ghost use Rattle.named.specs.Named.{eight-from, link-named};
 ghost use Rattle.both.specs.View.{kept-clock};
 ghost use Rattle.board.specs.Numbers.{line-length, hub-in, frames-in, kept-in, numbers-of, sound-lent};
-ghost use Rattle.board.specs.Calls.{link-given, departure-numbers, admission-numbers};
+ghost use Rattle.board.specs.Calls.{departure-numbers, admission-numbers};
 use both::Kept;
 use both::Replied;
 use framed_state::Frames;
@@ -168,7 +170,7 @@ pub(crate) fn link_of(
     bounds: &[u32; MAX_LEVELS as usize],
     windows: &[u32; MAX_LEVELS as usize],
 ) -> Link
-    ensures { λ r. ⌜ r ≡ link-given levels largest silence early (now (bounds .entry)) (now (windows .entry)) ⌝ }
+    ensures { λ r. ⌜ r ≡ link-named (levels ∷ largest ∷ silence ∷ early ∷ (eight-from 0 (now (bounds .entry)) ++ eight-from 0 (now (windows .entry)))) ⌝ }
 {
     Link {
         levels: levels,

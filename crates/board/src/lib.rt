@@ -6,11 +6,15 @@ mod ticking; // ticking.rt: many ticks
 
 ghost use mathlib.Core.Path.{_≡_};
 ghost use mathlib.Core.Bool.{cond};
-ghost use mathlib.Core.List.{[], _∷_};
+ghost use mathlib.Core.List.{[], _∷_, _++_};
+ghost use mathlib.Core.Logic.{inl, inr};
+ghost use mathlib.Core.Option.{none, some};
+ghost use Rattle.either.specs.Line.{link-levels, link-frames, admit-level, admit-share, offer, notice, close, tick};
 ghost use Rattle.tables.specs.Lent.{before, after};
+ghost use Rattle.named.specs.Named.{eight-from, link-named, framing-named, connection-named, stamped-named, share-named};
 ghost use Rattle.board.specs.Numbers.{sound-lent};
-ghost use Rattle.board.specs.Calls.{link, link-frames, admit, admit-stamped, admit-share, offer, offer-stamped, notice, close, tick, ticks};
-ghost use Rattle.board.specs.Does.{spoken, Does};
+ghost use Rattle.board.specs.Calls.{spoken};
+ghost use Rattle.board.specs.Does.{Does};
 use kept::ADMISSION;
 use kept::DEPARTURE;
 use kept::is_sound;
@@ -31,7 +35,7 @@ pub extern "C" fn mtredovim_link(
     bounds: &[u32; MAX_LEVELS as usize],
     windows: &[u32; MAX_LEVELS as usize],
 ) -> u32
-    ensures { λ r. ⌜ Does (link levels largest silence early (now (bounds .entry)) (now (windows .entry))) (now (line .entry)) (before members places notices) (spoken (r ∷ []) (now (line .exit))) (after members places notices) ⌝ }
+    ensures { λ r. ⌜ Does (inl (link-levels (link-named (levels ∷ largest ∷ silence ∷ early ∷ (eight-from 0 (now (bounds .entry)) ++ eight-from 0 (now (windows .entry))))))) (now (line .entry)) (before members places notices) (spoken r [] [] (now (line .exit))) (after members places notices) ⌝ }
 {
     if !is_sound(line, members, places, notices) {
         return 1;
@@ -61,7 +65,7 @@ pub extern "C" fn mtredovim_link_frames(
     largest: u32,
     silence: u32,
 ) -> u32
-    ensures { λ r. ⌜ Does (link-frames frame largest silence) (now (line .entry)) (before members places notices) (spoken (r ∷ []) (now (line .exit))) (after members places notices) ⌝ }
+    ensures { λ r. ⌜ Does (inl (link-frames (framing-named (frame ∷ largest ∷ silence ∷ [])))) (now (line .entry)) (before members places notices) (spoken r [] [] (now (line .exit))) (after members places notices) ⌝ }
 {
     if !is_sound(line, members, places, notices) {
         return 1;
@@ -83,7 +87,7 @@ pub extern "C" fn mtredovim_admit(
     average: u32,
     admission: &mut [u32; ADMISSION],
 ) -> u32
-    ensures { λ r. ⌜ Does (admit level gap size window average) (now (line .entry)) (before members places notices) (spoken (r ∷ now (admission .exit)) (now (line .exit))) (after members places notices) ⌝ }
+    ensures { λ r. ⌜ Does (inl (admit-level (connection-named (level ∷ gap ∷ size ∷ window ∷ average ∷ [])))) (now (line .entry)) (before members places notices) (spoken r (now (admission .exit)) [] (now (line .exit))) (after members places notices) ⌝ }
 {
     if !is_sound(line, members, places, notices) {
         *admission = [NO_CONNECTION, 0, 0];
@@ -116,7 +120,7 @@ pub extern "C" fn mtredovim_admit_stamped(
     allowance: u32,
     admission: &mut [u32; ADMISSION],
 ) -> u32
-    ensures { λ r. ⌜ Does (admit-stamped level gap size allowance) (now (line .entry)) (before members places notices) (spoken (r ∷ now (admission .exit)) (now (line .exit))) (after members places notices) ⌝ }
+    ensures { λ r. ⌜ Does (inl (admit-level (stamped-named (level ∷ gap ∷ size ∷ allowance ∷ [])))) (now (line .entry)) (before members places notices) (spoken r (now (admission .exit)) [] (now (line .exit))) (after members places notices) ⌝ }
 {
     if !is_sound(line, members, places, notices) {
         *admission = [NO_CONNECTION, 0, 0];
@@ -146,7 +150,7 @@ pub extern "C" fn mtredovim_admit_share(
     room: u32,
     admission: &mut [u32; ADMISSION],
 ) -> u32
-    ensures { λ r. ⌜ Does (admit-share units room) (now (line .entry)) (before members places notices) (spoken (r ∷ now (admission .exit)) (now (line .exit))) (after members places notices) ⌝ }
+    ensures { λ r. ⌜ Does (inl (admit-share (share-named (units ∷ room ∷ [])))) (now (line .entry)) (before members places notices) (spoken r (now (admission .exit)) [] (now (line .exit))) (after members places notices) ⌝ }
 {
     if !is_sound(line, members, places, notices) {
         *admission = [NO_CONNECTION, 0, 0];
@@ -167,7 +171,7 @@ pub extern "C" fn mtredovim_offer(
     tag: u32,
     eligibility: &mut u32,
 ) -> u32
-    ensures { λ r. ⌜ Does (offer c len tag) (now (line .entry)) (before members places notices) (spoken (r ∷ now (eligibility .exit) ∷ []) (now (line .exit))) (after members places notices) ⌝ }
+    ensures { λ r. ⌜ Does (inl (offer c len tag none)) (now (line .entry)) (before members places notices) (spoken r (now (eligibility .exit) ∷ []) [] (now (line .exit))) (after members places notices) ⌝ }
 {
     if !is_sound(line, members, places, notices) {
         *eligibility = 0;
@@ -189,7 +193,7 @@ pub extern "C" fn mtredovim_offer_stamped(
     stamp: u32,
     eligibility: &mut u32,
 ) -> u32
-    ensures { λ r. ⌜ Does (offer-stamped c len tag stamp) (now (line .entry)) (before members places notices) (spoken (r ∷ now (eligibility .exit) ∷ []) (now (line .exit))) (after members places notices) ⌝ }
+    ensures { λ r. ⌜ Does (inl (offer c len tag (some stamp))) (now (line .entry)) (before members places notices) (spoken r (now (eligibility .exit) ∷ []) [] (now (line .exit))) (after members places notices) ⌝ }
 {
     if !is_sound(line, members, places, notices) {
         *eligibility = 0;
@@ -219,7 +223,7 @@ pub extern "C" fn mtredovim_notice(
     tag: u32,
     eligibility: &mut u32,
 ) -> u32
-    ensures { λ r. ⌜ Does (notice len tag) (now (line .entry)) (before members places notices) (spoken (r ∷ now (eligibility .exit) ∷ []) (now (line .exit))) (after members places notices) ⌝ }
+    ensures { λ r. ⌜ Does (inl (notice len tag)) (now (line .entry)) (before members places notices) (spoken r (now (eligibility .exit) ∷ []) [] (now (line .exit))) (after members places notices) ⌝ }
 {
     if !is_sound(line, members, places, notices) {
         *eligibility = 0;
@@ -237,7 +241,7 @@ pub extern "C" fn mtredovim_close(
     notices: &[u32],
     c: u32,
 ) -> u32
-    ensures { λ r. ⌜ Does (close c) (now (line .entry)) (before members places notices) (spoken (r ∷ []) (now (line .exit))) (after members places notices) ⌝ }
+    ensures { λ r. ⌜ Does (inl (close c)) (now (line .entry)) (before members places notices) (spoken r [] [] (now (line .exit))) (after members places notices) ⌝ }
 {
     if !is_sound(line, members, places, notices) {
         return 1;
@@ -254,7 +258,7 @@ pub extern "C" fn mtredovim_tick(
     notices: &mut [u32],
     departure: &mut [u32; DEPARTURE],
 ) -> u32
-    ensures { λ r. ⌜ Does tick (now (line .entry)) (before members places notices) (spoken (r ∷ now (departure .exit)) (now (line .exit))) (after members places notices) ⌝ }
+    ensures { λ r. ⌜ Does (inl tick) (now (line .entry)) (before members places notices) (spoken r [] (now (departure .exit)) (now (line .exit))) (after members places notices) ⌝ }
 {
     if !is_sound(line, members, places, notices) {
         *departure = [0; DEPARTURE];
@@ -274,7 +278,7 @@ pub extern "C" fn mtredovim_ticks(
     done: &mut u32,
     departure: &mut [u32; DEPARTURE],
 ) -> u32
-    ensures { λ r. ⌜ Does (ticks n) (now (line .entry)) (before members places notices) (spoken (r ∷ now (done .exit) ∷ now (departure .exit)) (now (line .exit))) (after members places notices) ⌝ }
+    ensures { λ r. ⌜ Does (inr n) (now (line .entry)) (before members places notices) (spoken r (now (done .exit) ∷ []) (now (departure .exit)) (now (line .exit))) (after members places notices) ⌝ }
 {
     if !is_sound(line, members, places, notices) {
         *done = 0;

@@ -1,11 +1,15 @@
 // The calls from C on tables that have been tested, so that they do not test them again. Their `requires` is the caller's duty: include/mtredovim.h.
 ghost use mathlib.Core.Path.{_≡_};
 ghost use mathlib.Core.Bool.{true};
-ghost use mathlib.Core.List.{[], _∷_};
+ghost use mathlib.Core.List.{[], _∷_, _++_};
+ghost use mathlib.Core.Logic.{inl, inr};
+ghost use mathlib.Core.Option.{none, some};
+ghost use Rattle.either.specs.Line.{link-levels, link-frames, admit-level, admit-share, offer, notice, close, tick};
 ghost use Rattle.tables.specs.Lent.{given, before, after};
+ghost use Rattle.named.specs.Named.{eight-from, link-named, framing-named, connection-named, stamped-named, share-named};
 ghost use Rattle.board.specs.Numbers.{sound-lent};
-ghost use Rattle.board.specs.Calls.{link, link-frames, admit, admit-stamped, admit-share, offer, offer-stamped, notice, close, tick, ticks};
-ghost use Rattle.board.specs.Does.{spoken, Does};
+ghost use Rattle.board.specs.Calls.{spoken};
+ghost use Rattle.board.specs.Does.{Does};
 use super::kept;
 use super::kept::ADMISSION;
 use super::kept::DEPARTURE;
@@ -33,7 +37,7 @@ pub extern "C" fn mtredovim_link_tested(
     windows: &[u32; MAX_LEVELS as usize],
 ) -> u32
     requires { ⌜ sound-lent (now line) (given members places notices) ≡ true ⌝ }
-    ensures { λ r. ⌜ Does (link levels largest silence early (now (bounds .entry)) (now (windows .entry))) (now (line .entry)) (before members places notices) (spoken (r ∷ []) (now (line .exit))) (after members places notices) ⌝ }
+    ensures { λ r. ⌜ Does (inl (link-levels (link-named (levels ∷ largest ∷ silence ∷ early ∷ (eight-from 0 (now (bounds .entry)) ++ eight-from 0 (now (windows .entry))))))) (now (line .entry)) (before members places notices) (spoken r [] [] (now (line .exit))) (after members places notices) ⌝ }
 {
     let l = link_of(levels, largest, silence, early, bounds, windows);
     let told = both::link_levels(read_kept(line), members, places, notices, l);
@@ -53,7 +57,7 @@ pub extern "C" fn mtredovim_link_frames_tested(
     silence: u32,
 ) -> u32
     requires { ⌜ sound-lent (now line) (given members places notices) ≡ true ⌝ }
-    ensures { λ r. ⌜ Does (link-frames frame largest silence) (now (line .entry)) (before members places notices) (spoken (r ∷ []) (now (line .exit))) (after members places notices) ⌝ }
+    ensures { λ r. ⌜ Does (inl (link-frames (framing-named (frame ∷ largest ∷ silence ∷ [])))) (now (line .entry)) (before members places notices) (spoken r [] [] (now (line .exit))) (after members places notices) ⌝ }
 {
     let l = Framing {
         frame: frame,
@@ -80,7 +84,7 @@ pub extern "C" fn mtredovim_admit_tested(
     admission: &mut [u32; ADMISSION],
 ) -> u32
     requires { ⌜ sound-lent (now line) (given members places notices) ≡ true ⌝ }
-    ensures { λ r. ⌜ Does (admit level gap size window average) (now (line .entry)) (before members places notices) (spoken (r ∷ now (admission .exit)) (now (line .exit))) (after members places notices) ⌝ }
+    ensures { λ r. ⌜ Does (inl (admit-level (connection-named (level ∷ gap ∷ size ∷ window ∷ average ∷ [])))) (now (line .entry)) (before members places notices) (spoken r (now (admission .exit)) [] (now (line .exit))) (after members places notices) ⌝ }
 {
     let x = Connection {
         level: level,
@@ -111,7 +115,7 @@ pub extern "C" fn mtredovim_admit_stamped_tested(
     admission: &mut [u32; ADMISSION],
 ) -> u32
     requires { ⌜ sound-lent (now line) (given members places notices) ≡ true ⌝ }
-    ensures { λ r. ⌜ Does (admit-stamped level gap size allowance) (now (line .entry)) (before members places notices) (spoken (r ∷ now (admission .exit)) (now (line .exit))) (after members places notices) ⌝ }
+    ensures { λ r. ⌜ Does (inl (admit-level (stamped-named (level ∷ gap ∷ size ∷ allowance ∷ [])))) (now (line .entry)) (before members places notices) (spoken r (now (admission .exit)) [] (now (line .exit))) (after members places notices) ⌝ }
 {
     let x = Connection {
         level: level,
@@ -140,7 +144,7 @@ pub extern "C" fn mtredovim_admit_share_tested(
     admission: &mut [u32; ADMISSION],
 ) -> u32
     requires { ⌜ sound-lent (now line) (given members places notices) ≡ true ⌝ }
-    ensures { λ r. ⌜ Does (admit-share units room) (now (line .entry)) (before members places notices) (spoken (r ∷ now (admission .exit)) (now (line .exit))) (after members places notices) ⌝ }
+    ensures { λ r. ⌜ Does (inl (admit-share (share-named (units ∷ room ∷ [])))) (now (line .entry)) (before members places notices) (spoken r (now (admission .exit)) [] (now (line .exit))) (after members places notices) ⌝ }
 {
     let x = Share {
         units: units,
@@ -165,7 +169,7 @@ pub extern "C" fn mtredovim_offer_tested(
     eligibility: &mut u32,
 ) -> u32
     requires { ⌜ sound-lent (now line) (given members places notices) ≡ true ⌝ }
-    ensures { λ r. ⌜ Does (offer c len tag) (now (line .entry)) (before members places notices) (spoken (r ∷ now (eligibility .exit) ∷ []) (now (line .exit))) (after members places notices) ⌝ }
+    ensures { λ r. ⌜ Does (inl (offer c len tag none)) (now (line .entry)) (before members places notices) (spoken r (now (eligibility .exit) ∷ []) [] (now (line .exit))) (after members places notices) ⌝ }
 {
     let told = both::offer(
         read_kept(line),
@@ -197,7 +201,7 @@ pub extern "C" fn mtredovim_offer_stamped_tested(
     eligibility: &mut u32,
 ) -> u32
     requires { ⌜ sound-lent (now line) (given members places notices) ≡ true ⌝ }
-    ensures { λ r. ⌜ Does (offer-stamped c len tag stamp) (now (line .entry)) (before members places notices) (spoken (r ∷ now (eligibility .exit) ∷ []) (now (line .exit))) (after members places notices) ⌝ }
+    ensures { λ r. ⌜ Does (inl (offer c len tag (some stamp))) (now (line .entry)) (before members places notices) (spoken r (now (eligibility .exit) ∷ []) [] (now (line .exit))) (after members places notices) ⌝ }
 {
     let told = both::offer(
         read_kept(line),
@@ -227,7 +231,7 @@ pub extern "C" fn mtredovim_notice_tested(
     eligibility: &mut u32,
 ) -> u32
     requires { ⌜ sound-lent (now line) (given members places notices) ≡ true ⌝ }
-    ensures { λ r. ⌜ Does (notice len tag) (now (line .entry)) (before members places notices) (spoken (r ∷ now (eligibility .exit) ∷ []) (now (line .exit))) (after members places notices) ⌝ }
+    ensures { λ r. ⌜ Does (inl (notice len tag)) (now (line .entry)) (before members places notices) (spoken r (now (eligibility .exit) ∷ []) [] (now (line .exit))) (after members places notices) ⌝ }
 {
     let told = both::notice(read_kept(line), members, places, notices, len, tag);
     put_kept(line, told.kept);
@@ -245,7 +249,7 @@ pub extern "C" fn mtredovim_close_tested(
     c: u32,
 ) -> u32
     requires { ⌜ sound-lent (now line) (given members places notices) ≡ true ⌝ }
-    ensures { λ r. ⌜ Does (close c) (now (line .entry)) (before members places notices) (spoken (r ∷ []) (now (line .exit))) (after members places notices) ⌝ }
+    ensures { λ r. ⌜ Does (inl (close c)) (now (line .entry)) (before members places notices) (spoken r [] [] (now (line .exit))) (after members places notices) ⌝ }
 {
     let told = both::close(read_kept(line), members, places, notices, c);
     put_kept(line, told.kept);
@@ -262,7 +266,7 @@ pub extern "C" fn mtredovim_tick_tested(
     departure: &mut [u32; DEPARTURE],
 ) -> u32
     requires { ⌜ sound-lent (now line) (given members places notices) ≡ true ⌝ }
-    ensures { λ r. ⌜ Does tick (now (line .entry)) (before members places notices) (spoken (r ∷ now (departure .exit)) (now (line .exit))) (after members places notices) ⌝ }
+    ensures { λ r. ⌜ Does (inl tick) (now (line .entry)) (before members places notices) (spoken r [] (now (departure .exit)) (now (line .exit))) (after members places notices) ⌝ }
 {
     let told = both::tick(read_kept(line), members, places, notices);
     put_kept(line, told.kept);
@@ -282,7 +286,7 @@ pub extern "C" fn mtredovim_ticks_tested(
     departure: &mut [u32; DEPARTURE],
 ) -> u32
     requires { ⌜ sound-lent (now line) (given members places notices) ≡ true ⌝ }
-    ensures { λ r. ⌜ Does (ticks n) (now (line .entry)) (before members places notices) (spoken (r ∷ now (done .exit) ∷ now (departure .exit)) (now (line .exit))) (after members places notices) ⌝ }
+    ensures { λ r. ⌜ Does (inr n) (now (line .entry)) (before members places notices) (spoken r (now (done .exit) ∷ []) (now (departure .exit)) (now (line .exit))) (after members places notices) ⌝ }
 {
     let told = run_ticks(read_kept(line), members, places, notices, n);
     put_kept(line, told.kept);

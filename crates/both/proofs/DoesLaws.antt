@@ -17,13 +17,14 @@ use Rattle.frames.specs.declared.Share.{Share}
 use Rattle.frames.specs.Model.{State as Frame-state, Call as Frame-call, link as frame-link, offer as frame-offer, Answer as Frame-answer, fresh as frame-fresh}
 use Rattle.frames.specs.Calls.{answer as frame-answer}
 use Rattle.frames.proofs.Every.{fresh-invariant as frame-fresh-invariant}
-use Rattle.either.specs.Line.{Line, Request, link-levels, link-frames, admit-level, admit-share, offer, close, Reply, by-levels, by-frames, refuse, refused-number, respond, level-call, frame-call}
+use Rattle.either.specs.Line.{Line, Request, link-levels, link-frames, admit-level, admit-share, offer, close, Reply, by-levels, by-frames, refuse, refused-number, respond}
 use Rattle.either.proofs.Replies as R
 use Rattle.either.proofs.Replies.{levels-told, link-told, frames-told}
 use Rattle.either.proofs.Histories.{frame-stays}
 use Rattle.either.proofs.Results.{test-is-exact}
+use Rattle.either.proofs.Names.{level-call, frame-call}
 use Rattle.tables.specs.Lent.{Tables}
-use Rattle.tables.specs.Places.{written-places, table-of}
+use Rattle.tables.specs.Places.{table-of}
 use Rattle.tables.proofs.CallLaws as C
 use Rattle.connections.specs.Members.{written-rows}
 use Rattle.connections.specs.Stamps.{stamp-if}
@@ -45,7 +46,8 @@ use Rattle.framed_state.proofs.WrittenLaws.{written-sound}
 use Rattle.framed_state.proofs.DoesLaws.{said-as, left-as as frame-left-as}
 use Rattle.both.specs.declared.Kept.{Kept}
 use Rattle.both.specs.declared.Replied.{Replied}
-use Rattle.both.specs.View.{has-frames, framed, of-levels, of-frames, view, unframed, written, members-framed, sound-kept}
+use Rattle.both.specs.View.{has-frames, framed, view, unframed, written, members-framed, sound-kept}
+use Rattle.both.proofs.Views.{of-levels, of-frames}
 use Rattle.both.specs.Replied.{replied-of, refusal, of-told, of-said}
 use Rattle.both.specs.Does.{tells, leaves, Does}
 use Rattle.both.proofs.TablesLaws.{tables-back}
@@ -136,11 +138,11 @@ module _ (h : Kept) (t : Tables) (ok : sound-kept h t ≡ true) where
 
 -- the tables of the fresh state are zeros, in both disciplines
 zeros-written : level-written level-fresh ≡ zero-tables
-unfolding written-rows written-places table-of
+unfolding written-rows table-of
 zeros-written = refl
 
 zeros-framed : framed zero-tables ≡ frame-written frame-fresh
-unfolding written-shares written-places table-of
+unfolding written-shares table-of
 zeros-framed = refl
 
 zeros-inside : members-framed (zero-tables .members) ≡ true

@@ -1,3 +1,4 @@
+pub mod Views
 pub mod FreshLaws
 pub mod TablesLaws
 pub mod SoundLaws

@@ -1,7 +1,7 @@
 -- Ticks in which nothing starts and nothing departs: what the rules reply to each, and the line after it, by the discipline that is set.
-use Prim.Native.Nat.{ℕ, zero, suc, _+_, _≤_}
+use Prim.Native.Nat.{ℕ, zero, suc, _+_, _≤_, min}
 use mathlib.Core.Path.{_≡_, refl, sym, ap, _∙_, subst}
-use mathlib.Core.Bool.{Bool, true, false, cond}
+use mathlib.Core.Bool.{Bool, true, false, cond, _&&_, _||_}
 use mathlib.Core.Logic.{_⊎_, inl, inr}
 use mathlib.Core.Option.{none}
 use Rattle.rules.specs.Limits.{clock-end}
@@ -11,7 +11,9 @@ use Rattle.frames.specs.Model.{State as Frame-state, fresh as frame-fresh, tick
 use Rattle.either.specs.Line.{Line, tick, Reply, by-levels, by-frames, frames-set, levels-set, clock-of, Sound-line, sound-line, respond}
 use Rattle.either.proofs.Replies.{levels-told, frames-told}
 use Rattle.either.proofs.Results.{test-is-exact, sound-is-kept}
-use Rattle.rules.proofs.Tests.{not-true-false}
+use Rattle.rules.specs.SoundTest.{sound as level-sound}
+use Rattle.rules.proofs.Tests.{and-true, not-true-false}
+use Rattle.frames.specs.SoundTest.{sound as frame-sound}
 use Rattle.line.proofs.QuietLaws.{Quiets}
 use Rattle.service.specs.Quiet.{passed as level-passed, quiet-ticks as level-quiet-ticks}
 use Rattle.service.proofs.QuietLaws as level
@@ -23,7 +25,8 @@ use Rattle.tables.specs.Lent.{Tables}
 use Rattle.state.specs.View.{hub-of, view as level-view}
 use Rattle.framed_state.specs.View.{frames-of, view as frame-view}
 use Rattle.both.specs.declared.Kept.{Kept}
-use Rattle.both.specs.View.{has-frames, framed, of-frames, view, kept-clock, kept-of, written, sound-kept}
+use Rattle.both.specs.View.{has-frames, framed, view, kept-clock, kept-of, written, sound-kept}
+use Rattle.both.proofs.Views.{of-frames}
 use Rattle.both.specs.Quiet.{passed, quiet-ticks}
 use Rattle.both.proofs.SoundLaws.{seen-framed, seen-level, line-framed, line-level, clock-kept, sound-view}
 
@@ -125,9 +128,27 @@ passed-written s k = cond-ind (λ x. written s ≡ written x) (frames-set s) (λ
 
 -- ---- those that are passed over at once
 
+-- as each discipline has them
+set-apart : (b f l x y : Bool) (m n left : ℕ) → (b ≡ true → (x ≡ true) × (y ≡ true))
+    → cond (b && (l || f)) (min (cond f n m) left) 0 ≡ cond b (cond f (cond (y && f) (min n left) 0) (cond (x && l) (min m left) 0)) 0
+set-apart false f l x y m n left h = refl
+set-apart true true true x y m n left h = rw (h refl .1)
+set-apart true true false x y m n left h = rw (h refl .1)
+set-apart true false true x y m n left h = rw (h refl .0)
+set-apart true false false x y m n left h = rw (h refl .0)
+
+both-sound : (s : Line) → sound-line s ≡ true → (level-sound (s .levels) ≡ true) × (frame-sound (s .frames) ≡ true)
+unfolding sound-line
+both-sound s ok = let p = and-true (level-sound (s .levels)) _ ok in (p .0, and-true (frame-sound (s .frames)) _ (p .1) .0)
+
+by-discipline : (left : ℕ) (s : Line) → quiet-ticks left s ≡ cond (sound-line s) (cond (frames-set s) (frame-quiet-ticks left (s .frames)) (level-quiet-ticks left (s .levels))) 0
+unfolding quiet-ticks level-quiet-ticks frame-quiet-ticks
+by-discipline left s = set-apart (sound-line s) (frames-set s) (levels-set s) (level-sound (s .levels)) (frame-sound (s .frames)) _ _ left (both-sound s)
+
 pub quiets : (left : ℕ) (s : Line) → (quiet-ticks left s ≡ 0 → ⊥) → Quiets (Quiet s) left (quiet-ticks left s)
-unfolding quiet-ticks
-quiets left s = cond-ind (λ k. (k ≡ 0 → ⊥) → Quiets (Quiet s) left k) (sound-line s) sounds (λ _ n. absurd (n refl))
+quiets left s =
+    subst (λ (k : ℕ). (k ≡ 0 → ⊥) → Quiets (Quiet s) left k) (sym (by-discipline left s))
+    (cond-ind (λ k. (k ≡ 0 → ⊥) → Quiets (Quiet s) left k) (sound-line s) sounds (λ _ n. absurd (n refl)))
   where
     sounds : sound-line s ≡ true → (cond (frames-set s) (frame-quiet-ticks left (s .frames)) (level-quiet-ticks left (s .levels)) ≡ 0 → ⊥)
         → Quiets (Quiet s) left (cond (frames-set s) (frame-quiet-ticks left (s .frames)) (level-quiet-ticks left (s .levels)))
@@ -189,8 +210,7 @@ module _ (h : Kept) (k : ℕ) where
 
 module _ (left : ℕ) (h : Kept) (t : Tables) (ok : sound-kept h t ≡ true) where
   told : quiet-ticks left (view h t) ≡ cond (frames-set (view h t)) (frame-quiet-ticks left (view h t .frames)) (level-quiet-ticks left (view h t .levels))
-  unfolding quiet-ticks
-  told = cond-is (cond (frames-set (view h t)) (frame-quiet-ticks left (view h t .frames)) (level-quiet-ticks left (view h t .levels))) 0 (sound-view h t ok)
+  told = by-discipline left (view h t) ∙ cond-is (cond (frames-set (view h t)) (frame-quiet-ticks left (view h t .frames)) (level-quiet-ticks left (view h t .levels))) 0 (sound-view h t ok)
 
   pub framed-quiet : has-frames h ≡ true → (k : ℕ) → k ≡ frame-quiet-ticks left (frame-view (h .frames) (framed t)) → k ≡ quiet-ticks left (view h t)
   framed-quiet f k e =

@@ -24,7 +24,8 @@ use Rattle.framed_state.specs.declared.Frames.{Frames}
 use Rattle.framed_state.specs.View.{frames-of, sound-frames, written as frame-written}
 use Rattle.framed_state.proofs.SoundLaws.{is-sound as frame-is-sound, tables-kept as frame-kept}
 use Rattle.both.specs.declared.Kept.{Kept}
-use Rattle.both.specs.View.{has-frames, has-link, framed, of-levels, of-frames, view, kept-clock, kept-of, unframed, written, unused-hub, unused-frames, members-framed, sound-kept}
+use Rattle.both.specs.View.{has-frames, has-link, framed, view, kept-clock, kept-of, unframed, written, unused-hub, unused-frames, members-framed, sound-kept}
+use Rattle.both.proofs.Views.{of-levels, of-frames}
 use Rattle.both.proofs.FreshLaws.{fresh-hub, fresh-frames}
 use Rattle.both.proofs.TablesLaws.{framed-long, tables-back}
 

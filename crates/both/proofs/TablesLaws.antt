@@ -14,7 +14,8 @@ use Rattle.limits.proofs.ZeroLaws.{zeros-are, zeros-rep, zeros-left}
 use Rattle.connections.specs.Members.{members-length}
 use Rattle.shares.specs.Shares.{shares-length}
 use Rattle.tables.specs.Lent.{Tables, tables}
-use Rattle.both.specs.View.{framed, behind-shares, unframed, members-framed}
+use Rattle.both.specs.View.{framed, unframed, members-framed}
+use Rattle.both.proofs.Views.{behind-shares}
 
 -- ---- such a table
 

@@ -15,7 +15,8 @@ use Rattle.state.proofs.WrittenLaws as level
 use Rattle.framed_state.specs.View.{frames-of, sound-frames, view as frame-view, written as frame-written}
 use Rattle.framed_state.proofs.SoundLaws.{shares-size}
 use Rattle.framed_state.proofs.WrittenLaws as frame
-use Rattle.both.specs.View.{framed, of-levels, of-frames, view, kept-of, unframed, written, unused-hub, unused-frames, members-framed, sound-kept}
+use Rattle.both.specs.View.{framed, view, kept-of, unframed, written, unused-hub, unused-frames, members-framed, sound-kept}
+use Rattle.both.proofs.Views.{of-levels, of-frames}
 use Rattle.both.proofs.FreshLaws.{hub-unused, frames-unused}
 use Rattle.both.proofs.TablesLaws.{with-zeros-framed, framed-back}
 

@@ -33,22 +33,16 @@ has-link h = not (eqb (h .hub .link .levels) 0) || has-frames h
 abbrev pub framed : Tables → Tables
 framed t = tables (take shares-length (t .members)) (t .places) (t .notices)
 
-abbrev pub behind-shares : ℕ
-behind-shares = members-length - shares-length
-
 abbrev pub unframed : Tables → Tables
-unframed t = tables (t .members ++ replicate behind-shares 0) (t .places) (t .notices)
+unframed t = tables (t .members ++ replicate (members-length - shares-length) 0) (t .places) (t .notices)
 
 -- ---- the line that they stand for
 
-abbrev pub of-levels : Kept → Tables → Line
-of-levels h t = record { levels = level-view (h .hub) t; frames = frame-fresh }
-
-abbrev pub of-frames : Kept → Tables → Line
-of-frames h t = record { levels = level-fresh; frames = frame-view (h .frames) (framed t) }
-
 abbrev pub view : Kept → Tables → Line
-view h t = cond (has-frames h) (of-frames h t) (of-levels h t)
+view h t =
+    cond (has-frames h)
+    (record { levels = level-fresh; frames = frame-view (h .frames) (framed t) })
+    (record { levels = level-view (h .hub) t; frames = frame-fresh })
 
 -- the clock of the discipline that is set
 abbrev pub kept-clock : Kept → ℕ

@@ -16,9 +16,12 @@ use Rattle.rules.specs.Words.{All}
 use Rattle.rules.specs.Limits.{max-connections, clock-end, beyond-32-bits}
 use Rattle.rules.specs.Model.{Past, State, Call, link, admit, offer, notice, close, tick, no-short, no-connection, no-past, past, figures, closed-at}
 use Rattle.rules.specs.Admission.{owned, free-number, joining, charge-time}
-use Rattle.rules.specs.Service.{eligibility-by, untimely-by, remember, ticked, charge-over, expired, swept-connections, swept-pasts, swept-marks}
-use Rattle.rules.specs.SoundState.{Free-number}
-use Rattle.rules.specs.Calls.{verdict, refused-number, refused-short, eligibility-now, placed, marked}
+use Rattle.rules.specs.Service.{eligibility-by, untimely-by, remember, ticked, charge-over, expired}
+use Rattle.rules.proofs.Doings.{swept-connections, swept-pasts, swept-marks}
+use Rattle.rules.proofs.Doings.{Free-number}
+use Rattle.rules.specs.Calls.{verdict, refused-number, refused-short, eligibility-now}
+use Rattle.rules.proofs.Doings.{placed}
+use Rattle.rules.proofs.Doings.{marked}
 use Rattle.rules.proofs.Lists.{list-eq}
 use Rattle.rules.proofs.Sums.{split, same}
 use Rattle.rules.proofs.Tests.{never}
@@ -32,7 +35,8 @@ use Rattle.rules.proofs.SoundKept.{done-sound}
 use Rattle.rules.proofs.Verdicts.{tick-done, admit-done, Offer-done, offer-done, Close-done, close-done}
 use Rattle.tables.specs.Places.{places-length, rows, written-places, no-packet}
 use Rattle.connections.specs.declared.Member.{Member}
-use Rattle.connections.specs.Members.{member-in, connections-in, pasts-in, closed-in, connection-of, past-of, last-of, used-by, used-in, first-in, written-table, written-members}
+use Rattle.connections.specs.Members.{member-in, connections-in, pasts-in, closed-in, used-by, used-in, first-in, written-members}
+use Rattle.connections.specs.Rows.{connection-of, past-of, last-of, written-table}
 use Rattle.connections.specs.Closing.{Closed-in-order, Swept}
 use Rattle.connections.proofs.MemberLaws.{connections-length, pasts-length, closed-length}
 use Rattle.connections.proofs.WrittenLaws.{members-rows, used-is, first-is}
@@ -75,7 +79,7 @@ module _ (h : Hub) (t : Tables) (ok : sound-hub h t ≡ true) where
   pub ready-to-tick : (h .link .levels ≡ 0 → ⊥) → h .clock < clock-end → Ready h (t .places) (t .notices)
   ready-to-tick n r =
       let f = shapes t (formed-tables h t ok) in
-      ready h (t .members) (t .places) (t .notices) (f .places-shape) (f .notices-shape) (others h t ok n) (S.linked h t ok n .line) r
+      ready h (t .members) (t .places) (t .notices) (f .places-shape) (f .notices-shape) (others h t ok n) (S.linked h t ok n .line .line) r
 
   -- what is closed has an owner that has sent
   module _ (n : h .link .levels ≡ 0 → ⊥) where
@@ -114,7 +118,7 @@ module _ (h : Hub) (t : Tables) (ok : sound-hub h t ≡ true) where
           where
             go : (b : Bool) → owned (connections-in (t .members)) c ≡ b → owned (connections-in (t .members)) c ≡ true
             go true o = o
-            go false o = never (sym (S.linked h t ok n .free-blank c (closed-below c e) o .not-closed) ∙ e)
+            go false o = never (sym (S.linked h t ok n .free-blank c (closed-below c e) o .2) ∙ e)
 
   pub tick-acts : (r : Told) (m p n : List ℕ) (b : ℕ) → verdict tick (view h t) ≡ 0 → Gives (ticked (view h t)) r p n
       → b ≡ charge-time (h .link) → Swept (t .members) b (r .hub .clock) m → Does tick h t r (tables m p n)

@@ -17,7 +17,7 @@ use Rattle.rules.specs.Model.{Past, State, Call, admit, offer, close, no-short,
 use Rattle.rules.specs.Admission.{level-within, owned, stands, free-number, joining, bound, reservation, reserved, level-test, passes, stand-by-on, distance}
 use Rattle.rules.specs.Service.{suits, untimely, untimely-by, eligibility-by, of}
 use Rattle.rules.specs.SoundTest.{sound}
-use Rattle.rules.specs.Calls.{heard, too-far, no-link-set, no-such-connection, clock-ended, causes, verdicts, verdict, refused-short}
+use Rattle.rules.specs.Calls.{heard, too-far, no-link-set, clock-ended, causes, verdicts, verdict, refused-short}
 use Rattle.rules.proofs.Tests.{passed, never, never-number, within-true}
 use Rattle.rules.proofs.Sums.{cond-is}
 use Rattle.rules.proofs.Standing.{owned-level, level-free, stands-is, stands-owned, stands-below, free-is}
@@ -30,7 +30,8 @@ use Rattle.causes.specs.declared.Ruling.{Ruling}
 use Rattle.causes.specs.Causes.{nothing-short, early-offer}
 use Rattle.causes.proofs.CauseLaws.{sound-first, front-gives, behind-gives, says-nothing}
 use Rattle.connections.specs.declared.Member.{Member}
-use Rattle.connections.specs.Members.{member-in, connection-of, past-of, connections-in, pasts-in}
+use Rattle.connections.specs.Members.{member-in, connections-in, pasts-in}
+use Rattle.connections.specs.Rows.{connection-of, past-of}
 use Rattle.connections.specs.Stamps.{stamp-if}
 use Rattle.connections.specs.Within.{Within, Sums-with}
 use Rattle.connections.proofs.MemberLaws.{connections-length, connection-is, past-is}
@@ -148,7 +149,7 @@ module _ (h : Hub) (t : Tables) (ok : sound-hub h t ≡ true) (c len tag : ℕ) 
 
 module _ (h : Hub) (t : Tables) (ok : sound-hub h t ≡ true) (c : ℕ) (b : Bool) (there : b ≡ stands (view h t) c) where
   abbrev ahead : List (ℕ × Bool)
-  ahead = no-link-set (view h t) ∷ no-such-connection (view h t) c ∷ []
+  ahead = no-link-set (view h t) ∷ (10, not (stands (view h t) c)) ∷ []
 
   abbrev then : List (ℕ × Bool)
   then = (16, leb 1 (length (of c (rows (t .places))))) ∷ []

@@ -12,7 +12,8 @@ ghost use Rattle.rules.specs.Admission.{bound, reservation, distance, free-numb
 ghost use Rattle.rules.specs.Service.{untimely-by, of};
 ghost use Rattle.rules.specs.Calls.{verdict};
 ghost use Rattle.tables.specs.Places.{rows, written-places, places-length};
-ghost use Rattle.connections.specs.Members.{connection-of, connections-in, pasts-in, used-in, rows-formed};
+ghost use Rattle.connections.specs.Members.{connections-in, pasts-in, used-in, rows-formed};
+ghost use Rattle.connections.specs.Rows.{connection-of};
 ghost use Rattle.connections.specs.Stamps.{stamp-if};
 ghost use Rattle.connections.specs.Within.{Within};
 ghost use Rattle.state.specs.View.{given, before, view, sound-hub};

@@ -2,13 +2,27 @@
 use Prim.Native.Nat.{ℕ, _+_, _<_}
 use native.Mathlib.Omega.{arith}
 use mathlib.Core.Path.{_≡_}
+use mathlib.Core.Bool.{cond}
 use mathlib.Core.List.{List, _++_, append-assoc}
+use lib.Dec.{eqb}
 use lib.ListN.{length, length-append}
 use borrow.Author.Tests.{eq-eqb, ne-eqb}
 use Rattle.checker.specs.declared.Finding.{Finding}
 use Rattle.checker.specs.declared.Finding.the-variants.{Accepted, Differs, TooLong, EndsEarly}
-use Rattle.checker.specs.Judgement.{common, finding, judgement}
+use Rattle.checker.specs.Judgement.{common}
 use Rattle.checker.proofs.CommonLaws.{common-behind, common-apart, common-le}
+
+-- what is found where the first n bytes of `found` and `expected` are alike and no more
+abbrev pub finding : ℕ → List ℕ → List ℕ → Finding
+finding n found expected = cond (eqb n (length found)) (cond (eqb n (length expected)) Accepted EndsEarly) (cond (eqb n (length expected)) TooLong Differs)
+
+-- the judgement that there is: what is found, and the offset
+pub record Judgement : Type 0 where
+  pub finding : Finding
+  pub offset : ℕ
+
+unfoldable pub judgement : List ℕ → List ℕ → Judgement
+judgement found expected = record { finding = finding (common found expected) found expected; offset = common found expected }
 
 judged-by : (n : ℕ) (f : Finding) (x y : List ℕ) → common x y ≡ n → finding n x y ≡ f → record { finding = f; offset = n } ≡ judgement x y
 unfolding judgement

@@ -1,12 +1,12 @@
 -- A move of the checker, from what its calls ensure: what it is, and that it leaves less to do.
-use Prim.Native.Nat.{ℕ, suc, _-_, _<_, _≤_}
+use Prim.Native.Nat.{ℕ, suc, _-_, _/_, _<_, _≤_}
 use native.Mathlib.Omega.{arith}
 use mathlib.Core.Path.{_≡_, refl, sym, ap, _∙_, subst}
 use mathlib.Core.Bool.{Bool, true, false, cond, _&&_}
 use mathlib.Core.Logic.{_⊎_}
 use mathlib.Core.List.{List, [], _++_}
 use lib.Dec.{ltb}
-use lib.IntN.{ℤ}
+use lib.IntN.{ℤ, pos}
 use lib.ListN.{length, take, length-drop}
 use lib.Signed.{nonNeg}
 use borrow.Author.Tests.{ltb-true, ltb-false}
@@ -16,7 +16,7 @@ use Rattle.tables.specs.Lent.{Tables}
 use Rattle.answers.specs.Answers.{longest-answer}
 use Rattle.turns.specs.declared.End.the-variants.{On as Goes-on, ReadFailed, NotTaken}
 use Rattle.turns.specs.declared.Turn.{Turn}
-use Rattle.replay.specs.Sessions.{Pumps}
+use Rattle.replay.specs.Sessions.{Steps}
 use Rattle.steps.specs.declared.Stepped.{Stepped}
 use Rattle.turns.specs.Turns.{Ends-log, is-on as turn-on, turns-left, window, Right, Better, Followed}
 use Rattle.turns.proofs.TurnLaws.{turned}
@@ -26,7 +26,7 @@ use Rattle.checker.specs.declared.Finding.{Finding}
 use Rattle.checker.specs.declared.Finding.the-variants.{On, Accepted, Differs, TooLong, EndsEarly, TraceFailed, LogFailed}
 use Rattle.checker.specs.declared.Check.{Check}
 use Rattle.checker.specs.Judgement.{common}
-use Rattle.checker.specs.Checks.{Inside, without-more, with-more, Compares, stepped, Steps-on, Closes, failed, Advances, first-check, is-on, Checks, Judges}
+use Rattle.checker.specs.Checks.{Inside, without-more, with-more, Compares, Steps-on, Closes, failed, Advances, first-check, is-on, Checks, Judges}
 use Rattle.checker.specs.Checks.Checks.{none, move}
 use Rattle.checker.specs.Checks.Move.{compares, steps, closes, fails}
 use Rattle.checker.proofs.CommonLaws.{common-le}
@@ -34,11 +34,15 @@ use Rattle.checker.specs.Bounds.{left, Fit, Nearer}
 
 -- ---- what it is
 
+-- after a turn v of the replay, which wrote n bytes
+abbrev stepped : Check → Turn → ℕ → Check
+stepped c v n = record { turn = v; met = 0; wrote = n; from = c .from; to = c .to; asked = false; read = pos 0; at = c .at; finding = On }
+
 -- a call of `pump` that answered a, and what follows it, where all is taken
-pub steps-on : (c : Check) (t : Tables) (w o : List ℕ) (a : Stepped) (v : Turn) (t2 : Tables) (w2 o2 : List ℕ) → Pumps (c .turn .cursor) t w (c .turn .last) o a t2 o2
-    → Followed a w (c .turn .last) true v w2 → Steps-on c t w o (stepped c v (a .wrote)) t2 w2 o2
+pub steps-on : (c : Check) (t : Tables) (w o : List ℕ) (a : Stepped) (v : Turn) (t2 : Tables) (w2 o2 : List ℕ) → Steps (length o / longest-answer) (c .turn .cursor) t w (c .turn .last) o a t2 o2
+    → Followed a w (c .turn .last) v w2 → v .taken ≡ true → Steps-on c t w o (stepped c v (a .wrote)) t2 w2 o2
 unfolding turned
-steps-on c t w o a v t2 w2 o2 P F = record { turned = turned (c .turn .cursor) t w (c .turn .last) o a t2 o2 w2 true v P F; taken = F .took; check = refl }
+steps-on c t w o a v t2 w2 o2 P F T = record { turned = turned (c .turn .cursor) t w (c .turn .last) o a t2 o2 w2 v P F; taken = T; check = refl }
 
 module _ (c : Check) (t : Tables) (w e l : List ℕ) where
   pub by-comparing : (r : Check) (w2 e2 l2 : List ℕ) → 0 < length e → Compares c e l r e2 l2 → w2 ≡ w → Advances c t w e l r t w2 e2 l2
@@ -176,11 +180,7 @@ made-more c t w e l M o r t2 w2 e2 l2 A =
 
 pub made-judges : (r : Check) (t : Tables) (w e l : List ℕ) → Made r t w e l → (r .finding ≡ On → ⊥) → Judges r
 made-judges r t w e l M o =
-    record {
-      trace = M .given;
-      found = M .came;
-      judged = record { wrote = M .wrote; tables = t; window = w; expected = e; log-window = l; checks = M .checks; over = o };
-    }
+    record { trace = M .given; found = M .came; wrote = M .wrote; tables = t; window = w; expected = e; log-window = l; checks = M .checks; over = o }
 
 -- whether another move follows
 pub goes-true : (f : Finding) → is-on f ≡ true → f ≡ On

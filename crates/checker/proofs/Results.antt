@@ -3,27 +3,29 @@ use Prim.Native.Nat.{ℕ, _<_, _≤_}
 use native.Mathlib.Omega.{arith}
 use mathlib.Core.Path.{_≡_, refl, sym, ap, _∙_, subst}
 use mathlib.Core.Bool.{Bool, true, false, cond}
-use mathlib.Core.Logic.{_⊎_, inl, inr}
+use mathlib.Core.Logic.{_⊎_, inl, inr, _↔_}
 use mathlib.Core.List.{List, [], _++_}
 use lib.Dec.{eqb}
 use lib.ListN.{length, take, drop, length-drop, take-append-drop}
 use lib.Signed.{nonNeg}
 use borrow.Author.Tests.{eqb-true, eqb-false, eq-eqb}
 use Rattle.rules.proofs.Tests.{never}
+use Rattle.tables.specs.Lent.{Tables}
 use Rattle.log.specs.Log.{log}
 use Rattle.log.specs.Bad.{Ends-with}
 use Rattle.replay.proofs.Results.{ends-with-its-er}
 use Rattle.turns.specs.declared.End.the-variants.{ReadFailed, NotTaken}
-use Rattle.turns.specs.Turns.{Ends-log}
-use Rattle.turns.proofs.Results as turns
+use Rattle.turns.specs.Turns.{is-end, Ends-log}
+use Rattle.turns.specs.Promises.{After-any-turn}
+use Rattle.turns.proofs.Results.{all-turns}
 use Rattle.checker.specs.declared.Finding.{Finding}
 use Rattle.checker.specs.declared.Finding.the-variants.{On, Accepted, Differs, TooLong, EndsEarly, TraceFailed, LogFailed}
 use Rattle.checker.specs.declared.Check.{Check}
-use Rattle.checker.specs.Judgement.{common, finding, Judgement, judgement}
-use Rattle.checker.specs.Checks.{Judged}
-use Rattle.checker.specs.Promises.{Accepts-exactly, Offset-is-the-longest-common-beginning, One-offset, Tells-where-always, Decided, Has-ended, The-checker-judges, Accepted-exactly, A-damaged-trace-has-its-ER, Ended-as-read, They-end-for-no-other-reason}
+use Rattle.checker.specs.Judgement.{common, Judged}
+use Rattle.checker.specs.Checks.{Checks}
+use Rattle.checker.specs.Promises.{Decided, Has-ended, At-its-end, All-moves}
 use Rattle.checker.proofs.CommonLaws.{common-le, common-itself, common-all, common-is, common-one}
-use Rattle.checker.proofs.JudgementLaws.{apart-there, early-there, long-there, same-there}
+use Rattle.checker.proofs.JudgementLaws.{finding, Judgement, judgement, apart-there, early-there, long-there, same-there}
 use Rattle.checker.proofs.CheckLaws.{turns-of, all-taken, Met, met-of, Known, known}
 
 -- ---- of any two byte lists
@@ -56,24 +58,27 @@ judgement-says x y = go (common x y) (common-le x y .0) (common-le x y .1) (eqb 
 says : (x y : List ℕ) (f : Finding) → judgement x y .finding ≡ f → Says (common x y) x y f
 says x y f e = subst (Says (common x y) x y) e (judgement-says x y)
 
-pub accepts-exactly : Accepts-exactly
+accepts : (x y : List ℕ) → judgement x y .finding ≡ Accepted ↔ x ≡ y
 unfolding judgement
-accepts-exactly x y = (
+accepts x y = (
   λ e. let s = says x y Accepted e in common-all x y (s .0) (s .1),
   λ e. rw (e, common-itself y, eq-eqb (length y) (length y) refl),
 )
 
-pub offset-is-the-longest-common-beginning : Offset-is-the-longest-common-beginning
+judged : (x y : List ℕ) → Judged (judgement x y .finding) (judgement x y .offset) x y
 unfolding judgement
-offset-is-the-longest-common-beginning x y = common-is x y
+judged x y =
+    record {
+      accepts-exactly = accepts x y;
+      offset-is-the-longest-common-beginning = common-is x y;
+      one-offset = λ n C. common-one n x y C;
+      differs = λ e. says x y Differs e;
+      too-long = λ e. says x y TooLong e;
+      ends-early = λ e. says x y EndsEarly e;
+    }
 
-pub one-offset : One-offset
-unfolding judgement
-one-offset n x y C = common-one n x y C
-
-pub tells-where-always : Tells-where-always
-unfolding judgement
-tells-where-always x y = record { differs = λ e. says x y Differs e; too-long = λ e. says x y TooLong e; ends-early = λ e. says x y EndsEarly e }
+judged-as : (j : Judgement) (x y : List ℕ) → j ≡ judgement x y → Judged (j .finding) (j .offset) x y
+judged-as j x y e = subst (λ (k : Judgement). Judged (k .finding) (k .offset) x y) (sym e) (judged x y)
 
 -- ---- of the checker
 
@@ -87,84 +92,77 @@ none-left wrote l e = rw (length-drop (length wrote) l, e) (omega arith)
 empty : {l : List ℕ} → l ≡ [] → length l ≡ 0
 empty e = ap length e
 
-module _ (trace found : List ℕ) (r : Check) (J : Judged trace found r) (then more : List ℕ) (g : r .turn .last ≡ true → then ≡ []) (m : Has-ended (r .finding) → more ≡ []) where
+module _ (given then came more wrote : List ℕ) (r : Check) (t : Tables) (w e l : List ℕ) (J : Checks given came wrote r t w e l) (over : r .finding ≡ On → ⊥)
+    (g : r .turn .last ≡ true → then ≡ []) (m : Has-ended (r .finding) → more ≡ []) where
   abbrev rules : List ℕ
-  rules = log (trace ++ then)
+  rules = log (given ++ then)
 
-  abbrev M : Met found (J .wrote) (r .at) (J .expected) (J .log-window)
-  M = met-of (J .checks)
+  abbrev M : Met came wrote (r .at) e l
+  M = met-of J
 
   abbrev rest : List ℕ
-  rest = drop (length (J .wrote)) rules
+  rest = drop (length wrote) rules
+
+  -- what holds after the last turn of the replay
+  so-far : After-any-turn (given ++ then) wrote (r .turn) t w
+  so-far = all-turns given wrote then (r .turn) t w (turns-of J) g
 
   -- the judgement of the two lists, told by what was met
   abbrev Judged-there : Finding → Type 0
-  Judged-there f = record { finding = f; offset = length (M .both) } ≡ judgement ((M .both ++ J .log-window) ++ more) ((M .both ++ J .expected) ++ rest)
+  Judged-there f = record { finding = f; offset = length (M .both) } ≡ judgement ((M .both ++ l) ++ more) ((M .both ++ e) ++ rest)
 
-  told : (f : Finding) → r .finding ≡ f → Judged-there f → record { finding = r .finding; offset = r .at } ≡ judgement (found ++ more) rules
-  told f e j =
-      let b = turns.it-writes-nothing-else trace (J .wrote) (r .turn) (J .tables) (J .window) (turns-of (J .checks)) then g in
-      let p : (M .both ++ J .log-window) ++ more ≡ found ++ more = ap (λ x. x ++ more) (sym (M .log)) in
-      let q : (M .both ++ J .expected) ++ rest ≡ rules = ap (λ x. x ++ rest) (sym (M .rules)) ∙ sym (goes-on (J .wrote) rules b) in
-      let k = subst (λ x. record { finding = f; offset = length (M .both) } ≡ judgement x ((M .both ++ J .expected) ++ rest)) p j in
-      let h = subst (λ y. record { finding = f; offset = length (M .both) } ≡ judgement (found ++ more) y) q k in
-      rw (e, ← M .count) h
+  told : (f : Finding) → r .finding ≡ f → Judged-there f → record { finding = r .finding; offset = r .at } ≡ judgement (came ++ more) rules
+  told f i j =
+      let p : (M .both ++ l) ++ more ≡ came ++ more = ap (λ x. x ++ more) (sym (M .log)) in
+      let q : (M .both ++ e) ++ rest ≡ rules = ap (λ x. x ++ rest) (sym (M .rules)) ∙ sym (goes-on wrote rules (so-far .it-writes-nothing-else)) in
+      let k = subst (λ x. record { finding = f; offset = length (M .both) } ≡ judgement x ((M .both ++ e) ++ rest)) p j in
+      let h = subst (λ y. record { finding = f; offset = length (M .both) } ≡ judgement (came ++ more) y) q k in
+      rw (i, ← M .count) h
 
-  known-as : (f : Finding) → r .finding ≡ f → Known f r (J .expected) (J .log-window)
-  known-as f e = subst (λ (x : Finding). Known x r (J .expected) (J .log-window)) e (known (J .checks))
+  known-as : (f : Finding) → r .finding ≡ f → Known f r e l
+  known-as f i = subst (λ (x : Finding). Known x r e l) i (known J)
 
   -- the rules give nothing more
   given-all : Ends-log (r .turn .end) → length rest ≡ 0
-  given-all e = none-left (J .wrote) rules (turns.the-program-writes-the-log trace (J .wrote) (r .turn) (J .tables) (J .window) (turns-of (J .checks)) then g e)
+  given-all i = none-left wrote rules (so-far .the-program-writes-the-log i)
 
-  judges : Decided (r .finding) → record { finding = r .finding; offset = r .at } ≡ judgement (found ++ more) rules
-  judges (inl e) =
-      let k = known-as Accepted e in
-      told Accepted e (same-there (M .both) (J .log-window) (J .expected) more rest (k .0) (given-all (k .2)) (k .1) (empty (m (inl e))))
-  judges (inr (inl e)) = let k = known-as Differs e in told Differs e (apart-there (M .both) (J .log-window) (J .expected) more rest (k .2) (k .1) (k .0))
-  judges (inr (inr (inl e))) =
-      let k = known-as TooLong e in
-      told TooLong e (long-there (M .both) (J .log-window) (J .expected) more rest (k .0) (given-all (k .2)) (k .1))
-  judges (inr (inr (inr e))) =
-      let k = known-as EndsEarly e in
-      told EndsEarly e (early-there (M .both) (J .log-window) (J .expected) more rest (k .1) (empty (m (inr e))) (k .0))
+  judges : Decided (r .finding) → record { finding = r .finding; offset = r .at } ≡ judgement (came ++ more) rules
+  judges (inl i) =
+      let k = known-as Accepted i in
+      told Accepted i (same-there (M .both) l e more rest (k .0) (given-all (k .2)) (k .1) (empty (m (inl i))))
+  judges (inr (inl i)) = let k = known-as Differs i in told Differs i (apart-there (M .both) l e more rest (k .2) (k .1) (k .0))
+  judges (inr (inr (inl i))) = let k = known-as TooLong i in told TooLong i (long-there (M .both) l e more rest (k .0) (given-all (k .2)) (k .1))
+  judges (inr (inr (inr i))) = let k = known-as EndsEarly i in told EndsEarly i (early-there (M .both) l e more rest (k .1) (empty (m (inr i))) (k .0))
 
-pub the-checker-judges : The-checker-judges
-the-checker-judges trace found r J d then more g m = judges trace found r J then more g m d
+  the-judgement : Decided (r .finding) → Judged (r .finding) (r .at) (came ++ more) rules
+  the-judgement d = judged-as (record { finding = r .finding; offset = r .at }) (came ++ more) rules (judges d)
 
-pub accepted-exactly : Accepted-exactly
-accepted-exactly trace found r J d then more g m =
-    let j = ap (λ (x : Judgement). x .finding) (the-checker-judges trace found r J d then more g m) in
-    let a = accepts-exactly (found ++ more) (log (trace ++ then)) in
-    (λ e. a .0 (sym j ∙ e), λ e. j ∙ a .1 e)
+  read-to-its-end : Has-ended (r .finding) → (r .asked ≡ true) × (is-end (r .read) ≡ true)
+  read-to-its-end (inl i) = known-as Accepted i .3
+  read-to-its-end (inr i) = known-as EndsEarly i .2
 
-pub a-damaged-trace-has-its-er : A-damaged-trace-has-its-ER
-a-damaged-trace-has-its-er trace found r J d then more g m offset b e =
-    subst (Ends-with _) (sym (accepted-exactly trace found r J d then more g m .0 e)) (ends-with-its-er (trace ++ then) offset b)
+  failed : (r .turn .end ≡ ReadFailed) ⊎ (r .turn .end ≡ NotTaken) → nonNeg (r .turn .read) ≡ false
+  failed (inl i) = so-far .it-ends-for-no-other-reason .1 i
+  failed (inr i) = never (sym (so-far .it-ends-for-no-other-reason .0 i) ∙ all-taken J)
 
-pub ended-as-read : Ended-as-read
-ended-as-read trace found r J (inl e) = known-as trace found r J [] [] (λ _. refl) (λ _. refl) Accepted e .3
-ended-as-read trace found r J (inr e) = known-as trace found r J [] [] (λ _. refl) (λ _. refl) EndsEarly e .2
+  reason : (f : Finding) → r .finding ≡ f
+      → Decided (r .finding) ⊎ (((r .finding ≡ TraceFailed) × (nonNeg (r .turn .read) ≡ false)) ⊎ ((r .finding ≡ LogFailed) × (nonNeg (r .read) ≡ false)))
+  reason On i = absurd (over i)
+  reason Accepted i = inl (inl i)
+  reason Differs i = inl (inr (inl i))
+  reason TooLong i = inl (inr (inr (inl i)))
+  reason EndsEarly i = inl (inr (inr (inr i)))
+  reason TraceFailed i = inr (inl (i, failed (known-as TraceFailed i)))
+  reason LogFailed i = inr (inr (i, known-as LogFailed i))
 
-pub they-end-for-no-other-reason : They-end-for-no-other-reason
-they-end-for-no-other-reason trace found r J = go (r .finding) refl
-  where
-    k : (f : Finding) → r .finding ≡ f → Known f r (J .expected) (J .log-window)
-    k f e = subst (λ (x : Finding). Known x r (J .expected) (J .log-window)) e (known (J .checks))
+  at-its-end : At-its-end (given ++ then) (came ++ more) r
+  at-its-end =
+      record {
+        the-checker-judges = the-judgement;
+        a-damaged-trace-has-its-ER = λ offset b i. subst (Ends-with _) (sym (the-judgement (inl i) .accepts-exactly .0 i)) (ends-with-its-er (given ++ then) offset b);
+        ended-as-read = read-to-its-end;
+        they-end-for-no-other-reason = reason (r .finding) refl;
+      }
 
-    reason : (r .turn .end ≡ NotTaken → r .turn .taken ≡ false) × (r .turn .end ≡ ReadFailed → nonNeg (r .turn .read) ≡ false)
-    reason = turns.it-ends-for-no-other-reason trace (J .wrote) (r .turn) (J .tables) (J .window) (turns-of (J .checks))
-
-    failed : (r .turn .end ≡ ReadFailed) ⊎ (r .turn .end ≡ NotTaken) → nonNeg (r .turn .read) ≡ false
-    failed (inl e) = reason .1 e
-    failed (inr e) = never (sym (reason .0 e) ∙ all-taken (J .checks))
-
-    go : (f : Finding) → r .finding ≡ f
-        → Decided (r .finding) ⊎ (((r .finding ≡ TraceFailed) × (nonNeg (r .turn .read) ≡ false)) ⊎ ((r .finding ≡ LogFailed) × (nonNeg (r .read) ≡ false)))
-    go On e = absurd (J .over e)
-    go Accepted e = inl (inl e)
-    go Differs e = inl (inr (inl e))
-    go TooLong e = inl (inr (inr (inl e)))
-    go EndsEarly e = inl (inr (inr (inr e)))
-    go TraceFailed e = inr (inl (e, failed (k TraceFailed e)))
-    go LogFailed e = inr (inr (e, k LogFailed e))
+pub all-moves : All-moves
+all-moves given then came more wrote r t w e l J over g m = at-its-end given then came more wrote r t w e l J over g m

@@ -2,7 +2,7 @@
 use Prim.Native.Nat.{ℕ, suc, _<_}
 use mathlib.Core.Path.{_≡_}
 use mathlib.Core.Bool.{cond}
-use mathlib.Core.Logic.{_⊎_}
+use mathlib.Core.Logic.{_⊎_, _↔_}
 use mathlib.Core.List.{List, [], _∷_}
 use lib.Dec.{eqb}
 use lib.ListN.{length, take, getD}
@@ -21,15 +21,16 @@ pub record Common (n : ℕ) (l m : List ℕ) : Type 0 where
   pub within : (n < suc (length l)) × (n < suc (length m))
   pub there : (n ≡ length l) ⊎ ((n ≡ length m) ⊎ (getD l n 0 ≡ getD m n 0 → ⊥))
 
--- what is found where the first n bytes of `found` and `expected` are alike and no more: "accept exactly when the log is the one the rules give", "the first byte of
+-- THE JUDGEMENT: f is found, with the offset n, where `found` is held against `expected`. "Accept exactly when the log is the one the rules give", else "the first byte of
 -- the log that differs or is one too many, or its length if it ends early"
-abbrev pub finding : ℕ → List ℕ → List ℕ → Finding
-finding n found expected = cond (eqb n (length found)) (cond (eqb n (length expected)) Accepted EndsEarly) (cond (eqb n (length expected)) TooLong Differs)
-
--- THE JUDGEMENT: what is found, and the offset
-pub record Judgement : Type 0 where
-  pub finding : Finding
-  pub offset : ℕ
-
-unfoldable pub judgement : List ℕ → List ℕ → Judgement
-judgement found expected = record { finding = finding (common found expected) found expected; offset = common found expected }
+pub record Judged (f : Finding) (n : ℕ) (found expected : List ℕ) : Type 0 where
+  -- a log is accepted exactly if it is the one that the rules give
+  pub accepts-exactly : f ≡ Accepted ↔ found ≡ expected
+  -- the offset is always the length of the longest common beginning ..
+  pub offset-is-the-longest-common-beginning : Common n found expected
+  -- .. of which there is one
+  pub one-offset : (m : ℕ) → Common m found expected → m ≡ n
+  -- it is that of the first byte of the log that differs, or of the first that is one too many, or the log's length where it ends early
+  pub differs : f ≡ Differs → (n < length found) × (n < length expected)
+  pub too-long : f ≡ TooLong → (n < length found) × (n ≡ length expected)
+  pub ends-early : f ≡ EndsEarly → (n ≡ length found) × (n < length expected)

@@ -21,10 +21,11 @@ use Rattle.rules.proofs.Standing.{owned-level}
 use Rattle.limits.specs.Zeros.{zeros}
 use Rattle.tables.specs.Table.{row-in}
 use Rattle.connections.specs.declared.Member.{Member}
-use Rattle.connections.specs.Members.{member-head, member-width, rows-end, no-member, member-in, put-member, members-in, past-of, closed-of, connections-in, pasts-in, closed-in, up-to, used-by, earlier, last-of, first-closed, used-in, first-in, row-of, member, members-for, written-rows, written-table, written-members, rows-formed, members-formed}
+use Rattle.connections.specs.Members.{member-width, no-member, member-in, put-member, members-in, connections-in, pasts-in, closed-in, used-by, earlier, first-closed, used-in, first-in, row-of, members-for, written-rows, written-members, rows-formed, members-formed}
+use Rattle.connections.specs.Rows.{member-head, rows-end, past-of, closed-of, last-of, member, written-table}
 use Rattle.connections.specs.Closing.{Closed-in-order}
 use Rattle.connections.proofs.MemberLaws.{length-members, connections-length, pasts-length, closed-length, past-member, closed-member, member-is, connection-is, past-is, closed-is, rows-written, set-used, set-first}
-use Rattle.connections.proofs.OwnerLaws.{level-behind, first-same}
+use Rattle.connections.proofs.OwnerLaws.{up-to, up-to-some, level-behind, first-same}
 use Rattle.connections.proofs.WrittenLaws.{Formed, formed-parts, member-formed-at, rows-length, members-are, table-written, members-rows, used-is, first-is, put-anew, for-set, Few, pasts-few, connections-back}
 
 -- ---- a charge
@@ -59,7 +60,7 @@ used-least (x ∷ cs) (suc n) f = go (eqb (x .level) 0) (used-by cs) (used-least
     go : (b : Bool) (m : ℕ) → m ≤ n → up-to b m ≤ suc n
     go true zero h = omega arith
     go false zero h = omega arith
-    go b (suc m) h = omega arith
+    go b (suc m) h = omega (arith, up-to-some b (suc m) (omega arith))
 
 -- row k is the last of them, or not one
 module _ (cs : List Connection) (k : ℕ) (h : used-by cs ≤ suc k) where
@@ -91,20 +92,26 @@ free-level-stays (x ∷ cs) (suc c) (suc i) z = free-level-stays cs c i z
 
 -- ---- one more than the earliest last eligibility of those that are closed
 
+pub earlier-none : (a b : ℕ) → b ≡ 0 → earlier a b ≡ a
+earlier-none a b h = cond-is a (min a b) (eq-eqb b 0 h)
+
 pub earlier-some : (a b : ℕ) → 0 < b → earlier a b ≡ min a b
-earlier-some a zero h = absurd (omega arith)
-earlier-some a (suc b) h = refl
+earlier-some a b h = cond-is a (min a b) (ne-eqb b 0 (λ e. omega arith))
 
 earlier-swap : (a b f : ℕ) → earlier (suc a) (earlier (suc b) f) ≡ earlier (suc b) (earlier (suc a) f)
-earlier-swap a b zero = omega arith
+earlier-swap a b zero = omega (arith, earlier-some (suc a) (suc b) (omega arith), earlier-some (suc b) (suc a) (omega arith))
 earlier-swap a b (suc f) =
     let l : 0 < min (suc b) (suc f) = omega arith in
     let k : 0 < min (suc a) (suc f) = omega arith in
-    omega (arith, earlier-some (suc a) (min (suc b) (suc f)) l, earlier-some (suc b) (min (suc a) (suc f)) k)
+    let d : earlier (suc b) (suc f) ≡ min (suc b) (suc f) = earlier-some (suc b) (suc f) (omega arith) in
+    let e : earlier (suc a) (suc f) ≡ min (suc a) (suc f) = earlier-some (suc a) (suc f) (omega arith) in
+    ap (earlier (suc a)) d
+    ∙ omega (arith, earlier-some (suc a) (min (suc b) (suc f)) l, earlier-some (suc b) (min (suc a) (suc f)) k)
+    ∙ ap (earlier (suc b)) (sym e)
 
 earlier-le : (a f : ℕ) → (0 < earlier (suc a) f) × (earlier (suc a) f ≤ suc a) × (0 < f → earlier (suc a) f ≤ f)
 earlier-le a zero = (omega arith, omega arith, λ l. absurd (omega arith))
-earlier-le a (suc f) = (omega arith, omega arith, λ l. omega arith)
+earlier-le a (suc f) = let e = earlier-some (suc a) (suc f) (omega arith) in (omega (arith, e), omega (arith, e), λ l. omega (arith, e))
 
 -- it is 0 where none is closed
 pub first-none : (hs : List Past) (bs : List Bool) → ((c : ℕ) → getD bs c false ≡ false) → first-closed hs bs ≡ 0

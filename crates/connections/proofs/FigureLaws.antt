@@ -13,7 +13,7 @@ use lib.ListN.{length, getD, List·getD-eq-default}
 use Rattle.rules.specs.declared.Link.{Link}
 use Rattle.rules.specs.declared.Connection.{Connection}
 use Rattle.rules.specs.Words.{within, sum}
-use Rattle.rules.specs.Limits.{max-levels, max-largest, max-silence, max-bound, max-gap, max-burst, max-allowance, beyond-32-bits}
+use Rattle.rules.specs.Limits.{max-levels, max-largest, max-silence, max-bound, max-gap, max-allowance, beyond-32-bits, max-remembered}
 use Rattle.rules.specs.Model.{nth, no-connection}
 use Rattle.rules.specs.Admission.{rising, windowed, windows-within, link-within, burst, average-within, kind-within, figures-within, free-number, joining, bound, rounded-up, average-count, count, reservation, reserved, cost, load, span, conditions, level-sum, excess-from, excess, short-from, level-test, passes}
 use Rattle.rules.proofs.Tests.{never, and-true, or-cases, within-true}
@@ -82,7 +82,7 @@ pub record Figure-limits (l : Link) (x : Connection) : Type 0 where
   pub some-gap : 1 ≤ x .gap
   pub some-size : 1 ≤ x .size
   pub size-le : x .size ≤ l .largest
-  pub burst-le : burst x ≤ max-burst
+  pub burst-le : burst x ≤ max-remembered
   pub allowance-le : x .allowance ≤ max-allowance
 
 -- an allowance within its limit, of either kind

@@ -17,7 +17,8 @@ use Rattle.rules.proofs.Standing.{level-free}
 use Rattle.tables.specs.Table.{row-in, rows-in, numbers, write}
 use Rattle.tables.proofs.TableLaws.{numbers-all, length-numbers, length-rows, made-at, write-rows, length-write, put-at, first-back}
 use Rattle.connections.specs.declared.Member.{Member}
-use Rattle.connections.specs.Members.{member-head, member-width, rows-end, members-length, figures-row, row-of, member-of, no-member, member-in, put-member, members-in, members-are, connection-of, past-of, closed-of, connections-in, pasts-in, closed-in, used-in, first-in, written-rows}
+use Rattle.connections.specs.Members.{member-width, members-length, figures-row, row-of, member-of, no-member, member-in, put-member, members-in, members-are, connections-in, pasts-in, closed-in, used-in, first-in, written-rows}
+use Rattle.connections.specs.Rows.{member-head, rows-end, connection-of, past-of, closed-of}
 
 -- ---- a row
 

@@ -3,7 +3,7 @@
 use Prim.Native.Nat.{ℕ, zero, suc, _+_, _-_, _≤_, _<_, max}
 use native.Mathlib.Omega.{arith}
 use mathlib.Core.Path.{_≡_, refl, sym, ap, _∙_}
-use mathlib.Core.Bool.{Bool, true, false, cond}
+use mathlib.Core.Bool.{Bool, true, false, cond, _&&_}
 use mathlib.Core.Logic.{_⊎_, inl, inr, ⊎-elim}
 use mathlib.Core.List.{List, [], _∷_}
 use lib.Dec.{eqb}
@@ -15,7 +15,8 @@ use Rattle.rules.specs.Model.{Past, no-connection, nth}
 use Rattle.rules.specs.Admission.{owned, free-number, joining}
 use Rattle.rules.proofs.Sums.{split, same, cond-is, cond-ind, sum-eq, sum-add, only, only-at, only-off, sum-only}
 use Rattle.rules.proofs.Standing.{level-free, owned-level, free-is, length-joining, nth-new, nth-other}
-use Rattle.connections.specs.Members.{up-to, used-by, last-of, earlier, first-closed}
+use Rattle.connections.specs.Members.{used-by, earlier, first-closed}
+use Rattle.connections.specs.Rows.{last-of}
 
 -- ---- the lowest free number
 
@@ -41,14 +42,16 @@ module _ (cs : List Connection) (i : ℕ) (h : i ≤ free-number cs) where
 
 -- ---- how many numbers there are up to the last owner
 
+abbrev pub up-to : Bool → ℕ → ℕ
+up-to free n = cond (eqb n 0 && free) 0 (suc n)
+
+pub up-to-some : (b : Bool) (n : ℕ) → 1 ≤ n → up-to b n ≡ suc n
+up-to-some b n h = rw (ne-eqb n 0 (λ e. omega arith))
+
 up-to-le : (b : Bool) (n : ℕ) → up-to b n ≤ suc n
 up-to-le true zero = omega arith
 up-to-le false zero = omega arith
-up-to-le b (suc n) = omega arith
-
-up-to-some : (b : Bool) (n : ℕ) → 1 ≤ n → up-to b n ≡ suc n
-up-to-some b zero h = absurd (omega arith)
-up-to-some b (suc n) h = refl
+up-to-le b (suc n) = omega (arith, up-to-some b (suc n) (omega arith))
 
 pub used-le : (cs : List Connection) → used-by cs ≤ length cs
 used-le [] = omega arith
@@ -62,12 +65,12 @@ level-behind (x ∷ cs) zero h = go (eqb (x .level) 0) refl (used-by cs) h
     go : (b : Bool) → eqb (x .level) 0 ≡ b → (n : ℕ) → up-to b n ≤ 0 → x .level ≡ 0
     go true e n l = eqb-true (x .level) 0 e
     go false e zero l = absurd (omega arith)
-    go false e (suc n) l = absurd (omega arith)
+    go false e (suc n) l = absurd (omega (arith, up-to-some false (suc n) (omega arith)))
 level-behind (x ∷ cs) (suc c) h = level-behind cs c (go (used-by cs) h)
   where
     go : (n : ℕ) → up-to (eqb (x .level) 0) n ≤ suc c → n ≤ c
     go zero l = omega arith
-    go (suc n) l = omega arith
+    go (suc n) l = omega (arith, up-to-some (eqb (x .level) 0) (suc n) (omega arith))
 
 pub none-behind : (cs : List Connection) (c : ℕ) → used-by cs ≤ c → owned cs c ≡ false
 none-behind cs c h = level-free cs c (level-behind cs c h)
@@ -79,12 +82,12 @@ owned-used cs c o = ⊎-elim (λ h. absurd (owned-level cs c o (level-behind cs 
 up-to-owner : (b : Bool) (n : ℕ) → up-to false n ≡ max (up-to b n) 1
 up-to-owner true zero = refl
 up-to-owner false zero = refl
-up-to-owner b (suc n) = omega arith
+up-to-owner b (suc n) = omega (arith, up-to-some false (suc n) (omega arith), up-to-some b (suc n) (omega arith))
 
 up-to-max : (b : Bool) (n c : ℕ) → up-to b (max n (suc c)) ≡ max (up-to b n) (suc (suc c))
 up-to-max true zero c = up-to-some true (max 0 (suc c)) (omega arith) ∙ omega arith
 up-to-max false zero c = up-to-some false (max 0 (suc c)) (omega arith) ∙ omega arith
-up-to-max b (suc n) c = up-to-some b (max (suc n) (suc c)) (omega arith) ∙ omega arith
+up-to-max b (suc n) c = up-to-some b (max (suc n) (suc c)) (omega arith) ∙ omega (arith, up-to-some b (suc n) (omega arith))
 
 pub used-set : (cs : List Connection) (c : ℕ) (x : Connection) → c < length cs → 1 ≤ x .level → used-by (set cs c x) ≡ max (used-by cs) (suc c)
 used-set [] c x l h = absurd (omega arith)

@@ -26,7 +26,8 @@ use Rattle.limits.proofs.ZeroLaws.{zeros-parts, zeros-rep, zeros-left, drop-zer
 use Rattle.tables.specs.Table.{numbers}
 use Rattle.tables.proofs.TableLaws.{numbers-again}
 use Rattle.connections.specs.declared.Member.{Member}
-use Rattle.connections.specs.Members.{connection-of, past-of, closed-of, connections-in, pasts-in, closed-in, member, member-in, member-formed, rows-formed}
+use Rattle.connections.specs.Members.{connections-in, pasts-in, closed-in, member-in, member-formed, rows-formed}
+use Rattle.connections.specs.Rows.{connection-of, past-of, closed-of, member}
 use Rattle.connections.specs.Within.{Within, gap-only, last-only}
 use Rattle.connections.proofs.FigureLaws.{burst-is, figure-limits}
 use Rattle.connections.proofs.MemberLaws.{connection-is, past-is, closed-is}

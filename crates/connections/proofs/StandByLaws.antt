@@ -16,7 +16,7 @@ use Rattle.rules.specs.Admission.{stamped, burst, stand-by-on, goes-early}
 use Rattle.rules.specs.Service.{nth-before, ticks-after}
 use Rattle.rules.specs.SoundState.{is-known, lies-beyond, settled-by, settles}
 use Rattle.connections.specs.declared.Member.{Member}
-use Rattle.connections.specs.Members.{connection-of, past-of}
+use Rattle.connections.specs.Rows.{connection-of, past-of}
 use Rattle.connections.proofs.FigureLaws.{burst-is}
 use Rattle.connections.proofs.RegulatorLaws.{at-some, at-none}
 

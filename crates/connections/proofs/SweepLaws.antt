@@ -12,13 +12,15 @@ use Rattle.rules.specs.Words.{All}
 use Rattle.rules.specs.Limits.{max-connections, beyond-32-bits}
 use Rattle.rules.specs.Model.{State, Past, no-connection, no-past, nth, past, figures, closed-at}
 use Rattle.rules.specs.Admission.{owned}
-use Rattle.rules.specs.Service.{charge-over, expired, swept-connections, swept-pasts, swept-marks}
+use Rattle.rules.specs.Service.{charge-over, expired}
+use Rattle.rules.proofs.Doings.{swept-connections, swept-pasts, swept-marks}
 use Rattle.rules.proofs.Sums.{cond-is, cond-ind}
 use Rattle.rules.proofs.Tests.{never}
 use Rattle.rules.proofs.Standing.{owned-below, owned-same, swept-length, swept-pasts-length, swept-marks-length, swept-figures, swept-past, swept-closed}
 use Rattle.tables.specs.Table.{row-in}
 use Rattle.connections.specs.declared.Member.{Member}
-use Rattle.connections.specs.Members.{member-width, no-member, member-in, put-member, members-in, connection-of, past-of, closed-of, connections-in, pasts-in, closed-in, used-by, last-of, first-closed, used-in, first-in, written-rows, written-members, rows-formed, members-formed}
+use Rattle.connections.specs.Members.{member-width, no-member, member-in, put-member, members-in, connections-in, pasts-in, closed-in, used-by, first-closed, used-in, first-in, written-rows, written-members, rows-formed, members-formed}
+use Rattle.connections.specs.Rows.{connection-of, past-of, closed-of, last-of}
 use Rattle.connections.specs.Closing.{ended, freed, Closed-in-order, Stands-for, Swept}
 use Rattle.connections.proofs.MemberLaws.{Long, length-members, all-long, connections-length, pasts-length, nth-member, past-member, closed-member, member-is, rows-written, put-row, used-in-back, first-in-back, members-back}
 use Rattle.connections.proofs.WrittenLaws.{Formed, rows-length, all-formed, first-is, members-written, rows-formed-back}

@@ -18,7 +18,8 @@ use Rattle.rules.proofs.Tests.{and-true, and-intro, each-true, each-intro}
 use Rattle.limits.specs.Zeros.{zeros}
 use Rattle.tables.proofs.TableLaws.{numbers-front, numbers-zero, numbers-again}
 use Rattle.connections.specs.declared.Member.{Member}
-use Rattle.connections.specs.Members.{rows-end, members-length, no-member, member-in, put-member, members-in, connection-of, past-of, closed-of, connections-in, pasts-in, closed-in, used-by, first-closed, used-in, first-in, member, members-for, written-rows, written-table, written-members, member-formed, rows-formed, sums-formed, members-formed}
+use Rattle.connections.specs.Members.{members-length, no-member, member-in, put-member, members-in, connections-in, pasts-in, closed-in, used-by, first-closed, used-in, first-in, members-for, written-rows, written-members, member-formed, rows-formed, sums-formed, members-formed}
+use Rattle.connections.specs.Rows.{rows-end, connection-of, past-of, closed-of, member, written-table}
 use Rattle.connections.proofs.OwnerLaws.{used-set, first-same}
 use Rattle.connections.proofs.MemberLaws.{Long, length-members, all-long, connections-length, pasts-length, closed-length, member-is, connection-is, past-is, closed-is, rows-written, put-row, set-used, set-first, length-written, used-in-back, first-in-back, members-back}
 

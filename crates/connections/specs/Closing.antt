@@ -5,11 +5,12 @@ use mathlib.Core.Bool.{Bool, true, false, cond, _&&_}
 use mathlib.Core.List.{List}
 use lib.ListN.{length, getD}
 use Rattle.rules.specs.Limits.{beyond-32-bits}
-use Rattle.rules.specs.Model.{State, no-past}
+use Rattle.rules.specs.Model.{State, no-connection, no-past, past, figures, closed-at}
 use Rattle.rules.specs.Admission.{owned, charge-time}
-use Rattle.rules.specs.Service.{charge-over, swept-connections, swept-pasts, swept-marks}
+use Rattle.rules.specs.Service.{charge-over, cleared}
 use Rattle.connections.specs.declared.Member.{Member}
-use Rattle.connections.specs.Members.{no-member, past-of, closed-of, connections-in, pasts-in, closed-in, last-of, written-members}
+use Rattle.connections.specs.Members.{no-member, connections-in, pasts-in, closed-in, written-members}
+use Rattle.connections.specs.Rows.{past-of, closed-of, last-of}
 
 -- a row is closed and its charge is over; freed, nothing is left of it
 abbrev pub ended : ℕ → ℕ → Member → Bool
@@ -34,4 +35,4 @@ pub record Stands-for (t : List ℕ) (time clock : ℕ) (s : State) : Type 0 whe
 
 -- every number whose charge is over is freed
 abbrev pub Swept : List ℕ → ℕ → ℕ → List ℕ → Type 0
-Swept t time clock after = (s : State) → Stands-for t time clock s → after ≡ written-members (swept-connections s) (swept-pasts s) (swept-marks s)
+Swept t time clock after = (s : State) → Stands-for t time clock s → after ≡ written-members (cleared s no-connection (figures s)) (cleared s no-past (past s)) (cleared s false (closed-at s))

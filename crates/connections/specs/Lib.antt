@@ -1,4 +1,5 @@
 pub mod Members
+pub mod Rows
 pub mod Within
 pub mod Closing
 pub mod Stamps

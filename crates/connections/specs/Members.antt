@@ -1,6 +1,6 @@
 -- The table of connections: a row for each number, with level, size, gap, averaging window, average gap, kind, allowance, a mark, how many eligibilities are remembered, and these,
 -- newest first; and behind the rows two numbers that sum them up. Document 01 leaves its form open; docs/RULES.md, R-6, R-8 and R-9, has it.
-use Prim.Native.Nat.{ℕ, zero, suc, _+_, _*_, min}
+use Prim.Native.Nat.{ℕ, suc, _+_, _*_, min}
 use mathlib.Core.Path.{_≡_, refl}
 use mathlib.Core.Bool.{Bool, cond, not, _&&_}
 use mathlib.Core.List.{List, [], _∷_, _++_, map}
@@ -15,18 +15,12 @@ use Rattle.limits.specs.Zeros.{zeros}
 use Rattle.tables.specs.Table.{row-in, rows-in, numbers, write}
 use Rattle.connections.specs.declared.Member.{Member}
 
-abbrev pub member-head : ℕ
-member-head = 9
-
 abbrev pub member-width : ℕ
 member-width = 25
 
--- where the rows end, and the numbers of the table: a row for each number, and two behind them
-abbrev pub rows-end : ℕ
-rows-end = member-width * max-connections
-
+-- the numbers of the table: a row for each number, and two behind them
 abbrev pub members-length : ℕ
-members-length = rows-end + 2
+members-length = member-width * max-connections + 2
 
 -- ---- rows
 
@@ -37,15 +31,12 @@ figures-row x = x .level ∷ x .size ∷ x .gap ∷ x .window ∷ x .average ∷
 abbrev pub row-of : Member → List ℕ
 row-of m = figures-row (m .figures) ++ m .mark ∷ m .known ∷ numbers max-remembered (m .ticks)
 
-abbrev pub figures-from : List ℕ → Connection
-figures-from r = record { level = getD r 0 0; gap = getD r 2 0; size = getD r 1 0; window = getD r 3 0; average = getD r 4 0; kind = getD r 5 0; allowance = getD r 6 0 }
-
 abbrev pub member-of : List ℕ → Member
 member-of r = record {
-  figures = figures-from r;
+  figures = record { level = getD r 0 0; size = getD r 1 0; gap = getD r 2 0; window = getD r 3 0; average = getD r 4 0; kind = getD r 5 0; allowance = getD r 6 0 };
   mark = getD r 7 0;
   known = getD r 8 0;
-  ticks = numbers max-remembered (drop member-head r);
+  ticks = numbers max-remembered (drop 9 r);
 }
 
 abbrev pub no-member : Member
@@ -66,83 +57,58 @@ pub members-are : (t : List ℕ) → members-in t ≡ map member-of (rows-in mem
 unfolding members-in
 members-are t = refl
 
--- ---- what they stand for
-
-abbrev pub connection-of : Member → Connection
-connection-of m = m .figures
-
-abbrev pub past-of : Member → Past
-past-of m = take (m .known) (m .ticks)
-
-abbrev pub closed-of : Member → Bool
-closed-of m = not (eqb (m .mark) 0)
+-- ---- what they stand for: a connection's figures, as many eligibilities as are remembered, and closed where there is a mark
 
 abbrev pub connections-in : List ℕ → List Connection
-connections-in t = map connection-of (members-in t)
+connections-in t = map (λ m. m .figures) (members-in t)
 
 abbrev pub pasts-in : List ℕ → List Past
-pasts-in t = map past-of (members-in t)
+pasts-in t = map (λ m. take (m .known) (m .ticks)) (members-in t)
 
 abbrev pub closed-in : List ℕ → List Bool
-closed-in t = map closed-of (members-in t)
+closed-in t = map (λ m. not (eqb (m .mark) 0)) (members-in t)
 
 -- ---- the two numbers behind the rows
 
 -- how many numbers there are up to the last that has an owner
-abbrev pub up-to : Bool → ℕ → ℕ
-up-to free zero = cond free 0 1
-up-to free (suc n) = suc (suc n)
-
 abbrev pub used-by : List Connection → ℕ
 used-by [] = 0
-used-by (x ∷ cs) = up-to (eqb (x .level) 0) (used-by cs)
+used-by (x ∷ cs) = cond (eqb (used-by cs) 0 && eqb (x .level) 0) 0 (suc (used-by cs))
+
+-- the earlier of two, of which the second is 0 where there is none
+abbrev pub earlier : ℕ → ℕ → ℕ
+earlier a b = cond (eqb b 0) a (min a b)
 
 -- one more than the earliest last eligibility of those that are closed; 0 where none is
-abbrev pub earlier : ℕ → ℕ → ℕ
-earlier a zero = a
-earlier a (suc b) = min a (suc b)
-
-abbrev pub last-of : Past → ℕ
-last-of h = getD h 0 0
-
 abbrev pub first-closed : List Past → List Bool → ℕ
 first-closed [] bs = 0
 first-closed (h ∷ hs) [] = 0
-first-closed (h ∷ hs) (b ∷ bs) = cond b (earlier (suc (last-of h)) (first-closed hs bs)) (first-closed hs bs)
+first-closed (h ∷ hs) (b ∷ bs) = cond b (earlier (suc (getD h 0 0)) (first-closed hs bs)) (first-closed hs bs)
 
 -- as they stand in a table
 abbrev pub used-in : List ℕ → ℕ
-used-in t = getD t rows-end 0
+used-in t = getD t (member-width * max-connections) 0
 
 abbrev pub first-in : List ℕ → ℕ
-first-in t = getD t (rows-end + 1) 0
+first-in t = getD t (member-width * max-connections + 1) 0
 
 -- ---- writing
 
-abbrev pub member : Connection → Past → Bool → Member
-member x h b = record {
-  figures = x;
-  mark = cond b 1 0;
-  known = length h;
-  ticks = numbers max-remembered h;
-}
-
+-- the rows of connections, their pasts, and whether they are closed
 abbrev pub members-for : List Connection → List Past → List Bool → List Member
 members-for [] hs bs = []
 members-for (x ∷ xs) [] bs = []
 members-for (x ∷ xs) (h ∷ hs) [] = []
-members-for (x ∷ xs) (h ∷ hs) (b ∷ bs) = member x h b ∷ members-for xs hs bs
+members-for (x ∷ xs) (h ∷ hs) (b ∷ bs) =
+    record { figures = x; mark = cond b 1 0; known = length h; ticks = numbers max-remembered h } ∷ members-for xs hs bs
 
 -- rows, and behind them any two numbers
 unfoldable pub written-rows : List Member → ℕ → ℕ → List ℕ
 written-rows ms used first = write row-of ms ++ used ∷ first ∷ []
 
-abbrev pub written-table : List Connection → List Past → List Bool → ℕ → ℕ → List ℕ
-written-table cs hs bs used first = written-rows (members-for cs hs bs) used first
-
 -- .. and behind them those that sum them up
 abbrev pub written-members : List Connection → List Past → List Bool → List ℕ
-written-members cs hs bs = written-table cs hs bs (used-by cs) (first-closed hs bs)
+written-members cs hs bs = written-rows (members-for cs hs bs) (used-by cs) (first-closed hs bs)
 
 -- the table is what is written of what is read: its length, no more eligibilities remembered than there is room for, zeros behind them, a mark that is one, and
 -- the two numbers those of the rows

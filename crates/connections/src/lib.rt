@@ -18,7 +18,8 @@ ghost use Rattle.rules.specs.Admission.{link-within, windowed, bound, burst, ro
 ghost use Rattle.rules.specs.Service.{remember};
 ghost use Rattle.limits.specs.Zeros.{zeros};
 ghost use Rattle.tables.specs.Table.{row-in};
-ghost use Rattle.connections.specs.Members.{member-width, rows-end, members-length, member-in, figures-row, put-member, connection-of, connections-in, pasts-in, closed-in, used-by, used-in, first-in, written-table, written-members, rows-formed, members-formed};
+ghost use Rattle.connections.specs.Members.{member-width, members-length, member-in, figures-row, put-member, connections-in, pasts-in, closed-in, used-by, used-in, first-in, written-members, rows-formed, members-formed};
+ghost use Rattle.connections.specs.Rows.{rows-end, connection-of, written-table};
 ghost use Rattle.connections.specs.Within.{Within, Sums-with, Added, Loads, bound-in, most-share, share-of};
 use limits::MAX_CONNECTIONS;
 use limits::MAX_LEVELS;

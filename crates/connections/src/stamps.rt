@@ -5,7 +5,7 @@ ghost use Prim.Native.Nat.{_+_, _≤_};
 ghost use Rattle.rules.specs.Limits.{max-remembered};
 ghost use Rattle.rules.specs.Admission.{burst, stamped};
 ghost use Rattle.rules.specs.Service.{suits, eligibility-by, untimely};
-ghost use Rattle.connections.specs.Members.{connection-of, past-of};
+ghost use Rattle.connections.specs.Rows.{connection-of, past-of};
 ghost use Rattle.connections.specs.Stamps.{stamp-if};
 use super::Member;
 use super::regulator::after_nth;

@@ -5,7 +5,7 @@ ghost use Rattle.rules.specs.Limits.{max-remembered, beyond-32-bits};
 ghost use Rattle.rules.specs.Model.{no-connection};
 ghost use Rattle.rules.specs.Admission.{bound, burst, stand-by-on, goes-early, distance};
 ghost use Rattle.rules.specs.SoundState.{settles};
-ghost use Rattle.connections.specs.Members.{connection-of, past-of};
+ghost use Rattle.connections.specs.Rows.{connection-of, past-of};
 use super::Member;
 use super::packets_in;
 use super::regulator::after_nth;

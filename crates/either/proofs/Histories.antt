@@ -4,7 +4,7 @@ use native.Mathlib.Omega.{arith}
 use mathlib.Core.Path.{_≡_, refl, sym, ap, _∙_, subst}
 use mathlib.Core.Bool.{Bool, true, false, cond, not, _&&_, true≢false}
 use mathlib.Core.Logic.{_⊎_, inl, inr, ⊎-elim}
-use mathlib.Core.List.{List, [], _∷_}
+use mathlib.Core.List.{List, [], _∷_, filterMap}
 use mathlib.Core.Option.{Option, none, some}
 use borrow.Author.Tests.{ne-eqb}
 use Rattle.rules.specs.declared.Link.{Link}
@@ -15,7 +15,8 @@ use Rattle.rules.specs.Limits.{notice-number, no-connection-number}
 use Rattle.rules.specs.Model.{State as Level-state, Call as Level-call, link as level-link, admit as level-admit, offer as level-offer, notice as level-notice, close as level-close, tick as level-tick, Answer as Level-answer, fresh as level-fresh}
 use Rattle.rules.specs.SoundTest.{sound as level-sound}
 use Rattle.rules.specs.Calls.{verdict as level-verdict, done as level-done, answer as level-answer}
-use Rattle.rules.specs.Runs.{if-done, History as Level-history, leaving as level-leaving, logged as level-logged, after as level-after, run-from as level-run-from, nothing-yet as level-nothing-yet}
+use Rattle.rules.specs.Runs.{if-done, History as Level-history, logged as level-logged, after as level-after, run-from as level-run-from, nothing-yet as level-nothing-yet}
+use Rattle.rules.proofs.RunWords.{leaving as level-leaving}
 use Rattle.rules.proofs.Sums.{cond-is}
 use Rattle.rules.proofs.Tests.{and-intro}
 use Rattle.rules.proofs.Figures.{link-facts}
@@ -28,16 +29,16 @@ use Rattle.frames.specs.declared.Share.{Share}
 use Rattle.frames.specs.Model.{State as Frame-state, Call as Frame-call, link as frame-link, admit as frame-admit, offer as frame-offer, notice as frame-notice, tick as frame-tick, Answer as Frame-answer, fresh as frame-fresh}
 use Rattle.frames.specs.SoundTest.{sound as frame-sound}
 use Rattle.frames.specs.Calls.{verdict as frame-verdict, done as frame-done, answer as frame-answer}
-use Rattle.frames.specs.Runs.{History as Frame-history, leaving as frame-leaving, logged as frame-logged, after as frame-after, run-from as frame-run-from, nothing-yet as frame-nothing-yet}
 use Rattle.frames.proofs.Figures.{framing-facts}
 use Rattle.frames.proofs.Verdicts.{settled as frame-settled, link-done as frame-link-done}
 use Rattle.frames.proofs.SoundExact.{exact as frame-exact}
 use Rattle.frames.proofs.Invariant.{Invariant as Frame-invariant}
 use Rattle.frames.proofs.Every.{keeps as frame-keeps, fresh-invariant as frame-fresh-invariant}
-use Rattle.either.specs.Line.{Line, Request, link-levels, link-frames, admit-level, admit-share, offer, notice, close, tick, by-levels, by-frames, refuse, levels-set, frames-set, sound-line, turn, refused-number, respond, Line-history, clock-of, leaving, logged, after, run-from, nothing-yet, level-call, frame-call, and-then, level-calls, frame-calls}
-use Rattle.either.specs.Promises.{of-levels, of-frames}
+use Rattle.either.specs.Line.{Line, Request, link-levels, link-frames, admit-level, admit-share, offer, notice, close, tick, by-levels, by-frames, refuse, levels-set, frames-set, sound-line, turn, refused-number, respond, clock-of}
 use Rattle.either.proofs.Replies as R
 use Rattle.either.proofs.Turns.{level-links, frame-links, level-link-same, frame-link-same, level-unset, frame-unset}
+use Rattle.either.proofs.Names.{calls-step, Line-history, leaving, logged, after, run-from, nothing-yet, and-then, level-call, frame-call, level-calls, frame-calls, of-levels, of-frames}
+use Rattle.frames.proofs.Names.{History as Frame-history, leaving as frame-leaving, logged as frame-logged, after as frame-after, run-from as frame-run-from, nothing-yet as frame-nothing-yet}
 
 -- a call of the discipline, where the request is one
 abbrev level-step : Option Level-call → Level-history → Level-history
@@ -380,10 +381,11 @@ tied-after h x y (inr (inr b)) k = inr (inr (frames-go-on h y k b))
 
 pub tied-run : (ks : List Request) (h : Line-history) (x : Level-history) (y : Frame-history) → Tied h x y
     → Tied (run-from h ks) (level-run-from x (level-calls ks)) (frame-run-from y (frame-calls ks))
+unfolding filterMap
 tied-run [] h x y t = t
 tied-run (k ∷ ks) h x y t =
-    subst (λ (u : Level-history). Tied (run-from (after h k) ks) u (frame-run-from y (frame-calls (k ∷ ks)))) (sym (level-run-step (level-call k) (level-calls ks) x))
-    (subst (λ (v : Frame-history). Tied (run-from (after h k) ks) (level-run-from (level-step (level-call k) x) (level-calls ks)) v) (sym (frame-run-step (frame-call k) (frame-calls ks) y))
+    subst (λ (u : Level-history). Tied (run-from (after h k) ks) u (frame-run-from y (frame-calls (k ∷ ks)))) (sym (ap (level-run-from x) (calls-step level-call k ks) ∙ level-run-step (level-call k) (level-calls ks) x))
+    (subst (λ (v : Frame-history). Tied (run-from (after h k) ks) (level-run-from (level-step (level-call k) x) (level-calls ks)) v) (sym (ap (frame-run-from y) (calls-step frame-call k ks) ∙ frame-run-step (frame-call k) (frame-calls ks) y))
     (tied-run ks (after h k) (level-step (level-call k) x) (frame-step (frame-call k) y) (tied-after h x y t k)))
 
 -- once one is set it stays

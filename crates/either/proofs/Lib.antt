@@ -1,3 +1,4 @@
+pub mod Names
 pub mod Turns
 pub mod Replies
 pub mod Histories

@@ -7,15 +7,18 @@ use Rattle.rules.specs.declared.Link.{Link}
 use Rattle.rules.specs.declared.Connection.{Connection}
 use Rattle.rules.specs.Limits.{no-connection-number}
 use Rattle.rules.specs.Model.{State as Level-state, Call as Level-call, link as level-link, admit as level-admit, offer as level-offer, close as level-close, fresh as level-fresh}
-use Rattle.rules.specs.Calls.{refused as level-refused-by, answer as level-answer}
+use Rattle.rules.specs.Calls.{answer as level-answer}
+use Rattle.rules.proofs.Doings.{refused as level-refused-by}
 use Rattle.rules.proofs.Sums.{cond-is}
 use Rattle.rules.proofs.Rows.{none-some, some-inj}
 use Rattle.frames.specs.declared.Framing.{Framing}
 use Rattle.frames.specs.declared.Share.{Share}
 use Rattle.frames.specs.Model.{State as Frame-state, Call as Frame-call, link as frame-link, admit as frame-admit, fresh as frame-fresh}
-use Rattle.frames.specs.Calls.{refused as frame-refused-by, answer as frame-answer}
-use Rattle.either.specs.Line.{Line, Request, link-levels, link-frames, admit-level, admit-share, offer, notice, close, tick, by-levels, by-frames, refuse, levels-set, frames-set, sound-line, turn, refused-number, respond, level-call, frame-call}
+use Rattle.frames.specs.Calls.{answer as frame-answer}
+use Rattle.either.specs.Line.{Line, Request, link-levels, link-frames, admit-level, admit-share, offer, notice, close, tick, by-levels, by-frames, refuse, levels-set, frames-set, sound-line, turn, refused-number, respond}
 use Rattle.either.proofs.Turns.{level-links, level-unset, frame-unset}
+use Rattle.either.proofs.Names.{level-call, frame-call}
+use Rattle.frames.proofs.Names.{refused as frame-refused-by}
 
 module _ (s : Line) (ok : sound-line s ≡ true) where
   pub reply : (k : Request) → respond k s ≡ turn k s

@@ -8,7 +8,8 @@ use lib.Dec.{eqb}
 use Rattle.rules.specs.declared.Link.{Link}
 use Rattle.rules.specs.Model.{State as Level-state, Call as Level-call, link as level-link, admit as level-admit, offer as level-offer, notice as level-notice, close as level-close, tick as level-tick, Answer as Level-answer, fresh as level-fresh}
 use Rattle.rules.specs.SoundTest.{sound as level-sound}
-use Rattle.rules.specs.Calls.{verdicts as level-verdicts, verdict as level-verdict, done as level-done, refused as level-refused, refused-number as level-refused-number, settle as level-settle, answer as level-answer}
+use Rattle.rules.specs.Calls.{verdicts as level-verdicts, verdict as level-verdict, done as level-done, refused-number as level-refused-number, settle as level-settle, answer as level-answer}
+use Rattle.rules.proofs.Doings.{refused as level-refused}
 use Rattle.rules.proofs.Sums.{cond-is}
 use Rattle.rules.proofs.Verdicts.{settled as level-settled}
 use Rattle.rules.proofs.Line.{tick-leaves}
@@ -17,11 +18,13 @@ use Rattle.rules.proofs.Every.{fresh-invariant as level-fresh-invariant}
 use Rattle.frames.specs.declared.Framing.{Framing}
 use Rattle.frames.specs.Model.{State as Frame-state, Call as Frame-call, link as frame-link, admit as frame-admit, offer as frame-offer, notice as frame-notice, tick as frame-tick, Answer as Frame-answer, fresh as frame-fresh}
 use Rattle.frames.specs.SoundTest.{sound as frame-sound}
-use Rattle.frames.specs.Calls.{verdicts as frame-verdicts, verdict as frame-verdict, done as frame-done, refused as frame-refused, refused-number as frame-refused-number, settle as frame-settle, answer as frame-answer}
+use Rattle.frames.specs.Calls.{verdicts as frame-verdicts, verdict as frame-verdict, done as frame-done, refused-number as frame-refused-number, settle as frame-settle, answer as frame-answer}
 use Rattle.frames.proofs.Verdicts.{settled as frame-settled}
 use Rattle.frames.proofs.SoundExact.{exact as frame-exact}
 use Rattle.frames.proofs.Every.{fresh-invariant as frame-fresh-invariant}
-use Rattle.either.specs.Line.{Line, Request, link-levels, link-frames, admit-level, admit-share, offer, notice, close, tick, Reply, by-levels, by-frames, refuse, levels-set, frames-set, turn, refused-number, level-call, frame-call}
+use Rattle.either.specs.Line.{Line, Request, link-levels, link-frames, admit-level, admit-share, offer, notice, close, tick, Reply, by-levels, by-frames, refuse, levels-set, frames-set, turn, refused-number}
+use Rattle.either.proofs.Names.{level-call, frame-call}
+use Rattle.frames.proofs.Names.{refused as frame-refused, ticked-is as frame-ticked-is}
 
 -- ---- links among the calls
 
@@ -60,7 +63,7 @@ frame-link-same k s e = frame-settled (λ a. a .next .link ≡ s .link) k s (fra
     done-same (frame-admit x) e = refl
     done-same (frame-offer c len tag) e = refl
     done-same (frame-notice len tag) e = refl
-    done-same frame-tick e = refl
+    done-same frame-tick e = ap (λ (a : Frame-answer). a .next .link) (frame-ticked-is s)
 
 -- ---- with no link set every other call gets 2
 

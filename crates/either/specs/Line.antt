@@ -1,6 +1,6 @@
 -- One line with either discipline: that of levels (document 01) or that of frames (document 02, R-13). The first link that is accepted decides which; the other stays fresh.
 -- docs/RULES.md, R-13, "One line, one discipline".
-use Prim.Native.Nat.{ℕ, _+_}
+use Prim.Native.Nat.{ℕ}
 use mathlib.Core.Path.{_≡_}
 use mathlib.Core.Bool.{Bool, true, cond, not, _&&_, _||_}
 use mathlib.Core.List.{List, [], _∷_}
@@ -8,20 +8,19 @@ use mathlib.Core.Option.{Option, none, some}
 use lib.Dec.{eqb}
 use Rattle.rules.specs.declared.Link.{Link}
 use Rattle.rules.specs.declared.Connection.{Connection}
-use Rattle.rules.specs.declared.Packet.{Packet}
-use Rattle.rules.specs.Words.{first-number, push}
+use Rattle.rules.specs.Words.{first-number}
 use Rattle.rules.specs.Limits.{notice-number, no-connection-number}
 use Rattle.rules.specs.Model.{Outcome, no-short, State as Level-state, Call as Level-call, link as level-link, admit as level-admit, offer as level-offer, notice as level-notice, close as level-close, tick as level-tick, Answer as Level-answer, fresh as level-fresh}
 use Rattle.rules.specs.SoundState.{Sound as Level-sound}
 use Rattle.rules.specs.SoundTest.{sound as level-sound}
 use Rattle.rules.specs.Calls.{answer as level-answer}
-use Rattle.rules.specs.Runs.{Departure, if-done}
 use Rattle.frames.specs.declared.Framing.{Framing}
 use Rattle.frames.specs.declared.Share.{Share}
 use Rattle.frames.specs.Model.{State as Frame-state, Call as Frame-call, link as frame-link, admit as frame-admit, offer as frame-offer, notice as frame-notice, tick as frame-tick, Answer as Frame-answer, fresh as frame-fresh}
 use Rattle.frames.specs.SoundState.{Sound as Frame-sound}
 use Rattle.frames.specs.SoundTest.{sound as frame-sound}
 use Rattle.frames.specs.Calls.{answer as frame-answer}
+use Rattle.frames.specs.Histories.{History, run-from}
 
 pub record Line : Type 0 where
   pub levels : Level-state
@@ -82,15 +81,20 @@ turn (notice len tag) s =
 turn (close c) s = by-levels s (level-answer (level-close c) (s .levels))
 turn tick s = cond (frames-set s) (by-frames s (frame-answer frame-tick (s .frames))) (by-levels s (level-answer level-tick (s .levels)))
 
+-- what each request is: the call that it is to the discipline of levels and the one that it is to that of frames, if it is one there; what it offers, if it does: the connection or
+-- the notices' number, the length and the tag; and the number that it gets where it is refused
+abbrev pub form : Request → Option Level-call × Option Frame-call × Option (ℕ × ℕ × ℕ) × ℕ
+form (link-levels l) = (some (level-link l), none, none, 0)
+form (link-frames l) = (none, some (frame-link l), none, 0)
+form (admit-level x) = (some (level-admit x), none, none, no-connection-number)
+form (admit-share x) = (none, some (frame-admit x), none, no-connection-number)
+form (offer c len tag st) = (some (level-offer c len tag st), elim st [ none ↦ some (frame-offer c len tag) | some stamp ↦ none ], some (c, len, tag), 0)
+form (notice len tag) = (some (level-notice len tag), some (frame-notice len tag), some (notice-number, len, tag), 0)
+form (close c) = (some (level-close c), none, none, 0)
+form tick = (some level-tick, some frame-tick, none, 0)
+
 abbrev pub refused-number : Request → ℕ
-refused-number (link-levels l) = 0
-refused-number (link-frames l) = 0
-refused-number (admit-level x) = no-connection-number
-refused-number (admit-share x) = no-connection-number
-refused-number (offer c len tag st) = 0
-refused-number (notice len tag) = 0
-refused-number (close c) = 0
-refused-number tick = 0
+refused-number k = form k .3
 
 -- THE RULES of a line with either discipline
 abbrev pub respond : Request → Line → Reply
@@ -102,84 +106,14 @@ resting-verdict s = first-number ((1, not (sound-line s)) ∷ (2, not (levels-se
 
 -- ---- runs
 
-pub record Line-history : Type 0 where
-  pub accepted : List Packet
-  pub departed : List Departure
-  pub now : Line
-
+-- the clock of the discipline that is set
 abbrev pub clock-of : Line → ℕ
 clock-of s = cond (frames-set s) (s .frames .clock) (s .levels .clock)
-
-abbrev pub taken : Request → Line → Reply → Option Packet
-taken (link-levels l) s a = none
-taken (link-frames l) s a = none
-taken (admit-level x) s a = none
-taken (admit-share x) s a = none
-taken (offer c len tag st) s a = if-done (a .verdict) (record { connection = c; len = len; tag = tag; arrival = clock-of s; eligibility = a .number })
-taken (notice len tag) s a =
-    if-done (a .verdict) (record { connection = notice-number; len = len; tag = tag; arrival = clock-of s; eligibility = a .number })
-taken (close c) s a = none
-taken tick s a = none
-
-abbrev pub leaving : Line → Option Packet → Option Departure
-leaving s none = none
-leaving s (some p) = some (record { what = p; finish = clock-of s + 1 })
-
-abbrev pub logged : Line-history → Request → Reply → Line-history
-logged h k a = record {
-  accepted = push (h .accepted) (taken k (h .now) a);
-  departed = push (h .departed) (leaving (h .now) (a .departed));
-  now = a .next;
-}
-
-abbrev pub after : Line-history → Request → Line-history
-after h k = logged h k (respond k (h .now))
-
-abbrev pub run-from : Line-history → List Request → Line-history
-run-from h [] = h
-run-from h (k ∷ ks) = run-from (after h k) ks
 
 -- as every line starts: no link of either discipline
 abbrev pub fresh-line : Line
 fresh-line = record { levels = level-fresh; frames = frame-fresh }
 
-abbrev pub nothing-yet : Line-history
-nothing-yet = record { accepted = []; departed = []; now = fresh-line }
-
-abbrev pub run : List Request → Line-history
-run ks = run-from nothing-yet ks
-
--- ---- the calls of a run that are a discipline's own
-
-abbrev pub level-call : Request → Option Level-call
-level-call (link-levels l) = some (level-link l)
-level-call (link-frames l) = none
-level-call (admit-level x) = some (level-admit x)
-level-call (admit-share x) = none
-level-call (offer c len tag st) = some (level-offer c len tag st)
-level-call (notice len tag) = some (level-notice len tag)
-level-call (close c) = some (level-close c)
-level-call tick = some level-tick
-
-abbrev pub frame-call : Request → Option Frame-call
-frame-call (link-levels l) = none
-frame-call (link-frames l) = some (frame-link l)
-frame-call (admit-level x) = none
-frame-call (admit-share x) = some (frame-admit x)
-frame-call (offer c len tag none) = some (frame-offer c len tag)
-frame-call (offer c len tag (some stamp)) = none
-frame-call (notice len tag) = some (frame-notice len tag)
-frame-call (close c) = none
-frame-call tick = some frame-tick
-
-abbrev pub and-then : {A : Type 0} → Option A → List A → List A
-and-then none ks = ks
-and-then (some k) ks = k ∷ ks
-
-abbrev pub level-calls : List Request → List Level-call
-level-calls [] = []
-level-calls (k ∷ ks) = and-then (level-call k) (level-calls ks)
-
-abbrev pub frame-calls : List Request → List Frame-call
-frame-calls [] = []
-frame-calls (k ∷ ks) = and-then (frame-call k) (frame-calls ks)
+-- any requests from the fresh line
+abbrev pub run : List Request → History Line
+run ks = run-from respond (λ k. form k .2) clock-of (record { accepted = []; departed = []; now = fresh-line }) ks

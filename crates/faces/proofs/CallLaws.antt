@@ -4,6 +4,7 @@ use mathlib.Core.Path.{_≡_, sym, ap, _∙_}
 use mathlib.Core.Bool.{Bool, true, false, not}
 use borrow.Author.Tests.{not-true}
 use Rattle.rules.specs.declared.Short.{Short}
+use Rattle.rules.specs.Model.{Outcome}
 use Rattle.tables.specs.Lent.{Tables}
 use Rattle.tables.specs.Calls.{Does-by}
 use Rattle.tables.proofs.CallLaws as C
@@ -12,16 +13,16 @@ use Rattle.faces.proofs.Discipline.{Discipline}
 -- how a discipline's rules settle a call by its verdict, and what is told of a refusal
 pub record Settled (D : Discipline) : Type 0 where
   pub rule : D .Call → D .State → ℕ
-  pub settle : D .Call → D .State → ℕ → D .Answer
+  pub settle : D .Call → D .State → ℕ → Outcome (D .State)
   pub refusal-short : D .Kept → ℕ → ℕ → Short → D .Told
   pub refused-short : D .Call → D .State → ℕ → Short
   pub answer-is : (k : D .Call) (s : D .State) → D .answer k s ≡ settle k s (rule k s)
   pub told-is : (k : D .Call) (h : D .Kept) (t : Tables) (w : ℕ)
       → D .told-of (settle k (D .view h t) (suc w)) ≡ refusal-short h (suc w) (D .refused-number k) (refused-short k (D .view h t) (suc w))
-  pub next-is : (k : D .Call) (s : D .State) (w : ℕ) → D .next (settle k s (suc w)) ≡ s
+  pub next-is : (k : D .Call) (s : D .State) (w : ℕ) → settle k s (suc w) .next ≡ s
 
 module _ (D : Discipline) where
-  open Discipline D using (State, Call, Answer, answer, next, refused-number, Kept, Told, view, written, sound, told-of, refusal, tells, leaves, ruled, tables-kept)
+  open Discipline D using (State, Call, answer, refused-number, Kept, Told, view, written, sound, told-of, refusal, tells, leaves, ruled, tables-kept)
 
   abbrev pub Does : Call → Kept → Tables → Told → Tables → Type 0
   Does k h before told after = Does-by tells leaves k h before told after
@@ -41,7 +42,7 @@ module _ (D : Discipline) where
   told-as k h t ok r u E = C.told-as (ruled k h t) ok r u E
 
   abbrev pub Left-as : Type 0
-  Left-as = (k : Call) (h : Kept) (t : Tables) → sound h t ≡ true → (r : Told) (u : Tables) → Does k h t r u → u ≡ written (next (answer k (view h t)))
+  Left-as = (k : Call) (h : Kept) (t : Tables) → sound h t ≡ true → (r : Told) (u : Tables) → Does k h t r u → u ≡ written (answer k (view h t) .next)
 
   pub left-as : Left-as
   left-as k h t ok r u E = C.left-as (ruled k h t) ok r u E
@@ -50,10 +51,10 @@ module _ (D : Discipline) where
     open Settled S using (rule, settle, refusal-short, refused-short, answer-is, told-is, next-is)
 
     by-verdict : (k : Call) (h : Kept) (t : Tables) → sound h t ≡ true → (v : ℕ) → rule k (view h t) ≡ v → (r : Told) (u : Tables)
-        → r ≡ told-of (settle k (view h t) v) → u ≡ written (next (settle k (view h t) v)) → Does k h t r u
+        → r ≡ told-of (settle k (view h t) v) → u ≡ written (settle k (view h t) v .next) → Does k h t r u
     by-verdict k h t ok v e r u a b =
         let same : settle k (view h t) v ≡ answer k (view h t) = ap (settle k (view h t)) (sym e) ∙ sym (answer-is k (view h t)) in
-        C.answers-as (ruled k h t) ok r u (a ∙ ap told-of same) (b ∙ ap (λ (x : Answer). written (next x)) same)
+        C.answers-as (ruled k h t) ok r u (a ∙ ap told-of same) (b ∙ ap (λ (x : Outcome State). written (x .next)) same)
 
     -- a refusal: the rules leave the state, and writing what was read gives the tables back
     abbrev pub Refuses : Type 0
@@ -74,7 +75,7 @@ module _ (D : Discipline) where
     abbrev pub Acts : Type 0
     Acts =
         (k : Call) (h : Kept) (t : Tables) → sound h t ≡ true → (r : Told) (u : Tables) → rule k (view h t) ≡ 0
-        → r ≡ told-of (settle k (view h t) 0) → u ≡ written (next (settle k (view h t) 0)) → Does k h t r u
+        → r ≡ told-of (settle k (view h t) 0) → u ≡ written (settle k (view h t) 0 .next) → Does k h t r u
 
     pub acts : Acts
     acts k h t ok r u e = by-verdict k h t ok 0 e r u

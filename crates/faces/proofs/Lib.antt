@@ -1,4 +1,3 @@
 pub mod Discipline
 pub mod CallLaws
 pub mod Results
-pub mod Sequences

@@ -1,3 +1,1 @@
--- Read in this order: Sequence, Promises.
-pub mod Sequence
 pub mod Promises

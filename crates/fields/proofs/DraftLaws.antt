@@ -9,7 +9,8 @@ use lib.Seq.{take-suc-set, length-take-le}
 use borrow.Author.Tests.{lt-ltb, le-ltb}
 use Rattle.fields.specs.Numbers.{little, put-fields, sum}
 use Rattle.fields.proofs.NumberLaws.{length-put, sum-both}
-use Rattle.fields.specs.Kinds.{Kind, bytes}
+use Rattle.fields.specs.Kinds.{Kind}
+use Rattle.fields.proofs.Parts.{bytes}
 use Rattle.fields.specs.Drafts.{longest, held, Holds, Adds, Adds-all}
 use Rattle.fields.specs.Formats.{fitting, over}
 use Rattle.fields.specs.declared.Draft.{Draft}
@@ -73,7 +74,7 @@ before {d} {e} {r} {w} {v} {ws} {xs} f g =
       count = omega (arith, f .count, g .count);
     }
 
-put-both : (ws xs vs ys : List ℕ) → length xs ≡ length ws → put-fields (ws ++ vs) (xs ++ ys) ≡ put-fields ws xs ++ put-fields vs ys
+pub put-both : (ws xs vs ys : List ℕ) → length xs ≡ length ws → put-fields (ws ++ vs) (xs ++ ys) ≡ put-fields ws xs ++ put-fields vs ys
 unfolding put-fields
 put-both [] [] vs ys e = refl
 put-both [] (x ∷ xs) vs ys e = absurd (omega arith)

@@ -1,3 +1,4 @@
+pub mod Parts
 pub mod NumberLaws
 pub mod FieldLaws
 pub mod MarkLaws

@@ -7,8 +7,9 @@ use Prim.Native.Nat.{ℕ, zero, suc, _+_, _≤_}
 use native.Mathlib.Omega.{arith}
 use lib.ListN.{length, getD, length-append, List·getD-append}
 use Rattle.fields.specs.Numbers.{number, get-fields, sum}
-use Rattle.fields.specs.Kinds.{Kind, size}
-use Rattle.fields.specs.Formats.{starts, whole, read-kind, read-kinds}
+use Rattle.fields.specs.Kinds.{Kind}
+use Rattle.fields.proofs.Parts.{size, whole}
+use Rattle.fields.specs.Formats.{starts, read-kind, read-kinds}
 use Rattle.fields.proofs.FormatLaws.{made-of, whole-is}
 
 number-same : (w : ℕ) (bs rest : List ℕ) (at : ℕ) → at + w ≤ length bs → number w (bs ++ rest) at ≡ number w bs at

@@ -1,13 +1,11 @@
 -- Document 01, "Trace and answer records": what a kind of records is. The ten kinds of its table, and the ten
 -- of document 02, R-1, R-8, R-9 and R-11 to R-13, stand in the crates `traces` and `answers`. R is the type of the records.
 use mathlib.Core.Bool.{Bool, true}
-use mathlib.Core.List.{List, _++_}
-use Prim.Native.Nat.{ℕ, _+_}
-use lib.ListN.{getD}
-use Rattle.fields.specs.Numbers.{put-fields, sum}
+use mathlib.Core.List.{List}
+use Prim.Native.Nat.{ℕ}
 
 -- A kind: its mark; which byte may stand behind the mark; the widths of its fields, which of `LK`, `LE` and `LW` depend on that byte, their n; and the record
--- that its numbers make: x 0, x 1 and so on, 0 past the last.
+-- that its numbers make: x 0, x 1 and so on, 0 past the last. A field of width 0 has no byte, and its number is read as 0.
 pub record Kind (R : Type 0) : Type 0 where
   pub mark : List ℕ
   pub allows : ℕ → Bool
@@ -17,11 +15,3 @@ pub record Kind (R : Type 0) : Type 0 where
 -- A kind whose fields have these widths, whatever they hold.
 abbrev pub plain : {R : Type 0} → List ℕ → List ℕ → ((ℕ → ℕ) → R) → Kind R
 plain mark widths make = record { mark = mark; allows = λ b. true; widths = λ b. widths; make = make }
-
--- "Each record starts with a two-byte mark; numbers after it ..": the bytes of a record of kind k with the numbers xs, the first of which is n in `LK`, `LE` and `LW`.
-unfoldable pub bytes : {R : Type 0} → Kind R → List ℕ → List ℕ
-bytes k xs = k .mark ++ put-fields (k .widths (getD xs 0 0)) xs
-
--- How many bytes a record of kind k has, whose mark is followed by the byte b.
-abbrev pub size : {R : Type 0} → Kind R → ℕ → ℕ
-size k b = 2 + sum (k .widths b)

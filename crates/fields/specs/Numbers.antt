@@ -1,8 +1,9 @@
 -- Document 01, "Trace and answer records": "numbers after it are little-endian".
-use mathlib.Core.Bool.{Bool, cond}
+use mathlib.Core.Bool.{Bool, true, _&&_, _||_}
 use mathlib.Core.List.{List, [], _∷_, _++_}
-use Prim.Native.Nat.{ℕ, zero, suc, _+_, _*_, _/_, _%_, _<_, _^_}
+use Prim.Native.Nat.{ℕ, zero, suc, _+_, _*_, _/_, _%_}
 use lib.ListN.{getD, drop}
+use lib.Dec.{ltb, eqb}
 
 -- The number v in w bytes, the low byte first.
 unfoldable pub little : ℕ → ℕ → List ℕ
@@ -29,14 +30,7 @@ unfoldable pub sum : List ℕ → ℕ
 sum [] = 0
 sum (x ∷ xs) = x + sum xs
 
--- Each number fits its width, and there are as many numbers as widths.
-unfoldable pub Fit : List ℕ → List ℕ → Type 0
-Fit [] [] = Unit {0}
-Fit [] (x ∷ xs) = ⊥
-Fit (w ∷ ws) [] = ⊥
-Fit (w ∷ ws) (x ∷ xs) = (x < 256 ^ w) × Fit ws xs
-
--- Each is a byte.
-unfoldable pub Bytes : List ℕ → Type 0
-Bytes [] = Unit {0}
-Bytes (b ∷ bs) = (b < 256) × Bytes bs
+-- Each number that has no byte, its width 0, is 0.
+unfoldable pub none-lost : List ℕ → List ℕ → Bool
+none-lost [] xs = true
+none-lost (w ∷ ws) xs = (ltb 0 w || eqb (getD xs 0 0) 0) && none-lost ws (drop 1 xs)

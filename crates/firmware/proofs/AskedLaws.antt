@@ -1,5 +1,5 @@
 -- What the code asks, step by step, against the questions.
-use Prim.Native.Nat.{ℕ, zero, suc, _+_, _*_, _≤_, _<_}
+use Prim.Native.Nat.{ℕ, zero, suc, _+_, _*_, _/_, _≤_, _<_}
 use native.Mathlib.Omega.{arith}
 use mathlib.Core.Path.{_≡_, refl, sym, ap, _∙_}
 use mathlib.Core.Bool.{Bool, true, false, _&&_}
@@ -11,7 +11,7 @@ use lib.Seq.{getD-append-seam}
 use borrow.Author.Tests.{leb-true, le-leb, lt-leb, eq-eqb, ne-eqb}
 use Rattle.rules.specs.declared.Link.{Link}
 use Rattle.rules.specs.declared.Connection.{Connection}
-use Rattle.rules.specs.Words.{every}
+use Rattle.rules.specs.Words.{every, tabulate}
 use Rattle.rules.specs.Limits.{max-levels, max-connections}
 use Rattle.rules.specs.declared.Short.{Short}
 use Rattle.rules.specs.Model.{no-link, no-connection, nth}
@@ -21,8 +21,10 @@ use Rattle.rules.specs.Service.{next-eligibility}
 use Rattle.rules.proofs.Sums.{same, cond-is}
 use Rattle.rules.proofs.Tests.{and-true, every-true}
 use Rattle.rules.proofs.Figures.{connection-facts}
+use Rattle.rules.proofs.Standing.{length-tabulate, getD-tabulate}
 use Rattle.rules.proofs.LevelTest.{names-lowest}
 use Rattle.fields.specs.Numbers.{number, get-fields}
+use Rattle.fields.specs.Formats.{starts}
 use Rattle.fields.proofs.FieldLaws.{fields-on}
 use types.Run.{OneOf, miss}
 use denote.Enum.Declared.{tagOf}
@@ -30,13 +32,12 @@ use Rattle.traces.proofs.Record.{the-type}
 use Rattle.traces.specs.declared.Record.{Record}
 use Rattle.traces.specs.declared.Record.the-variants.{Link as LinkRecord, LinkStandBy, LinkWindows, LinkFrames, Admit, AdmitStamped, AdmitShare, Close, Offer, OfferStamped, Notice, Ticks, Malformed}
 use Rattle.traces.specs.declared.Found.{Found}
-use Rattle.traces.specs.Trace.{read-trace}
+use Rattle.traces.specs.Trace.{trace-layout, read-trace}
 use Rattle.named.specs.Named.{connection-named}
 use Rattle.connections.specs.Within.{gap-only, last-only}
 use Rattle.connections.proofs.FigureLaws.{link-limits}
 use Rattle.limits.proofs.ChainLaws.{fails, goes-on}
-use Rattle.firmware.specs.Questions.{next-asked, link-of, link-asked, row-bytes, rows-asked, row-asked, first-rows, all-rows}
-use Rattle.firmware.specs.Questions.{testable, well-asked, short-asked}
+use Rattle.firmware.specs.Questions.{next-asked, link-of, link-asked, row-asked, all-rows, well-asked, short-asked}
 
 -- ---- (a)
 
@@ -50,7 +51,8 @@ next-is flag last gap now = refl
 abbrev others : List ℕ
 others = 1 ∷ 3 ∷ 4 ∷ 5 ∷ 6 ∷ 7 ∷ 8 ∷ 9 ∷ 10 ∷ 11 ∷ 12 ∷ []
 
-pub of-no-link : (r : Record) → OneOf others (tagOf the-type r) → no-link ≡ link-of r
+pub of-no-link : (r : Record) → OneOf others (tagOf the-type r) → no-link ≡ link-of (trace-layout r)
+unfolding starts
 of-no-link (LinkRecord n s silence d1 d2 d3 d4 d5 d6 d7 d8) h = absurd (miss others 0 tt h)
 of-no-link (LinkStandBy n s silence early d1 d2 d3 d4 d5 d6 d7 d8) h = refl
 of-no-link (LinkWindows n s silence early d1 d2 d3 d4 d5 d6 d7 d8 w1 w2 w3 w4 w5 w6 w7 w8) h = absurd (miss others 2 tt h)
@@ -73,39 +75,34 @@ module _ (lk : List ℕ) (f : Found) (e : f ≡ read-trace lk) where
   unfolding link-asked
   not-whole n = rw (taken-is, ne-eqb (f .taken) (length lk) n) refl
 
-  pub link-is : f .taken ≡ length lk → link-of (f .what) ≡ link-asked lk
+  pub link-is : f .taken ≡ length lk → link-of (trace-layout (f .what)) ≡ link-asked lk
   unfolding link-asked
-  link-is t = rw (taken-is, eq-eqb (f .taken) (length lk) t) (ap (λ (g : Found). link-of (g .what)) e)
+  link-is t = rw (taken-is, eq-eqb (f .taken) (length lk) t) (ap (λ (g : Found). link-of (trace-layout (g .what))) e)
 
 -- ---- the rows
 
 module _ (rows : List ℕ) where
   -- a row's bytes, read where they start
-  pub row-is : (i : ℕ) → (bs : List ℕ) → bs ≡ drop (row-bytes * i) rows
+  pub row-is : (i : ℕ) → (bs : List ℕ) → bs ≡ drop (9 * i) rows
       → connection-named (number 1 bs 0 ∷ number 2 bs 1 ∷ number 2 bs 3 ∷ number 2 bs 5 ∷ number 2 bs 7 ∷ []) ≡ row-asked rows i
   unfolding row-asked get-fields
   row-is i bs e =
-      let z : row-bytes * i + 0 ≡ row-bytes * i = omega arith in
+      let z : 9 * i + 0 ≡ 9 * i = omega arith in
       let ws : List ℕ = 1 ∷ 2 ∷ 2 ∷ 2 ∷ 2 ∷ [] in
       ap (λ (l : List ℕ). connection-named (get-fields ws l 0)) e
-      ∙ ap connection-named (sym (fields-on ws (row-bytes * i) rows 0))
+      ∙ ap connection-named (sym (fields-on ws (9 * i) rows 0))
       ∙ ap (λ (k : ℕ). connection-named (get-fields ws rows k)) z
 
-  pub length-first : (n : ℕ) → length (first-rows n rows) ≡ n
-  length-first zero = refl
-  length-first (suc n) = omega (arith, length-append (first-rows n rows) (row-asked rows n ∷ []), length-first n)
+  pub length-first : (n : ℕ) → length (tabulate n (row-asked rows)) ≡ n
+  length-first n = length-tabulate n (row-asked rows)
 
-  pub nth-first : (n i : ℕ) → i < n → nth (first-rows n rows) i ≡ row-asked rows i
-  nth-first zero i h = absurd (omega arith)
-  nth-first (suc n) i h = go (same i n) (nth-first n i)
-    where
-      go : (i ≡ n) ⊎ (i ≡ n → ⊥) → (i < n → nth (first-rows n rows) i ≡ row-asked rows i)
-          → nth (first-rows n rows ++ row-asked rows n ∷ []) i ≡ row-asked rows i
-      go (inl e) ih =
-          ap (nth (first-rows n rows ++ row-asked rows n ∷ [])) (e ∙ sym (length-first n))
-          ∙ getD-append-seam (first-rows n rows) (row-asked rows n) [] no-connection
-          ∙ ap (row-asked rows) (sym e)
-      go (inr e) ih = List·getD-append (first-rows n rows) (row-asked rows n ∷ []) no-connection i (omega (arith, length-first n, e)) ∙ ih (omega (arith, e))
+  pub nth-first : (n i : ℕ) → i < n → nth (tabulate n (row-asked rows)) i ≡ row-asked rows i
+  nth-first n i h = getD-tabulate n (row-asked rows) no-connection i h
+
+-- one row more
+pub tabulate-snoc : {A : Type 0} (n : ℕ) (f : ℕ → A) → tabulate (suc n) f ≡ tabulate n f ++ f n ∷ []
+tabulate-snoc zero f = refl
+tabulate-snoc (suc n) f = ap (λ l. f 0 ∷ l) (tabulate-snoc n (λ i. f (suc i)))
 
 -- ---- rows within their limits
 
@@ -128,38 +125,38 @@ module _ (l : Link) (rows : List ℕ) (n : ℕ) (ok : every n (row-ok l rows) �
 -- ---- the tests of the link and the rows, in the order of the code
 
 module _ (l : Link) (rows : List ℕ) where
-  pub bad-link : link-within l ≡ false → false ≡ testable l rows
-  unfolding testable
+  pub bad-link : link-within l ≡ false → false ≡ well-asked l rows
+  unfolding well-asked
   bad-link b = fails _ _ b
 
   module _ (good : link-within l ≡ true) where
-    pub cut-row : (length rows ≡ row-bytes * rows-asked rows → ⊥) → false ≡ testable l rows
-    unfolding testable
-    cut-row n = goes-on _ _ false good (fails _ _ (ne-eqb (length rows) (row-bytes * rows-asked rows) n))
+    pub cut-row : (length rows ≡ 9 * (length rows / 9) → ⊥) → false ≡ well-asked l rows
+    unfolding well-asked
+    cut-row n = goes-on _ _ false good (fails _ _ (ne-eqb (length rows) (9 * (length rows / 9)) n))
 
-    module _ (fit : length rows ≡ row-bytes * rows-asked rows) where
-      on : (r : Bool) → r ≡ (leb (rows-asked rows) max-connections && every (rows-asked rows) (row-ok l rows)) → r ≡ testable l rows
-      unfolding testable
-      on r h = goes-on _ _ r good (goes-on _ _ r (eq-eqb (length rows) (row-bytes * rows-asked rows) fit) h)
+    module _ (fit : length rows ≡ 9 * (length rows / 9)) where
+      on : (r : Bool) → r ≡ (leb ((length rows / 9)) max-connections && every ((length rows / 9)) (row-ok l rows)) → r ≡ well-asked l rows
+      unfolding well-asked
+      on r h = goes-on _ _ r good (goes-on _ _ r (eq-eqb (length rows) (9 * (length rows / 9)) fit) h)
 
-      pub many-rows : max-connections < rows-asked rows → false ≡ testable l rows
-      many-rows m = on false (fails _ _ (lt-leb (rows-asked rows) max-connections m))
+      pub many-rows : max-connections < (length rows / 9) → false ≡ well-asked l rows
+      many-rows m = on false (fails _ _ (lt-leb ((length rows / 9)) max-connections m))
 
-      pub each-row : rows-asked rows ≤ max-connections → (ok : Bool) → ok ≡ every (rows-asked rows) (row-ok l rows) → ok ≡ testable l rows
-      each-row few ok e = on ok (goes-on _ _ ok (le-leb (rows-asked rows) max-connections few) e)
+      pub each-row : (length rows / 9) ≤ max-connections → (ok : Bool) → ok ≡ every ((length rows / 9)) (row-ok l rows) → ok ≡ well-asked l rows
+      each-row few ok e = on ok (goes-on _ _ ok (le-leb ((length rows / 9)) max-connections few) e)
 
 pub record Asked (l : Link) (rows : List ℕ) : Type 0 where
   pub link-in : link-within l ≡ true
-  pub few : rows-asked rows ≤ max-connections
-  pub rows-in : every (rows-asked rows) (row-ok l rows) ≡ true
+  pub few : (length rows / 9) ≤ max-connections
+  pub rows-in : every ((length rows / 9)) (row-ok l rows) ≡ true
 
-pub asked : (l : Link) (rows : List ℕ) → testable l rows ≡ true → Asked l rows
-unfolding testable
+pub asked : (l : Link) (rows : List ℕ) → well-asked l rows ≡ true → Asked l rows
+unfolding well-asked
 asked l rows e =
     let a = and-true (link-within l) _ e in
-    let b = and-true (eqb (length rows) (row-bytes * rows-asked rows)) _ (a .1) in
-    let d = and-true (leb (rows-asked rows) max-connections) _ (b .1) in
-    record { link-in = a .0; few = leb-true (rows-asked rows) max-connections (d .0); rows-in = d .1 }
+    let b = and-true (eqb (length rows) (9 * (length rows / 9))) _ (a .1) in
+    let d = and-true (leb ((length rows / 9)) max-connections) _ (b .1) in
+    record { link-in = a .0; few = leb-true ((length rows / 9)) max-connections (d .0); rows-in = d .1 }
 
 -- ---- the answer
 
@@ -172,11 +169,11 @@ level-le l cs e =
     (same (level-test l cs .level) 0)
 
 module _ (lk rows : List ℕ) where
-  pub refuses : well-asked lk rows ≡ false → short-asked lk rows ≡ not-well-asked
+  pub refuses : well-asked (link-asked lk) rows ≡ false → short-asked lk rows ≡ not-well-asked
   unfolding short-asked
   refuses e = cond-is (level-test (link-asked lk) (all-rows rows)) not-well-asked e
 
-  module _ (e : well-asked lk rows ≡ true) where
+  module _ (e : well-asked (link-asked lk) rows ≡ true) where
     pub answers : short-asked lk rows ≡ level-test (link-asked lk) (all-rows rows)
     unfolding short-asked
     answers = cond-is (level-test (link-asked lk) (all-rows rows)) not-well-asked e
@@ -186,16 +183,16 @@ module _ (lk rows : List ℕ) where
 
   -- either way a byte
   pub level-byte : short-asked lk rows .level < 256
-  level-byte = go (well-asked lk rows) refl
+  level-byte = go (well-asked (link-asked lk) rows) refl
     where
-      go : (b : Bool) → well-asked lk rows ≡ b → short-asked lk rows .level < 256
+      go : (b : Bool) → well-asked (link-asked lk) rows ≡ b → short-asked lk rows .level < 256
       go true e = omega (arith, is-level e)
       go false e = omega (arith, ap (λ (t : Short). t .level) (refuses e))
 
   -- as the code asks: of a link that is the one asked about
   module _ (l : Link) (e : l ≡ link-asked lk) where
-    pub refused : testable l rows ≡ false → not-well-asked ≡ short-asked lk rows
-    refused f = sym (refuses (ap (λ (k : Link). testable k rows) (sym e) ∙ f))
+    pub refused : well-asked l rows ≡ false → not-well-asked ≡ short-asked lk rows
+    refused f = sym (refuses (ap (λ (k : Link). well-asked k rows) (sym e) ∙ f))
 
-    pub answered : testable l rows ≡ true → level-test l (all-rows rows) ≡ short-asked lk rows
-    answered g = ap (λ (k : Link). level-test k (all-rows rows)) e ∙ sym (answers (ap (λ (k : Link). testable k rows) (sym e) ∙ g))
+    pub answered : well-asked l rows ≡ true → level-test l (all-rows rows) ≡ short-asked lk rows
+    answered g = ap (λ (k : Link). level-test k (all-rows rows)) e ∙ sym (answers (ap (λ (k : Link). well-asked k rows) (sym e) ∙ g))

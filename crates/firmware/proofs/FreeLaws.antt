@@ -9,17 +9,21 @@ use lib.ListN.{length, replicate}
 use borrow.Author.Tests.{eqb-true, ne-eqb}
 use Rattle.rules.specs.declared.Link.{Link}
 use Rattle.rules.specs.declared.Connection.{Connection}
-use Rattle.rules.specs.Words.{All, sum, total}
+use Rattle.rules.specs.Words.{All, sum, total, filter}
 use Rattle.rules.specs.Model.{no-connection, nth}
 use Rattle.rules.specs.Admission.{cost, span, level-sum, level-test, free-number, joining}
 use Rattle.rules.proofs.Lists.{total-snoc, all-at}
 use Rattle.rules.proofs.Sums.{cond-is}
 use Rattle.rules.proofs.Figures.{sum-is}
 use Rattle.rules.proofs.Standing.{free-is}
-use Rattle.connections.specs.Members.{up-to, used-by}
+use Rattle.connections.specs.Members.{used-by}
 use Rattle.connections.specs.Within.{share-in}
+use Rattle.connections.proofs.OwnerLaws.{up-to, up-to-some}
 use Rattle.connections.proofs.FigureLaws.{share-free, test-same, sums-joining}
-use Rattle.firmware.specs.Promises.{owners}
+
+-- the connections that have an owner, by number
+abbrev pub owners : List Connection → List Connection
+owners cs = filter (λ x. not (eqb (x .level) 0)) cs
 
 -- free numbers behind connections
 abbrev pub padded : List Connection → ℕ → List Connection
@@ -114,7 +118,7 @@ used-padded (x ∷ xs) k = go (eqb (x .level) 0) (used-by (padded xs k)) (used-p
     go : (t : Bool) (n : ℕ) → n ≤ length xs → up-to t n ≤ length (x ∷ xs)
     go true zero h = omega arith
     go false zero h = omega arith
-    go t (suc n) h = omega arith
+    go t (suc n) h = omega (arith, up-to-some t (suc n) (omega arith))
 
 none-at : (k c : ℕ) → nth (replicate k no-connection) c ≡ no-connection
 none-at zero c = refl

@@ -10,7 +10,7 @@ use lib.ListN.{length, getD, set, replicate, length-append, length-replicate, ge
 use lib.Seq.{set-at}
 use Rattle.rules.specs.declared.Link.{Link}
 use Rattle.rules.specs.declared.Connection.{Connection}
-use Rattle.rules.specs.Words.{All, every}
+use Rattle.rules.specs.Words.{All, every, tabulate}
 use Rattle.rules.specs.Limits.{max-connections}
 use Rattle.rules.specs.Model.{no-connection, no-past, nth}
 use Rattle.rules.specs.Admission.{link-within, figures-within, owned, free-number, joining, level-test}
@@ -20,9 +20,9 @@ use Rattle.rules.proofs.Standing.{owned-level, free-level}
 use Rattle.connections.specs.Members.{members-length, connections-in, pasts-in, closed-in, used-by, first-closed, written-rows, written-members, members-formed}
 use Rattle.connections.specs.Within.{Within}
 use Rattle.connections.proofs.WrittenLaws.{Few, connections-back, pasts-back, closed-back, members-formed-back, members-long}
-use Rattle.firmware.specs.Questions.{row-asked, first-rows}
+use Rattle.firmware.specs.Questions.{row-asked}
 use Rattle.firmware.specs.Laid.{laid-rows, no-pasts, no-marks, laid-out}
-use Rattle.firmware.proofs.AskedLaws.{length-first, nth-first, row-ok, figures-ok, levelled}
+use Rattle.firmware.proofs.AskedLaws.{length-first, nth-first, tabulate-snoc, row-ok, figures-ok, levelled}
 use Rattle.firmware.proofs.FreeLaws.{padded, test-padded, free-behind, used-padded, nth-behind}
 
 -- an empty table
@@ -45,18 +45,18 @@ module _ (rows : List ℕ) (n : ℕ) (few : n ≤ max-connections) where
   length-rows =
       omega (
         arith,
-        length-append (first-rows n rows) (replicate (max-connections - n) no-connection),
+        length-append (tabulate n (row-asked rows)) (replicate (max-connections - n) no-connection),
         length-first rows n,
         length-replicate (max-connections - n) no-connection,
       )
 
   nth-row : (i : ℕ) → i < n → nth (laid-rows n rows) i ≡ row-asked rows i
   nth-row i h =
-      List·getD-append (first-rows n rows) (replicate (max-connections - n) no-connection) no-connection i (omega (arith, length-first rows n))
+      List·getD-append (tabulate n (row-asked rows)) (replicate (max-connections - n) no-connection) no-connection i (omega (arith, length-first rows n))
       ∙ nth-first rows n i h
 
   nth-free : (i : ℕ) → n ≤ i → nth (laid-rows n rows) i ≡ no-connection
-  nth-free i h = nth-behind (first-rows n rows) (max-connections - n) i (omega (arith, length-first rows n))
+  nth-free i h = nth-behind (tabulate n (row-asked rows)) (max-connections - n) i (omega (arith, length-first rows n))
 
   module _ (t : List ℕ) (e : t ≡ laid-out n rows) where
     abbrev used : ℕ
@@ -81,11 +81,11 @@ module _ (rows : List ℕ) (n : ℕ) (few : n ≤ max-connections) where
     length-laid = members-long t formed-laid
 
     pub used-laid : used-by (connections-in t) ≤ n
-    used-laid = omega (arith, ap used-by connections-laid, used-padded (first-rows n rows) (max-connections - n), length-first rows n)
+    used-laid = omega (arith, ap used-by connections-laid, used-padded (tabulate n (row-asked rows)) (max-connections - n), length-first rows n)
 
     -- the level test of the table is that of its rows
-    pub test-laid : (l : Link) → level-test l (connections-in t) ≡ level-test l (first-rows n rows)
-    test-laid l = ap (level-test l) connections-laid ∙ test-padded l (first-rows n rows) (max-connections - n)
+    pub test-laid : (l : Link) → level-test l (connections-in t) ≡ level-test l (tabulate n (row-asked rows))
+    test-laid l = ap (level-test l) connections-laid ∙ test-padded l (tabulate n (row-asked rows)) (max-connections - n)
 
     pub within-laid : (l : Link) → link-within l ≡ true → every n (row-ok l rows) ≡ true → Within l (connections-in t)
     within-laid l k ok = subst (Within l) (sym connections-laid) (record { link-in = k; figures-in = figures; blank-in = free })
@@ -109,12 +109,12 @@ module _ (rows : List ℕ) (n : ℕ) (few : n ≤ max-connections) where
       rest : max-connections - n ≡ suc (max-connections - suc n)
       rest = omega arith
 
-      with-rest : laid-rows n rows ≡ first-rows n rows ++ no-connection ∷ replicate (max-connections - suc n) no-connection
-      with-rest = ap (padded (first-rows n rows)) rest
+      with-rest : laid-rows n rows ≡ tabulate n (row-asked rows) ++ no-connection ∷ replicate (max-connections - suc n) no-connection
+      with-rest = ap (padded (tabulate n (row-asked rows))) rest
 
-      levels : All (λ x. 1 ≤ x .level) (first-rows n rows)
+      levels : All (λ x. 1 ≤ x .level) (tabulate n (row-asked rows))
       levels =
-          all-from (λ x. 1 ≤ x .level) (first-rows n rows) no-connection
+          all-from (λ x. 1 ≤ x .level) (tabulate n (row-asked rows)) no-connection
           (λ i h.
           let k : i < n = omega (arith, length-first rows n) in
           subst (λ (x : Connection). 1 ≤ x .level) (sym (nth-first rows n i k)) (owned-so-far i k))
@@ -123,7 +123,7 @@ module _ (rows : List ℕ) (n : ℕ) (few : n ≤ max-connections) where
       next-free =
           sym
           (ap free-number (connections-laid ∙ with-rest)
-          ∙ free-behind (first-rows n rows) (replicate (max-connections - suc n) no-connection) levels
+          ∙ free-behind (tabulate n (row-asked rows)) (replicate (max-connections - suc n) no-connection) levels
           ∙ length-first rows n)
 
       pub next-past : getD (pasts-in t) n no-past ≡ no-past
@@ -136,9 +136,11 @@ module _ (rows : List ℕ) (n : ℕ) (few : n ≤ max-connections) where
       joined x k =
           ap (λ (c : ℕ). set (connections-in t) c x) (sym next-free)
           ∙ ap (λ (cs : List Connection). set cs n x) (connections-laid ∙ with-rest)
-          ∙ set-at (first-rows n rows) no-connection (replicate (max-connections - suc n) no-connection) x n (length-first rows n)
-          ∙ sym (append-assoc (first-rows n rows) (x ∷ []) (replicate (max-connections - suc n) no-connection))
-          ∙ rw (k, add-one n)
+          ∙ set-at (tabulate n (row-asked rows)) no-connection (replicate (max-connections - suc n) no-connection) x n (length-first rows n)
+          ∙ sym (append-assoc (tabulate n (row-asked rows)) (x ∷ []) (replicate (max-connections - suc n) no-connection))
+          ∙ ap (λ (cs : List Connection). cs ++ replicate (max-connections - suc n) no-connection)
+          (ap (λ (y : Connection). tabulate n (row-asked rows) ++ y ∷ []) k ∙ sym (tabulate-snoc n (row-asked rows)))
+          ∙ ap (λ (m : ℕ). laid-rows m rows) (sym (add-one n))
 
       pub next-laid : (x : Connection) → x ≡ row-asked rows n → written-members (joining (connections-in t) x) (pasts-in t) (closed-in t) ≡ laid-out (n + 1) rows
       next-laid x k = rw (joined x k, pasts-laid, marks-laid)

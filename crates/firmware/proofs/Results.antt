@@ -1,28 +1,27 @@
 -- THE PROOFS of the statements in specs/Promises, each under its name in small letters.
-use Prim.Native.Nat.{ℕ, zero, suc, _+_, _<_, max}
+use Prim.Native.Nat.{ℕ, zero, suc, _+_, _/_, _≤_, _<_, max}
 use native.Mathlib.Omega.{arith}
 use mathlib.Core.Path.{_≡_, refl, sym, ap, _∙_, subst}
-use mathlib.Core.Bool.{Bool, true, false, not, _&&_}
+use mathlib.Core.Bool.{Bool, true, false, not, _&&_, _||_}
 use mathlib.Core.Logic.{_⊎_, inl, inr, _↔_}
 use mathlib.Core.List.{List, [], _∷_, _++_, map}
 use mathlib.Core.Option.{none}
-use lib.Dec.{eqb}
+use lib.Dec.{eqb, leb}
 use lib.ListN.{length, length-append}
 use lib.Seq.{getD-append-seam}
-use borrow.Author.Tests.{le-leb, lt-leb, eqb-false, eq-eqb, ne-eqb}
+use borrow.Author.Tests.{le-leb, lt-leb, leb-true, eqb-true, eqb-false, eq-eqb, ne-eqb}
 use Rattle.rules.specs.declared.Link.{Link}
 use Rattle.rules.specs.declared.Connection.{Connection}
 use Rattle.rules.specs.Words.{All}
 use Rattle.rules.specs.Limits.{max-connections, max-allowance}
 use Rattle.rules.specs.declared.Short.{Short}
 use Rattle.rules.specs.Model.{Past, State, admit, offer, no-short, Answer, no-connection, nth, past, figures}
-use Rattle.rules.specs.Admission.{cost, windowed, link-within, level-within, burst, figures-within, free-number, joining, window, conditions, limit-at, level-sum, excess-from, excess, short-from, level-test, passes}
+use Rattle.rules.specs.Admission.{cost, windowed, link-within, level-within, burst, average-within, kind-within, figures-within, free-number, joining, window, conditions, limit-at, level-sum, excess-from, excess, short-from, level-test, passes}
 use Rattle.rules.specs.Service.{nth-before, ticks-after, next-eligibility}
 use Rattle.rules.specs.SoundState.{Orderly, Sound}
 use Rattle.rules.specs.SoundTest.{sound}
 use Rattle.rules.specs.Calls.{verdicts, verdict, answer}
-use Rattle.rules.specs.Promises as R
-use Rattle.rules.specs.Promises.{No-level-fails, by-its-gap}
+use Rattle.rules.specs.Promises.{Names-the-lowest, No-level-fails, by-its-gap}
 use Rattle.rules.specs.WithoutAverage.{base-figures-within}
 use Rattle.rules.proofs.Sums.{same}
 use Rattle.rules.proofs.Lists.{all-from}
@@ -34,11 +33,10 @@ use Rattle.rules.proofs.Figures.{link-facts, burst-none}
 use Rattle.rules.proofs.Spacing.{earliest-is, next-is}
 use Rattle.rules.proofs.SoundExact.{exact}
 use Rattle.rules.proofs.Results.{answer-verdict, level-test-tells, short-is-told, first-kind, second-kind, level-test-counts-alike}
-use Rattle.firmware.specs.Questions.{past-asked, next-asked, link-asked, rows-asked, row-asked, all-rows, testable, well-asked, short-asked}
-use Rattle.firmware.specs.Promises.{Same-eligibility-as-an-offer, Greater-with-an-average, Refused-exactly, Holds-exactly, No-units-exactly}
-use Rattle.firmware.specs.Promises.{Names-the-lowest, No-rows-hold, owners, Of-a-kind, with-queue-off, Same-test-as-an-admission}
+use Rattle.firmware.specs.Questions.{past-asked, next-asked, link-asked, row-asked, all-rows, well-asked, short-asked}
+use Rattle.firmware.specs.Promises.{Same-eligibility-as-an-offer, Answered-by-the-sums, with-queue-off, Same-test-as-an-admission}
 use Rattle.firmware.proofs.AskedLaws.{row-ok, length-first, nth-first, Asked, asked, refuses, answers, is-level}
-use Rattle.firmware.proofs.FreeLaws.{Blank, test-owners, owners-room}
+use Rattle.firmware.proofs.FreeLaws.{owners, Blank, test-owners, owners-room}
 
 -- ---- (a)
 
@@ -56,8 +54,11 @@ same-next : (x : Connection) (h : Past) (flag last now : ℕ) → nth-before 1 h
 same-next x h flag last now e =
     omega (arith, next-is x h now, earliest-is x h, asked-is flag last (x .gap) now, ap (ticks-after (x .gap)) e)
 
-pub greater-with-an-average : Greater-with-an-average
-greater-with-an-average s c len tag flag last e =
+greater : (s : State) (c len tag flag last : ℕ) → nth-before 1 (past s c) ≡ nth-before 1 (past-asked flag last)
+    → answer (offer c len tag none) s .verdict ≡ 0
+    → answer (offer c len tag none) s .number
+    ≡ max (next-asked flag last (figures s c .gap) (s .clock)) (ticks-after (figures s c .window) (nth-before (burst (figures s c)) (past s c)))
+greater s c len tag flag last e =
     settled
     (λ (a : Answer). a .verdict ≡ 0 → a .number ≡ max (next-asked flag last (figures s c .gap) (s .clock)) (ticks-after (figures s c .window) (nth-before (burst (figures s c)) (past s c))))
     (offer c len tag none) s (verdict (offer c len tag none) s)
@@ -65,45 +66,34 @@ greater-with-an-average s c len tag flag last e =
     (λ w z. absurd (omega (arith, z)))
 
 pub same-eligibility-as-an-offer : Same-eligibility-as-an-offer
-same-eligibility-as-an-offer s c len tag flag last p e v =
-    omega (
-      arith,
-      greater-with-an-average s c len tag flag last e v,
-      ap (λ (n : ℕ). ticks-after (figures s c .window) (nth-before n (past s c))) (burst-none (figures s c) (p .0)),
+same-eligibility-as-an-offer s c len tag flag last e v =
+    let g = greater s c len tag flag last e v in (
+      g,
+      λ p. omega (arith, g, ap (λ (n : ℕ). ticks-after (figures s c .window) (nth-before n (past s c))) (burst-none (figures s c) (p .0))),
     )
 
 -- ---- (b)
 
-module _ (lk rows : List ℕ) (e : well-asked lk rows ≡ true) where
+module _ (lk rows : List ℕ) (e : well-asked (link-asked lk) rows ≡ true) where
   -- what the rules say of the level test, said of the answer
   tells : (short-asked lk rows .level ≡ 0 ↔ No-level-fails (link-asked lk) (all-rows rows))
       × (short-asked lk rows .units ≡ 0 ↔ No-level-fails (link-asked lk) (all-rows rows))
-      × ((short-asked lk rows .level ≡ 0 → ⊥) → R.Names-the-lowest (link-asked lk) (all-rows rows) (short-asked lk rows))
+      × ((short-asked lk rows .level ≡ 0 → ⊥) → Names-the-lowest (link-asked lk) (all-rows rows) (short-asked lk rows))
   tells =
       subst
       (λ (t : Short). (t .level ≡ 0 ↔ No-level-fails (link-asked lk) (all-rows rows))
       × (t .units ≡ 0 ↔ No-level-fails (link-asked lk) (all-rows rows))
-      × ((t .level ≡ 0 → ⊥) → R.Names-the-lowest (link-asked lk) (all-rows rows) t))
+      × ((t .level ≡ 0 → ⊥) → Names-the-lowest (link-asked lk) (all-rows rows) t))
       (sym (answers lk rows e)) (level-test-tells (link-asked lk) (all-rows rows))
 
-pub refused-exactly : Refused-exactly
-refused-exactly lk rows = (
-  λ z w. omega (arith, z, is-level lk rows w),
-  λ n. ap (λ (t : Short). t .level) (refuses lk rows (not-true-false (well-asked lk rows) n)),
-)
-
-pub holds-exactly : Holds-exactly
-holds-exactly lk rows e = tells lk rows e .0
-
-pub no-units-exactly : No-units-exactly
-no-units-exactly lk rows = (λ u e. tells lk rows e .1 .0 u, go (well-asked lk rows) refl)
+no-units : (lk rows : List ℕ) → (well-asked (link-asked lk) rows ≡ true → No-level-fails (link-asked lk) (all-rows rows)) → short-asked lk rows .units ≡ 0
+no-units lk rows = go (well-asked (link-asked lk) rows) refl
   where
-    go : (b : Bool) → well-asked lk rows ≡ b → (well-asked lk rows ≡ true → No-level-fails (link-asked lk) (all-rows rows)) → short-asked lk rows .units ≡ 0
+    go : (b : Bool) → well-asked (link-asked lk) rows ≡ b
+        → (well-asked (link-asked lk) rows ≡ true → No-level-fails (link-asked lk) (all-rows rows))
+        → short-asked lk rows .units ≡ 0
     go true e h = tells lk rows e .1 .1 (h e)
     go false e h = ap (λ (t : Short). t .units) (refuses lk rows e)
-
-pub names-the-lowest : Names-the-lowest
-names-the-lowest lk rows e n = tells lk rows e .2 n
 
 -- without rows a sum is what S costs the line, and no bound is below that, nor a window
 none-short : (l : Link) → link-within l ≡ true → No-level-fails l []
@@ -111,14 +101,27 @@ unfolding level-sum
 none-short l e m p q zero h = omega (arith, link-facts l e .largest-le m p q, link-facts l e .window-in m p q .0)
 none-short l e m p q (suc β) h = omega (arith, link-facts l e .largest-le m p q)
 
-bare : (l : Link) → link-within l ≡ true → testable l [] ≡ true
-unfolding testable
+bare : (l : Link) → link-within l ≡ true → well-asked l [] ≡ true
+unfolding well-asked
 bare l e = rw e
 
-pub no-rows-hold : No-rows-hold
-no-rows-hold lk e =
+no-rows : (lk : List ℕ) → link-within (link-asked lk) ≡ true → short-asked lk [] ≡ no-short
+no-rows lk e =
     let t = tells lk [] (bare (link-asked lk) e) in
-    (t .0 .1 (none-short (link-asked lk) e), t .1 .1 (none-short (link-asked lk) e))
+    rw (t .0 .1 (none-short (link-asked lk) e), t .1 .1 (none-short (link-asked lk) e))
+
+pub answered-by-the-sums : Answered-by-the-sums
+answered-by-the-sums =
+    record {
+      refused-exactly = λ lk rows. (
+        λ z w. omega (arith, z, is-level lk rows w),
+        λ n. ap (λ (t : Short). t .level) (refuses lk rows (not-true-false (well-asked (link-asked lk) rows) n)),
+      );
+      holds-exactly = λ lk rows e. tells lk rows e .0;
+      no-units-exactly = λ lk rows. (λ u e. tells lk rows e .1 .0 u, no-units lk rows);
+      names-the-lowest = λ lk rows e n. tells lk rows e .2 n;
+      no-rows-hold = no-rows;
+    }
 
 -- ---- the same question as an admission's
 
@@ -139,6 +142,25 @@ not-eight s x p =
     other : {A : Type 0} (n : ℕ) → eqb n 8 ≡ false → n ≡ 8 → A
     other n e i = absurd (eqb-false n 8 e i)
 
+-- of the first kind, with no allowance, or of the second, with an allowance up to its limit and no average
+abbrev Of-a-kind : Connection → Type 0
+Of-a-kind x = ((x .kind ≡ 0) × (x .allowance ≡ 0)) ⊎ ((x .kind ≡ 1) × (x .window ≡ 0) × (x .average ≡ 0) × (x .allowance ≤ max-allowance))
+
+of-a-kind : (x : Connection) → kind-within x ≡ true → Of-a-kind x
+of-a-kind x = go (eqb (x .kind) 0 && (eqb (x .allowance) 0 && average-within x)) refl
+  where
+    go : (b : Bool) → (eqb (x .kind) 0 && (eqb (x .allowance) 0 && average-within x)) ≡ b
+        → (b || (eqb (x .kind) 1 && (leb (x .allowance) max-allowance && (eqb (x .window) 0 && eqb (x .average) 0)))) ≡ true
+        → Of-a-kind x
+    go true e h =
+        let a = and-true (eqb (x .kind) 0) _ e in
+        inl (eqb-true _ 0 (a .0), eqb-true _ 0 (and-true (eqb (x .allowance) 0) _ (a .1) .0))
+    go false e h =
+        let a = and-true (eqb (x .kind) 1) _ h in
+        let b = and-true (leb (x .allowance) max-allowance) _ (a .1) in
+        let d = and-true (eqb (x .window) 0) _ (b .1) in
+        inr (eqb-true _ 1 (a .0), eqb-true _ 0 (d .0), eqb-true _ 0 (d .1), leb-true _ max-allowance (b .0))
+
 -- one of the first kind is its own row
 itself : (x : Connection) → x .kind ≡ 0 → x .allowance ≡ 0 → by-its-gap x ≡ x
 itself x k a =
@@ -148,9 +170,9 @@ itself x k a =
 -- one whose row is within the limits of figures is within them itself
 figures-by-row : (l : Link) (x : Connection) → Of-a-kind x → figures-within l (by-its-gap x) ≡ true → figures-within l x ≡ true
 figures-by-row l x (inl (k, a)) e = subst (λ (y : Connection). figures-within l y ≡ true) (itself x k a) e
-figures-by-row l x (inr (two, a)) e =
+figures-by-row l x (inr (k, w, v, a)) e =
     let b = and-true (base-figures-within l x) _ (sym (first-kind (by-its-gap x) refl refl .0 l) ∙ e) .0 in
-    second-kind x two .0 l ∙ rw (b, le-leb (x .allowance) max-allowance a) refl
+    second-kind x (k, w, v) .0 l ∙ rw (b, le-leb (x .allowance) max-allowance a) refl
 
 -- the level test does not look at the setting
 conditions-off : (l : Link) (m : ℕ) → conditions (with-queue-off l) m ≡ conditions l m
@@ -189,21 +211,21 @@ unfolding level-test
 test-off l cs = short-off l cs 1 (l .levels)
 
 module _ (lk rows : List ℕ) (s : State) (x : Connection) (S : Sound s) (K : Of-a-kind x) (same-link : with-queue-off (link-asked lk) ≡ with-queue-off (s .link))
-    (same-rows : all-rows rows ≡ map by-its-gap (owners (s .connections) ++ x ∷ [])) (e : well-asked lk rows ≡ true) where
+    (same-rows : all-rows rows ≡ map by-its-gap (owners (s .connections) ++ x ∷ [])) (e : well-asked (link-asked lk) rows ≡ true) where
   question : Asked (link-asked lk) rows
   question = asked (link-asked lk) rows e
 
   -- the newcomer is the last row
-  count : length (owners (s .connections)) + 1 ≡ rows-asked rows
+  count : length (owners (s .connections)) + 1 ≡ (length rows / 9)
   count =
       sym (length-append (owners (s .connections)) (x ∷ []))
       ∙ sym (length-map by-its-gap (owners (s .connections) ++ x ∷ []))
       ∙ ap (λ (cs : List Connection). length cs) (sym same-rows)
-      ∙ length-first rows (rows-asked rows)
+      ∙ length-first rows ((length rows / 9))
 
   newcomer : row-asked rows (length (owners (s .connections))) ≡ by-its-gap x
   newcomer =
-      sym (nth-first rows (rows-asked rows) (length (owners (s .connections))) (omega (arith, count)))
+      sym (nth-first rows ((length rows / 9)) (length (owners (s .connections))) (omega (arith, count)))
       ∙ ap (λ (cs : List Connection). nth cs (length (owners (s .connections)))) (same-rows ∙ map-append by-its-gap (owners (s .connections)) (x ∷ []))
       ∙ ap (nth (map by-its-gap (owners (s .connections)) ++ by-its-gap x ∷ [])) (sym (length-map by-its-gap (owners (s .connections))))
       ∙ getD-append-seam (map by-its-gap (owners (s .connections))) (by-its-gap x) [] no-connection
@@ -211,7 +233,7 @@ module _ (lk rows : List ℕ) (s : State) (x : Connection) (S : Sound s) (K : Of
   newcomer-in : (level-within (s .link) x ≡ true) × (figures-within (s .link) x ≡ true)
   unfolding level-within figures-within
   newcomer-in =
-      let r = every-true (rows-asked rows) (row-ok (link-asked lk) rows) (question .rows-in) (length (owners (s .connections))) (omega (arith, count)) in
+      let r = every-true ((length rows / 9)) (row-ok (link-asked lk) rows) (question .rows-in) (length (owners (s .connections))) (omega (arith, count)) in
       let b =
       and-true (level-within (s .link) (by-its-gap x)) (figures-within (s .link) (by-its-gap x))
       (subst (λ (l : Link). (level-within l (by-its-gap x) && figures-within l (by-its-gap x)) ≡ true) same-link
@@ -231,7 +253,7 @@ module _ (lk rows : List ℕ) (s : State) (x : Connection) (S : Sound s) (K : Of
   blanks : All Blank (s .connections)
   blanks =
       all-from Blank (s .connections) no-connection
-      (λ c h z. rules-kept .free-blank c (omega (arith, rules-kept .numbers)) (level-free (s .connections) c z) .no-figures)
+      (λ c h z. rules-kept .free-blank c (omega (arith, rules-kept .numbers)) (level-free (s .connections) c z) .0)
 
   -- the two tests are one
   same-test : short-asked lk rows ≡ level-test (s .link) (joining (s .connections) x)
@@ -266,4 +288,6 @@ module _ (lk rows : List ℕ) (s : State) (x : Connection) (S : Sound s) (K : Of
   same-short (inr n) = short-is-told (admit x) s .1 x refl (eight-if .1 n) .0 ∙ sym same-test
 
 pub same-test-as-an-admission : Same-test-as-an-admission
-same-test-as-an-admission lk rows s x S k l r e = (eight-if lk rows s x S k l r e, same-short lk rows s x S k l r e (same (short-asked lk rows .level) 0))
+same-test-as-an-admission lk rows s x S w l r e =
+    let k = of-a-kind x w in
+    (eight-if lk rows s x S k l r e, same-short lk rows s x S k l r e (same (short-asked lk rows .level) 0))

@@ -4,14 +4,15 @@ use mathlib.Core.Bool.{Bool, false}
 use mathlib.Core.List.{List, _++_}
 use lib.ListN.{replicate}
 use Rattle.rules.specs.declared.Connection.{Connection}
+use Rattle.rules.specs.Words.{tabulate}
 use Rattle.rules.specs.Limits.{max-connections}
 use Rattle.rules.specs.Model.{Past, no-connection, no-past}
 use Rattle.connections.specs.Members.{written-members}
-use Rattle.firmware.specs.Questions.{first-rows}
+use Rattle.firmware.specs.Questions.{row-asked}
 
 -- the first n rows at the numbers 0 to n - 1, and the numbers behind them free
 abbrev pub laid-rows : ℕ → List ℕ → List Connection
-laid-rows n rows = first-rows n rows ++ replicate (max-connections - n) no-connection
+laid-rows n rows = tabulate n (row-asked rows) ++ replicate (max-connections - n) no-connection
 
 -- of none a packet was accepted yet, and none is closed
 abbrev pub no-pasts : List Past

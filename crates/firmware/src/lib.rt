@@ -4,11 +4,12 @@ ghost use mathlib.Core.Path.{_≡_};
 ghost use mathlib.Core.Bool.{true};
 ghost use Prim.Native.Nat.{ℕ, _+_, _*_, _<_, _≤_};
 ghost use lib.ListN.{length};
-ghost use Rattle.rules.specs.Words.{every};
+ghost use Rattle.rules.specs.Words.{every, tabulate};
 ghost use Rattle.rules.specs.Limits.{max-connections};
 ghost use Rattle.rules.specs.Admission.{link-within, level-test};
 ghost use Rattle.rules.specs.SoundTest.{connection-sound};
-ghost use Rattle.firmware.specs.Questions.{next-asked, link-of, link-asked, row-bytes, row-asked, first-rows, testable, short-asked};
+ghost use Rattle.traces.specs.Trace.{trace-layout};
+ghost use Rattle.firmware.specs.Questions.{next-asked, link-of, link-asked, row-asked, well-asked, short-asked};
 ghost use Rattle.firmware.specs.Laid.{laid-out};
 use fields::read::one;
 use fields::read::two;
@@ -36,7 +37,7 @@ pub extern "C" fn mtredovim_next_eligibility(flag: u32, last: u32, gap: u32, now
 
 // The link that an `LK` names, or an `LW`; no link where the record is of another kind.
 fn link_of(what: Record) -> Link
-    ensures { λ r. ⌜ r ≡ link-of what ⌝ }
+    ensures { λ r. ⌜ r ≡ link-of (trace-layout what) ⌝ }
 {
     match what {
         Record::Link {
@@ -113,7 +114,7 @@ fn link_asked(lk: &[u8]) -> Link
 
 // The connection of row i: its bytes lie as those of a `CN` behind its mark.
 fn row_asked(rows: &[u8], i: usize) -> Connection
-    requires { ⌜ row-bytes * i + row-bytes ≤ length (now rows) ⌝ }
+    requires { ⌜ 9 * i + 9 ≤ length (now rows) ⌝ }
     ensures { λ r. ⌜ r ≡ row-asked (now (rows .entry)) i ⌝ }
 {
     let at = ROW * i;
@@ -129,7 +130,7 @@ fn row_asked(rows: &[u8], i: usize) -> Connection
 
 // The first n rows are within the limits of connections.
 fn rows_ok(l: Link, rows: &[u8], n: usize) -> bool
-    requires { ⌜ row-bytes * n ≤ length (now rows) ⌝ }
+    requires { ⌜ 9 * n ≤ length (now rows) ⌝ }
     ensures { λ r. ⌜ r ≡ every n (λ i. connection-sound l (row-asked (now (rows .entry)) i)) ⌝ }
 {
     let mut i: usize = 0;
@@ -145,7 +146,7 @@ fn rows_ok(l: Link, rows: &[u8], n: usize) -> bool
 
 // The connections of the first n rows, put into an empty table.
 fn lay_out(rows: &[u8], n: usize, members: &mut [u32])
-    requires { ⌜ (n ≤ max-connections) × (row-bytes * n ≤ length (now rows)) × ((i : ℕ) → i < n → 1 ≤ row-asked (now rows) i .level) × (now members ≡ laid-out 0 (now rows)) ⌝ }
+    requires { ⌜ (n ≤ max-connections) × (9 * n ≤ length (now rows)) × ((i : ℕ) → i < n → 1 ≤ row-asked (now rows) i .level) × (now members ≡ laid-out 0 (now rows)) ⌝ }
     ensures { λ r. ⌜ now (members .exit) ≡ laid-out n (now (rows .entry)) ⌝ }
 {
     let mut i: usize = 0;
@@ -158,8 +159,8 @@ fn lay_out(rows: &[u8], n: usize, members: &mut [u32])
 
 // The level test over the first n rows.
 fn short_over(l: Link, rows: &[u8], n: usize) -> Short
-    requires { ⌜ (link-within l ≡ true) × (n ≤ max-connections) × (row-bytes * n ≤ length (now rows)) × (every n (λ i. connection-sound l (row-asked (now rows) i)) ≡ true) ⌝ }
-    ensures { λ r. ⌜ r ≡ level-test l (first-rows n (now (rows .entry))) ⌝ }
+    requires { ⌜ (link-within l ≡ true) × (n ≤ max-connections) × (9 * n ≤ length (now rows)) × (every n (λ i. connection-sound l (row-asked (now rows) i)) ≡ true) ⌝ }
+    ensures { λ r. ⌜ r ≡ level-test l (tabulate n (row-asked (now (rows .entry)))) ⌝ }
 {
     let mut members = [0u32; MEMBERS];
     lay_out(rows, n, &mut members);
@@ -168,7 +169,7 @@ fn short_over(l: Link, rows: &[u8], n: usize) -> Short
 
 // The link and all rows are within their limits.
 fn testable(l: Link, rows: &[u8]) -> bool
-    ensures { λ r. ⌜ r ≡ testable l (now (rows .entry)) ⌝ }
+    ensures { λ r. ⌜ r ≡ well-asked l (now (rows .entry)) ⌝ }
 {
     if !limits::link_ok(l) {
         return false;

@@ -12,7 +12,7 @@ use Rattle.rules.specs.Model.{no-short}
 use Rattle.frames.specs.declared.Framing.{Framing}
 use Rattle.frames.specs.declared.Share.{Share}
 use Rattle.frames.specs.Model.{Call, link, admit, offer, notice}
-use Rattle.frames.specs.Calls.{verdict, refused-number, refused-short, eligibility-now, packet, placed}
+use Rattle.frames.specs.Calls.{verdict, refused-number, refused-short, eligibility-now}
 use Rattle.frames.proofs.Figures.{framing-facts}
 use Rattle.frames.proofs.Verdicts.{admit-done, offer-done}
 use Rattle.frames.proofs.SoundKept.{done-sound}
@@ -31,6 +31,7 @@ use Rattle.framed_state.proofs.SoundLaws as S
 use Rattle.framed_state.proofs.SoundLaws.{is-sound, shares-kept, places-kept, notices-kept, tables-kept}
 use Rattle.framed_state.proofs.DoesLaws.{refuses, acts}
 use Rattle.framed_calls.specs.Rulings.{ruling-of}
+use Rattle.frames.proofs.Names.{packet, placed}
 
 module _ (h : Frames) (t : Tables) (ok : sound-frames h t ≡ true) where
   -- ---- a call that is refused as its verdict says

@@ -14,11 +14,11 @@ use Rattle.rules.proofs.Sums.{cond-is}
 use Rattle.frames.specs.declared.Framing.{Framing}
 use Rattle.frames.specs.declared.Share.{Share}
 use Rattle.frames.specs.Model.{State, Call, admit, offer, nth, figures}
-use Rattle.frames.specs.Admission.{cost, stands, frame-sum, all-units, all-places}
+use Rattle.frames.specs.Admission.{cost, stands, frame-sum, all-places}
 use Rattle.frames.specs.Service.{used}
 use Rattle.frames.specs.SoundState.{Sound-with-link}
 use Rattle.frames.specs.SoundTest.{sound}
-use Rattle.frames.specs.Calls.{no-link-set, clock-ended, causes, verdicts, verdict, frame-over, refused-short}
+use Rattle.frames.specs.Calls.{no-link-set, clock-ended, causes, verdicts, verdict, refused-short}
 use Rattle.frames.proofs.Figures.{cost-is, sum-is, stands-below, sum-snoc}
 use Rattle.causes.specs.declared.Ruling.{Ruling}
 use Rattle.causes.specs.Causes.{nothing-short, early-offer}
@@ -30,6 +30,7 @@ use Rattle.framed_state.specs.View.{Tables, view, sound-frames}
 use Rattle.framed_state.proofs.SoundLaws.{sound-view, linked}
 use Rattle.framed_calls.specs.declared.verdicts.Taken.{Taken}
 use Rattle.framed_calls.specs.Rulings.{ruling-of, early-admit, taken-of}
+use Rattle.frames.proofs.Names.{all-units, frame-over}
 
 pub by-causes : (k : Call) (s : State) → sound s ≡ true → first-number (causes k s) ≡ verdict k s
 unfolding verdicts

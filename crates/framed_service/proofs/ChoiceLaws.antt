@@ -16,7 +16,6 @@ use Rattle.rules.proofs.Lists.{all-map}
 use Rattle.rules.proofs.Sums.{cond-ind}
 use Rattle.rules.proofs.Rows.{nil-of}
 use Rattle.frames.specs.Service.{first-eligible}
-use Rattle.frames.specs.SoundState.{Not-after}
 use Rattle.frames.proofs.SoundTick.{none-eligible}
 use Rattle.tables.specs.Places.{rows, row-at}
 use Rattle.tables.proofs.PlacesLaws.{rows-from}
@@ -25,6 +24,7 @@ use Rattle.line.specs.declared.Sent.{Sent}
 use Rattle.line.specs.Wires.{line-in, wire-of, Leaves, In-place}
 use Rattle.line.proofs.LineLaws.{Held, here, behind, in-place-then}
 use Rattle.framed_service.specs.Ready.{Ready}
+use Rattle.frames.proofs.Names.{Not-after}
 
 -- ---- the choice
 

@@ -11,7 +11,6 @@ use Rattle.rules.specs.Words.{All, Pairs}
 use Rattle.rules.specs.Limits.{clock-end}
 use Rattle.rules.proofs.Rows.{nil-of}
 use Rattle.frames.specs.Model.{State, wire}
-use Rattle.frames.specs.SoundState.{Not-after}
 use Rattle.frames.specs.SoundTest.{sound}
 use Rattle.frames.proofs.SoundExact.{exact}
 use Rattle.tables.specs.Places.{rows, row-at}
@@ -19,6 +18,7 @@ use Rattle.tables.proofs.PlacesLaws.{rows-from}
 use Rattle.line.specs.Quiet.{eligible-from, quiet-for, quiet-line}
 use Rattle.line.proofs.QuietLaws.{eligible-from-le, without-link, with-link}
 use Rattle.framed_service.specs.Quiet.{quiet-ticks}
+use Rattle.frames.proofs.Names.{Not-after}
 
 -- ---- the first row tells when a packet is eligible
 

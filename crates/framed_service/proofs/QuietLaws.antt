@@ -4,10 +4,11 @@ use native.Mathlib.Omega.{arith}
 use mathlib.Core.Path.{_≡_, subst}
 use mathlib.Core.Option.{none}
 use Rattle.rules.specs.Service.{Wire as Line}
-use Rattle.frames.specs.Model.{State, tick, Answer, wire, with-clock, with-wire}
+use Rattle.frames.specs.Model.{State, tick, Answer, wire, with-wire}
 use Rattle.frames.specs.SoundState.{Sound}
 use Rattle.frames.specs.SoundTest.{sound}
-use Rattle.frames.specs.Calls.{accepted, answer}
+use Rattle.frames.specs.Calls.{answer}
+use Rattle.frames.proofs.Names.{accepted}
 use Rattle.frames.proofs.SoundExact.{exact}
 use Rattle.frames.proofs.SoundKept.{kept}
 use Rattle.frames.proofs.Quiet.{quiet-passes}
@@ -33,7 +34,7 @@ module _ (s : State) (k : ℕ) (Q : Quiet s (suc k)) where
 -- ---- many
 
 abbrev put : State → ℕ → Line → State
-put s t l = with-clock (with-wire s l) t
+put s t l = with-wire s t l
 
 pub pass-none : (s : State) → passed s 0 ≡ s
 pass-none s = L.pass-none (put s) (s .clock) (wire s)

@@ -3,13 +3,13 @@
 use Prim.Native.Nat.{ℕ, _+_, min}
 use mathlib.Core.Option.{none}
 use Rattle.rules.specs.Service.{passed-wire}
-use Rattle.frames.specs.Model.{State, wire, with-clock, with-wire}
+use Rattle.frames.specs.Model.{State, wire, with-wire}
 use Rattle.frames.specs.SoundTest.{sound}
 use Rattle.line.specs.Quiet.{quiet-line, if-linked}
 
 -- the state k ticks on, where nothing starts and nothing departs in them
 abbrev pub passed : State → ℕ → State
-passed s k = with-clock (with-wire s (passed-wire (wire s) k)) (s .clock + k)
+passed s k = with-wire s (s .clock + k) (passed-wire (wire s) k)
 
 -- of `left` ticks those that are passed over at once: none without a link, and none beyond the clock's end; no packet stands by
 unfoldable pub quiet-ticks : ℕ → State → ℕ

@@ -20,7 +20,7 @@ use Rattle.frames.specs.declared.Framing.{Framing}
 use Rattle.frames.specs.declared.Share.{Share}
 use Rattle.frames.proofs.Figures.{framing-facts, sum-is, stands-below}
 use Rattle.frames.specs.Model.{nth}
-use Rattle.frames.specs.Admission.{framing-within, share-within, stands, frame-sum, all-units, all-places}
+use Rattle.frames.specs.Admission.{framing-within, share-within, stands, frame-sum, all-places}
 use Rattle.frames.specs.SoundTest.{nothing-used, admissions-sound, row-sound, never-falls, share-sound, rows-sound, heads, in-turn-sound}
 use Rattle.limits.proofs.ChainLaws.{fails, goes-on}
 use Rattle.tables.specs.Places.{rows, row-at}
@@ -32,6 +32,7 @@ use Rattle.line_tests.proofs.LineLaws.{row-holds}
 use Rattle.framed_state.specs.declared.Frames.{Frames}
 use Rattle.framed_state.specs.View.{Tables, view}
 use Rattle.framed_sound.specs.Parts.{unused, Measured}
+use Rattle.frames.proofs.Names.{all-units}
 
 -- ---- with no link set
 

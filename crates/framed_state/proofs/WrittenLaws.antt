@@ -12,7 +12,7 @@ use Rattle.rules.proofs.Sums.{same}
 use Rattle.rules.proofs.Tests.{and-true, and-intro, within-true}
 use Rattle.frames.specs.declared.Share.{Share}
 use Rattle.frames.specs.Limits.{max-units, max-places}
-use Rattle.frames.specs.Model.{State, fresh, no-share}
+use Rattle.frames.specs.Model.{State, fresh}
 use Rattle.frames.specs.Admission.{share-within}
 use Rattle.frames.specs.SoundState.{Sound-with-link, Sound}
 use Rattle.frames.specs.SoundTest.{sound}
@@ -24,6 +24,7 @@ use Rattle.tables.proofs.LentLaws.{Writable-rows, nothing-held, written-tables-
 use Rattle.shares.specs.Shares.{shares-formed}
 use Rattle.shares.proofs.ShareLaws as S
 use Rattle.framed_state.specs.View.{view, frames-of, written, tables-formed, sound-frames}
+use Rattle.frames.proofs.Names.{no-share}
 
 pub record Writable (s : State) : Type 0 where
   pub some-places : All (λ x. 0 < x .places) (s .connections)

@@ -3,7 +3,7 @@ use mathlib.Core.Bool.{Bool, _&&_}
 use lib.ListN.{replicate}
 use Rattle.frames.specs.Model.{State}
 use Rattle.frames.specs.SoundTest.{sound}
-use Rattle.tables.specs.Places.{places-length, rows, written-places}
+use Rattle.tables.specs.Places.{places-length, rows, table-of}
 use Rattle.tables.specs.Notices.{notices-length, notices-in, written-notices}
 use Rattle.tables.specs.Lent.{formed-with}
 pub use Rattle.tables.specs.Lent.{Tables, tables, given, before, after}
@@ -32,7 +32,7 @@ abbrev pub frames-of : State → Frames
 frames-of s = record { link = s .link; clock = s .clock; serving = s .serving; «to_go» = s .to-go; silent = s .silent }
 
 abbrev pub written : State → Tables
-written s = tables (written-shares (s .connections)) (written-places (s .held)) (written-notices (s .notices))
+written s = tables (written-shares (s .connections)) (table-of places-length (s .held)) (written-notices (s .notices))
 
 -- the tables are what is written of what is read in them
 unfoldable pub tables-formed : Tables → Bool

@@ -18,13 +18,14 @@ use Rattle.rules.proofs.Lists.{all-snoc}
 use Rattle.rules.proofs.Sums.{cond-is}
 use Rattle.rules.proofs.Tests.{never, and-true}
 use Rattle.rules.proofs.Rows.{map-append, of-snoc-same, of-snoc-other}
-use Rattle.frames.specs.Model.{Framing, Share, State, Call, link, admit, offer, notice, tick, figures}
+use Rattle.frames.specs.Model.{Framing, Share, State, Call, link, admit, offer, notice, tick, figures, Answer}
 use Rattle.frames.specs.Admission.{cost, stands}
 use Rattle.frames.specs.Service.{next-frame, used}
 use Rattle.frames.specs.SoundState.{Sound}
 use Rattle.frames.specs.SoundTest.{sound}
-use Rattle.frames.specs.Calls.{verdicts, verdict, packet, new-notice, done, settle, answer}
-use Rattle.frames.specs.Runs.{History, taken, after, run-from, exchange, exchanges-from, asks, offer-in, Half-at-most, granted, taken-so-far, own-verdict, own-answer, told-after, own-exchanges}
+use Rattle.frames.specs.Calls.{verdicts, verdict, done, settle, answer}
+use Rattle.frames.specs.Runs.{exchanges-from, asks}
+use Rattle.frames.specs.Histories as H
 use Rattle.frames.proofs.RowLaws.{total-append}
 use Rattle.frames.proofs.Figures.{stands-below, nth-old, length-snoc}
 use Rattle.frames.proofs.Verdicts.{settled, link-done, offer-done}
@@ -32,6 +33,7 @@ use Rattle.frames.proofs.SoundExact.{exact}
 use Rattle.frames.proofs.Invariant.{Invariant}
 use Rattle.frames.proofs.Every.{keeps}
 use Rattle.frames.proofs.Half.{ask-of, use-by-offers, has-room}
+use Rattle.frames.proofs.Names.{taken-so-far, own-answer, told-after, exchange-in, packet, new-notice, History, taken, after, run-from, offer-in, Half-at-most, granted, own-verdict, own-exchanges, ticked-is}
 
 -- ---- the figures of a connection that stands, and the link, stay
 
@@ -53,7 +55,7 @@ module _ (c : ℕ) where
   done-stays (admit x) s S b e = record { still = omega (arith, length-snoc (s .connections) x); alike = nth-old (s .connections) x c b; same-link = refl }
   done-stays (offer d len tag) s S b e = record { still = b; alike = refl; same-link = refl }
   done-stays (notice len tag) s S b e = record { still = b; alike = refl; same-link = refl }
-  done-stays tick s S b e = record { still = b; alike = refl; same-link = refl }
+  done-stays tick s S b e = subst (λ (a : Answer). Stays s (a .next)) (sym (ticked-is s)) (record { still = b; alike = refl; same-link = refl })
 
   pub stays : (ks : List Call) (h : History) → Invariant h → c < length (h .now .connections) → Stays (h .now) (run-from h ks .now)
   stays [] h I b = record { still = b; alike = refl; same-link = refl }
@@ -120,20 +122,27 @@ module _ (c : ℕ) (level : c ≡ notice-number → ⊥) where
             ∙ sym (append-nil (granted es))
             ∙ sym (granted-snoc es (told s d len tag (suc v)) ∙ ap (λ (l : List Asked). granted es ++ l) (cond-is ((told s d len tag (suc v)) .asked ∷ []) [] (ne-eqb (suc v) 0 (λ e. omega arith))))
 
-  pub call-granted : (h : History) (es : List Exchange) → Granted-are (h .accepted) es → (k : Call) → Granted-are (after h k .accepted) (push es (exchange c (h .now) k))
+  -- a notice is no connection's
+  notice-silent : (s : State) (len tag : ℕ) → exchange-in c s (notice len tag) ≡ none
+  notice-silent s len tag =
+      ap (λ (b : Bool). cond (b && stands (s .connections) c) (some (record { asked = record { at = s .clock; len = len; tag = tag; stamp = none }; verdict = answer (notice len tag) s .verdict; eligibility = answer (notice len tag) s .number })) none)
+      (ne-eqb notice-number c (λ e. level (sym e)))
+
+  pub call-granted : (h : History) (es : List Exchange) → Granted-are (h .accepted) es → (k : Call) → Granted-are (after h k .accepted) (push es (exchange-in c (h .now) k))
   call-granted h es G (link l) = settled (λ a. Granted-are (push (h .accepted) (taken (link l) (h .now) a)) es) (link l) (h .now) (verdict (link l) (h .now)) (λ _. G) (λ _. G)
   call-granted h es G (admit x) = settled (λ a. Granted-are (push (h .accepted) (taken (admit x) (h .now) a)) es) (admit x) (h .now) (verdict (admit x) (h .now)) (λ _. G) (λ _. G)
   call-granted h es G (offer d len tag) =
       offer-granted (h .now) (h .accepted) es G d len tag (verdict (offer d len tag) (h .now)) (λ e. offer-done (h .now) d len tag e .standing)
   call-granted h es G (notice len tag) =
-      settled (λ a. Granted-are (push (h .accepted) (taken (notice len tag) (h .now) a)) es) (notice len tag) (h .now) (verdict (notice len tag) (h .now))
-      (λ _. ap (map ask-of) (of-snoc-other c (h .accepted) (notice-packet (new-notice (h .now) len tag)) (λ e. level (sym e))) ∙ G) (λ _. G)
+      subst (λ (o : Option Exchange). Granted-are (after h (notice len tag) .accepted) (push es o)) (sym (notice-silent (h .now) len tag))
+      (settled (λ a. Granted-are (push (h .accepted) (taken (notice len tag) (h .now) a)) es) (notice len tag) (h .now) (verdict (notice len tag) (h .now))
+      (λ _. ap (map ask-of) (of-snoc-other c (h .accepted) (notice-packet (new-notice (h .now) len tag)) (λ e. level (sym e))) ∙ G) (λ _. G))
   call-granted h es G tick = settled (λ a. Granted-are (push (h .accepted) (taken tick (h .now) a)) es) tick (h .now) (verdict tick (h .now)) (λ _. G) (λ _. G)
 
   -- ---- an offer of its own
 
   module _ (h : History) (I : Invariant h) (es : List Exchange) (G : Granted-are (h .accepted) es) (len tag : ℕ) (standing : stands (h .now .connections) c ≡ true) where
-    open History h using (now as s)
+    open H.History h using (now as s)
 
     abbrev a : Asked
     a = record { at = s .clock; len = len; tag = tag; stamp = none }
@@ -147,13 +156,13 @@ module _ (c : ℕ) (level : c ≡ notice-number → ⊥) where
         go (not (sound s)) (eqb (s .link .frame) 0) (not (stands (s .connections) c)) (within 1 (s .link .largest) len)
         (leb (figures s c .places) (length (of c (s .held)))) (leb clock-end (s .clock))
         (ltb (figures s c .units) (used (s .link) (s .clock) c (s .held) + cost (s .link) len))
-        (ltb (figures s c .units) (taken-so-far (s .link) (s .clock) (granted es) + cost (s .link) len))
+        (ltb (figures s c .units) (taken-so-far (s .link) (s .clock) es + cost (s .link) len))
         (ap not (exact s .1 (I .sound))) (ne-eqb (s .link .frame) 0 set) (ap not standing)
         (λ w. lt-leb _ _ (has-room h I c level es G (I .sound .with-one set) (figures s c) a refl w half))
         (ap (λ (n : ℕ). ltb (figures s c .units) (n + cost (s .link) len)) (use-by-offers h I c level es G))
       where
         go : (unsound unset gone right full ended over past : Bool) → unsound ≡ false → unset ≡ false → gone ≡ false → (right ≡ true → full ≡ false) → over ≡ past
-            → _≡_ {A = ℕ} (cond unsound 1 (cond unset 2 (cond gone 10 (cond (not right) 11 (cond full 12 (cond ended 13 (cond over 19 0))))))) (cond right (cond ended 13 (cond past 19 0)) 11)
+            → _≡_ {A = ℕ} (cond unsound 1 (cond unset 2 (cond gone 10 (cond (not right) 11 (cond full 12 (cond ended 13 (cond over 19 0))))))) (cond (not right) 11 (cond ended 13 (cond past 19 0)))
         go true b c d e f g m i j k l n = never (sym i)
         go false true c d e f g m i j k l n = never (sym j)
         go false false true d e f g m i j k l n = never (sym k)
@@ -171,12 +180,12 @@ module _ (c : ℕ) (level : c ≡ notice-number → ⊥) where
   told-snoc l x es [] a = refl
   told-snoc l x es (q ∷ qs) a = told-snoc l x (es ++ own-answer l x es q ∷ []) qs a
 
-  exchanges-grow : (ks : List Call) (h : History) (es : List Exchange) → (more : List Exchange) × (exchanges-from c h es ks ≡ es ++ more)
+  exchanges-grow : (ks : List Call) (h : History) (es : List Exchange) → (more : List Exchange) × (exchanges-from c (h .now) es ks ≡ es ++ more)
   exchanges-grow [] h es = ([], sym (append-nil es))
-  exchanges-grow (k ∷ ks) h es = go (exchange c (h .now) k) (λ us. exchanges-grow ks (after h k) us)
+  exchanges-grow (k ∷ ks) h es = go (exchange-in c (h .now) k) (λ us. exchanges-grow ks (after h k) us)
     where
-      go : (o : Option Exchange) → ((us : List Exchange) → (more : List Exchange) × (exchanges-from c (after h k) us ks ≡ us ++ more))
-          → (more : List Exchange) × (exchanges-from c (after h k) (push es o) ks ≡ es ++ more)
+      go : (o : Option Exchange) → ((us : List Exchange) → (more : List Exchange) × (exchanges-from c (after h k .now) us ks ≡ us ++ more))
+          → (more : List Exchange) × (exchanges-from c (after h k .now) (push es o) ks ≡ es ++ more)
       go none f = f es
       go (some e) f = let r = f (es ++ e ∷ []) in (e ∷ r .0, r .1 ∙ append-assoc es (e ∷ []) (r .0))
 
@@ -184,7 +193,7 @@ module _ (c : ℕ) (level : c ≡ notice-number → ⊥) where
   half-front : (l : Framing) (x : Share) (qs more : List Asked) → Half-at-most l x (qs ++ more) → Half-at-most l x qs
   half-front l x qs more half f = omega (arith, half f, total-append (offer-in l f) qs more)
 
-  half-so-far : (l : Framing) (x : Share) (ks : List Call) (h : History) (es : List Exchange) → Half-at-most l x (asks (exchanges-from c h es ks)) → Half-at-most l x (asks es)
+  half-so-far : (l : Framing) (x : Share) (ks : List Call) (h : History) (es : List Exchange) → Half-at-most l x (asks (exchanges-from c (h .now) es ks)) → Half-at-most l x (asks es)
   half-so-far l x ks h es half =
       let g = exchanges-grow ks h es in
       half-front l x (asks es) (asks (g .0)) (subst (Half-at-most l x) (ap asks (g .1) ∙ map-append (λ (e : Exchange). e .asked) es (g .0)) half)
@@ -202,10 +211,10 @@ module _ (c : ℕ) (level : c ≡ notice-number → ⊥) where
 
   own-call : (h : History) (I : Invariant h) (es : List Exchange) → Granted-are (h .accepted) es → (l : Framing) (x : Share)
       → (stands (h .now .connections) c ≡ true → (h .now .link ≡ l) × (figures (h .now) c ≡ x))
-      → (k : Call) → Half-at-most l x (asks (push es (exchange c (h .now) k))) → Own-so-far l x es → Own-so-far l x (push es (exchange c (h .now) k))
+      → (k : Call) → Half-at-most l x (asks (push es (exchange-in c (h .now) k))) → Own-so-far l x es → Own-so-far l x (push es (exchange-in c (h .now) k))
   own-call h I es G l x alike (link m) half O = O
   own-call h I es G l x alike (admit y) half O = O
-  own-call h I es G l x alike (notice len tag) half O = O
+  own-call h I es G l x alike (notice len tag) half O = subst (λ (o : Option Exchange). Own-so-far l x (push es o)) (sym (notice-silent (h .now) len tag)) O
   own-call h I es G l x alike tick half O = O
   own-call h I es G l x alike (offer d len tag) half O = go (eqb d c && stands (h .now .connections) c) refl half
     where
@@ -231,42 +240,45 @@ module _ (c : ℕ) (level : c ≡ notice-number → ⊥) where
           ∙ ap (λ (m : Framing). own-answer m x es a) (alike (p .1) .0))
 
   pub told-by-own : (ks : List Call) (h : History) (es : List Exchange) → Invariant h → Granted-are (h .accepted) es
-      → Half-at-most (run-from h ks .now .link) (figures (run-from h ks .now) c) (asks (exchanges-from c h es ks))
+      → Half-at-most (run-from h ks .now .link) (figures (run-from h ks .now) c) (asks (exchanges-from c (h .now) es ks))
       → Own-so-far (run-from h ks .now .link) (figures (run-from h ks .now) c) es
-      → Own-so-far (run-from h ks .now .link) (figures (run-from h ks .now) c) (exchanges-from c h es ks)
+      → Own-so-far (run-from h ks .now .link) (figures (run-from h ks .now) c) (exchanges-from c (h .now) es ks)
   told-by-own [] h es I G half O = O
   told-by-own (k ∷ ks) h es I G half O =
       let l = run-from h (k ∷ ks) .now .link in
       let x = figures (run-from h (k ∷ ks) .now) c in
-      told-by-own ks (after h k) (push es (exchange c (h .now) k)) (keeps h k I) (call-granted h es G k) half
+      told-by-own ks (after h k) (push es (exchange-in c (h .now) k)) (keeps h k I) (call-granted h es G k) half
       (own-call h I es G l x
       (λ standing. let r = stays c (k ∷ ks) h I (stands-below (h .now .connections) c standing) in (sym (r .same-link), sym (r .alike)))
-      k (half-so-far l x ks (after h k) (push es (exchange c (h .now) k)) half) O)
+      k (half-so-far l x ks (after h k) (push es (exchange-in c (h .now) k)) half) O)
 
 -- the number of the notices is no connection's
-pub no-connection-asks : (c : ℕ) → c ≡ notice-number → (ks : List Call) (h : History) (es : List Exchange) → Invariant h → exchanges-from c h es ks ≡ es
+pub no-connection-asks : (c : ℕ) → c ≡ notice-number → (ks : List Call) (h : History) (es : List Exchange) → Invariant h → exchanges-from c (h .now) es ks ≡ es
 no-connection-asks c n [] h es I = refl
 no-connection-asks c n (k ∷ ks) h es I =
-    no-connection-asks c n ks (after h k) (push es (exchange c (h .now) k)) (keeps h k I) ∙ ap (push es) (silent k)
+    no-connection-asks c n ks (after h k) (push es (exchange-in c (h .now) k)) (keeps h k I) ∙ ap (push es) (silent k)
   where
-    silent : (k : Call) → exchange c (h .now) k ≡ none
-    silent (link l) = refl
-    silent (admit x) = refl
-    silent (offer d len tag) = go (eqb d c) (stands (h .now .connections) c) refl
+    by : (d : ℕ) (e : Exchange) → cond (eqb d c && stands (h .now .connections) c) (some e) none ≡ none
+    by d e = go (eqb d c) (stands (h .now .connections) c) refl
       where
-        go : (b standing : Bool) → stands (h .now .connections) c ≡ standing → cond (b && standing) (some (told (h .now) d len tag (verdict (offer d len tag) (h .now)))) none ≡ none
+        go : (b standing : Bool) → stands (h .now .connections) c ≡ standing → cond (b && standing) (some e) none ≡ none
         go false standing i = refl
         go true false i = refl
         go true true i = absurd (few-connections (h .now) (I .sound) c (stands-below (h .now .connections) c i) n)
-    silent (notice len tag) = refl
+
+    silent : (k : Call) → exchange-in c (h .now) k ≡ none
+    silent (link l) = refl
+    silent (admit x) = refl
+    silent (offer d len tag) = by d (told (h .now) d len tag (verdict (offer d len tag) (h .now)))
+    silent (notice len tag) = by notice-number (record { asked = record { at = h .now .clock; len = len; tag = tag; stamp = none }; verdict = answer (notice len tag) (h .now) .verdict; eligibility = answer (notice len tag) (h .now) .number })
     silent tick = refl
 
 -- ---- its own offers never bring it 12
 
 own-not-12 : (l : Framing) (x : Share) (es : List Exchange) (a : Asked) → own-verdict l x es a ≡ 12 → ⊥
-own-not-12 l x es a e = go (within 1 (l .largest) (a .len)) (leb clock-end (a .at)) (ltb (x .units) (taken-so-far l (a .at) (granted es) + cost l (a .len))) e
+own-not-12 l x es a e = go (within 1 (l .largest) (a .len)) (leb clock-end (a .at)) (ltb (x .units) (taken-so-far l (a .at) es + cost l (a .len))) e
   where
-    go : (right ended over : Bool) → _≡_ {A = ℕ} (cond right (cond ended 13 (cond over 19 0)) 11) 12 → ⊥
+    go : (right ended over : Bool) → _≡_ {A = ℕ} (cond (not right) 11 (cond ended 13 (cond over 19 0))) 12 → ⊥
     go false ended over i = omega arith
     go true true over i = omega arith
     go true false true i = omega arith

@@ -1,7 +1,7 @@
 -- The numbers of an answer fit the fields of its record.
 use Prim.Native.Nat.{ℕ, zero, suc, _+_, _≤_, _<_}
 use native.Mathlib.Omega.{arith}
-use mathlib.Core.Path.{_≡_, refl, ap, _∙_, subst}
+use mathlib.Core.Path.{_≡_, refl, ap, _∙_, subst, sym}
 use mathlib.Core.Bool.{Bool, true, false, cond, not}
 use mathlib.Core.Logic.{⊎-elim}
 use mathlib.Core.List.{List, [], _∷_, _++_}
@@ -15,7 +15,9 @@ use Rattle.rules.specs.Words.{All, within, first-number}
 use Rattle.rules.specs.Limits.{max-connections, max-reserved, clock-end, beyond-32-bits}
 use Rattle.rules.specs.Service.{sent}
 use Rattle.rules.specs.SoundLine.{Waits}
-use Rattle.rules.specs.Promises.{number-limit, Packet-fits, Answer-fits}
+use Rattle.rules.specs.Promises.{Answer-fits}
+use Rattle.rules.proofs.Doings.{Packet-fits}
+use Rattle.rules.proofs.Doings.{number-limit}
 use Rattle.rules.proofs.Lists.{all-zip}
 use Rattle.rules.proofs.Sums.{same, cond-ind}
 use Rattle.rules.proofs.Tests.{and-true, within-true}
@@ -33,10 +35,11 @@ use Rattle.frames.proofs.Figures.{sum-is, stands-below, sum-snoc}
 use Rattle.frames.proofs.Verdicts.{admit-done, offer-done, tick-done}
 use Rattle.frames.proofs.SoundTick.{facts, rows-sized, ready, ready-sound}
 use Rattle.frames.proofs.SoundExact.{exact}
+use Rattle.frames.proofs.Names.{ticked-is, sent-by}
 
 -- the numbers of an answer to k
 abbrev Fits-for : Call → Answer → Type 0
-Fits-for k a = Answer-fits (refused-number k) (a .verdict) (a .number) (a .short) (a .departed) (a .next .clock)
+Fits-for k a = Answer-fits (refused-number k) a (a .next .clock)
 
 number-le : (n : ℕ) (rs : List (ℕ × Bool)) → All (λ r. r .0 ≤ n) rs → first-number rs ≤ n
 number-le n [] h = omega arith
@@ -96,13 +99,9 @@ module _ (s : State) (S : Sound-with-link s) (running : s .clock < clock-end) wh
   held-fit = all-zip one (s .held) (S .fit) (S .dated)
     where
       one : (p : Packet) → Fits (s .link) (s .connections) p → Dated (s .link .frame) (s .clock) p → Packet-fits p
-      one p f d = record {
-        connection = omega (arith, stands-below (s .connections) (p .connection) (f .standing), S .few);
-        arrival = omega (arith, d .arrived, S .clock-le);
-        eligibility = omega (arith, d .next-start, near-end s S (p .arrival) (d .arrived));
-      }
+      one p f d = (omega (arith, stands-below (s .connections) (p .connection) (f .standing), S .few), omega (arith, d .arrived, S .clock-le), omega (arith, d .next-start, near-end s S (p .arrival) (d .arrived)))
 
-  departed-fits : (p : Packet) → ticked s .departed ≡ some p → Packet-fits p
+  departed-fits : (p : Packet) → sent-by s .departed ≡ some p → Packet-fits p
   departed-fits =
       sent-cases (λ _. false) (s .link .largest) (s .link .silence) (s .clock) (ready s S) (ready-sound s S) (rows-sized s S) sent (λ x. (p : Packet) → x .departed ≡ some p → Packet-fits p)
       (λ e p i. absurd (none-some i))
@@ -110,11 +109,13 @@ module _ (s : State) (S : Sound-with-link s) (running : s .clock < clock-end) wh
       (λ r ns j e p i.
       let f : Waits (s .link .largest) (s .clock) (r .it) = subst (All (Waits (s .link .largest) (s .clock))) j (S .line .notices-fit) .0 in
       subst Packet-fits (some-inj i)
-      (record { connection = omega arith; arrival = omega (arith, f .arrived, S .clock-le); eligibility = omega (arith, f .arrived, S .clock-le) }))
+      ((omega arith, omega (arith, f .arrived, S .clock-le), omega (arith, f .arrived, S .clock-le))))
       (λ u e k p i. absurd (none-some i))
 
   ticked-fits : Fits-for tick (ticked s)
-  ticked-fits = record { verdict = omega arith; number = omega arith; level = omega arith; units = omega arith; departed = departed-fits; finish = omega (arith, running) }
+  ticked-fits =
+      subst (Fits-for tick) (sym (ticked-is s))
+      (record { verdict = omega arith; number = omega arith; level = omega arith; units = omega arith; departed = departed-fits; finish = omega (arith, running) })
 
 -- ---- every call
 

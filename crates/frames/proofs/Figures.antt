@@ -16,10 +16,12 @@ use Rattle.rules.specs.Limits.{max-largest, max-silence}
 use Rattle.rules.proofs.Sums.{same, split, upto-yes, upto-no, upto-le, sum-eq}
 use Rattle.rules.proofs.Tests.{and-true, within-true}
 use Rattle.frames.specs.Limits.{max-frame}
-use Rattle.frames.specs.Model.{Framing, Share, nth, no-share}
-use Rattle.frames.specs.Admission.{cost, framing-within, stands, all-units, frame-sum}
+use Rattle.frames.specs.Model.{Framing, Share, nth}
+use Rattle.frames.specs.Admission.{cost, framing-within, stands, frame-sum}
 use Rattle.frames.specs.Service.{newly}
 use Rattle.frames.specs.SoundState.{Fits}
+use Rattle.frames.proofs.Names.{all-units}
+use Rattle.frames.proofs.Names.{no-share}
 
 -- ---- the link and the shares
 

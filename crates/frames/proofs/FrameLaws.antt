@@ -5,7 +5,8 @@ use native.Mathlib.Nat.{div-mul-le-self, lt-div-mul-add, le-div-iff-mul-le, div-
 use mathlib.Core.Path.{_≡_, ap, _∙_}
 use mathlib.Core.Logic.{_⊎_, inl, inr, ⊎-elim}
 use Rattle.rules.proofs.Sums.{split}
-use Rattle.frames.specs.Service.{frame-of, next-frame, leaves-by}
+use Rattle.frames.specs.Service.{next-frame, leaves-by}
+use Rattle.frames.proofs.Names.{frame-of}
 
 module _ (T : ℕ) where
   pub next-by-frame : (a b : ℕ) → frame-of T a ≡ frame-of T b → next-frame T a ≡ next-frame T b

@@ -2,7 +2,7 @@
 use Prim.Native.Nat.{ℕ, zero, suc, _+_, _≤_, _<_}
 use native.Mathlib.Omega.{arith}
 use mathlib.Core.Path.{_≡_, refl, sym, ap, _∙_, subst}
-use mathlib.Core.Bool.{Bool, true, false, cond}
+use mathlib.Core.Bool.{Bool, true, false, cond, _&&_}
 use mathlib.Core.Logic.{_⊎_, inl, inr, ⊎-elim}
 use mathlib.Core.List.{List, [], _∷_, _++_, map}
 use mathlib.Core.Option.{none}
@@ -19,18 +19,19 @@ use Rattle.rules.proofs.Sums.{split, same, cond-is}
 use Rattle.rules.proofs.Tests.{and-intro, within-intro}
 use Rattle.rules.proofs.Rows.{to-of, all-map-of}
 use Rattle.rules.proofs.Invariant.{whats}
-use Rattle.frames.specs.Model.{Share, State}
+use Rattle.frames.specs.Model.{Framing, Share, State}
 use Rattle.frames.specs.Admission.{cost}
-use Rattle.frames.specs.Service.{frame-of, next-frame, newly, used}
+use Rattle.frames.specs.Service.{next-frame, newly, used}
 use Rattle.frames.specs.SoundState.{Fits, Dated, Sound-with-link}
-use Rattle.frames.specs.Runs.{History, asks, offer-in, offers-in, Half-at-most, granted, taken-in, taken-so-far}
-use Rattle.frames.specs.Promises.{arrived-now}
+use Rattle.frames.specs.Runs.{asks, offers-in}
+use Rattle.frames.specs.Histories as H
 use Rattle.frames.proofs.FrameLaws.{frame-mono, same-frame, in-this-frame, one-before}
 use Rattle.frames.proofs.RowLaws.{length-total, total-append, sub-all}
 use Rattle.frames.proofs.Figures.{cost-is, newly-yes, newly-no}
 use Rattle.frames.proofs.SoundTick.{facts}
 use Rattle.frames.proofs.Invariant.{frame-end, On-time, Level-on-time, Invariant}
 use Rattle.frames.proofs.InTime.{held-waits}
+use Rattle.frames.proofs.Names.{taken-so-far, frame-of, History, offer-in, Half-at-most, granted, taken-in, arrived-now}
 
 total-map : {A B : Type 0} (f : A → B) (w : B → ℕ) (xs : List A) → total w (map f xs) ≡ total (λ x. w (f x)) xs
 total-map f w [] = refl
@@ -53,8 +54,18 @@ granted-part (e ∷ es) = go (eqb (e .verdict) 0) (granted-part es)
     go true k = keep (e .asked) k
     go false k = skip (e .asked) k
 
+total-granted : (l : Framing) (t : ℕ) (es : List Exchange) → total (taken-in l t) (granted es) ≡ taken-so-far l t es
+total-granted l t [] = refl
+total-granted l t (e ∷ es) = go (eqb (e .verdict) 0) (total-granted l t es)
+  where
+    go : (b : Bool) → total (taken-in l t) (granted es) ≡ taken-so-far l t es
+        → total (taken-in l t) (cond b (e .asked ∷ granted es) (granted es))
+        ≡ cond (b && eqb (frame-of (l .frame) (e .asked .at)) (frame-of (l .frame) t)) (cost l (e .asked .len)) 0 + taken-so-far l t es
+    go true k = ap (λ (n : ℕ). taken-in l t (e .asked) + n) k
+    go false k = omega (arith, k)
+
 module _ (h : History) (I : Invariant h) (c : ℕ) (level : c ≡ notice-number → ⊥) where
-  open History h using (now as s, accepted as acc, departed as gone)
+  open H.History h using (now as s, accepted as acc, departed as gone)
 
   abbrev T : ℕ
   T = s .link .frame
@@ -144,8 +155,8 @@ module _ (h : History) (I : Invariant h) (c : ℕ) (level : c ≡ notice-number 
   -- ---- by its offers
 
   module _ (es : List Exchange) (G : map ask-of (of c acc) ≡ granted es) where
-    pub use-by-offers : used (s .link) t c (s .held) ≡ taken-so-far (s .link) t (granted es)
-    use-by-offers = use-is ∙ sym (total-map ask-of (taken-in (s .link) t) (of c acc)) ∙ ap (taken-so-far (s .link) t) G
+    pub use-by-offers : used (s .link) t c (s .held) ≡ taken-so-far (s .link) t es
+    use-by-offers = use-is ∙ sym (total-map ask-of (taken-in (s .link) t) (of c acc)) ∙ ap (total (taken-in (s .link) t)) G ∙ total-granted (s .link) t es
 
     -- its held packets that came in frame f were offered in it
     module _ (S : Sound-with-link s) where

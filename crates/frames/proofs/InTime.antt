@@ -24,12 +24,13 @@ use Rattle.rules.proofs.InTime.{whats-departures}
 use Rattle.frames.specs.Model.{State}
 use Rattle.frames.specs.Service.{next-frame, leaves-by}
 use Rattle.frames.specs.SoundState.{Dated, Sound-with-link}
-use Rattle.frames.specs.Runs.{History, in-hub}
-use Rattle.frames.specs.Promises.{Left-by}
+use Rattle.rules.specs.Promises.{Left-by}
+use Rattle.frames.specs.Histories as H
 use Rattle.frames.proofs.FrameLaws.{leaves-by-is, next-after}
 use Rattle.frames.proofs.RowLaws.{sub-all}
 use Rattle.frames.proofs.SoundTick.{facts}
 use Rattle.frames.proofs.Invariant.{frame-end, On-time, Level-on-time, Invariant}
+use Rattle.frames.proofs.Names.{History, in-hub}
 
 -- ---- finding in a list
 
@@ -70,7 +71,7 @@ held-waits s c n =
     ∙ append-nil (of c (s .held))
 
 module _ (h : History) (I : Invariant h) where
-  open History h using (now as s, accepted as all, departed as gone)
+  open H.History h using (now as s, accepted as all, departed as gone)
 
   -- no packet is held until its time is over
   held-in-time : All (λ q. s .clock < leaves-by (s .link .frame) (q .arrival)) (s .held)
@@ -87,7 +88,8 @@ module _ (h : History) (I : Invariant h) where
           one q f r = omega (arith, leaves-by-is (s .link .frame) (q .arrival), f .next-start, next-after (s .link .frame) (facts s S .some-frame) (s .clock))
 
   pub left-in-time : (c i : ℕ) (p : Packet) → (c ≡ notice-number → ⊥) → getElem? (of c all) i ≡ some p
-      → leaves-by (s .link .frame) (p .arrival) ≤ s .clock → Left-by h c i p (leaves-by (s .link .frame) (p .arrival))
+      → leaves-by (s .link .frame) (p .arrival) ≤ s .clock
+      → (L : Left-by gone c i p (leaves-by (s .link .frame) (p .arrival))) × (next-frame (s .link .frame) (p .arrival) < L .finish)
   left-in-time c i p level is over =
       ⊎-elim left (λ l. absurd (omega arith))
       (find-append (λ q. s .clock < leaves-by (s .link .frame) (q .arrival)) (whats (departures c gone)) (of c (s .held)) i p
@@ -95,16 +97,18 @@ module _ (h : History) (I : Invariant h) where
       (subst (λ (l : List Packet). getElem? l i ≡ some p)
       (conserved-lists h I c ∙ ap (λ (l : List Packet). whats (departures c gone) ++ l) (held-waits s c level)) is))
     where
-      left : getElem? (whats (departures c gone)) i ≡ some p → Left-by h c i p (leaves-by (s .link .frame) (p .arrival))
+      left : getElem? (whats (departures c gone)) i ≡ some p
+          → (L : Left-by gone c i p (leaves-by (s .link .frame) (p .arrival))) × (next-frame (s .link .frame) (p .arrival) < L .finish)
       left k =
           let m = find-map (λ (d : Departure). d .what) (departures c gone) i p k in
           let o =
           find-all (λ d. (d .what .connection ≡ c) × Level-on-time (s .link .frame) (s .clock) d) (departures c gone) i (m .0)
           (all-departures c (Level-on-time (s .link .frame) (s .clock)) gone (I .on-time)) (m .1) in
-          let t : On-time (s .link .frame) (s .clock) (m .0) = o .1 (λ e. level (sym (o .0) ∙ e)) in
-          record {
-            finish = m .0 .finish;
-            is-departure = m .1 ∙ ap (λ (q : Packet). some (record { what = q; finish = m .0 .finish })) (m .2);
-            in-time = omega (arith, t .in-time, ap (λ (q : Packet). leaves-by (s .link .frame) (q .arrival)) (m .2));
-            not-early = omega (arith, t .not-early, t .next-start, ap (λ (q : Packet). next-frame (s .link .frame) (q .arrival)) (m .2));
-          }
+          let t : On-time (s .link .frame) (s .clock) (m .0) = o .1 (λ e. level (sym (o .0) ∙ e)) in (
+            record {
+              finish = m .0 .finish;
+              is-departure = m .1 ∙ ap (λ (q : Packet). some (record { what = q; finish = m .0 .finish })) (m .2);
+              in-time = omega (arith, t .in-time, ap (λ (q : Packet). leaves-by (s .link .frame) (q .arrival)) (m .2));
+            },
+            omega (arith, t .not-early, t .next-start, ap (λ (q : Packet). next-frame (s .link .frame) (q .arrival)) (m .2)),
+          )

@@ -18,8 +18,8 @@ use Rattle.rules.proofs.Invariant.{whats}
 use Rattle.frames.specs.Model.{Framing, State, wire}
 use Rattle.frames.specs.Service.{next-frame, leaves-by}
 use Rattle.frames.specs.SoundState.{Sound}
-use Rattle.frames.specs.Runs.{History, in-hub, of-connections}
 use Rattle.rules.proofs.WireLaws.{Row-fits, weigh, carried}
+use Rattle.frames.proofs.Names.{History, in-hub, of-connections}
 
 -- ---- what is behind
 

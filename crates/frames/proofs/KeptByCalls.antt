@@ -19,8 +19,7 @@ use Rattle.rules.proofs.Notices.{either-order}
 use Rattle.rules.proofs.Invariant.{whats}
 use Rattle.frames.specs.Model.{Framing, Share, State, wire, fresh}
 use Rattle.frames.specs.SoundState.{Sound-with-link, Sound}
-use Rattle.frames.specs.Calls.{linked, joined, packet, placed, new-notice, noted}
-use Rattle.frames.specs.Runs.{History, in-hub, of-connections}
+use Rattle.frames.specs.Histories as H
 use Rattle.frames.proofs.FrameLaws.{next-after}
 use Rattle.frames.proofs.RowLaws.{filter-snoc-on}
 use Rattle.rules.proofs.WireLaws.{carried, carried-none, carried-is, carried-notice}
@@ -28,9 +27,10 @@ use Rattle.frames.proofs.Figures.{stands-below}
 use Rattle.frames.proofs.Verdicts.{Offer-done}
 use Rattle.frames.proofs.SoundTick.{facts, rows-sized}
 use Rattle.frames.proofs.Invariant.{due, demand, frame-end, Invariant, due-no}
+use Rattle.frames.proofs.Names.{linked, joined, packet, placed, new-notice, noted, History, in-hub, of-connections}
 
 module _ (h : History) (I : Invariant h) where
-  open History h using (now as s, accepted as all, departed as gone)
+  open H.History h using (now as s, accepted as all, departed as gone)
 
   -- ---- a link: nothing is held and nothing has left
 

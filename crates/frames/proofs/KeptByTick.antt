@@ -23,20 +23,21 @@ use Rattle.rules.proofs.Sums.{split, sum-le, upto-le}
 use Rattle.rules.proofs.Rows.{first-all, first-of, first-append, moved, map-append}
 use Rattle.rules.proofs.Notices.{first-none, without-append, first-behind, without-behind}
 use Rattle.rules.proofs.Invariant.{whats}
-use Rattle.frames.specs.Model.{wire, figures, with-clock, with-wire}
-use Rattle.frames.specs.Admission.{all-units}
-use Rattle.frames.specs.Service.{next-frame, newly, used, chosen, ticked}
+use Rattle.frames.specs.Model.{wire, figures, with-wire}
+use Rattle.frames.specs.Service.{next-frame, newly, used, ticked}
 use Rattle.frames.specs.SoundState.{Dated, Sound-with-link, Sound}
-use Rattle.frames.specs.Runs.{History, leaving, in-hub, of-connections}
+use Rattle.frames.specs.Histories as H
 use Rattle.frames.proofs.FrameLaws.{leaves-by-is, next-after, ends-this-frame, step}
 use Rattle.frames.proofs.RowLaws.{filter-snoc-on, total-sorted}
 use Rattle.rules.proofs.WireLaws.{Picks, Row-fits, packet-number, sent-cases, sent-sound, left-after, carried, begun-work, sent-work}
 use Rattle.frames.proofs.Figures.{newly-yes, sum-is}
 use Rattle.frames.proofs.SoundTick.{facts, below, rows-sized, picks, ready, ready-sound, ready-in-turn, heads-first}
 use Rattle.frames.proofs.Invariant.{due, demand, frame-end, Level-on-time, Invariant, due-yes, due-no, none-due, carried-le, carried-eq}
+use Rattle.frames.proofs.Names.{all-units, History, leaving, in-hub, of-connections}
+use Rattle.frames.proofs.Names.{chosen}
 
 module _ (h : History) (I : Invariant h) (S : Sound-with-link (h .now)) where
-  open History h using (now as s, accepted as all, departed as gone)
+  open H.History h using (now as s, accepted as all, departed as gone)
 
   abbrev T : ℕ
   T = s .link .frame
@@ -260,5 +261,5 @@ module _ (h : History) (I : Invariant h) (S : Sound-with-link (h .now)) where
       (λ r ns i e. notice-gone (r .it) ns i)
       (λ u e k. (I .conserved, later-on-time, I .offered))
 
-  pub ticked-keeps : Sound (ticked s .next) → Invariant (record { accepted = all; departed = push gone (leaving s (x .departed)); now = with-clock (with-wire s w′) (t + 1) })
+  pub ticked-keeps : Sound (with-wire s (t + 1) w′) → Invariant (record { accepted = all; departed = push gone (leaving s (x .departed)); now = with-wire s (t + 1) w′ })
   ticked-keeps sound-then = record { sound = sound-then; recent = time-later .0; work = time-later .1; conserved = all-gone .0; offered = all-gone .2; on-time = all-gone .1 }

@@ -1,3 +1,4 @@
+pub mod Names
 pub mod FrameLaws
 pub mod RowLaws
 pub mod Figures

@@ -21,12 +21,13 @@ use Rattle.rules.proofs.Rows.{nil-of}
 use Rattle.rules.proofs.WireLaws.{packet-number}
 use Rattle.rules.proofs.WireTest.{wire-true, wire-intro}
 use Rattle.rules.proofs.Tests.{never, and-true, and-intro, or-true, or-intro, within-true, within-intro, every-true, every-intro, each-true, each-intro}
-use Rattle.frames.specs.Model.{Framing, Share, State, wire, no-framing, fresh, figures}
+use Rattle.frames.specs.Model.{Framing, Share, State, wire, fresh, figures}
 use Rattle.frames.specs.Admission.{framing-within, share-within, stands, frame-sum}
 use Rattle.frames.specs.Service.{next-frame, used}
-use Rattle.frames.specs.SoundState.{Fits, Dated, Not-after, Heads, Sound-with-link, Sound}
+use Rattle.frames.specs.SoundState.{Fits, Dated, Heads, Sound-with-link, Sound}
 use Rattle.frames.specs.SoundTest.{nothing-used, admissions-sound, row-sound, never-falls, share-sound, rows-sound, heads, in-turn-sound, sound}
 use Rattle.frames.proofs.SoundTick.{rows-sized}
+use Rattle.frames.proofs.Names.{no-framing, Not-after}
 
 -- ---- with no link set
 

@@ -1,7 +1,7 @@
 -- A call on a sound state, reachable or not, leaves a sound one.
 use Prim.Native.Nat.{ℕ, _≤_, _<_}
 use native.Mathlib.Omega.{arith}
-use mathlib.Core.Path.{_≡_, refl, sym, ap, subst}
+use mathlib.Core.Path.{_≡_, refl, sym, ap, subst, _∙_}
 use mathlib.Core.Bool.{true, false}
 use mathlib.Core.Logic.{_⊎_, inl, inr, ⊎-elim}
 use mathlib.Core.List.{List, [], _∷_, _++_}
@@ -16,15 +16,16 @@ use Rattle.rules.proofs.Lists.{all-map, all-snoc, pairs-snoc, total-snoc}
 use Rattle.rules.proofs.Sums.{same}
 use Rattle.rules.proofs.Rows.{first-append, of-snoc-same, of-snoc-other}
 use Rattle.rules.proofs.Notices.{first-notice-is, of-none}
-use Rattle.frames.specs.Model.{Framing, Share, State, Call, link, admit, offer, notice, tick, wire, fresh, figures}
+use Rattle.frames.specs.Model.{Framing, Share, State, Call, link, admit, offer, notice, tick, wire, fresh, figures, Answer}
 use Rattle.frames.specs.Admission.{framing-within, share-within}
 use Rattle.frames.specs.Service.{newly, used, ticked}
-use Rattle.frames.specs.SoundState.{Fits, Dated, Not-after, Heads, Sound-with-link, Sound}
-use Rattle.frames.specs.Calls.{verdict, linked, joined, packet, placed, new-notice, noted, done, answer}
+use Rattle.frames.specs.SoundState.{Fits, Dated, Heads, Sound-with-link, Sound}
+use Rattle.frames.specs.Calls.{verdict, done, answer}
 use Rattle.frames.proofs.FrameLaws.{next-after, next-mono}
 use Rattle.frames.proofs.Figures.{framing-facts, newly-yes, sum-is, length-snoc, nth-snoc, fits-old}
 use Rattle.frames.proofs.Verdicts.{settled, link-done, Admit-done, admit-done, Offer-done, offer-done, Notice-done, notice-done, tick-done}
 use Rattle.frames.proofs.SoundTick.{facts, below, sound-ticked}
+use Rattle.frames.proofs.Names.{Not-after, linked, joined, packet, placed, new-notice, noted, ticked-is}
 
 pub linked-sound : (s : State) → (s .link .frame ≡ 0 → ⊥) → Sound-with-link s → Sound s
 linked-sound s n S = record { with-no-link = λ z. absurd (n z); with-one = λ _. S }
@@ -193,7 +194,9 @@ done-sound (link l) s S e =
 done-sound (admit x) s S e = let d = admit-done s x e in linked-sound (joined s x) (d .set) (sound-joined s (S .with-one (d .set)) x d)
 done-sound (offer c len tag) s S e = let d = offer-done s c len tag e in linked-sound (placed s c len tag) (d .set) (sound-placed s (S .with-one (d .set)) c len tag d)
 done-sound (notice len tag) s S e = let d = notice-done s len tag e in linked-sound (noted s len tag) (d .set) (sound-noted s (S .with-one (d .set)) len tag d)
-done-sound tick s S e = let d = tick-done s e in linked-sound (ticked s .next) (d .set) (sound-ticked s (S .with-one (d .set)) (d .running))
+done-sound tick s S e =
+    let d = tick-done s e in
+    linked-sound (ticked s .next) (λ z. d .set (sym (ap (λ (a : Answer). a .next .link .frame) (ticked-is s)) ∙ z)) (sound-ticked s (S .with-one (d .set)) (d .running))
 
 pub kept : (k : Call) (s : State) → Sound s → Sound (answer k s .next)
 kept k s S = settled (λ a. Sound (a .next)) k s (verdict k s) (done-sound k s S) (λ _. S)

@@ -18,11 +18,13 @@ use Rattle.rules.proofs.Lists.{all-map, all-every, all-sub, Sub, total-le, tota
 use Rattle.rules.proofs.Sums.{cond-is}
 use Rattle.rules.proofs.Rows.{none-some, some-inj, sub-of}
 use Rattle.rules.proofs.WireLaws.{Picks, Row-fits, begun-sound, sent-cases, sent-sound}
-use Rattle.frames.specs.Model.{State, wire, with-clock, with-wire}
-use Rattle.frames.specs.Service.{newly, first-eligible, chosen, ticked}
-use Rattle.frames.specs.SoundState.{Fits, Dated, Not-after, Heads, Sound-with-link}
+use Rattle.frames.specs.Model.{State, wire, with-wire, Answer}
+use Rattle.frames.specs.Service.{newly, first-eligible, ticked}
+use Rattle.frames.specs.SoundState.{Fits, Dated, Heads, Sound-with-link}
 use Rattle.frames.proofs.RowLaws.{pairs-sub, length-sub}
 use Rattle.frames.proofs.Figures.{Framing-facts, framing-facts, newly-later, stands-below}
+use Rattle.frames.proofs.Names.{Not-after, ticked-is}
+use Rattle.frames.proofs.Names.{chosen}
 
 -- ---- the choice is the first row or none
 
@@ -100,7 +102,7 @@ module _ (s : State) (S : Sound-with-link s) where
       (λ u e k h n. ready-in-turn (omega arith) n)
 
   -- the line and some of the rows, a tick later
-  sound-later : s .clock < clock-end → (w : Wire) → Wire-sound (λ _. false) (s .link .largest) (s .link .silence) (s .clock + 1) w → Sub (w .held) (s .held) → In-turn w → Sound-with-link (with-clock (with-wire s w) (s .clock + 1))
+  sound-later : s .clock < clock-end → (w : Wire) → Wire-sound (λ _. false) (s .link .largest) (s .link .silence) (s .clock + 1) w → Sub (w .held) (s .held) → In-turn w → Sound-with-link (with-wire s (s .clock + 1) w)
   sound-later running w W sub turn = record {
     link-in = S .link-in;
     shares-in = S .shares-in;
@@ -126,4 +128,5 @@ module _ (s : State) (S : Sound-with-link s) where
   pub sound-ticked : s .clock < clock-end → Sound-with-link (ticked s .next)
   sound-ticked running =
       let k = sent-sound (λ _. false) (s .link .largest) (s .link .silence) (s .clock) ready ready-sound rows-sized in
-      sound-later running (sends (s .link .silence) sent ready (ready .to-go) .wire) (k .0) (k .1) sent-in-turn
+      subst (λ (a : Answer). Sound-with-link (a .next)) (sym (ticked-is s))
+      (sound-later running (sends (s .link .silence) sent ready (ready .to-go) .wire) (k .0) (k .1) sent-in-turn)

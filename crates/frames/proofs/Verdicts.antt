@@ -12,8 +12,9 @@ use Rattle.rules.proofs.Tests.{passed, within-true}
 use Rattle.frames.specs.Model.{Framing, Share, State, Call, link, admit, offer, notice, tick, Answer, figures}
 use Rattle.frames.specs.Admission.{cost, framing-within, share-within, stands, frame-sum, all-places}
 use Rattle.frames.specs.Service.{used}
-use Rattle.frames.specs.Calls.{verdicts, verdict, done, refused, settle}
+use Rattle.frames.specs.Calls.{verdicts, verdict, done, settle}
 use Rattle.frames.proofs.Figures.{cost-is}
+use Rattle.frames.proofs.Names.{refused}
 
 -- an answer is what is done at verdict 0, or a refusal
 pub settled : (Q : Answer → Type 0) (k : Call) (s : State) (v : ℕ) → (v ≡ 0 → Q (done k s)) → ((w : ℕ) → Q (refused k s (suc w))) → Q (settle k s v)

@@ -27,11 +27,8 @@ unfoldable pub stands : List Share → ℕ → Bool
 stands cs c = ltb c (length cs)
 
 -- "the sum of all r plus S and its silence"
-abbrev pub all-units : List Share → ℕ
-all-units cs = sum (length cs) (λ c. nth cs c .units)
-
 unfoldable pub frame-sum : Framing → List Share → ℕ
-frame-sum l cs = all-units cs + cost l (l .largest)
+frame-sum l cs = sum (length cs) (λ c. nth cs c .units) + cost l (l .largest)
 
 -- "the sum of all p"
 abbrev pub all-places : List Share → ℕ

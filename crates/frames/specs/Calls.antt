@@ -2,17 +2,16 @@
 use Prim.Native.Nat.{ℕ, zero, suc, _+_, _-_}
 use mathlib.Core.Bool.{Bool, cond, not}
 use mathlib.Core.List.{List, [], _∷_, _++_}
-use mathlib.Core.Option.{none}
+use mathlib.Core.Option.{Option, none, some}
 use lib.Dec.{leb, ltb, eqb}
 use lib.ListN.{length}
 use Rattle.rules.specs.declared.Packet.{Packet}
-use Rattle.rules.specs.declared.Notice.{Notice}
 use Rattle.rules.specs.declared.Short.{Short}
 use Rattle.rules.specs.Words.{within, first-number}
-use Rattle.rules.specs.Limits.{max-connections, max-reserved, clock-end, max-notices, no-connection-number}
-use Rattle.rules.specs.Model.{no-short}
+use Rattle.rules.specs.Limits.{max-connections, max-reserved, clock-end, max-notices, notice-number, no-connection-number}
+use Rattle.rules.specs.Model.{done-with, no-short}
 use Rattle.rules.specs.Service.{of}
-use Rattle.frames.specs.Model.{Framing, Share, State, Call, link, admit, offer, notice, tick, Answer, figures, with-link, with-connections, with-held, with-notices}
+use Rattle.frames.specs.Model.{Share, State, Call, link, admit, offer, notice, tick, Answer, figures, with-link, with-rows}
 use Rattle.frames.specs.Admission.{cost, framing-within, share-within, stands, frame-sum, all-places}
 use Rattle.frames.specs.Service.{next-frame, used, ticked}
 use Rattle.frames.specs.SoundTest.{sound}
@@ -75,67 +74,41 @@ verdict k s = first-number (verdicts k s)
 
 -- ---- what a call does
 
-abbrev pub linked : State → Framing → State
-linked s l = with-link s l
-
-abbrev pub joined : State → Share → State
-joined s x = with-connections s (joining s x)
-
 -- the eligibility of an offer now
 abbrev pub eligibility-now : State → ℕ
 eligibility-now s = next-frame (s .link .frame) (s .clock)
 
-abbrev pub packet : State → ℕ → ℕ → ℕ → Packet
-packet s c len tag = record { connection = c; len = len; tag = tag; arrival = s .clock; eligibility = eligibility-now s }
-
-abbrev pub placed : State → ℕ → ℕ → ℕ → State
-placed s c len tag = with-held s (s .held ++ packet s c len tag ∷ [])
-
--- a notice behind the others
-abbrev pub new-notice : State → ℕ → ℕ → Notice
-new-notice s len tag = record { len = len; tag = tag; arrival = s .clock }
-
-abbrev pub noted : State → ℕ → ℕ → State
-noted s len tag = with-notices s (s .notices ++ new-notice s len tag ∷ [])
-
 -- no packet leaves but in a tick
-abbrev pub accepted : ℕ → State → Answer
-accepted n s = record { verdict = 0; number = n; short = no-short; departed = none; next = s }
-
 abbrev pub done : Call → State → Answer
-done (link l) s = accepted 0 (linked s l)
-done (admit x) s = accepted (length (s .connections)) (joined s x)
-done (offer c len tag) s = accepted (eligibility-now s) (placed s c len tag)
-done (notice len tag) s = accepted (s .clock) (noted s len tag)
+done (link l) s = done-with 0 none (with-link s l (s .connections))
+done (admit x) s = done-with (length (s .connections)) none (with-link s (s .link) (joining s x))
+done (offer c len tag) s =
+    let p : Packet = record { connection = c; len = len; tag = tag; arrival = s .clock; eligibility = eligibility-now s } in
+    done-with (eligibility-now s) none (with-rows s (s .held ++ p ∷ []) (s .notices))
+done (notice len tag) s = done-with (s .clock) none (with-rows s (s .held) (s .notices ++ record { len = len; tag = tag; arrival = s .clock } ∷ []))
 done tick s = ticked s
 
--- a refused admission gives connection 255, a refused offer or notice eligibility 0
+-- what a call offers, if it does: the connection or the notices' number, the length and the tag; and the number that it gets where it is refused: an admission connection 255, an
+-- offer or a notice eligibility 0
+abbrev pub form : Call → Option (ℕ × ℕ × ℕ) × ℕ × Option Share
+form (link l) = (none, 0, none)
+form (admit x) = (none, no-connection-number, some x)
+form (offer c len tag) = (some (c, len, tag), 0, none)
+form (notice len tag) = (some (notice-number, len, tag), 0, none)
+form tick = (none, 0, none)
+
 abbrev pub refused-number : Call → ℕ
-refused-number (link l) = 0
-refused-number (admit x) = no-connection-number
-refused-number (offer c len tag) = 0
-refused-number (notice len tag) = 0
-refused-number tick = 0
+refused-number k = form k .1
 
--- the units by which the frame is over, with the new one counted; a frame has no levels, and the level is 0
-abbrev pub frame-over : State → Share → Short
-frame-over s x = record { level = 0; units = frame-sum (s .link) (joining s x) - s .link .frame }
-
--- .. nothing unless the verdict is 8
+-- where the verdict is 8: the units by which the frame is over, with the new one counted; a frame has no levels, and the level is 0
 abbrev pub refused-short : Call → State → ℕ → Short
-refused-short (link l) s v = no-short
-refused-short (admit x) s v = cond (eqb v 8) (frame-over s x) no-short
-refused-short (offer c len tag) s v = no-short
-refused-short (notice len tag) s v = no-short
-refused-short tick s v = no-short
+refused-short k s v =
+    elim (form k .2) [ none ↦ no-short | some x ↦ cond (eqb v 8) (record { level = 0; units = frame-sum (s .link) (joining s x) - s .link .frame }) no-short ]
 
 -- a verdict other than 0 changes nothing, and no packet leaves
-abbrev pub refused : Call → State → ℕ → Answer
-refused k s v = record { verdict = v; number = refused-number k; short = refused-short k s v; departed = none; next = s }
-
 abbrev pub settle : Call → State → ℕ → Answer
 settle k s zero = done k s
-settle k s (suc v) = refused k s (suc v)
+settle k s (suc v) = record { verdict = suc v; number = refused-number k; short = refused-short k s (suc v); departed = none; next = s }
 
 -- THE RULES: the answer to a call on any state at all
 abbrev pub answer : Call → State → Answer

@@ -34,19 +34,13 @@ pub data Call : Type 0 where
 abbrev pub Answer : Type 0
 Answer = Outcome State
 
-abbrev pub no-framing : Framing
-no-framing = record { frame = 0; largest = 0; silence = 0 }
-
-abbrev pub no-share : Share
-no-share = record { units = 0; places = 0 }
-
 -- the fresh line: everything is zero
 abbrev pub fresh : State
-fresh = record { link = no-framing; connections = []; clock = 0; held = []; notices = []; serving = 0; to-go = 0; silent = 0 }
+fresh = record { link = record { frame = 0; largest = 0; silence = 0 }; connections = []; clock = 0; held = []; notices = []; serving = 0; to-go = 0; silent = 0 }
 
--- connection c
+-- connection c; zeros where there is none
 abbrev pub nth : List Share → ℕ → Share
-nth cs c = getD cs c no-share
+nth cs c = getD cs c (record { units = 0; places = 0 })
 
 abbrev pub figures : State → ℕ → Share
 figures s c = nth (s .connections) c
@@ -55,21 +49,12 @@ figures s c = nth (s .connections) c
 abbrev pub wire : State → Wire
 wire s = record { held = s .held; notices = s .notices; serving = s .serving; to-go = s .to-go; silent = s .silent }
 
--- the state with one part given anew: no other text writes a whole state out
-abbrev pub with-link : State → Framing → State
-with-link s l = record { link = l; connections = s .connections; clock = s .clock; held = s .held; notices = s .notices; serving = s .serving; to-go = s .to-go; silent = s .silent }
+-- the state with some parts given anew: link and connections, what waits, or the clock and the line. No other text writes a whole state out
+abbrev pub with-link : State → Framing → List Share → State
+with-link s l cs = record { link = l; connections = cs; clock = s .clock; held = s .held; notices = s .notices; serving = s .serving; to-go = s .to-go; silent = s .silent }
 
-abbrev pub with-connections : State → List Share → State
-with-connections s cs = record { link = s .link; connections = cs; clock = s .clock; held = s .held; notices = s .notices; serving = s .serving; to-go = s .to-go; silent = s .silent }
+abbrev pub with-rows : State → List Packet → List Notice → State
+with-rows s ps ns = record { link = s .link; connections = s .connections; clock = s .clock; held = ps; notices = ns; serving = s .serving; to-go = s .to-go; silent = s .silent }
 
-abbrev pub with-clock : State → ℕ → State
-with-clock s t = record { link = s .link; connections = s .connections; clock = t; held = s .held; notices = s .notices; serving = s .serving; to-go = s .to-go; silent = s .silent }
-
-abbrev pub with-wire : State → Wire → State
-with-wire s w = record { link = s .link; connections = s .connections; clock = s .clock; held = w .held; notices = w .notices; serving = w .serving; to-go = w .to-go; silent = w .silent }
-
-abbrev pub with-held : State → List Packet → State
-with-held s ps = record { link = s .link; connections = s .connections; clock = s .clock; held = ps; notices = s .notices; serving = s .serving; to-go = s .to-go; silent = s .silent }
-
-abbrev pub with-notices : State → List Notice → State
-with-notices s ns = record { link = s .link; connections = s .connections; clock = s .clock; held = s .held; notices = ns; serving = s .serving; to-go = s .to-go; silent = s .silent }
+abbrev pub with-wire : State → ℕ → Wire → State
+with-wire s t w = record { link = s .link; connections = s .connections; clock = t; held = w .held; notices = w .notices; serving = w .serving; to-go = w .to-go; silent = w .silent }

@@ -26,11 +26,6 @@ pub record Dated (T t : ℕ) (p : Packet) : Type 0 where
   pub arrived : p .arrival ≤ t
   pub next-start : p .eligibility ≡ next-frame T (p .arrival)
 
--- ---- the rows together: in row order eligibilities never fall
-
-abbrev pub Not-after : Packet → Packet → Type 0
-Not-after p q = p .eligibility ≤ q .eligibility
-
 -- the first row of all is of connection c
 abbrev pub Heads : ℕ → List Packet → Type 0
 Heads c [] = ⊥
@@ -50,8 +45,8 @@ pub record Sound-with-link (s : State) : Type 0 where
   -- each held row
   pub fit : All (Fits (s .link) (s .connections)) (s .held)
   pub dated : All (Dated (s .link .frame) (s .clock)) (s .held)
-  -- the rows are in order, no connection holds more than its places, and none has used more than its units in this frame
-  pub in-order : Pairs Not-after (s .held)
+  -- in row order eligibilities never fall, no connection holds more than its places, and none has used more than its units in this frame
+  pub in-order : Pairs (λ p q. p .eligibility ≤ q .eligibility) (s .held)
   pub room : (c : ℕ) → c < length (s .connections) → length (of c (s .held)) ≤ figures s c .places
   pub use-le : (c : ℕ) → c < length (s .connections) → used (s .link) (s .clock) c (s .held) ≤ figures s c .units
   -- the line, its silence and the notices, as in the first discipline; no packet goes before it is eligible

@@ -1,4 +1,4 @@
--- The sound state as a test that computes. It need not be believed: `Test-is-exact` (Promises) says that it is true exactly of a sound state.
+-- The sound state as a test that computes. It need not be believed: `Every-call` (Promises, `test-is-exact`) says that it is true exactly of a sound state.
 use Prim.Native.Nat.{ℕ}
 use mathlib.Core.Bool.{Bool, true, false, cond, _&&_, _||_}
 use mathlib.Core.List.{List, [], _∷_}

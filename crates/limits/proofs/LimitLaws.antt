@@ -13,7 +13,7 @@ use borrow.Author.Tests.{le-leb, lt-leb, eq-eqb, ne-eqb, le-ltb, lt-ltb}
 use Rattle.rules.specs.declared.Link.{Link}
 use Rattle.rules.specs.declared.Connection.{Connection}
 use Rattle.rules.specs.Words.{within}
-use Rattle.rules.specs.Limits.{max-levels, max-largest, max-silence, max-bound, max-level-window, max-gap, max-window, max-burst, max-allowance}
+use Rattle.rules.specs.Limits.{max-levels, max-largest, max-silence, max-bound, max-level-window, max-gap, max-window, max-allowance, max-remembered}
 use Rattle.rules.specs.Admission.{rising, windowed, windows-from, windows-within, cost, link-within, level-within, burst, average-within, kind-within, figures-within}
 use Rattle.rules.proofs.Tests.{within-intro}
 use Rattle.limits.specs.Zeros.{zeros}
@@ -61,15 +61,15 @@ module _ (x : Connection) where
   unfolding burst
   no-window e = rw e (go (eqb (x .average) 0))
     where
-      none : within 1 max-burst (0 / x .average) ≡ false
+      none : within 1 max-remembered (0 / x .average) ≡ false
       none = rw (zero-div (x .average)) refl
 
-      go : (b : Bool) → b ≡ (b || (leb 0 max-window && (leb (x .gap) (x .average) && (eqb (0 % x .average) 0 && within 1 max-burst (0 / x .average)))))
+      go : (b : Bool) → b ≡ (b || (leb 0 max-window && (leb (x .gap) (x .average) && (eqb (0 % x .average) 0 && within 1 max-remembered (0 / x .average)))))
       go true = refl
       go false = sym (and-false (leb 0 max-window) _ (and-false (leb (x .gap) (x .average)) _ (and-false (eqb (0 % x .average) 0) _ none)))
 
   module _ (some : x .window ≡ 0 → ⊥) where
-    behind-none : (r : Bool) → r ≡ (leb (x .window) max-window && (leb (x .gap) (x .average) && (eqb (x .window % x .average) 0 && within 1 max-burst (burst x)))) → r ≡ average-within x
+    behind-none : (r : Bool) → r ≡ (leb (x .window) max-window && (leb (x .gap) (x .average) && (eqb (x .window % x .average) 0 && within 1 max-remembered (burst x)))) → r ≡ average-within x
     behind-none r e = rw (ne-eqb (x .window) 0 some) e
 
     pub window-high : max-window < x .window → false ≡ average-within x
@@ -80,15 +80,15 @@ module _ (x : Connection) where
       average-low h = behind-none false (goes-on (leb (x .window) max-window) _ false (le-leb (x .window) max-window w) (fails (leb (x .gap) (x .average)) _ (lt-leb (x .gap) (x .average) h)))
 
       module _ (g : x .gap ≤ x .average) where
-        behind-gap : (r : Bool) → r ≡ (eqb (x .window % x .average) 0 && within 1 max-burst (burst x)) → r ≡ average-within x
+        behind-gap : (r : Bool) → r ≡ (eqb (x .window % x .average) 0 && within 1 max-remembered (burst x)) → r ≡ average-within x
         behind-gap r e = behind-none r (goes-on (leb (x .window) max-window) _ r (le-leb (x .window) max-window w) (goes-on (leb (x .gap) (x .average)) _ r (le-leb (x .gap) (x .average) g) e))
 
         pub uneven : (x .window % x .average ≡ 0 → ⊥) → false ≡ average-within x
         uneven n = behind-gap false (fails (eqb (x .window % x .average) 0) _ (ne-eqb (x .window % x .average) 0 n))
 
-        pub burst-rest : x .window % x .average ≡ 0 → within 1 max-burst (x .window / x .average) ≡ average-within x
+        pub burst-rest : x .window % x .average ≡ 0 → within 1 max-remembered (x .window / x .average) ≡ average-within x
         unfolding burst
-        burst-rest e = behind-gap (within 1 max-burst (x .window / x .average)) (goes-on (eqb (x .window % x .average) 0) _ _ (eq-eqb (x .window % x .average) 0 e) refl)
+        burst-rest e = behind-gap (within 1 max-remembered (x .window / x .average)) (goes-on (eqb (x .window % x .average) 0) _ _ (eq-eqb (x .window % x .average) 0 e) refl)
 
 -- ---- a kind
 

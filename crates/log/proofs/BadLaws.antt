@@ -8,9 +8,9 @@ use Rattle.rules.proofs.Tests.{never}
 use Rattle.either.specs.Line.{Line, respond, fresh-line}
 use Rattle.answers.specs.declared.Reply.the-variants.{Broken}
 use Rattle.answers.specs.Answers.{answer-bytes}
-use Rattle.log.specs.Log.{Asked, one-call, some-ticks, unread, call-log, ticks-log, ticks-end, asked-from, asked-log, log}
+use Rattle.log.specs.Log.{Asked, one-call, some-ticks, unread, call-log, asked-log, log}
 use Rattle.log.specs.Bad.{first-bad, bad-at, Ends-with}
-use Rattle.log.proofs.LogLaws.{counting, asked-behind, record-by-record, none-asked}
+use Rattle.log.proofs.LogLaws.{asked-from, ticks-log, ticks-end, counting, asked-behind, record-by-record, none-asked}
 
 -- ---- the log of a malformed trace ends with the `ER` of its offset
 
@@ -20,7 +20,7 @@ ends-behind xs {end} E = record { before = xs ++ E .before; all = ap (λ k. xs +
 asked-ends : (s : Line) (l : List (Asked × ℕ)) (b : ℕ) → first-bad l ≡ some b → Ends-with (answer-bytes (Broken b)) (asked-log s l)
 asked-ends s [] b e = never cc
 asked-ends s ((one-call c, at) ∷ rest) b e = ends-behind (call-log c (respond c s)) (asked-ends (respond c s .next) rest b e)
-asked-ends s ((some-ticks n, at) ∷ rest) b e = ends-behind (ticks-log n n s) (asked-ends (ticks-end n s) rest b e)
+asked-ends s ((some-ticks n, at) ∷ rest) b e = ends-behind (ticks-log n n s) (asked-ends (ticks-end n n s) rest b e)
 asked-ends s ((unread, at) ∷ rest) b e =
     let d : at ≡ b = cc e in
     record { before = []; all = ap (λ i. answer-bytes (Broken i)) d }

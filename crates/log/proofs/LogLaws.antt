@@ -10,31 +10,50 @@ use borrow.Author.Tests.{eq-eqb, ne-eqb}
 use Rattle.either.specs.Line.{Line, tick, respond}
 use Rattle.answers.specs.declared.Reply.the-variants.{Ticked}
 use Rattle.answers.specs.Answers.{answer-bytes}
-use Rattle.log.specs.Log.{Asked, one-call, some-ticks, unread, asks, call-log, asked-within, asked-from, asked-log, read-at, tick-log, ticks-log, ticks-end, log-from}
+use Rattle.log.specs.Log.{Asked, one-call, some-ticks, unread, asks, call-log, asked-within, asked-log, read-at, tick-log, ticks-run}
 use Rattle.log.proofs.ReadLaws.{read-lies}
 
+-- what the records of bs ask, which starts at offset `at`
+abbrev pub asked-from : ℕ → List ℕ → List (Asked × ℕ)
+asked-from at bs = asked-within (length bs) at bs
+
+-- the log of bs, which starts at offset `at`, from the line s
+abbrev pub log-from : ℕ → Line → List ℕ → List ℕ
+log-from at s bs = asked-log s (asked-from at bs)
+
 -- ---- ticks
+
+-- what they write, and the line after them
+abbrev pub ticks-log : ℕ → ℕ → Line → List ℕ
+ticks-log asked left s = ticks-run asked left s .0
+
+abbrev pub ticks-end : ℕ → ℕ → Line → Line
+ticks-end asked left s = ticks-run asked left s .1
 
 module _ (left : ℕ) (s : Line) where
   -- one that is done: its departure, and then the rest
   module _ (e : respond tick s .verdict ≡ 0) where
-    pub done-log : (asked : ℕ) → ticks-log asked (suc left) s ≡ tick-log (respond tick s) ++ ticks-log asked left (respond tick s .next)
-    unfolding ticks-log
-    done-log asked = rw (eq-eqb (respond tick s .verdict) 0 e)
+    done-run : (asked : ℕ) → ticks-run asked (suc left) s ≡ (tick-log (respond tick s) ++ ticks-run asked left (respond tick s .next) .0, ticks-run asked left (respond tick s .next) .1)
+    unfolding ticks-run
+    done-run asked = rw (eq-eqb (respond tick s .verdict) 0 e)
 
-    pub done-end : ticks-end (suc left) s ≡ ticks-end left (respond tick s .next)
-    unfolding ticks-end
-    done-end = rw (eq-eqb (respond tick s .verdict) 0 e)
+    pub done-log : (asked : ℕ) → ticks-log asked (suc left) s ≡ tick-log (respond tick s) ++ ticks-log asked left (respond tick s .next)
+    done-log asked = ap (λ (x : List ℕ × Line). x .0) (done-run asked)
+
+    pub done-end : (asked : ℕ) → ticks-end asked (suc left) s ≡ ticks-end asked left (respond tick s .next)
+    done-end asked = ap (λ (x : List ℕ × Line). x .1) (done-run asked)
 
   -- one that is refused: the `TA`
   module _ (n : respond tick s .verdict ≡ 0 → ⊥) where
-    pub refused-log : (asked : ℕ) → ticks-log asked (suc left) s ≡ answer-bytes (Ticked (respond tick s .verdict) (asked - suc left))
-    unfolding ticks-log
-    refused-log asked = rw (ne-eqb (respond tick s .verdict) 0 n)
+    refused-run : (asked : ℕ) → ticks-run asked (suc left) s ≡ (answer-bytes (Ticked (respond tick s .verdict) (asked - suc left)), respond tick s .next)
+    unfolding ticks-run
+    refused-run asked = rw (ne-eqb (respond tick s .verdict) 0 n)
 
-    pub refused-end : ticks-end (suc left) s ≡ respond tick s .next
-    unfolding ticks-end
-    refused-end = rw (ne-eqb (respond tick s .verdict) 0 n)
+    pub refused-log : (asked : ℕ) → ticks-log asked (suc left) s ≡ answer-bytes (Ticked (respond tick s .verdict) (asked - suc left))
+    refused-log asked = ap (λ (x : List ℕ × Line). x .0) (refused-run asked)
+
+    pub refused-end : (asked : ℕ) → ticks-end asked (suc left) s ≡ respond tick s .next
+    refused-end asked = ap (λ (x : List ℕ × Line). x .1) (refused-run asked)
 
 -- ---- records
 
@@ -48,7 +67,7 @@ counting ((unread, at) ∷ rest) = (unread, at) ∷ []
 log-counting : (s : Line) (l : List (Asked × ℕ)) → asked-log s l ≡ asked-log s (counting l)
 log-counting s [] = refl
 log-counting s ((one-call c, at) ∷ rest) = ap (λ k. call-log c (respond c s) ++ k) (log-counting (respond c s .next) rest)
-log-counting s ((some-ticks n, at) ∷ rest) = ap (λ k. ticks-log n n s ++ k) (log-counting (ticks-end n s) rest)
+log-counting s ((some-ticks n, at) ∷ rest) = ap (λ k. ticks-log n n s ++ k) (log-counting (ticks-end n n s) rest)
 log-counting s ((unread, at) ∷ rest) = refl
 
 one-more : (q : Asked) (k at : ℕ) (l m : List (Asked × ℕ)) → (k ≡ 0 → q ≡ unread) → (0 < k → counting l ≡ counting m)

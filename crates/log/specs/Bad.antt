@@ -3,7 +3,8 @@ use Prim.Native.Nat.{ℕ}
 use mathlib.Core.Path.{_≡_}
 use mathlib.Core.List.{List, [], _∷_, _++_}
 use mathlib.Core.Option.{Option, none, some}
-use Rattle.log.specs.Log.{Asked, one-call, some-ticks, unread, asked-from}
+use lib.ListN.{length}
+use Rattle.log.specs.Log.{Asked, one-call, some-ticks, unread, asked-within}
 
 -- the offset of the first malformed one of some records
 abbrev pub first-bad : List (Asked × ℕ) → Option ℕ
@@ -14,7 +15,7 @@ first-bad ((unread, at) ∷ rest) = some at
 
 -- .. of a trace
 unfoldable pub bad-at : List ℕ → Option ℕ
-bad-at trace = first-bad (asked-from 0 trace)
+bad-at trace = first-bad (asked-within (length trace) 0 trace)
 
 -- l ends with these bytes
 pub record Ends-with (end l : List ℕ) : Type 0 where

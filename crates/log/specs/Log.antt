@@ -14,7 +14,7 @@ use Rattle.traces.specs.declared.Found.{Found}
 use Rattle.traces.specs.Trace.{found, read-trace}
 use Rattle.answers.specs.declared.Reply.the-variants.{Linked, Admitted, Closed, Offered, Noticed, Departed, Ticked, Broken}
 use Rattle.answers.specs.Answers.{answer-bytes}
-use Rattle.named.specs.Named.{link-named, stand-by-named, windows-named, framing-named, connection-named, stamped-named, share-named}
+use Rattle.named.specs.Named.{link-named, framing-named, connection-named, stamped-named, share-named}
 
 -- "A trace of up to 16,777,216 bytes"
 abbrev pub trace-limit : ℕ
@@ -39,18 +39,13 @@ abbrev pub all-done-verdict : ℕ → Line → ℕ
 all-done-verdict asked s = cond (eqb asked 0) (resting-verdict s) 0
 
 -- "`TK` runs the asked ticks one by one, each a call of its own, .. and stops at the first refused one; `TA` gives that verdict and the ticks done":
--- what is written from the line s on, where `left` of `asked` are still to run
-unfoldable pub ticks-log : ℕ → ℕ → Line → List ℕ
-ticks-log asked zero s = answer-bytes (Ticked (all-done-verdict asked s) asked)
-ticks-log asked (suc left) s =
+-- what is written from the line s on, where `left` of `asked` are still to run, and the line after them
+unfoldable pub ticks-run : ℕ → ℕ → Line → List ℕ × Line
+ticks-run asked zero s = (answer-bytes (Ticked (all-done-verdict asked s) asked), s)
+ticks-run asked (suc left) s =
     cond (eqb (respond tick s .verdict) 0)
-    (tick-log (respond tick s) ++ ticks-log asked left (respond tick s .next))
-    (answer-bytes (Ticked (respond tick s .verdict) (asked - suc left)))
-
--- the line after them
-unfoldable pub ticks-end : ℕ → Line → Line
-ticks-end zero s = s
-ticks-end (suc left) s = cond (eqb (respond tick s .verdict) 0) (ticks-end left (respond tick s .next)) (respond tick s .next)
+    (tick-log (respond tick s) ++ ticks-run asked left (respond tick s .next) .0, ticks-run asked left (respond tick s .next) .1)
+    (answer-bytes (Ticked (respond tick s .verdict) (asked - suc left)), respond tick s .next)
 
 -- ---- a record, and a trace
 
@@ -61,11 +56,11 @@ pub data Asked : Type 0 where
   unread : Asked
 
 abbrev pub asks : Record → Asked
-asks (LinkRecord n m silence d1 d2 d3 d4 d5 d6 d7 d8) = one-call (link-levels (link-named (n ∷ m ∷ silence ∷ d1 ∷ d2 ∷ d3 ∷ d4 ∷ d5 ∷ d6 ∷ d7 ∷ d8 ∷ [])))
+asks (LinkRecord n m silence d1 d2 d3 d4 d5 d6 d7 d8) = one-call (link-levels (link-named (n ∷ m ∷ silence ∷ 0 ∷ d1 ∷ d2 ∷ d3 ∷ d4 ∷ d5 ∷ d6 ∷ d7 ∷ d8 ∷ [])))
 asks (LinkStandBy n m silence early d1 d2 d3 d4 d5 d6 d7 d8) =
-    one-call (link-levels (stand-by-named (n ∷ m ∷ silence ∷ early ∷ d1 ∷ d2 ∷ d3 ∷ d4 ∷ d5 ∷ d6 ∷ d7 ∷ d8 ∷ [])))
+    one-call (link-levels (link-named (n ∷ m ∷ silence ∷ early ∷ d1 ∷ d2 ∷ d3 ∷ d4 ∷ d5 ∷ d6 ∷ d7 ∷ d8 ∷ [])))
 asks (LinkWindows n m silence early d1 d2 d3 d4 d5 d6 d7 d8 w1 w2 w3 w4 w5 w6 w7 w8) =
-    one-call (link-levels (windows-named (n ∷ m ∷ silence ∷ early ∷ d1 ∷ d2 ∷ d3 ∷ d4 ∷ d5 ∷ d6 ∷ d7 ∷ d8 ∷ w1 ∷ w2 ∷ w3 ∷ w4 ∷ w5 ∷ w6 ∷ w7 ∷ w8 ∷ [])))
+    one-call (link-levels (link-named (n ∷ m ∷ silence ∷ early ∷ d1 ∷ d2 ∷ d3 ∷ d4 ∷ d5 ∷ d6 ∷ d7 ∷ d8 ∷ w1 ∷ w2 ∷ w3 ∷ w4 ∷ w5 ∷ w6 ∷ w7 ∷ w8 ∷ [])))
 asks (LinkFrames frame m silence) = one-call (link-frames (framing-named (frame ∷ m ∷ silence ∷ [])))
 asks (Admit level gap size window average) = one-call (admit-level (connection-named (level ∷ gap ∷ size ∷ window ∷ average ∷ [])))
 asks (AdmitStamped level gap size allowance) = one-call (admit-level (stamped-named (level ∷ gap ∷ size ∷ allowance ∷ [])))
@@ -94,21 +89,13 @@ asked-within zero at bs = []
 asked-within (suc f) at bs =
     cond (eqb (length bs) 0) [] ((asks (read-at at bs .what), at) ∷ asked-within f (at + read-at at bs .taken) (drop (read-at at bs .taken) bs))
 
--- each record takes a byte at least, so there are no more records than bytes
-abbrev pub asked-from : ℕ → List ℕ → List (Asked × ℕ)
-asked-from at bs = asked-within (length bs) at bs
-
 -- what is written of them from the line s on: of a malformed one `ER` with its offset, and nothing more; "an empty trace gives no output"
 abbrev pub asked-log : Line → List (Asked × ℕ) → List ℕ
 asked-log s [] = []
 asked-log s ((one-call c, at) ∷ rest) = call-log c (respond c s) ++ asked-log (respond c s .next) rest
-asked-log s ((some-ticks n, at) ∷ rest) = ticks-log n n s ++ asked-log (ticks-end n s) rest
+asked-log s ((some-ticks n, at) ∷ rest) = ticks-run n n s .0 ++ asked-log (ticks-run n n s .1) rest
 asked-log s ((unread, at) ∷ rest) = answer-bytes (Broken at)
 
--- the log of bs, which starts at offset `at`, from the line s
-abbrev pub log-from : ℕ → Line → List ℕ → List ℕ
-log-from at s bs = asked-log s (asked-from at bs)
-
--- THE LOG of a trace: from the fresh line
+-- THE LOG of a trace: from the fresh line. Each record takes a byte at least, so there are no more records than bytes
 unfoldable pub log : List ℕ → List ℕ
-log trace = log-from 0 fresh-line trace
+log trace = asked-log fresh-line (asked-within (length trace) 0 trace)

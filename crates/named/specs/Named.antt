@@ -1,31 +1,23 @@
 -- What the numbers of a trace record name: the link of an `LK`, of an `LE` and of an `LW`, the connection of a `CN` and of a `CS`; the framing
 -- of an `LF`, the share of a `CF`. Document 01, "Trace and answer records".
-use Prim.Native.Nat.{ℕ}
-use mathlib.Core.List.{List, _++_}
-use lib.ListN.{getD, take, drop, replicate}
+use Prim.Native.Nat.{ℕ, _+_}
+use mathlib.Core.List.{List}
+use lib.ListN.{getD}
 use Rattle.rules.specs.declared.Link.{Link}
 use Rattle.rules.specs.declared.Connection.{Connection}
 use Rattle.frames.specs.declared.Framing.{Framing}
 use Rattle.frames.specs.declared.Share.{Share}
 use Rattle.rules.specs.Limits.{max-levels}
-use Rattle.rules.specs.Model.{no-windows}
+use Rattle.rules.specs.Words.{tabulate}
 
--- the first eight numbers, 0 past the last one
-abbrev eight : List ℕ → List ℕ
-eight ds = take max-levels (ds ++ replicate max-levels 0)
+-- eight numbers from the k-th on, 0 past the last one: the bounds, or the windows, of a link
+abbrev pub eight-from : ℕ → List ℕ → List ℕ
+eight-from k xs = tabulate max-levels (λ i. getD xs (k + i) 0)
 
--- n, S, the silence (document 02, R-4) and the bounds: the stand-by queue is off (R-11), and there are no windows (R-12)
+-- n, S, the silence (document 02, R-4), the setting (R-11), the eight bounds and the eight windows (R-12): of an `LW` all, of an `LE` without windows, and of an `LK`, whose
+-- stand-by queue is off, with 0 for the setting. A number past the last is 0
 abbrev pub link-named : List ℕ → Link
-link-named xs = record { levels = getD xs 0 0; largest = getD xs 1 0; silence = getD xs 2 0; early = 0; bounds = eight (drop 3 xs); windows = no-windows }
-
--- n, S, the silence, the setting (document 02, R-11) and the bounds
-abbrev pub stand-by-named : List ℕ → Link
-stand-by-named xs = record { levels = getD xs 0 0; largest = getD xs 1 0; silence = getD xs 2 0; early = getD xs 3 0; bounds = eight (drop 4 xs); windows = no-windows }
-
--- n, S, the silence, the setting, the eight bounds and the windows (document 02, R-12)
-abbrev pub windows-named : List ℕ → Link
-windows-named xs =
-    record { levels = getD xs 0 0; largest = getD xs 1 0; silence = getD xs 2 0; early = getD xs 3 0; bounds = eight (drop 4 xs); windows = eight (drop 12 xs) }
+link-named xs = record { levels = getD xs 0 0; largest = getD xs 1 0; silence = getD xs 2 0; early = getD xs 3 0; bounds = eight-from 4 xs; windows = eight-from 12 xs }
 
 -- T, S and the silence (document 02, R-13)
 abbrev pub framing-named : List ℕ → Framing

@@ -3,7 +3,7 @@
 ghost use mathlib.Core.Path.{_≡_};
 ghost use mathlib.Core.List.{[], _∷_};
 ghost use Rattle.rules.specs.Model.{no-link};
-ghost use Rattle.named.specs.Named.{link-named, stand-by-named, windows-named, framing-named, connection-named, stamped-named, share-named};
+ghost use Rattle.named.specs.Named.{link-named, framing-named, connection-named, stamped-named, share-named};
 use frames::Framing;
 use frames::Share;
 use limits::MAX_LEVELS;
@@ -24,7 +24,7 @@ pub fn link_named(
     d7: u16,
     d8: u16,
 ) -> Link
-    ensures { λ r. ⌜ r ≡ link-named (levels ∷ largest ∷ silence ∷ d1 ∷ d2 ∷ d3 ∷ d4 ∷ d5 ∷ d6 ∷ d7 ∷ d8 ∷ []) ⌝ }
+    ensures { λ r. ⌜ r ≡ link-named (levels ∷ largest ∷ silence ∷ 0 ∷ d1 ∷ d2 ∷ d3 ∷ d4 ∷ d5 ∷ d6 ∷ d7 ∷ d8 ∷ []) ⌝ }
 {
     Link {
         levels: levels as u32,
@@ -60,7 +60,7 @@ pub fn stand_by_named(
     d7: u16,
     d8: u16,
 ) -> Link
-    ensures { λ r. ⌜ r ≡ stand-by-named (levels ∷ largest ∷ silence ∷ early ∷ d1 ∷ d2 ∷ d3 ∷ d4 ∷ d5 ∷ d6 ∷ d7 ∷ d8 ∷ []) ⌝ }
+    ensures { λ r. ⌜ r ≡ link-named (levels ∷ largest ∷ silence ∷ early ∷ d1 ∷ d2 ∷ d3 ∷ d4 ∷ d5 ∷ d6 ∷ d7 ∷ d8 ∷ []) ⌝ }
 {
     let mut l = link_named(levels, largest, silence, d1, d2, d3, d4, d5, d6, d7, d8);
     l.early = early as u32;
@@ -90,7 +90,7 @@ pub fn windows_named(
     w7: u16,
     w8: u16,
 ) -> Link
-    ensures { λ r. ⌜ r ≡ windows-named (levels ∷ largest ∷ silence ∷ early ∷ d1 ∷ d2 ∷ d3 ∷ d4 ∷ d5 ∷ d6 ∷ d7 ∷ d8 ∷ w1 ∷ w2 ∷ w3 ∷ w4 ∷ w5 ∷ w6 ∷ w7 ∷ w8 ∷ []) ⌝ }
+    ensures { λ r. ⌜ r ≡ link-named (levels ∷ largest ∷ silence ∷ early ∷ d1 ∷ d2 ∷ d3 ∷ d4 ∷ d5 ∷ d6 ∷ d7 ∷ d8 ∷ w1 ∷ w2 ∷ w3 ∷ w4 ∷ w5 ∷ w6 ∷ w7 ∷ w8 ∷ []) ⌝ }
 {
     let mut l = stand_by_named(
         levels,

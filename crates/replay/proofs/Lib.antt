@@ -1,3 +1,4 @@
+pub mod FactLaws
 pub mod Standing
 pub mod Results
 pub mod SlideLaws

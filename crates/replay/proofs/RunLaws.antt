@@ -1,5 +1,5 @@
 -- A step on a part of the window, into a part of the room; and the loop of `run`: what stands after i steps, after one more, and at its end.
-use Prim.Native.Nat.{ℕ, zero, suc, _+_, _*_, _-_, _/_, _<_, _≤_}
+use Prim.Native.Nat.{ℕ, zero, suc, _+_, _*_, _-_, _/_, _≤_}
 use native.Mathlib.Omega.{arith}
 use native.Mathlib.Numerals.{add-one}
 use mathlib.Core.Path.{_≡_, refl, sym, ap, _∙_, subst}
@@ -7,33 +7,37 @@ use mathlib.Core.Bool.{Bool, true, false}
 use mathlib.Core.List.{List, _++_, append-assoc}
 use lib.ListN.{length, take, drop, length-append, length-drop}
 use lib.Seq.{take-append-seam, drop-append-seam, drop-drop}
-use Rattle.rules.proofs.Tests.{never}
 use Rattle.tables.specs.Lent.{Tables, tables}
 use Rattle.both.specs.View.{written, sound-kept}
 use Rattle.steps.specs.declared.Cursor.{Cursor}
 use Rattle.steps.specs.declared.Status.{Status}
 use Rattle.steps.specs.declared.Status.the-variants.{GoOn, MoreBytes, MoreRoom, NotSound, Done}
 use Rattle.steps.specs.declared.Stepped.{Stepped}
-use Rattle.log.specs.Log.{trace-limit}
 use Rattle.answers.specs.Answers.{longest-answer}
-use Rattle.steps.specs.Steps.{Next, next, joined, onward, steps, is-go, work}
+use Rattle.steps.specs.Steps.{Point, Next, next, joined, steps, is-go}
 use Rattle.steps.proofs.OutcomeLaws.{steps-end-well}
-use Rattle.steps.specs.Tie.{point-of, cursor-of, Makes, Facts}
+use Rattle.steps.specs.Tie.{point-of, cursor-of, Makes}
 use Rattle.fields.specs.Formats.{over}
 use Rattle.fields.proofs.PartLaws.{part-all, part-back}
-use Rattle.steps.proofs.FactLaws.{next-short}
+use Rattle.steps.proofs.FactLaws.{next-goes, steps-stay}
 use Rattle.replay.proofs.Standing.{Stands, stands-sound, stands-there, stands-of}
 
 -- a step on the window from `used` on, into the room from `wrote` on, which is given back. Of any step, so that a step which is another one is refused before a table
 -- is written out
-pub on-parts : (n : List ℕ → Next) (w o : List ℕ) (used wrote : ℕ) (c : Cursor) (last : Bool) (a : Stepped) (t : Tables) (o′ : List ℕ)
+pub on-parts : (n : List ℕ → Next) (w o : List ℕ) (used wrote : ℕ) (a : Stepped) (t : Tables) (o′ : List ℕ)
     → Makes (n (take (length w - used) (drop used w))) a t 0 (take (length o - wrote) (drop wrote o)) o′
-    → Facts c (length (take (length w - used) (drop used w))) last (length (take (length o - wrote) (drop wrote o))) a
-    → Makes (n (drop used w)) a t wrote o (take wrote o ++ (o′ ++ drop (length o - wrote) (drop wrote o))) × Facts c (length w - used) last (length o - wrote) a
-on-parts n w o used wrote c last a t o′ D F =
+    → Makes (n (drop used w)) a t wrote o (take wrote o ++ (o′ ++ drop (length o - wrote) (drop wrote o)))
+on-parts n w o used wrote a t o′ D =
     let d = rw (part-all used w, part-all wrote o) at D in
-    let f = rw (part-all used w, part-all wrote o, length-drop wrote o, length-drop used w) at F in
-    (record { answers = d .answers; tables = d .tables; room = part-back wrote o _ _ (d .room) }, f)
+    record { answers = d .answers; tables = d .tables; room = part-back wrote o _ _ (d .room) }
+
+-- .. takes no more bytes than there are, and writes no more than an answer has
+pub step-fits : (p : Point) (w : List ℕ) (last : Bool) (used : ℕ) (a : Stepped) (t : Tables) (wrote : ℕ) (o o′ : List ℕ) → Makes (next p (drop used w) last) a t wrote o o′
+    → (a .used ≤ length w - used) × (a .wrote ≤ 19)
+step-fits p w last used a t wrote o o′ D =
+    let G = next-goes p (drop used w) last in
+    let l : length (drop used w) ≡ length w - used = length-drop used w in
+    rw (D .answers) (omega (arith, l, G .used), omega (arith, G .short))
 
 -- after i steps from c, cs, t, w, o, which may have stopped at the last: s is what that one answered, with all bytes used and written so far
 pub record Made (c : Cursor) (t : Tables) (w : List ℕ) (last : Bool) (o : List ℕ) (i : ℕ) (k : Status) (cur : Cursor) (t2 : Tables) (o2 : List ℕ) (used wrote : ℕ) : Type 0 where
@@ -49,11 +53,6 @@ pub record Made (c : Cursor) (t : Tables) (w : List ℕ) (last : Bool) (o : List
   pub same-room : length o2 ≡ length o
   pub in-window : used ≤ length w
   pub in-room : wrote ≤ 19 * i
-  pub place : cur .at ≡ c .at + used
-  pub within : c .at ≤ trace-limit → cur .at ≤ trace-limit
-  pub never-more : work (cur .at) (cur .phase) ≤ work (c .at) (c .phase)
-  pub less : k ≡ GoOn → work (cur .at) (cur .phase) + i ≤ work (c .at) (c .phase)
-  pub wants : k ≡ MoreBytes → last ≡ false
 
 over-over : (bs cs l : List ℕ) → take (length bs) (over bs l) ++ over cs (drop (length bs) (over bs l)) ≡ over (bs ++ cs) l
 over-over bs cs l = rw (take-append-seam, drop-append-seam, append-assoc, drop-drop, length-append)
@@ -64,14 +63,6 @@ go-true MoreBytes e = cc
 go-true MoreRoom e = cc
 go-true NotSound e = cc
 go-true Done e = cc
-
-go-false : (k : Status) → is-go k ≡ false → k ≡ GoOn → ⊥
-go-false k e g = never (sym e ∙ ap is-go g)
-
--- a step that has stopped is the last
-stopped : (w : List ℕ) (last : Bool) (m : Next) → is-go (m .status) ≡ false → onward w last m ≡ m
-unfolding onward
-stopped w last m e = rw e
 
 module _ (c : Cursor) (t : Tables) (w : List ℕ) (last : Bool) (o : List ℕ) (ok : sound-kept (c .line) t ≡ true) where
   -- the place reached stands for the rules' point
@@ -104,27 +95,22 @@ module _ (c : Cursor) (t : Tables) (w : List ℕ) (last : Bool) (o : List ℕ) (
         same-room = refl;
         in-window = omega arith;
         in-room = omega arith;
-        place = omega arith;
-        within = λ l. l;
-        never-more = omega arith;
-        less = λ _. omega arith;
-        wants = λ e. cc;
       }
 
   one-more : (i : ℕ) (cur : Cursor) (t2 : Tables) (o2 : List ℕ) (used wrote : ℕ) → Made c t w last o i GoOn cur t2 o2 used wrote
       → steps (i + 1) (point-of c t) w last ≡ joined (steps i (point-of c t) w last) (next (point-of cur t2) (drop used w) last)
-  unfolding steps onward
+  unfolding steps
   one-more i cur t2 o2 used wrote R =
-      rw (add-one i, R .status, stands-there _ cur t2 (made-stands i GoOn cur t2 o2 used wrote R), R .taken)
+      rw (add-one i, stands-there _ cur t2 (made-stands i GoOn cur t2 o2 used wrote R), R .taken)
 
   pub made-more : (i : ℕ) (cur : Cursor) (t2 : Tables) (o2 : List ℕ) (used wrote : ℕ) → Made c t w last o i GoOn cur t2 o2 used wrote
       → (s : Stepped) (t3 : Tables) (o3 : List ℕ) → Makes (next (point-of cur t2) (drop used w) last) s t3 wrote o2 o3
-      → Facts cur (length w - used) last (length o2 - wrote) s → length (t3 .members) ≡ length (t2 .members) → length (t3 .places) ≡ length (t2 .places) → length (t3 .notices) ≡ length (t2 .notices) → length o3 ≡ length o2
+      → length (t3 .members) ≡ length (t2 .members) → length (t3 .places) ≡ length (t2 .places) → length (t3 .notices) ≡ length (t2 .notices) → length o3 ≡ length o2
       → Made c t w last o (i + 1) (s .status) (s .cursor) t3 o3 (used + s .used) (wrote + s .wrote)
-  made-more i cur t2 o2 used wrote R s t3 o3 d f lc lt lq lo =
+  made-more i cur t2 o2 used wrote R s t3 o3 d lc lt lq lo =
       let e = one-more i cur t2 o2 used wrote R in
       let n = next (point-of cur t2) (drop used w) last in
-      let short : s .wrote ≤ 19 = rw (d .answers) (next-short (point-of cur t2) (drop used w) last) in
+      let f = step-fits (point-of cur t2) w last used s t3 wrote o2 o3 d in
       record {
         status = rw (e, d .answers);
         cursor = rw (e, d .answers);
@@ -136,55 +122,33 @@ module _ (c : Cursor) (t : Tables) (w : List ℕ) (last : Bool) (o : List ℕ) (
         same-table = omega (arith, R .same-table);
         same-queue = omega (arith, R .same-queue);
         same-room = omega (arith, R .same-room);
-        in-window = omega (arith, R .in-window, f .used);
-        in-room = omega (arith, R .in-room);
-        place = omega (arith, R .place, f .place);
-        within = λ l. f .within (R .within l);
-        never-more = omega (arith, R .less refl, f .never-more);
-        less = λ g. let l = f .less g in omega (arith, R .less refl);
-        wants = f .wants;
+        in-window = omega (arith, R .in-window, f .0);
+        in-room = omega (arith, R .in-room, f .1);
       }
 
-  -- one step more, as the definition says it
-  once-more : (k : ℕ) → steps (suc k) (point-of c t) w last ≡ onward w last (steps k (point-of c t) w last)
-  unfolding steps
-  once-more k = refl
-
+  -- a step that has stopped is the last
   stays : (j k : ℕ) → is-go (steps k (point-of c t) w last .status) ≡ false → steps (j + k) (point-of c t) w last ≡ steps k (point-of c t) w last
   stays zero k e = let i : zero + k ≡ k = omega arith in ap (λ m. steps m (point-of c t) w last) i
   stays (suc j) k e =
       let i : suc j + k ≡ suc (j + k) = omega arith in
-      ap (λ m. steps m (point-of c t) w last) i ∙ once-more (j + k) ∙ ap (onward w last) (stays j k e) ∙ stopped w last (steps k (point-of c t) w last) e
+      let r = stays j k e in
+      ap (λ m. steps m (point-of c t) w last) i ∙ steps-stay (j + k) (point-of c t) w last (ap (λ (m : Next). is-go (m .status)) r ∙ e) ∙ r
 
   -- the end: a step stopped, or all were made
   module _ (i : ℕ) (k : Status) (cur : Cursor) (t2 : Tables) (o2 : List ℕ) (used wrote : ℕ) (M : Made c t w last o i k cur t2 o2 used wrote) where
-    ends : (n : ℕ) → steps n (point-of c t) w last ≡ steps i (point-of c t) w last → 19 * i ≤ length o → (k ≡ GoOn → 0 < i)
+    ends : (n : ℕ) → steps n (point-of c t) w last ≡ steps i (point-of c t) w last
         → Makes (steps n (point-of c t) w last) (record { cursor = cur; used = used; wrote = wrote; status = k }) t2 0 o o2
-        × Facts c (length w) last (length o) (record { cursor = cur; used = used; wrote = wrote; status = k })
-    ends n e l p = (
-      rw e (record { answers = rw (← M .status, M .cursor, M .taken, M .count); tables = M .tables; room = M .bytes }),
-      record {
-        used = M .in-window;
-        wrote = omega (arith, M .in-room);
-        place = M .place;
-        within = M .within;
-        never-more = M .never-more;
-        less = λ g. let j = p g in omega (arith, M .less g);
-        wants = M .wants;
-      },
-    )
+    ends n e = rw e (record { answers = rw (← M .status, M .cursor, M .taken, M .count); tables = M .tables; room = M .bytes })
 
     pub run-stopped : is-go k ≡ false → i ≤ length o / 19
         → Makes (steps (length o / longest-answer) (point-of c t) w last) (record { cursor = cur; used = used; wrote = wrote; status = k }) t2 0 o o2
-        × Facts c (length w) last (length o) (record { cursor = cur; used = used; wrote = wrote; status = k })
     run-stopped g l =
         let d : length o / 19 ≡ length o / 19 - i + i = omega arith in
-        ends (length o / 19) (ap (λ m. steps m (point-of c t) w last) d ∙ stays (length o / 19 - i) i (ap is-go (M .status) ∙ g)) (omega arith) (λ z. absurd (go-false k g z))
+        ends (length o / 19) (ap (λ m. steps m (point-of c t) w last) d ∙ stays (length o / 19 - i) i (ap is-go (M .status) ∙ g))
 
-    pub run-ended : i ≡ length o / 19 → 19 ≤ length o
+    pub run-ended : i ≡ length o / 19
         → Makes (steps (length o / longest-answer) (point-of c t) w last) (record { cursor = cur; used = used; wrote = wrote; status = k }) t2 0 o o2
-        × Facts c (length w) last (length o) (record { cursor = cur; used = used; wrote = wrote; status = k })
-    run-ended e l = ends (length o / 19) (ap (λ m. steps m (point-of c t) w last) (sym e)) (omega arith) (λ _. omega arith)
+    run-ended e = ends (length o / 19) (ap (λ m. steps m (point-of c t) w last) (sym e))
 
   pub made-on : (i : ℕ) (k : Status) (cur : Cursor) (t2 : Tables) (o2 : List ℕ) (used wrote : ℕ) → Made c t w last o i k cur t2 o2 used wrote → is-go k ≡ true
       → Made c t w last o i GoOn cur t2 o2 used wrote

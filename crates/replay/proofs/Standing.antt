@@ -1,6 +1,5 @@
 -- A cursor and three tables that stand for a point of the rules whose line is sound.
 use Prim.Native.Nat.{ℕ, _≤_, _<_}
-use native.Mathlib.Omega.{arith}
 use mathlib.Core.Path.{_≡_, refl, sym, ap, _∙_}
 use mathlib.Core.Bool.{Bool, true, false, cond}
 use mathlib.Core.List.{List}
@@ -20,9 +19,12 @@ use Rattle.steps.specs.declared.Status.the-variants.{GoOn, MoreRoom, NotSound}
 use Rattle.steps.specs.declared.Stepped.{Stepped}
 use Rattle.answers.specs.Answers.{longest-answer}
 use Rattle.steps.specs.Steps.{Point, point, Next, still, is-go}
-use Rattle.steps.specs.Tie.{cursor-at, point-of, cursor-of, nothing-done, Makes, in-room, Makes-if-sound, Facts}
-use Rattle.steps.proofs.FactLaws.{waits-facts}
+use Rattle.steps.specs.Tie.{point-of, cursor-of, Makes, Makes-if-sound, cursor-at, nothing-done}
 use Rattle.replay.specs.Sessions.{readiness}
+
+-- a room of r bytes must hold the longest answer
+abbrev pub in-room : ℕ → Point → Next → Next
+in-room r p n = cond (ltb r longest-answer) (still p MoreRoom) n
 
 pub record Stands (p : Point) (c : Cursor) (t : Tables) : Type 0 where
   pub sound : Sound-line (p .line)
@@ -75,26 +77,19 @@ module _ (c : Cursor) (t : Tables) (o : List ℕ) {k : Status} {b : Bool} (asked
       go true e false f z = (e, ltb-false _ _ f)
 
   -- nothing is done
-  pub does-nothing : (w : List ℕ) {last : Bool} (n : Next) → b ≡ false
-      → Makes-if-sound (in-room (length o) (point-of c t) n) c t o (nothing-done c k) t o × Facts c (length w) last (length o) (nothing-done c k)
+  pub does-nothing : (n : Next) → b ≡ false → Makes-if-sound (in-room (length o) (point-of c t) n) c t o (nothing-done c k) t o
   unfolding readiness
-  does-nothing w {last} n g = rw asked (go (sound-kept (c .line) t) refl (ltb (length o) longest-answer) refl (ap is-go (sym asked) ∙ (sym told ∙ g)))
+  does-nothing n g = rw asked (go (sound-kept (c .line) t) refl (ltb (length o) longest-answer) refl (ap is-go (sym asked) ∙ (sym told ∙ g)))
     where
       go : (s : Bool) → sound-kept (c .line) t ≡ s → (d : Bool) → ltb (length o) longest-answer ≡ d → is-go (cond s (cond d MoreRoom GoOn) NotSound) ≡ false
           → Makes-if-sound (cond d (still (point-of c t) MoreRoom) n) c t o (nothing-done c (cond s (cond d MoreRoom GoOn) NotSound)) t o
-          × Facts c (length w) last (length o) (nothing-done c (cond s (cond d MoreRoom GoOn) NotSound))
-      go false e d f z = (
-        record { where-sound = λ j. never (sym e ∙ j); where-not = λ _. (refl, refl, refl) },
-        waits-facts (c .at) (c .phase) (c .phase) (c .line) (length w) last (length o) NotSound (omega arith) refl (λ j. cc),
-      )
+      go false e d f z = record { where-sound = λ j. never (sym e ∙ j); where-not = λ _. (refl, refl, refl) }
       go true e true f z =
-          let S = stands-of c t e in (
-            record {
-              where-sound = λ _. record { answers = ap (λ (x : Cursor). nothing-done x MoreRoom) (S .cursor); tables = S .tables; room = refl };
-              where-not = λ j. never (sym j ∙ e);
-            },
-            waits-facts (c .at) (c .phase) (c .phase) (c .line) (length w) last (length o) MoreRoom (omega arith) refl (λ j. cc),
-          )
+          let S = stands-of c t e in
+          record {
+            where-sound = λ _. record { answers = ap (λ (x : Cursor). nothing-done x MoreRoom) (S .cursor); tables = S .tables; room = refl };
+            where-not = λ j. never (sym j ∙ e);
+          }
       go true e false f z = never (sym z)
 
   -- all is done

@@ -2,15 +2,15 @@
 // `pump`, not once a tick: each tick is still what the public call would answer, since a request on a sound line leaves a sound one.
 ghost use mathlib.Core.Path.{_≡_};
 ghost use mathlib.Core.Bool.{true};
-ghost use Prim.Native.Nat.{_+_, _-_, _/_, _≤_};
+ghost use Prim.Native.Nat.{_+_, _/_, _≤_};
 ghost use lib.ListN.{length, drop};
 ghost use Rattle.answers.specs.Answers.{longest-answer};
 ghost use Rattle.steps.specs.Steps.{beginning, next, steps, is-go};
 ghost use Rattle.tables.specs.Lent.{given, before, after};
 ghost use Rattle.both.specs.View.{sound-kept};
-ghost use Rattle.steps.specs.Tie.{point-of, cursor-of, Makes, Facts};
+ghost use Rattle.steps.specs.Tie.{point-of, cursor-of, Makes};
 ghost use Rattle.replay.specs.Slides.{slide-length, slid};
-ghost use Rattle.replay.specs.Sessions.{readiness, Steps, Pumps};
+ghost use Rattle.replay.specs.Sessions.{readiness, Steps};
 use answers::LONGEST_ANSWER;
 use steps::Cursor;
 use steps::Phase;
@@ -55,7 +55,6 @@ fn step_at(
 ) -> Stepped
     requires { ⌜ (sound-kept (c .line) (given members places notices) ≡ true) × (used ≤ length (now window)) × (wrote + longest-answer ≤ length (now out)) ⌝ }
     ensures { λ r. ⌜ Makes (next (point-of c (before members places notices)) (drop used (now (window .entry))) last) r (after members places notices) wrote (now (out .entry)) (now (out .exit)) ⌝ }
-    ensures { λ r. ⌜ Facts c (length (now (window .entry)) - used) last (length (now (out .entry)) - wrote) r ⌝ }
 {
     steps::step_tested(
         c,
@@ -80,7 +79,6 @@ fn run(
 ) -> Stepped
     requires { ⌜ (sound-kept (c .line) (given members places notices) ≡ true) × (longest-answer ≤ length (now out)) ⌝ }
     ensures { λ r. ⌜ Makes (steps (length (now (out .entry)) / longest-answer) (point-of c (before members places notices)) (now (window .entry)) last) r (after members places notices) 0 (now (out .entry)) (now (out .exit)) ⌝ }
-    ensures { λ r. ⌜ Facts c (length (now (window .entry))) last (length (now (out .entry))) r ⌝ }
 {
     let n = out.len() / LONGEST_ANSWER;
     let mut cur = c;
@@ -146,8 +144,7 @@ pub fn step(
     last: bool,
     out: &mut [u8],
 ) -> Stepped
-    ensures { λ r. ⌜ Steps c (before members places notices) (now (window .entry)) last (now (out .entry)) r (after members places notices) (now (out .exit)) ⌝ }
-    ensures { λ r. ⌜ Facts c (length (now (window .entry))) last (length (now (out .entry))) r ⌝ }
+    ensures { λ r. ⌜ Steps 1 c (before members places notices) (now (window .entry)) last (now (out .entry)) r (after members places notices) (now (out .exit)) ⌝ }
 {
     let k = ready(c, members, places, notices, out.len());
     if !goes_on(k) {
@@ -171,8 +168,7 @@ pub fn pump(
     last: bool,
     out: &mut [u8],
 ) -> Stepped
-    ensures { λ r. ⌜ Pumps c (before members places notices) (now (window .entry)) last (now (out .entry)) r (after members places notices) (now (out .exit)) ⌝ }
-    ensures { λ r. ⌜ Facts c (length (now (window .entry))) last (length (now (out .entry))) r ⌝ }
+    ensures { λ r. ⌜ Steps (length (now (out .entry)) / longest-answer) c (before members places notices) (now (window .entry)) last (now (out .entry)) r (after members places notices) (now (out .exit)) ⌝ }
 {
     let k = ready(c, members, places, notices, out.len());
     if !goes_on(k) {

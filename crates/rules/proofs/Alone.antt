@@ -12,7 +12,8 @@ use Rattle.rules.specs.Model.{Connection, State, Call, link, admit, offe
 use Rattle.rules.specs.Admission.{owned, stands, stamped}
 use Rattle.rules.specs.Service.{Spaced}
 use Rattle.rules.specs.Calls.{heard, verdict, eligibility-now, settle}
-use Rattle.rules.specs.Runs.{History, while-owned, after, run-from, nothing-yet, run, allowed, offer-tick, offer-ticks, Keeps-its-word, Asked, Exchange, exchange, exchanges-from, exchanges, own-answer}
+use Rattle.rules.specs.Runs.{History, after, run-from, nothing-yet, run, allowed, Asked, Exchange, exchange, exchanges, own-ticks, Keeps-its-word}
+use Rattle.rules.proofs.RunWords.{first-answer, while-owned, offer-tick, offer-ticks, Word, exchanges-from}
 use Rattle.rules.proofs.Lists.{All, all-snoc}
 use Rattle.rules.proofs.Sums.{cond-is}
 use Rattle.rules.proofs.Tests.{never, and-true, and-intro}
@@ -36,7 +37,7 @@ told s c len tag st v = record {
 
 -- it is told what its own figures and its own offer decide
 abbrev pub Own : Connection → Exchange → Type 0
-Own x e = e ≡ own-answer x (e .asked)
+Own x e = e ≡ first-answer x (e .asked)
 
 module _ (c : ℕ) (level : c ≡ notice-number → ⊥) where
   module _ (h : History) (I : Invariant h) (ts : List ℕ) (A : All-taken c level (h .now) (h .present) ts) (first-kind : stamped (figures (h .now) c) ≡ false) where
@@ -58,7 +59,7 @@ module _ (c : ℕ) (level : c ≡ notice-number → ⊥) where
               ≡ record {
                 asked = record { at = s .clock; len = len; tag = tag; stamp = none };
                 verdict = cond right (cond ended 13 0) 11;
-                eligibility = cond right (cond ended 0 (s .clock)) 0;
+                eligibility = cond (eqb (cond right (cond ended 13 0) 11) 0) (s .clock) 0;
               }
           go false f now = refl
           go true true now = refl
@@ -129,11 +130,11 @@ module _ (c : ℕ) where
         go false b = subst (P (figures (after (run ks) k .now) c)) (sym (no-exchanges ks b)) (z (figures (after (run ks) k .now) c))
 
 module _ (c : ℕ) (level : c ≡ notice-number → ⊥) where
-  pub told-by-own : (ks : List Call) → stamped (figures (run ks .now) c) ≡ false → Keeps-its-word c ks → All (Own (figures (run ks .now) c)) (exchanges c ks)
-  told-by-own = from-end (λ ks. stamped (figures (run ks .now) c) ≡ false → Keeps-its-word c ks → All (Own (figures (run ks .now) c)) (exchanges c ks)) (λ _ _. tt) one
+  pub told-by-own : (ks : List Call) → stamped (figures (run ks .now) c) ≡ false → Word c ks → All (Own (figures (run ks .now) c)) (exchanges c ks)
+  told-by-own = from-end (λ ks. stamped (figures (run ks .now) c) ≡ false → Word c ks → All (Own (figures (run ks .now) c)) (exchanges c ks)) (λ _ _. tt) one
     where
-      one : (ks : List Call) (k : Call) → (stamped (figures (run ks .now) c) ≡ false → Keeps-its-word c ks → All (Own (figures (run ks .now) c)) (exchanges c ks))
-          → stamped (figures (run (ks ++ k ∷ []) .now) c) ≡ false → Keeps-its-word c (ks ++ k ∷ []) → All (Own (figures (run (ks ++ k ∷ []) .now) c)) (exchanges c (ks ++ k ∷ []))
+      one : (ks : List Call) (k : Call) → (stamped (figures (run ks .now) c) ≡ false → Word c ks → All (Own (figures (run ks .now) c)) (exchanges c ks))
+          → stamped (figures (run (ks ++ k ∷ []) .now) c) ≡ false → Word c (ks ++ k ∷ []) → All (Own (figures (run (ks ++ k ∷ []) .now) c)) (exchanges c (ks ++ k ∷ []))
       one ks k ih kind word =
           subst (λ (h : History). All (Own (figures (h .now) c)) (exchanges c (ks ++ k ∷ []))) (sym (run-last ks k))
           (subst (All (Own (figures (after (run ks) k .now) c))) (sym (exchanges-last c ks k)) (go (owned (after (run ks) k .now .connections) c) refl))
@@ -148,10 +149,6 @@ module _ (c : ℕ) (level : c ≡ notice-number → ⊥) where
               (exchanges c ks) (same-owner c ks k o (λ x es. All (Own x) es) (λ x. tt) (ih was (W .so-far)))
 
 -- ---- the offers whose ticks count are those among all that have an allowed length
-
-abbrev pub own-ticks : Connection → List Asked → List ℕ
-own-ticks x [] = []
-own-ticks x (a ∷ qs) = cond (within 1 (x .size) (a .len)) (a .at ∷ own-ticks x qs) (own-ticks x qs)
 
 own-ticks-snoc : (x : Connection) (qs : List Asked) (a : Asked)
     → own-ticks x (qs ++ a ∷ []) ≡ push (own-ticks x qs) (cond (within 1 (x .size) (a .len)) (some (a .at)) none)
@@ -219,6 +216,10 @@ module _ (c : ℕ) where
 
 -- ---- so two lines that ask the same are told the same
 
-pub own-answers : (x : Connection) (es : List Exchange) → All (Own x) es → es ≡ map (own-answer x) (asks es)
+pub own-answers : (x : Connection) (es : List Exchange) → All (Own x) es → es ≡ map (first-answer x) (asks es)
 own-answers x [] E = refl
-own-answers x (e ∷ es) E = ap (λ (d : Exchange). d ∷ es) (E .0) ∙ ap (λ (ds : List Exchange). own-answer x (e .asked) ∷ ds) (own-answers x es (E .1))
+own-answers x (e ∷ es) E = ap (λ (d : Exchange). d ∷ es) (E .0) ∙ ap (λ (ds : List Exchange). first-answer x (e .asked) ∷ ds) (own-answers x es (E .1))
+
+-- a connection keeps its word by the ticks of its offers
+pub word-is : (c : ℕ) (ks : List Call) → Keeps-its-word c ks → Word c ks
+word-is c ks w = subst (Spaced (figures (run ks .now) c)) (sym (ticks-are-own c ks)) w

@@ -13,10 +13,12 @@ use Rattle.rules.specs.Words.{All, within, upto, push, filter}
 use Rattle.rules.specs.Limits.{clock-end, notice-number}
 use Rattle.rules.specs.Model.{Connection, Past, Packet, State, Call, link, admit, offer, notice, close, tick, Answer, no-past, past, figures, notice-packet}
 use Rattle.rules.specs.Admission.{owned, stands, stamped, reservation}
-use Rattle.rules.specs.Service.{untimely-by, remember-all, Spaced, of, eligibilities, level-of}
+use Rattle.rules.specs.Service.{untimely-by, remember-all, Spaced, of, eligibilities}
+use Rattle.rules.proofs.Doings.{level-of}
 use Rattle.rules.specs.Calls.{heard, too-far, verdict, eligibility-now, packet, done, answer}
-use Rattle.rules.specs.Runs.{History, while-owned, taken, after, run, bound-of, allowed, offer-tick, offer-ticks, Keeps-its-word, Asked, Exchange, exchange, exchanges, given, own-stamp-answer, own-stamp-answers}
-use Rattle.rules.specs.Promises.{Stamps-told-by-their-own}
+use Rattle.rules.specs.Runs.{History, after, run, bound-of, allowed, Asked, Exchange, exchange, exchanges, asked-of, own-ticks, Keeps-its-word}
+use Rattle.rules.proofs.RunWords.{taken}
+use Rattle.rules.proofs.RunWords.{given, own-stamp-answers, own-stamp-answer, while-owned, offer-tick, offer-ticks, Word}
 use Rattle.rules.proofs.Lists.{Sub, nil, sub-snoc, sub-more, sub-trans, all-map, all-zip, all-snoc, all-sub, all-filter, total-snoc}
 use Rattle.rules.proofs.Sums.{same, cond-is, upto-yes}
 use Rattle.rules.proofs.Tests.{never, and-true, and-intro, within-intro}
@@ -35,7 +37,7 @@ use Rattle.rules.proofs.Every.{no-owner, keeps, invariant}
 use Rattle.rules.proofs.InTime.{held-in-time}
 use Rattle.rules.proofs.Room.{all-among, near-stamp, decided-by}
 use Rattle.rules.proofs.Keeper.{from-end, run-last, ticks-last, owner-stays, no-ticks, Word-before, word-before}
-use Rattle.rules.proofs.Alone.{told, exchanges-last, no-exchanges, asks, own-ticks, ticks-are-own}
+use Rattle.rules.proofs.Alone.{told, exchanges-last, no-exchanges, asks, word-is}
 
 -- ---- lists
 
@@ -294,7 +296,7 @@ module _ (c : ℕ) where
             ≡ record {
               asked = record { at = s .clock; len = len; tag = tag; stamp = st };
               verdict = cond right (cond ended 13 (cond late 17 0)) 11;
-              eligibility = cond right (cond ended 0 (cond late 0 (eligibility-now s c st))) 0;
+              eligibility = cond (eqb (cond right (cond ended 13 (cond late 17 0)) 11) 0) (eligibility-now s c st) 0;
             }
         go false full ended late far f g = refl
         go true true ended late far f g = never (sym (f refl))
@@ -357,11 +359,11 @@ module _ (c : ℕ) where
           let p = and-true (eqb d c) (heard (run ks .now) c st) e in
           with-one ks (offer d len tag st) o second word E (told (run ks .now) d len tag st (verdict (offer d len tag st) (run ks .now))) (own (eqb-true d c (p .0)) (p .1))
 
-  told-own : (c ≡ notice-number → ⊥) → (ks : List Call) → stamped (figures (run ks .now) c) ≡ true → Keeps-its-word c ks → exchanges c ks ≡ own-stamp-answers (figures (run ks .now) c) no-past (asks (exchanges c ks))
-  told-own level = from-end (λ ks. stamped (figures (run ks .now) c) ≡ true → Keeps-its-word c ks → exchanges c ks ≡ own-stamp-answers (figures (run ks .now) c) no-past (asks (exchanges c ks))) (λ _ _. refl) one
+  told-own : (c ≡ notice-number → ⊥) → (ks : List Call) → stamped (figures (run ks .now) c) ≡ true → Word c ks → exchanges c ks ≡ own-stamp-answers (figures (run ks .now) c) no-past (asks (exchanges c ks))
+  told-own level = from-end (λ ks. stamped (figures (run ks .now) c) ≡ true → Word c ks → exchanges c ks ≡ own-stamp-answers (figures (run ks .now) c) no-past (asks (exchanges c ks))) (λ _ _. refl) one
     where
-      one : (ks : List Call) (k : Call) → (stamped (figures (run ks .now) c) ≡ true → Keeps-its-word c ks → exchanges c ks ≡ own-stamp-answers (figures (run ks .now) c) no-past (asks (exchanges c ks)))
-          → stamped (figures (run (ks ++ k ∷ []) .now) c) ≡ true → Keeps-its-word c (ks ++ k ∷ []) → exchanges c (ks ++ k ∷ []) ≡ own-stamp-answers (figures (run (ks ++ k ∷ []) .now) c) no-past (asks (exchanges c (ks ++ k ∷ [])))
+      one : (ks : List Call) (k : Call) → (stamped (figures (run ks .now) c) ≡ true → Word c ks → exchanges c ks ≡ own-stamp-answers (figures (run ks .now) c) no-past (asks (exchanges c ks)))
+          → stamped (figures (run (ks ++ k ∷ []) .now) c) ≡ true → Word c (ks ++ k ∷ []) → exchanges c (ks ++ k ∷ []) ≡ own-stamp-answers (figures (run (ks ++ k ∷ []) .now) c) no-past (asks (exchanges c (ks ++ k ∷ [])))
       one ks k ih second word =
           subst (λ (h : History). exchanges c (ks ++ k ∷ []) ≡ own-stamp-answers (figures (h .now) c) no-past (asks (exchanges c (ks ++ k ∷ [])))) (sym (run-last ks k))
           (subst (λ (es : List Exchange). es ≡ own-stamp-answers (figures (after (run ks) k .now) c) no-past (asks es)) (sym (exchanges-last c ks k))
@@ -377,14 +379,15 @@ module _ (c : ℕ) where
                   subst (λ (y : Connection). exchanges c ks ≡ own-stamp-answers y no-past (asks (exchanges c ks))) (alike ks k o b) (ih (ap stamped (alike ks k o b) ∙ kind) (W .so-far))
               was W false b = subst (λ (es : List Exchange). es ≡ own-stamp-answers (figures (after (run ks) k .now) c) no-past (asks es)) (sym (no-exchanges c ks b)) refl
 
-pub told-with-stamps : Stamps-told-by-their-own
+pub told-with-stamps : (ks : List Call) (c : ℕ) → stamped (figures (run ks .now) c) ≡ true → Keeps-its-word c ks
+    → exchanges c ks ≡ own-stamp-answers (figures (run ks .now) c) no-past (asked-of c ks)
 told-with-stamps ks c second word = go (same c notice-number)
   where
     go : (c ≡ notice-number) ⊎ (c ≡ notice-number → ⊥) → exchanges c ks ≡ own-stamp-answers (figures (run ks .now) c) no-past (asks (exchanges c ks))
     go (inl n) =
         subst (λ (es : List Exchange). es ≡ own-stamp-answers (figures (run ks .now) c) no-past (asks es))
         (sym (no-exchanges c ks (subst (λ (j : ℕ). owned (run ks .now .connections) j ≡ false) (sym n) (no-owner (run ks .now) (invariant ks .sound))))) refl
-    go (inr level) = told-own c level ks second word
+    go (inr level) = told-own c level ks second (word-is c ks word)
 
 pub alike-with-stamps : (ks ms : List Call) (c d : ℕ) → figures (run ks .now) c ≡ figures (run ms .now) d → map (λ (e : Exchange). e .asked) (exchanges c ks) ≡ map (λ (e : Exchange). e .asked) (exchanges d ms)
     → stamped (figures (run ks .now) c) ≡ true → Keeps-its-word c ks → exchanges c ks ≡ exchanges d ms
@@ -397,7 +400,5 @@ alike-with-stamps ks ms c d alike asked second word =
     -- it keeps its word there because it asks the same
     word-there : Keeps-its-word d ms
     word-there =
-        subst (Spaced (figures (run ms .now) d)) (sym (ticks-are-own d ms))
-        (subst (λ (y : Connection). Spaced y (own-ticks y (asks (exchanges d ms)))) alike
-        (subst (λ qs. Spaced (figures (run ks .now) c) (own-ticks (figures (run ks .now) c) qs)) asked
-        (subst (Spaced (figures (run ks .now) c)) (ticks-are-own c ks) word)))
+        subst (λ (y : Connection). Spaced y (own-ticks y (asks (exchanges d ms)))) alike
+        (subst (λ qs. Spaced (figures (run ks .now) c) (own-ticks (figures (run ks .now) c) qs)) asked word)

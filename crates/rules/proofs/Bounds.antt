@@ -125,7 +125,7 @@ module _ (s : State) (S : Orderly s) where
       go false o =
           ⊎-elim
           (λ l. gone (List·getD-eq-default (s .connections) no-connection {n = c} (omega (arith, S .numbers))) (List·getD-eq-default (s .pasts) no-past {n = c} (omega (arith, S .one-past-each))))
-          (λ l. let k = S .free-blank c l o in gone (k .no-figures) (k .no-memory))
+          (λ l. let k = S .free-blank c l o in gone (k .0) (k .1))
           (split max-connections c)
 
   figures-le-longest : (c : ℕ) → (figures s c .gap ≤ longest) × (figures s c .window ≤ longest) × (figures s c .allowance ≤ longest)
@@ -176,7 +176,7 @@ pub notices-fit-places : (s : State) → Sound s → length (s .notices) ≤ max
 notices-fit-places s S =
     ⊎-elim
     (λ z. omega (arith, ap (λ (r : State). length (r .notices)) (S .with-no-link z)))
-    (λ n. S .with-one n .orderly .few-notices)
+    (λ n. S .with-one n .orderly .line .few-notices)
     (same (s .link .levels) 0)
 
 pub eligibilities-fit-32 : (s : State) → Sound s

@@ -12,8 +12,11 @@ use borrow.Author.Tests.{eq-eqb, ne-eqb}
 use Rattle.rules.specs.Words.{upto}
 use Rattle.rules.specs.Model.{Link, Connection, Past, no-past, Packet, State, nth}
 use Rattle.rules.specs.Admission.{owned, bound, window, cost, load, load-by}
-use Rattle.rules.specs.Service.{Spaced, eligibilities, first, level-of, line-left}
-use Rattle.rules.specs.SoundState.{Fits, In-service, Notice-in-service}
+use Rattle.rules.specs.Service.{Spaced, eligibilities, first}
+use Rattle.rules.proofs.Doings.{level-of}
+use Rattle.rules.proofs.HubTick.{line-left}
+use Rattle.rules.specs.SoundState.{Fits}
+use Rattle.rules.proofs.LineWords.{In-service, Notice-in-service}
 use Rattle.rules.proofs.Lists.{All, all-zip, all-sub, all-self, Sub, total, total-each}
 use Rattle.rules.proofs.Sums.{split, same, cond-is, upto-yes, upto-no, upto-le}
 use Rattle.rules.proofs.Rows.{total-without}

@@ -8,7 +8,9 @@ use mathlib.Core.Option.{Option, none, some}
 use Rattle.rules.specs.Words.{upto}
 use Rattle.rules.specs.Model.{Link, Connection, Packet, State, nth}
 use Rattle.rules.specs.Admission.{window, cost}
-use Rattle.rules.specs.Service.{first, level-of, chosen, early-at, stand-by, Wire, wire, later, line-left}
+use Rattle.rules.specs.Service.{first, chosen, early-at, stand-by, Wire, wire}
+use Rattle.rules.proofs.Doings.{level-of}
+use Rattle.rules.proofs.HubTick.{later, line-left}
 use Rattle.rules.specs.SoundState.{Fits, Orderly}
 use Rattle.rules.proofs.Lists.{All, all-map, all-zip, all-sub, all-every, Sub, total, total-le, total-sub, total-add, total-zero, total-none}
 use Rattle.rules.proofs.Sums.{split, upto-yes, upto-no, upto-le, upto-mono}

@@ -3,15 +3,15 @@ use Prim.Native.Nat.{ℕ}
 use native.Mathlib.Omega.{arith}
 use mathlib.Core.Path.{_≡_, refl, sym, ap, _∙_, subst}
 use mathlib.Core.Bool.{false, true≢false}
-use mathlib.Core.List.{List, [], _∷_, _++_, append-nil, append-assoc}
+use mathlib.Core.List.{List, [], _∷_, _++_, map, append-nil, append-assoc}
 use lib.ListN.{length, drop}
 use Rattle.rules.specs.Model.{Connection, Packet, Call, admit}
 use Rattle.rules.specs.Admission.{owned, free-number}
 use Rattle.rules.specs.Service.{of}
 use Rattle.rules.specs.SoundState.{Orderly}
 use Rattle.rules.specs.Calls.{verdict, settle, answer}
-use Rattle.rules.specs.Runs.{Departure, History, taken, leaving, after, run-from, nothing-yet, run, departures, in-hub}
-use Rattle.rules.specs.Promises.{Conserved-since, Conservation-since}
+use Rattle.rules.specs.Runs.{Departure, History, after, run-from, nothing-yet, run, departures, in-hub}
+use Rattle.rules.proofs.RunWords.{taken, leaving}
 use Rattle.rules.proofs.Lists.{all-map}
 use Rattle.rules.proofs.Rows.{of-append, map-append}
 use Rattle.rules.proofs.Notices.{of-none}
@@ -22,6 +22,13 @@ use Rattle.rules.proofs.Every.{invariant}
 use Rattle.rules.proofs.InTime.{conserved-lists, departures-append, held-waits}
 use Rattle.rules.proofs.Through.{push-is}
 use Rattle.rules.proofs.Keeper.{run-append}
+
+-- from one moment on: what was accepted of number c since = what departed since, followed by what waits
+abbrev pub Conserved-since : List Call → List Call → ℕ → Type 0
+Conserved-since earlier later c =
+    drop (length (of c (run earlier .accepted))) (of c (run (earlier ++ later) .accepted))
+    ≡ map (λ d. d .what) (drop (length (departures c (run earlier .departed))) (departures c (run (earlier ++ later) .departed)))
+    ++ of c (in-hub (run (earlier ++ later) .now))
 
 accepted-grows : (ks : List Call) (h : History) → (more : List Packet) × (run-from h ks .accepted ≡ h .accepted ++ more)
 accepted-grows [] h = ([], sym (append-nil (h .accepted)))
@@ -41,7 +48,8 @@ drop-front : {A : Type 0} (xs ys : List A) → drop (length xs) (xs ++ ys) ≡ y
 drop-front [] ys = refl
 drop-front (x ∷ xs) ys = drop-front xs ys
 
-pub since : Conservation-since
+-- it holds from any moment on at which nothing of number c waits
+pub since : (earlier later : List Call) (c : ℕ) → of c (in-hub (run earlier .now)) ≡ [] → Conserved-since earlier later c
 since earlier later c none-waits =
     ap (drop (length (of c acc))) all
     ∙ drop-front (of c acc) (of c (a .0))

@@ -1,5 +1,5 @@
 -- What a close, the calls after it and the next admission do with a number (document 02, R-8).
-use Prim.Native.Nat.{ℕ, zero, suc, _+_, _≤_, _<_}
+use Prim.Native.Nat.{ℕ, zero, suc, _≤_, _<_}
 use native.Mathlib.Omega.{arith}
 use mathlib.Core.Path.{_≡_, refl, sym, ap, _∙_, subst}
 use mathlib.Core.Bool.{Bool, true, false, cond, not, _&&_, true≢false}
@@ -16,8 +16,10 @@ use Rattle.rules.specs.Admission.{owned, stands, free-number, joining, c
 use Rattle.rules.specs.Service.{suits, remember, of, ticked, charge-over, expired, swept}
 use Rattle.rules.specs.SoundState.{Orderly, Sound}
 use Rattle.rules.specs.SoundTest.{sound}
-use Rattle.rules.specs.Calls.{heard, verdicts, verdict, eligibility-now, joined, placed, noted, marked, done, settle, answer}
-use Rattle.rules.specs.Promises.{Close-is-refused, Closed-or-freed, Freed-by-the-tick, Still-charged, Lowest-free, Lowest-number-is-given}
+use Rattle.rules.specs.Calls.{heard, verdicts, verdict, eligibility-now, done, settle, answer}
+use Rattle.rules.proofs.Doings.{placed}
+use Rattle.rules.proofs.Doings.{joined, noted, marked}
+use Rattle.rules.specs.Promises.{Charged-or-freed, Lowest-free, Lowest-number-is-given}
 use Rattle.rules.proofs.Sums.{cond-is}
 use Rattle.rules.proofs.Tests.{and-intro, not-false-true}
 use Rattle.rules.proofs.Figures.{connection-facts}
@@ -26,6 +28,10 @@ use Rattle.rules.proofs.Standing.{owned-level, level-owned, level-free,
 use Rattle.rules.proofs.Verdicts.{settled, given-sound, link-done, Admit-done, admit-done, offer-done, close-done}
 use Rattle.rules.proofs.SoundExact.{exact}
 use Rattle.rules.proofs.SoundKept.{fresh-open}
+
+-- closed in r and still charged
+abbrev Still-charged : State → ℕ → State → Type 0
+Still-charged s c r = (closed-at r c ≡ true) × (figures r c ≡ figures s c) × (past r c ≡ past s c)
 
 is-done : (k : Call) (s : State) → answer k s .verdict ≡ 0 → verdict k s ≡ 0
 is-done k s v = go (verdict k s) refl
@@ -48,7 +54,8 @@ close-verdict c s S linked = ap (λ (v : ℕ). settle (close c) s v .verdict) (c
     go true false = refl
     go false b = refl
 
-pub refusals : Close-is-refused
+pub refusals : (c : ℕ) (s : State) → Sound s → (s .link .levels ≡ 0 → ⊥)
+    → (answer (close c) s .verdict ≡ 10 ↔ stands s c ≡ false) × (answer (close c) s .verdict ≡ 16 ↔ ((stands s c ≡ true) × (1 ≤ length (of c (s .held)))))
 refusals c s S linked = go (stands s c) refl (leb 1 (length (of c (s .held)))) refl (close-verdict c s S linked)
   where
     go : (a : Bool) → stands s c ≡ a → (b : Bool) → leb 1 (length (of c (s .held))) ≡ b → answer (close c) s .verdict ≡ cond a (cond b 16 0) 10
@@ -87,10 +94,10 @@ closed-stands-not s c k = go (owned (s .connections) c) (closed-at s c) k
 orderly-of : (s : State) → sound s ≡ true → (s .link .levels ≡ 0 → ⊥) → Orderly s
 orderly-of s e linked = exact s .0 e .with-one linked .orderly
 
-pub closes : Closed-or-freed
+pub closes : (c : ℕ) (s : State) → answer (close c) s .verdict ≡ 0 → Charged-or-freed s c (s .clock) (answer (close c) s .next)
 closes c s v = (
-  λ e. subst (λ (a : Answer). owned (a .next .connections) c ≡ false) (sym is) (freed-number (marked s c) c below (expired-yes (marked s c) c mark e)),
   λ e. subst (λ (a : Answer). Still-charged s c (a .next)) (sym is) (charged e),
+  λ e. subst (λ (a : Answer). owned (a .next .connections) c ≡ false) (sym is) (freed-number (marked s c) c below (expired-yes (marked s c) c mark e)),
 )
   where
     yes : verdict (close c) s ≡ 0
@@ -111,7 +118,7 @@ closes c s v = (
     charged : charge-over (charge-time (s .link)) (s .clock) (past s c) ≡ false → Still-charged s c (swept (marked s c))
     charged e =
         let n = expired-no (marked s c) c e in
-        record { is-marked = kept-closed (marked s c) c below n ∙ mark; same-figures = kept-figures (marked s c) c below n; same-memory = kept-past (marked s c) c below n }
+        (kept-closed (marked s c) c below n ∙ mark, kept-figures (marked s c) c below n, kept-past (marked s c) c below n)
 
 -- ---- any call, once it is closed
 
@@ -145,7 +152,7 @@ module _ (s : State) (S : Sound s) (c : ℕ) (e : closed-at s c ≡ true) where
   below = omega (arith, O .one-mark-each, marked-below (s .closed) c e)
 
   has-owner : owned (s .connections) c ≡ true
-  has-owner = not-false-true (owned (s .connections) c) (λ o. true≢false (sym e ∙ O .free-blank c below o .not-closed))
+  has-owner = not-false-true (owned (s .connections) c) (λ o. true≢false (sym e ∙ O .free-blank c below o .2))
 
   not-yet : charge-over (charge-time (s .link)) (s .clock) (past s c) ≡ false
   not-yet = unexpired-charged s c (S .with-one set-link .charged c below) e
@@ -155,9 +162,7 @@ module _ (s : State) (S : Sound s) (c : ℕ) (e : closed-at s c ≡ true) where
   not-standing d b z = true≢false (sym (subst (λ (j : ℕ). closed-at s j ≡ true) z e) ∙ stands-open s d b)
 
   abbrev Lasts : State → Type 0
-  Lasts r =
-      (charge-over (charge-time (s .link)) (r .clock) (past s c) ≡ false → Still-charged s c r)
-      × (charge-over (charge-time (s .link)) (r .clock) (past s c) ≡ true → owned (r .connections) c ≡ false)
+  Lasts r = Charged-or-freed s c (r .clock) r
 
   -- while the clock stands
   still : (r : State) → r .clock ≡ s .clock → Still-charged s c r → Lasts r
@@ -167,11 +172,7 @@ module _ (s : State) (S : Sound s) (c : ℕ) (e : closed-at s c ≡ true) where
   tick-lasts = (
     λ l.
         let n = expired-no (ticked s .next) c (charge l) in
-        record {
-          is-marked = kept-closed (ticked s .next) c below n ∙ mark;
-          same-figures = kept-figures (ticked s .next) c below n ∙ ap (λ (cs : List Connection). nth cs c) (tick-leaves s .connections);
-          same-memory = kept-past (ticked s .next) c below n ∙ ap (λ (hs : List Past). getD hs c no-past) (tick-leaves s .pasts);
-        },
+        (kept-closed (ticked s .next) c below n ∙ mark, kept-figures (ticked s .next) c below n ∙ ap (λ (cs : List Connection). nth cs c) (tick-leaves s .connections), kept-past (ticked s .next) c below n ∙ ap (λ (hs : List Past). getD hs c no-past) (tick-leaves s .pasts)),
     λ l. freed-number (ticked s .next) c below (expired-yes (ticked s .next) c mark (charge l)),
   )
     where
@@ -189,39 +190,19 @@ module _ (s : State) (S : Sound s) (c : ℕ) (e : closed-at s c ≡ true) where
   done-lasts (link l) v = absurd (set-link (link-done s l v .unset))
   done-lasts (admit x) v =
       still (joined s x) refl
-      (record { is-marked = e; same-figures = nth-old (s .connections) x (omega (arith, O .numbers, admit-done s x v .free)) c has-owner; same-memory = refl })
+      ((e, nth-old (s .connections) x (omega (arith, O .numbers, admit-done s x v .free)) c has-owner, refl))
   done-lasts (offer d len tag st) v =
       still (placed s d len tag st) refl
-      (record {
-        is-marked = e;
-        same-figures = refl;
-        same-memory = getD-set-other (s .pasts) d c (remember (past s d) (eligibility-now s d st)) no-past (not-standing d (offer-done s d len tag st v .standing));
-      })
-  done-lasts (notice len tag) v = still (noted s len tag) refl (record { is-marked = e; same-figures = refl; same-memory = refl })
+      ((e, refl, getD-set-other (s .pasts) d c (remember (past s d) (eligibility-now s d st)) no-past (not-standing d (offer-done s d len tag st v .standing))))
+  done-lasts (notice len tag) v = still (noted s len tag) refl ((e, refl, refl))
   done-lasts (close d) v =
       let n = expired-no (marked s d) c not-yet in
       still (swept (marked s d)) refl
-      (record {
-        is-marked = kept-closed (marked s d) c below n ∙ getD-set-other (s .closed) d c true false (not-standing d (close-done s d v .standing)) ∙ e;
-        same-figures = kept-figures (marked s d) c below n;
-        same-memory = kept-past (marked s d) c below n;
-      })
+      ((kept-closed (marked s d) c below n ∙ getD-set-other (s .closed) d c true false (not-standing d (close-done s d v .standing)) ∙ e, kept-figures (marked s d) c below n, kept-past (marked s d) c below n))
   done-lasts tick v = tick-lasts
 
   pub lasts : (k : Call) → Lasts (answer k s .next)
-  lasts k = settled (λ a. Lasts (a .next)) k s (verdict k s) (done-lasts k) (λ _. still s refl (record { is-marked = e; same-figures = refl; same-memory = refl }))
-
-pub tick-frees : Freed-by-the-tick
-tick-frees c s v k = (λ l. L .1 (then l), λ l. L .0 (then l))
-  where
-    yes : verdict tick s ≡ 0
-    yes = is-done tick s v
-
-    L : Lasts s (exact s .0 (given-sound tick s yes)) c k (answer tick s .next)
-    L = lasts s (exact s .0 (given-sound tick s yes)) c k tick
-
-    then : {b : Bool} → charge-over (charge-time (s .link)) (s .clock + 1) (past s c) ≡ b → charge-over (charge-time (s .link)) (answer tick s .next .clock) (past s c) ≡ b
-    then l = ap (λ (t : ℕ). charge-over (charge-time (s .link)) t (past s c)) (ap (λ (w : ℕ). settle tick s w .next .clock) yes ∙ tick-leaves s .clock) ∙ l
+  lasts k = settled (λ a. Lasts (a .next)) k s (verdict k s) (done-lasts k) (λ _. still s refl ((e, refl, refl)))
 
 -- ---- the next admission
 
@@ -242,7 +223,7 @@ lowest-given x s v =
       was-free = was-free;
       lower-owned = free-lowest (s .connections);
       new-owner = nth-new (s .connections) x room;
-      starts-fresh = (O .free-blank (free-number (s .connections)) (D .free) was-free .no-memory, up);
+      starts-fresh = (O .free-blank (free-number (s .connections)) (D .free) was-free .1, up);
     })
   where
     yes : verdict (admit x) s ≡ 0
@@ -268,4 +249,4 @@ lowest-given x s v =
         stands-made (joined s x) (free-number (s .connections))
         (level-owned (joining (s .connections) x) (free-number (s .connections))
         (λ z. omega (arith, ap (λ (y : Connection). y .level) (nth-new (s .connections) x room), connection-facts (s .link) x (D .level-in) (D .figures-in) .low-level)))
-        (O .free-blank (free-number (s .connections)) (D .free) was-free .not-closed)
+        (O .free-blank (free-number (s .connections)) (D .free) was-free .2)

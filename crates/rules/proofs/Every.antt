@@ -12,8 +12,10 @@ use Rattle.rules.specs.Model.{Link, Connection, no-connection, Packet, S
 use Rattle.rules.specs.Admission.{owned, free-number}
 use Rattle.rules.specs.Service.{ticked}
 use Rattle.rules.specs.SoundState.{Sound}
-use Rattle.rules.specs.Calls.{verdict, packet, marked, done, refused}
-use Rattle.rules.specs.Runs.{Departure, History, leaving, logged, after, run-from, nothing-yet, run}
+use Rattle.rules.specs.Calls.{verdict, packet, done}
+use Rattle.rules.proofs.Doings.{marked, refused}
+use Rattle.rules.specs.Runs.{Departure, History, logged, after, run-from, nothing-yet, run}
+use Rattle.rules.proofs.RunWords.{leaving}
 use Rattle.rules.proofs.Lists.{all-map, nil, filter-all, filter-snoc-off}
 use Rattle.rules.proofs.Tests.{never}
 use Rattle.rules.proofs.Standing.{stands-below, level-free, free-is}
@@ -49,7 +51,7 @@ done-keeps (admit x) h I e T =
     let O = I .sound .with-one (d .set) .orderly in
     let room : free-number (h .now .connections) < length (h .now .connections) = omega (arith, O .numbers, d .free) in
     settle-in (h .accepted) (h .departed) (h .present) (done (admit x) (h .now) .next) T
-    (joined-keeps h I x room (O .free-blank (free-number (h .now .connections)) (d .free) (level-free (h .now .connections) (free-number (h .now .connections)) (free-is (h .now .connections) room)) .no-memory))
+    (joined-keeps h I x room (O .free-blank (free-number (h .now .connections)) (d .free) (level-free (h .now .connections) (free-number (h .now .connections)) (free-is (h .now .connections) room)) .1))
 done-keeps (offer c len tag st) h I e T =
     let d = offer-done (h .now) c len tag st e in
     let O = I .sound .with-one (d .set) .orderly in

@@ -14,8 +14,8 @@ use Rattle.rules.specs.Service.{earliest, next-eligibility, untimely, re
 use Rattle.rules.specs.SoundState.{settles, Sound}
 use Rattle.rules.specs.SoundTest.{latest-by-gap, latest, latest-early, nothing-used, admissions-sound, rows-sound, notices-sound, line-sound, sound}
 use Rattle.rules.specs.Calls.{heard, too-far, verdicts, answer}
-use Rattle.rules.specs.Runs.{Departure, History, nothing-yet, run, own-departures, bound-of, Exchange, exchanges}
-use Rattle.rules.specs.TwoHubs.{Carries, asked-of}
+use Rattle.rules.specs.Runs.{Departure, History, nothing-yet, run, own-departures, bound-of, Exchange, exchanges, asked-of}
+use Rattle.rules.specs.TwoHubs.{Carries}
 use Rattle.rules.specs.Examples.{gap-broken-calls, longer-bound, table, silences, averages, closings, stamps, A-longer-bound-can-fail-too, A-broken-gap-can-be-told-apart, Worked-examples, Worked-silences, Worked-averages, Worked-closings, Worked-stamps, stamps-broken-calls, Broken-stamps-can-be-told-apart, hub-1, hub-2, A-row-of-two, before-early, freed-early, behind-early, too-early, Freed-too-early-is-late, Left-must-be-eligible, said-of-stamp, early-departures, Worked-stand-by, sent-twice, turned-off, Verdict-1-by-the-setting, early-hub-1, early-hub-2, Early-before-its-stamp}
 use Rattle.rules.proofs.Figures.{never-off}
 use Rattle.rules.proofs.SoundExact.{exact}

@@ -11,10 +11,14 @@ use Rattle.rules.specs.Words.{first-number}
 use Rattle.rules.specs.Limits.{max-largest, max-silence, max-bound, clock-end, beyond-32-bits, notice-number}
 use Rattle.rules.specs.Model.{Connection, Packet, Notice, State, Call, link, admit, offer, notice, close, tick, Short, no-short, Answer, past, figures, notice-packet, first-notice}
 use Rattle.rules.specs.Admission.{joining, level-test}
-use Rattle.rules.specs.Service.{untimely-by, first, started, tick-answer, packet-departs, notice-departs, after-unit, ticked}
-use Rattle.rules.specs.SoundState.{Fits, Dated, Notice-fits, Orderly, Sound}
-use Rattle.rules.specs.Calls.{causes, verdicts, verdict, eligibility-now, done, refused-number, refused-short, refused, settle, answer}
-use Rattle.rules.specs.Promises.{First-excess, Names-the-lowest, own-term, Packet-fits, Answer-fits, number-limit}
+use Rattle.rules.specs.Service.{untimely-by, first, ticked}
+use Rattle.rules.proofs.HubTick.{started-state, tick-answer, packet-departs, notice-departs, after-unit}
+use Rattle.rules.specs.SoundState.{Fits, Dated, Waits, Orderly, Sound}
+use Rattle.rules.specs.Calls.{causes, verdicts, verdict, eligibility-now, done, refused-number, refused-short, settle, answer}
+use Rattle.rules.proofs.Doings.{refused}
+use Rattle.rules.specs.Promises.{First-excess, Names-the-lowest, Answer-fits}
+use Rattle.rules.proofs.Doings.{Packet-fits}
+use Rattle.rules.proofs.Doings.{number-limit}
 use Rattle.rules.proofs.Lists.{All, all-map, all-zip}
 use Rattle.rules.proofs.Rows.{none-some, some-inj, first-all}
 use Rattle.rules.proofs.Notices.{first-notice-is}
@@ -24,7 +28,7 @@ use Rattle.rules.proofs.Stamps.{in-time-of}
 use Rattle.rules.proofs.Line.{tick-leaves}
 use Rattle.rules.proofs.Invariant.{clock-le-end}
 use Rattle.rules.proofs.Figures.{link-facts}
-use Rattle.rules.proofs.Shortage.{names, excess-le, term-le}
+use Rattle.rules.proofs.Shortage.{own-term, names, excess-le, term-le}
 use Rattle.rules.proofs.SoundExact.{exact}
 use Rattle.rules.proofs.Sums.{cond-ind}
 use borrow.Author.Tests.{eqb-true, eqb-false}
@@ -88,21 +92,17 @@ held-fit : (s : State) (S : Sound s) (T : Orderly s) → All Packet-fits (s .hel
 held-fit s S T = all-zip (λ p f e. e f) (s .held) (T .fit) (all-zip one (s .held) (T .dated) (eligibilities-fit-32 s S .0))
   where
     one : (p : Packet) → Dated (s .clock) p → p .eligibility < beyond-32-bits → Fits (s .connections) p → Packet-fits p
-    one p d e f = record {
-      connection = omega (arith, owned-below (s .connections) (p .connection) (f .owner), T .numbers);
-      arrival = omega (arith, d .arrived, T .clock-le);
-      eligibility = e;
-    }
+    one p d e f = (omega (arith, owned-below (s .connections) (p .connection) (f .owner), T .numbers), omega (arith, d .arrived, T .clock-le), e)
 
 notice-fits : (s : State) (T : Orderly s) (n : Notice) → first-notice (s .notices) ≡ some n → Packet-fits (notice-packet n)
 notice-fits s T n e =
     let k = first-notice-is (s .notices) n e in
-    let f = subst (All (Notice-fits (s .link) (s .clock))) (k .1) (T .notices-fit) .0 in
-    record { connection = omega arith; arrival = omega (arith, f .arrived, T .clock-le); eligibility = omega (arith, f .arrived, T .clock-le) }
+    let f = subst (All (Waits (s .link .largest) (s .clock))) (k .1) (T .line .notices-fit) .0 in
+    (omega arith, omega (arith, f .arrived, T .clock-le), omega (arith, f .arrived, T .clock-le))
 
 -- the numbers of an answer to k
 abbrev Fits-for : Call → Answer → Type 0
-Fits-for k a = Answer-fits (refused-number k) (a .verdict) (a .number) (a .short) (a .departed) (a .next .clock)
+Fits-for k a = Answer-fits (refused-number k) a (a .next .clock)
 
 ticked-fits : (s : State) → Sound s → Orderly s → s .clock < clock-end → Fits-for tick (done tick s)
 ticked-fits s S T r = record {
@@ -112,14 +112,14 @@ ticked-fits s S T r = record {
   units = omega (arith, ap (λ (t : Short). t .units) (says .nothing-short));
   departed = λ p e.
       ⊎-elim
-      (λ f. first-all (started s .serving) Packet-fits (s .held) p f (held-fit s S T))
+      (λ f. first-all (started-state s .serving) Packet-fits (s .held) p f (held-fit s S T))
       (λ n. subst Packet-fits (n .2) (notice-fits s T (n .0) (n .1)))
       (says .sends-off p e);
   finish = omega (arith, tick-leaves s .clock);
 }
   where
-    says : Unit-says (started s) (ticked s)
-    says = unit-says (started s) (started s .to-go)
+    says : Unit-says (started-state s) (ticked s)
+    says = unit-says (started-state s) (started-state s .to-go)
 
 done-fits : (k : Call) (s : State) → Sound s → verdict k s ≡ 0 → Fits-for k (done k s)
 done-fits (link l) s S e = record { verdict = omega arith; number = omega arith; level = omega arith; units = omega arith; departed = λ p i. absurd (none-some i); finish = omega (arith, clock-le-end s S) }

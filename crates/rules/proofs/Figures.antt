@@ -10,11 +10,11 @@ use lib.Dec.{leb, eqb}
 use lib.ListN.{getD}
 use borrow.Author.Tests.{leb-true, eqb-true, eq-eqb, ne-eqb, not-true}
 use Rattle.rules.specs.Words.{within}
-use Rattle.rules.specs.Limits.{max-levels, max-largest, max-silence, max-bound, max-level-window, max-gap, max-window, max-burst, max-allowance}
+use Rattle.rules.specs.Limits.{max-levels, max-largest, max-silence, max-bound, max-level-window, max-gap, max-window, max-allowance, max-remembered}
 use Rattle.rules.specs.Model.{Link, Connection}
 use Rattle.rules.specs.Admission.{rising, windowed, windows-from, windows-within, link-within, level-within, burst, average-within, stamped, kind-within, figures-within, bound, own-window, window, largest-of, largest-bound, charge-time, count, reservation, cost, load, load-by, conditions, span, limit-at, level-sum, stand-by-on, goes-early, distance, ahead}
 use Rattle.rules.specs.WithoutWindows.{bounds-sum}
-use Rattle.rules.specs.SoundState.{reach}
+use Rattle.rules.specs.SoundTest.{reach}
 use Rattle.rules.proofs.Sums.{cond-is, cond-ind}
 use Rattle.rules.proofs.Tests.{never, and-true, or-cases, within-true}
 
@@ -190,7 +190,7 @@ pub record Connection-facts (l : Link) (c : Connection) : Type 0 where
   pub some-gap : 1 ≤ c .gap
   pub gap-le : c .gap ≤ max-gap
   pub size-le : c .size ≤ l .largest
-  pub burst-le : burst c ≤ max-burst
+  pub burst-le : burst c ≤ max-remembered
   pub window-le : c .window ≤ max-window
   pub gap-le-reach : c .gap ≤ reach c
   pub allowance-le : c .allowance ≤ max-allowance
@@ -198,7 +198,7 @@ pub record Connection-facts (l : Link) (c : Connection) : Type 0 where
 
 -- no average, or one within its limits
 record Average-facts (c : Connection) : Type 0 where
-  burst-le : burst c ≤ max-burst
+  burst-le : burst c ≤ max-remembered
   window-le : c .window ≤ max-window
   gap-le-reach : c .gap ≤ reach c
 
@@ -209,7 +209,7 @@ without-average c i j = record { burst-le = omega (arith, none); window-le = ome
     none = burst-none c i
 
 -- a window is at least as long as the average gap that divides it, once it is not 0
-some-average : (c : Connection) → c .window ≤ max-window → c .gap ≤ c .average → 1 ≤ burst c → burst c ≤ max-burst → Average-facts c
+some-average : (c : Connection) → c .window ≤ max-window → c .gap ≤ c .average → 1 ≤ burst c → burst c ≤ max-remembered → Average-facts c
 some-average c w g low high = record {
   burst-le = high;
   window-le = w;
@@ -223,8 +223,8 @@ average-facts c e =
     (λ _ z.
     let a = and-true (leb (c .window) max-window) _ z in
     let b = and-true (leb (c .gap) (c .average)) _ (a .1) in
-    let d = and-true (eqb (c .window % c .average) 0) (within 1 max-burst (burst c)) (b .1) in
-    let n = within-true 1 max-burst (burst c) (d .1) in
+    let d = and-true (eqb (c .window % c .average) 0) (within 1 max-remembered (burst c)) (b .1) in
+    let n = within-true 1 max-remembered (burst c) (d .1) in
     some-average c (leb-true _ _ (a .0)) (leb-true _ _ (b .0)) (n .0) (n .1))
 
 -- n packets a gap apart fit a window
@@ -286,7 +286,7 @@ figures-facts l c f =
     let g = within-true 1 max-gap (c .gap) (a .0) in
     record { some-gap = g .0; gap-le = g .1; size-le = within-true 1 (l .largest) (c .size) (b .0) .1; average = kind-facts c (b .1) .average; kind = b .1 }
 
-pub few-at-once : (l : Link) (c : Connection) → figures-within l c ≡ true → burst c ≤ max-burst
+pub few-at-once : (l : Link) (c : Connection) → figures-within l c ≡ true → burst c ≤ max-remembered
 few-at-once l c f = average-facts c (figures-facts l c f .average) .burst-le
 
 pub connection-facts : (l : Link) (c : Connection) → level-within l c ≡ true → figures-within l c ≡ true → Connection-facts l c

@@ -1,6 +1,6 @@
 -- The finer test: which of its conditions never decide, that the quick test is exact, and that with windows equal to the bounds, and without windows, it is document 01's
 -- test. Of the count only `count-rises` is used.
-use Prim.Native.Nat.{ℕ, zero, suc, _+_, _-_, _≤_, _<_, min}
+use Prim.Native.Nat.{ℕ, zero, suc, _+_, _*_, _-_, _≤_, _<_, min}
 use native.Mathlib.Omega.{arith}
 use native.Mathlib.Nat.{mul-le-mul-right}
 use mathlib.Core.Path.{_≡_, refl, sym, ap, _∙_}
@@ -13,10 +13,10 @@ use borrow.Author.Tests.{leb-true, leb-false, le-leb, lt-leb, eq-eqb, ne-eqb}
 use Rattle.rules.specs.Words.{within, upto}
 use Rattle.rules.specs.Limits.{max-levels, max-largest, max-silence}
 use Rattle.rules.specs.Model.{Link, Connection, no-windows, nth}
-use Rattle.rules.specs.Admission.{rising, windowed, windows-from, windows-within, link-within, bound, window, largest-bound, charge-time, cost, load-by, conditions, span, limit-at, level-sum, Level-holds, excess-from, excess, short-from, level-test}
+use Rattle.rules.specs.Admission.{rising, windowed, windows-from, windows-within, link-within, bound, window, largest-bound, charge-time, cost, count, load-by, conditions, span, limit-at, level-sum, Level-holds, excess-from, excess, short-from, level-test}
 use Rattle.rules.specs.QuickTest.{descend, quick-holds, quick-excess, quick-from, quick-test}
 use Rattle.rules.specs.WithoutWindows.{bounds-link-within, bounds-sum, bounds-from, bounds-test}
-use Rattle.rules.specs.Promises.{b-of, b-at, b-before, Accepts-at}
+use Rattle.rules.specs.Promises.{b-over, unwindowed, Accepts-at}
 use Rattle.rules.specs.Before.{As-without-windows}
 use Rattle.rules.proofs.Sums.{split, same, cond-is, cond-ind, sum-le, sum-eq, sum-add, upto-yes, upto-no, upto-mono}
 use Rattle.rules.proofs.Tests.{and-true, and-intro}
@@ -29,6 +29,10 @@ pub load-mono : (l : Link) (cs : List Connection) (m : ℕ) {w w′ : ℕ → �
 load-mono l cs m {w} {w′} h =
     sum-le (length cs)
     (λ c i. upto-mono (nth cs c .level) m (λ _. mul-le-mul-right (cost l (nth cs c .size)) (count-rises (nth cs c) (h (nth cs c .level)))))
+
+-- b of a connection within w ticks
+abbrev b-of : Link → Connection → ℕ → ℕ
+b-of l x w = count x w * cost l (x .size)
 
 module _ (l : Link) (cs : List Connection) (m : ℕ) where
   abbrev Holds : ℕ → Type 0
@@ -250,7 +254,8 @@ module _ (l : Link) (cs : List Connection) (m : ℕ) where
           let e = ne-eqb v m i in
           omega (arith, upto-no v m (f (cond (eqb v m) a b)) j, cond-is (f a) 0 e, upto-no (suc v) m (f b) (omega arith))
 
-  beta-sum : (β : ℕ) → level-sum l cs m (suc β) ≡ cost l (l .largest) + b-at l cs m (suc β) + b-before l cs m (min (bound l m + β) (window l m))
+  beta-sum : (β : ℕ) → level-sum l cs m (suc β) ≡ cost l (l .largest) + b-over l cs (λ v. eqb v m) (suc β) + b-over l cs (λ v. ltb v m) (min (bound l m + β) (window l m))
+  unfolding upto
   beta-sum β =
       omega (
         arith,
@@ -265,6 +270,7 @@ module _ (l : Link) (cs : List Connection) (m : ℕ) where
       )
 
   pub finer-says : windowed l ≡ true → Level-holds l cs m ↔ Accepts-at l cs m
+  unfolding upto
   finer-says e = (to, from)
     where
       to : Level-holds l cs m → Accepts-at l cs m
@@ -309,6 +315,12 @@ module _ (l : Link) (cs : List Connection) where
   unfolding level-test bounds-test
   bounds-where-equal h = bounds-shorts 1 (l .levels) (λ j low high. h j low (omega arith))
 
+  -- it does not look at the windows
+  bounds-alike : (m k : ℕ) → bounds-from l cs (suc m) k ≡ bounds-from (unwindowed l) cs (suc m) k
+  unfolding bounds-sum cost
+  bounds-alike m zero = refl
+  bounds-alike m (suc k) = rw (bounds-alike (suc m) k) refl
+
 -- ---- on a link without windows
 
 module _ (l : Link) (e : windowed l ≡ false) where
@@ -339,3 +351,8 @@ no-windows-asked l e =
     let none : windowed l ≡ false = ap (λ (ws : List ℕ). ltb 0 (getD ws 0 0)) e in
     let asks : windows-within l ≡ true = ap (λ (ws : List ℕ). windows-from (cond (ltb 0 (getD ws 0 0)) (l .levels) 0) (l .bounds) ws) e in
     (none, rw asks (ap (λ (b : Bool). within 1 max-levels (l .levels) && (within 1 max-largest (l .largest) && (leb (l .silence) max-silence && (leb (l .early) 1 && b)))) (both-true (rising (cost l (l .largest)) (l .levels) (l .bounds)))))
+
+-- where every window is its level's bound the test is that of the link without windows
+pub bounds-as-unwindowed : (l : Link) (cs : List Connection) → ((m : ℕ) → 1 ≤ m → m ≤ l .levels → window l m ≡ bound l m) → level-test l cs ≡ level-test (unwindowed l) cs
+unfolding bounds-test
+bounds-as-unwindowed l cs h = bounds-where-equal l cs h ∙ bounds-alike l cs 0 (l .levels) ∙ sym (as-without (unwindowed l) (no-windows-asked (unwindowed l) refl .0) .test-is cs)

@@ -10,7 +10,8 @@ use lib.ListN.{length, length-replicate}
 use Rattle.rules.specs.Limits.{max-connections, clock-end}
 use Rattle.rules.specs.Model.{Link, Connection, no-connection, Packet, State, fresh}
 use Rattle.rules.specs.Admission.{windowed, bound, window, cost, load-by, Level-holds}
-use Rattle.rules.specs.Service.{of, line-left}
+use Rattle.rules.specs.Service.{of}
+use Rattle.rules.proofs.HubTick.{line-left}
 use Rattle.rules.specs.SoundState.{Fits, Sound-with-link, Sound}
 use Rattle.rules.specs.Runs.{Departure, History, in-hub, bound-of}
 use Rattle.rules.proofs.Lists.{All}

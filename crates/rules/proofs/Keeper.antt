@@ -16,8 +16,11 @@ use Rattle.rules.specs.Model.{Connection, no-connection, Past, Packet, S
 use Rattle.rules.specs.Admission.{owned, stands, stamped, reservation}
 use Rattle.rules.specs.Service.{next-eligibility, Spaced, of, eligibilities, ticked}
 use Rattle.rules.specs.SoundState.{Sound}
-use Rattle.rules.specs.Calls.{heard, verdict, eligibility-now, packet, marked, done, refused, settle, answer}
-use Rattle.rules.specs.Runs.{History, while-owned, taken, after, run-from, nothing-yet, run, allowed, offer-tick, offer-ticks-from, offer-ticks, Keeps-its-word}
+use Rattle.rules.specs.Calls.{heard, verdict, eligibility-now, packet, done, settle, answer}
+use Rattle.rules.proofs.Doings.{marked, refused}
+use Rattle.rules.specs.Runs.{History, after, run-from, nothing-yet, run, allowed}
+use Rattle.rules.proofs.RunWords.{taken}
+use Rattle.rules.proofs.RunWords.{while-owned, offer-tick, offer-ticks-from, offer-ticks, Word}
 use Rattle.rules.proofs.Lists.{All, all-map, all-init}
 use Rattle.rules.proofs.Sums.{split, same, cond-is}
 use Rattle.rules.proofs.Tests.{never, and-true, and-intro, within-intro}
@@ -83,7 +86,7 @@ free-figures s S c o =
     (λ z. subst (λ (r : State). figures r c ≡ no-connection) (sym (S .with-no-link z)) (fresh-figures c))
     (λ n.
     let O = S .with-one n .orderly in
-    ⊎-elim (λ l. List·getD-eq-default (s .connections) no-connection {n = c} (omega (arith, O .numbers))) (λ l. O .free-blank c l o .no-figures) (split max-connections c))
+    ⊎-elim (λ l. List·getD-eq-default (s .connections) no-connection {n = c} (omega (arith, O .numbers))) (λ l. O .free-blank c l o .0) (split max-connections c))
     (same (s .link .levels) 0)
 
 free-kind : stamped no-connection ≡ false
@@ -270,10 +273,10 @@ module _ (c : ℕ) (level : c ≡ notice-number → ⊥) where
 
   -- the word so far: for the calls before the last one, and for an offer that the last one is
   pub record Word-before (ks : List Call) (k : Call) : Type 0 where
-    pub so-far : Keeps-its-word c ks
+    pub so-far : Word c ks
     pub this-one : (t : ℕ) → offer-tick c (run ks .now) k ≡ some t → Spaced (figures (run ks .now) c) (offer-ticks c ks ++ t ∷ [])
 
-  pub word-before : (ks : List Call) (k : Call) → owned (after (run ks) k .now .connections) c ≡ true → Keeps-its-word c (ks ++ k ∷ []) → Word-before ks k
+  pub word-before : (ks : List Call) (k : Call) → owned (after (run ks) k .now .connections) c ≡ true → Word c (ks ++ k ∷ []) → Word-before ks k
   word-before ks k o word = record { so-far = back (owned (run ks .now .connections) c) refl; this-one = λ t e. this t e (stands-owned (run ks .now) c (offer-stands c (run ks .now) k t e)) }
     where
       now : Spaced (figures (after (run ks) k .now) c) (push (offer-ticks c ks) (offer-tick c (run ks .now) k))
@@ -289,18 +292,18 @@ module _ (c : ℕ) (level : c ≡ notice-number → ⊥) where
       alike : owned (run ks .now .connections) c ≡ true → figures (after (run ks) k .now) c ≡ figures (run ks .now) c
       alike b = owner-stays c (run ks .now) (invariant ks .sound) b k o
 
-      back : (b : Bool) → owned (run ks .now .connections) c ≡ b → Keeps-its-word c ks
+      back : (b : Bool) → owned (run ks .now .connections) c ≡ b → Word c ks
       back true b = subst (λ (x : Connection). Spaced x (offer-ticks c ks)) (alike b) (front (offer-tick c (run ks .now) k) now)
       back false b = subst (Spaced (figures (run ks .now) c)) (sym (no-ticks c ks b)) (spaced-nil (figures (run ks .now) c))
 
       this : (t : ℕ) → offer-tick c (run ks .now) k ≡ some t → owned (run ks .now .connections) c ≡ true → Spaced (figures (run ks .now) c) (offer-ticks c ks ++ t ∷ [])
       this t e b = subst (λ (x : Connection). Spaced x (offer-ticks c ks ++ t ∷ [])) (alike b) (subst (λ (u : Option ℕ). Spaced (figures (after (run ks) k .now) c) (push (offer-ticks c ks) u)) e now)
 
-  pub all-taken : (ks : List Call) → stamped (figures (run ks .now) c) ≡ false → Keeps-its-word c ks → All-taken (run ks .now) (run ks .present) (offer-ticks c ks)
-  all-taken = from-end (λ ks. stamped (figures (run ks .now) c) ≡ false → Keeps-its-word c ks → All-taken (run ks .now) (run ks .present) (offer-ticks c ks)) (λ _ _. inl refl) one
+  pub all-taken : (ks : List Call) → stamped (figures (run ks .now) c) ≡ false → Word c ks → All-taken (run ks .now) (run ks .present) (offer-ticks c ks)
+  all-taken = from-end (λ ks. stamped (figures (run ks .now) c) ≡ false → Word c ks → All-taken (run ks .now) (run ks .present) (offer-ticks c ks)) (λ _ _. inl refl) one
     where
-      one : (ks : List Call) (k : Call) → (stamped (figures (run ks .now) c) ≡ false → Keeps-its-word c ks → All-taken (run ks .now) (run ks .present) (offer-ticks c ks))
-          → stamped (figures (run (ks ++ k ∷ []) .now) c) ≡ false → Keeps-its-word c (ks ++ k ∷ []) → All-taken (run (ks ++ k ∷ []) .now) (run (ks ++ k ∷ []) .present) (offer-ticks c (ks ++ k ∷ []))
+      one : (ks : List Call) (k : Call) → (stamped (figures (run ks .now) c) ≡ false → Word c ks → All-taken (run ks .now) (run ks .present) (offer-ticks c ks))
+          → stamped (figures (run (ks ++ k ∷ []) .now) c) ≡ false → Word c (ks ++ k ∷ []) → All-taken (run (ks ++ k ∷ []) .now) (run (ks ++ k ∷ []) .present) (offer-ticks c (ks ++ k ∷ []))
       one ks k ih kind word =
           subst (λ (h : History). All-taken (h .now) (h .present) (offer-ticks c (ks ++ k ∷ []))) (sym (run-last ks k))
           (subst (All-taken (after (run ks) k .now) (after (run ks) k .present)) (sym (ticks-last c ks k)) (go (owned (after (run ks) k .now .connections) c) refl))

@@ -11,7 +11,7 @@ use Rattle.rules.specs.Model.{Link, Connection, no-past, Packet, State, 
 use Rattle.rules.specs.Admission.{owned, free-number, joining, bound, cost}
 use Rattle.rules.specs.Service.{Spaced, of, eligibilities}
 use Rattle.rules.specs.SoundState.{Fits, Sound}
-use Rattle.rules.specs.Calls.{linked, joined, marked}
+use Rattle.rules.proofs.Doings.{linked, joined, marked}
 use Rattle.rules.specs.Runs.{History, bound-of}
 use Rattle.rules.proofs.Lists.{All, all-map, all-zip, total, total-eq}
 use Rattle.rules.proofs.Keys.{Ahead, keyed}

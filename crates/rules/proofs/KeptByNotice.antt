@@ -6,7 +6,7 @@ use mathlib.Core.Logic.{inl, inr}
 use mathlib.Core.List.{List, [], _∷_, _++_, map, append-assoc}
 use Rattle.rules.specs.Model.{Packet, Notice, State, notice-packet, first-notice}
 use Rattle.rules.specs.Service.{of}
-use Rattle.rules.specs.Calls.{noted}
+use Rattle.rules.proofs.Doings.{noted}
 use Rattle.rules.specs.Runs.{History, in-hub}
 use Rattle.rules.proofs.Rows.{of-append, map-append}
 use Rattle.rules.proofs.Notices.{first-notice-is}

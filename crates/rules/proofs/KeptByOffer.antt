@@ -13,9 +13,12 @@ use Rattle.rules.specs.Words.{upto}
 use Rattle.rules.specs.Limits.{notice-number, max-remembered}
 use Rattle.rules.specs.Model.{Past, no-past, Packet, State, past, figures, notice-packet, with-connections, with-held}
 use Rattle.rules.specs.Admission.{owned, burst, cost, ahead}
-use Rattle.rules.specs.Service.{earliest, remember, Spaced, of, eligibilities, first, level-of}
-use Rattle.rules.specs.SoundState.{Fits, In-service}
-use Rattle.rules.specs.Calls.{eligibility-now, packet, placed}
+use Rattle.rules.specs.Service.{earliest, remember, Spaced, of, eligibilities, first}
+use Rattle.rules.proofs.Doings.{level-of}
+use Rattle.rules.specs.SoundState.{Fits}
+use Rattle.rules.proofs.LineWords.{In-service}
+use Rattle.rules.specs.Calls.{eligibility-now, packet}
+use Rattle.rules.proofs.Doings.{placed}
 use Rattle.rules.specs.Runs.{History, in-hub, bound-of}
 use Rattle.rules.proofs.Lists.{all-snoc, sub-snoc, total-snoc}
 use Rattle.rules.proofs.Sums.{same, cond-is, upto-yes}

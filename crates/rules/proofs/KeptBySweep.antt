@@ -11,7 +11,8 @@ use Rattle.rules.specs.Words.{upto, filter}
 use Rattle.rules.specs.Limits.{max-connections}
 use Rattle.rules.specs.Model.{Connection, Past, Packet, State, nth, figures}
 use Rattle.rules.specs.Admission.{owned, bound, window, charge-time, cost}
-use Rattle.rules.specs.Service.{remember, remember-all, Spaced, of, eligibilities, level-of, charge-over, expired, swept}
+use Rattle.rules.specs.Service.{remember, remember-all, Spaced, of, eligibilities, charge-over, expired, swept}
+use Rattle.rules.proofs.Doings.{level-of}
 use Rattle.rules.specs.SoundState.{Fits, Orderly}
 use Rattle.rules.specs.Runs.{Departure, bound-of}
 use Rattle.rules.proofs.Lists.{All, Pairs, all-map, all-zip, all-filter, sub-filter, total-eq, total-filter}

@@ -10,10 +10,12 @@ use Rattle.rules.specs.Words.{push}
 use Rattle.rules.specs.Limits.{notice-number}
 use Rattle.rules.specs.Model.{Packet, Notice, State, Answer, notice-packet}
 use Rattle.rules.specs.Admission.{cost}
-use Rattle.rules.specs.Service.{of, first, without, early-at, on-line, Sent, later, ticked, line-left}
-use Rattle.rules.specs.SoundState.{Notice-fits, Orderly}
+use Rattle.rules.specs.Service.{of, first, without, early-at, on-line, Sent, ticked}
+use Rattle.rules.proofs.HubTick.{later, line-left}
+use Rattle.rules.specs.SoundState.{Waits, Orderly}
 use Rattle.rules.specs.SoundLine.{Notice-on}
-use Rattle.rules.specs.Runs.{Departure, History, leaving, in-hub, bound-of}
+use Rattle.rules.specs.Runs.{Departure, History, in-hub, bound-of}
+use Rattle.rules.proofs.RunWords.{leaving}
 use Rattle.rules.proofs.Lists.{All, all-map, all-sub, Sub, sub-refl, total-sub}
 use Rattle.rules.proofs.Rows.{first-all, first-append, sub-without, moved, map-append}
 use Rattle.rules.proofs.Notices.{first-notice-is, first-none, without-append, first-behind, without-behind}
@@ -124,7 +126,7 @@ module _ (h : History) (I : Invariant h) (S : Orderly (h .now)) where
     in-service = record { it = r .it; is-first = r .is-first; is-notice = r .is-notice; some-to-go = omega arith; to-go-le = omega (arith, r .to-go-le) };
     short =
         let n = first-notice-is (s .notices) (r .it) (r .is-first) in
-        subst (All (Notice-fits (s .link) (s .clock))) (n .1) (S .notices-fit) .0 .len-le;
+        subst (All (Waits (s .link .largest) (s .clock))) (n .1) (S .line .notices-fit) .0 .len-le;
     alone = ap (λ (c : ℕ). first c (s .held)) (r .is-notice) ∙ first-none notice-number (s .held) no-notices;
   }
 
@@ -139,7 +141,7 @@ module _ (h : History) (I : Invariant h) (S : Orderly (h .now)) where
   tick-keeps =
       tick-cases s S If-busy
       (λ below busy.
-      next (s .held) (s .notices) 0 0 (s .silent - 1) gone (sub-refl (s .held)) (I .steady .regular .part) (inl (refl, omega (arith, S .silent-le))) below busy (I .steady .conserved))
+      next (s .held) (s .notices) 0 0 (s .silent - 1) gone (sub-refl (s .held)) (I .steady .regular .part) (inl (refl, omega (arith, S .line .silent-le))) below busy (I .steady .conserved))
       (λ r below busy.
       let w = ready s S .serving in
       next (without w (s .held)) (s .notices) 0 0 (s .link .silence) (gone ++ left (r .it) ∷ [])

@@ -1,4 +1,7 @@
 pub mod Lists
+pub mod Doings
+pub mod LineWords
+pub mod RunWords
 pub mod Sums
 pub mod Tests
 pub mod Rows
@@ -16,6 +19,7 @@ pub mod Verdicts
 pub mod Figures
 pub mod Shortage
 pub mod Finer
+pub mod HubTick
 pub mod WireLaws
 pub mod WireTest
 pub mod Line

@@ -10,8 +10,9 @@ use borrow.Author.Tests.{eq-eqb, ne-eqb}
 use Rattle.rules.specs.Limits.{notice-number}
 use Rattle.rules.specs.Model.{Link, Packet, Notice, State, Answer, notice-packet, with-line}
 use Rattle.rules.specs.Admission.{cost}
-use Rattle.rules.specs.Service.{first, first-early, early-at, chosen, stand-by, wire, takes, later, line-after-start, started, tick-answer, packet-departs, notice-departs, after-unit, ticked, line-left}
-use Rattle.rules.specs.SoundState.{In-service, Notice-in-service}
+use Rattle.rules.specs.Service.{first, first-early, early-at, chosen, stand-by, wire, takes, ticked}
+use Rattle.rules.proofs.HubTick.{later, line-after-start, started-state, tick-answer, packet-departs, notice-departs, after-unit, line-left}
+use Rattle.rules.proofs.LineWords.{In-service, Notice-in-service}
 use Rattle.rules.specs.SoundLine.{wire-left}
 use Rattle.rules.proofs.Sums.{cond-is}
 use Rattle.rules.proofs.Rows.{none-some, some-inj}
@@ -76,7 +77,7 @@ unit-leaves s (suc (suc u)) = subst (λ (a : Answer). Leaves s (a .next)) (sym (
 
 pub tick-leaves : (s : State) → Leaves s (ticked s .next)
 tick-leaves s =
-    let l = unit-leaves (started s) (started s .to-go) in
+    let l = unit-leaves (started-state s) (started-state s .to-go) in
     record { link = l .link; connections = l .connections; pasts = l .pasts; closed = l .closed; clock = l .clock }
 
 -- ---- what is still on the line

@@ -12,9 +12,12 @@ use lib.Seq.{getD-set-other}
 use Rattle.rules.specs.Limits.{max-connections, notice-number}
 use Rattle.rules.specs.Model.{Link, Connection, Packet, Notice, State, Call, link, admit, offer, notice, close, tick, nth, figures, closed-at, with-line}
 use Rattle.rules.specs.Admission.{owned, bound, goes-early}
-use Rattle.rules.specs.Service.{of, first, early-at, level-of, chosen, stand-by, takes, line-after-start, started, packet-departs, notice-departs, after-unit, ticked}
+use Rattle.rules.specs.Service.{of, first, early-at, chosen, stand-by, takes, ticked}
+use Rattle.rules.proofs.Doings.{level-of}
+use Rattle.rules.proofs.HubTick.{line-after-start, started-state, packet-departs, notice-departs, after-unit}
 use Rattle.rules.specs.SoundState.{Fits, Orderly, Sound}
-use Rattle.rules.specs.Calls.{verdict, packet, marked, done, answer}
+use Rattle.rules.specs.Calls.{verdict, packet, done, answer}
+use Rattle.rules.proofs.Doings.{marked}
 use Rattle.rules.specs.Runs.{History, after, run-from, nothing-yet, run, bound-of}
 use Rattle.rules.proofs.Lists.{All, all-map}
 use Rattle.rules.proofs.Rows.{none-some, some-inj, first-all, first-of, first-append, of-first}
@@ -187,7 +190,7 @@ module _ (h : History) (I : Invariant h) (B : Begun (h .now)) where
   done-begun (close c) e = λ p u i f. begun-after (close c) e s B p (holds-first (s .serving) (s .held) p i) u i f
   done-begun tick e = λ p u i f.
       begun-after tick e (ticked s .next) (ticked-begun s (I .sound .with-one (tick-done s e .set) .orderly) B .0) p
-      (holds-first (ticked s .next .serving) (s .held) p (ap (first (ticked s .next .serving)) (sym (held-yet (started s) (started s .to-go) u)) ∙ i)) u i f
+      (holds-first (ticked s .next .serving) (s .held) p (ap (first (ticked s .next .serving)) (sym (held-yet (started-state s) (started-state s .to-go) u)) ∙ i)) u i f
 
   pub call-begun : (k : Call) → Begun (after h k .now)
   call-begun k = settled (λ a. Begun (a .next)) k s (verdict k s) (done-begun k) (λ _. B)

@@ -7,7 +7,9 @@ use mathlib.Core.List.{List}
 use mathlib.Core.Option.{Option, none, some}
 use Rattle.rules.specs.Limits.{notice-number}
 use Rattle.rules.specs.Model.{Packet, State}
-use Rattle.rules.specs.Service.{level-of, chosen, stand-by, takes, line-after-start, started}
+use Rattle.rules.specs.Service.{chosen, stand-by, takes}
+use Rattle.rules.proofs.Doings.{level-of}
+use Rattle.rules.proofs.HubTick.{line-after-start, started-state}
 use Rattle.rules.specs.SoundState.{Fits, Orderly, Sound}
 use Rattle.rules.proofs.Lists.{All}
 use Rattle.rules.proofs.Sums.{same}
@@ -28,7 +30,7 @@ nothing-chosen s S (some p) k e =
       owned-below (s .connections) (p .connection) (first-all (p .connection) (Fits (s .connections)) (s .held) p (k .2) (S .fit) .owner),
     ))
 
-pub none-eligible : (s : State) → Sound s → s .to-go ≡ 0 → started s .serving ≡ notice-number → All (λ p. s .clock < p .eligibility) (s .held)
+pub none-eligible : (s : State) → Sound s → s .to-go ≡ 0 → started-state s .serving ≡ notice-number → All (λ p. s .clock < p .eligibility) (s .held)
 none-eligible s S idle e =
     ⊎-elim
     (λ z. subst (λ (ps : List Packet). All (λ p. s .clock < p .eligibility) ps) (sym (ap (λ (r : State). r .held) (S .with-no-link z))) tt)
@@ -39,5 +41,5 @@ none-eligible s S idle e =
     -- in a silence nothing is in service
     by-line : Orderly s → (u q : ℕ) → u ≡ 0 → line-after-start s u q .0 ≡ notice-number → All (λ p. s .clock < p .eligibility) (s .held)
     by-line T zero zero z e = nothing-chosen s T (chosen s) (choice-holds s T) e
-    by-line T zero (suc q) z e = absurd (omega (arith, ⊎-elim (λ i. i .1) (λ k. ⊎-elim (λ r. absurd (omega (arith, r .some-to-go))) (λ r. absurd (omega (arith, r .some-to-go))) k) (T .line)))
+    by-line T zero (suc q) z e = absurd (omega (arith, ⊎-elim (λ i. i .1) (λ k. ⊎-elim (λ r. absurd (omega (arith, r .some-to-go))) (λ r. absurd (omega (arith, r .some-to-go))) k) (T .line .line)))
     by-line T (suc u) q z e = absurd (omega arith)

@@ -16,7 +16,10 @@ use Rattle.rules.specs.Admission.{owned, bound, goes-early}
 use Rattle.rules.specs.Service.{of, eligibilities, early-at}
 use Rattle.rules.specs.SoundState.{Sound}
 use Rattle.rules.specs.Calls.{verdict, done, answer}
-use Rattle.rules.specs.Runs.{Departure, History, while-owned, taken, leaving, after, run-from, nothing-yet, run, departure-of, departing, own-departures-from, own-departures, bound-of}
+use Rattle.rules.specs.Runs.{Departure, History, after, run-from, nothing-yet, run, departure-of, own-departures, bound-of}
+use Rattle.rules.proofs.RunWords.{departing}
+use Rattle.rules.proofs.RunWords.{taken, leaving}
+use Rattle.rules.proofs.RunWords.{while-owned, own-departures-from}
 use Rattle.rules.proofs.Lists.{all-map, all-snoc, all-sub, all-front, pairs-front}
 use Rattle.rules.proofs.Sums.{cond-is}
 use Rattle.rules.proofs.Rows.{of-append, to-of, map-append, all-of-map}

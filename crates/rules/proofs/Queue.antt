@@ -13,7 +13,8 @@ use Rattle.rules.specs.Limits.{max-remembered}
 use Rattle.rules.specs.Model.{Link, Connection, Past, no-past}
 use Rattle.rules.specs.Admission.{burst, stamped}
 use Rattle.rules.specs.Service.{nth-before, ticks-after, earliest, next-eligibility, remember, remember-all, Spaced-behind, Spaced}
-use Rattle.rules.specs.SoundState.{in-order, departed-of, reach, Near-by, is-known, lies-beyond, settled-by, settles, Near, Beyond, margin, Queue}
+use Rattle.rules.specs.SoundState.{in-order, departed-of, Near-by, is-known, lies-beyond, settled-by, settles, Near, Beyond, margin, Queue}
+use Rattle.rules.specs.SoundTest.{reach}
 use Rattle.rules.specs.SoundTest.{far-as, latest-by-gap, latest, latest-early, last-tick}
 use Rattle.rules.proofs.Lists.{All, Pairs, all-map, all-every}
 use Rattle.rules.proofs.Sums.{split, cond-is}

@@ -12,11 +12,17 @@ use Rattle.rules.specs.Words.{tabulate, first-number, push}
 use Rattle.rules.specs.Limits.{max-connections}
 use Rattle.rules.specs.Model.{Connection, Past, State, Call, link, admit, offer, notice, close, tick, Answer, no-connection, no-past, fresh, with-connections, with-closed}
 use Rattle.rules.specs.Admission.{charge-time}
-use Rattle.rules.specs.Service.{ticked, charge-over, expired, swept-connections, swept-pasts, swept-marks, swept}
+use Rattle.rules.specs.Service.{ticked, charge-over, expired, swept, cleared}
+use Rattle.rules.proofs.Doings.{swept-pasts, swept-marks}
 use Rattle.rules.specs.SoundState.{Sound}
 use Rattle.rules.specs.SoundTest.{sound}
-use Rattle.rules.specs.Calls.{causes, heard, verdicts, verdict, marked, accepted, done, refused-number, refused, settle, answer}
-use Rattle.rules.specs.Runs.{Departure, History, while-owned, leaving, departure-of, departing, own-departures-from, own-departures, logged, after, run-from, nothing-yet, run, Exchange, exchange, exchanges-from, exchanges}
+use Rattle.rules.specs.Calls.{causes, heard, verdicts, verdict, done, refused-number, settle, answer}
+use Rattle.rules.proofs.Doings.{accepted}
+use Rattle.rules.proofs.Doings.{marked, refused}
+use Rattle.rules.specs.Runs.{Departure, History, departure-of, own-departures, logged, after, run-from, nothing-yet, run, Exchange, exchange, exchanges}
+use Rattle.rules.proofs.RunWords.{departing}
+use Rattle.rules.proofs.RunWords.{leaving}
+use Rattle.rules.proofs.RunWords.{while-owned, own-departures-from, exchanges-from}
 use Rattle.rules.specs.Examples.{Seen, Case, sums-at, reservations-at, seen}
 use Rattle.rules.specs.WorkedLimits.{Outcome, Trial, outcome}
 use Rattle.rules.proofs.Lists.{All}
@@ -58,7 +64,7 @@ quick-swept s =
     (sweep false time (s .clock) (s .closed) (s .pasts) (s .closed))
 
 swept-is : (s : State) → Numbered s → swept s ≡ quick-swept s
-unfolding expired swept-connections swept-pasts swept-marks
+unfolding expired cleared
 swept-is s N =
     ap (λ (cs : List Connection). with-closed (with-connections s cs (swept-pasts s)) (swept-marks s))
     (sweep-is no-connection (charge-time (s .link)) (s .clock) max-connections (s .connections) (s .pasts) (s .closed) (N .connections) (N .pasts) (N .closed))

@@ -1,5 +1,5 @@
 -- A quiet tick: nothing starts, nothing departs and no number is freed.
-use Prim.Native.Nat.{ℕ, zero, suc, _<_}
+use Prim.Native.Nat.{ℕ, zero, suc, _+_, _-_, _<_}
 use native.Mathlib.Omega.{arith}
 use mathlib.Core.Path.{_≡_, refl, sym, ap, _∙_}
 use mathlib.Core.Bool.{Bool, true, false, cond, not}
@@ -9,17 +9,31 @@ use lib.ListN.{length, getD}
 use borrow.Author.Tests.{ne-eqb, lt-leb}
 use Rattle.rules.specs.Words.{tabulate}
 use Rattle.rules.specs.Limits.{max-connections, clock-end}
-use Rattle.rules.specs.Model.{Connection, Past, State, tick, no-connection, no-past, past, figures, closed-at, with-connections, with-closed}
-use Rattle.rules.specs.Service.{chosen, early-at, stand-by, wire, tick-answer, moves-on, ticked, expired, swept-connections, swept-pasts, swept-marks, swept, sweeping}
+use Rattle.rules.specs.Model.{Connection, Past, State, tick, no-connection, no-past, past, figures, closed-at, with-connections, with-closed, with-clock, with-line}
+use Rattle.rules.specs.Admission.{charge-time}
+use Rattle.rules.specs.Service.{chosen, early-at, stand-by, Quiet-wire, wire, charge-over, moves-on, ticked, expired, swept, cleared}
+use Rattle.rules.proofs.Doings.{sweeping}
+use Rattle.rules.proofs.HubTick.{tick-answer}
 use Rattle.rules.specs.SoundState.{Orderly, Sound}
 use Rattle.rules.specs.Calls.{verdicts, verdict, settle, answer}
-use Rattle.rules.specs.Promises.{Quiet-line, Nobody-freed, passed-by}
 use Rattle.rules.proofs.Sums.{cond-is}
 use Rattle.rules.proofs.Rows.{nil-of}
 use Rattle.rules.proofs.WireLaws.{quiet-tick}
 use Rattle.rules.proofs.Standing.{open-unexpired, charged-unexpired}
 use Rattle.rules.proofs.SoundTick.{own-line, picks}
 use Rattle.rules.proofs.SoundExact.{exact}
+
+-- the line is quiet: `Quiet-wire` (Service) with the packet that stands by
+abbrev pub Quiet-line : State → Type 0
+Quiet-line s = Quiet-wire (s .clock) (stand-by s) (wire s)
+
+-- no charge ends with the tick
+abbrev pub Nobody-freed : State → Type 0
+Nobody-freed s = (c : ℕ) → c < max-connections → closed-at s c ≡ true → charge-over (charge-time (s .link)) (s .clock + 1) (past s c) ≡ false
+
+-- the state one tick later
+abbrev pub passed-by : State → State
+passed-by s = with-line (with-clock s (s .clock + 1)) (s .serving) (s .to-go - 1) (s .silent - 1)
 
 -- ---- where no number expires none is freed
 
@@ -37,7 +51,7 @@ same-state s cs hs ms e f g = rw (e, f, g) refl
 
 pub nothing-swept : (s : State) → length (s .connections) ≡ max-connections → length (s .pasts) ≡ max-connections → length (s .closed) ≡ max-connections
     → ((c : ℕ) → c < max-connections → expired s c ≡ false) → swept s ≡ s
-unfolding swept-connections swept-pasts swept-marks
+unfolding cleared
 nothing-swept s a b d h =
     same-state s _ _ _
     (tabulate-same max-connections (λ c. cond (expired s c) no-connection (figures s c)) (s .connections) no-connection a (λ c l. cond-is no-connection (figures s c) (h c l)))

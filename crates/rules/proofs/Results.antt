@@ -6,21 +6,22 @@ use mathlib.Core.Bool.{Bool, true, false, cond, not}
 use mathlib.Core.Logic.{_⊎_, inl, inr, ⊎-elim, _↔_}
 use mathlib.Core.List.{List, [], _∷_, _++_, map}
 use mathlib.Core.Option.{Option, none, some}
-use lib.Dec.{leb, ltb, eqb}
+use lib.Dec.{leb, eqb}
 use lib.ListN.{length, getElem?, length-append}
 use borrow.Author.Tests.{not-true, eq-eqb, ne-eqb, eqb-false, leb-false}
-use Rattle.rules.specs.Words.{within, first-number}
-use Rattle.rules.specs.Limits.{max-connections, max-reserved, clock-end, max-notices, notice-number}
-use Rattle.rules.specs.Model.{Connection, Packet, State, Call, link, admit, offer, notice, close, tick, Short, no-short, figures}
-use Rattle.rules.specs.Admission.{level-within, figures-within, free-number, owned, joining, stands, stamped, reservation, reserved, level-test}
-use Rattle.rules.specs.WithoutWindows.{bounds-verdicts}
-use Rattle.rules.specs.Service.{suits, Spaced, of, early-at, started}
+use Rattle.rules.specs.Words.{within}
+use Rattle.rules.specs.Limits.{clock-end, max-notices, notice-number}
+use Rattle.rules.specs.Model.{Link, Connection, Packet, State, Call, link, admit, offer, notice, close, tick, no-short, figures}
+use Rattle.rules.specs.Admission.{owned, joining, stands, stamped, reservation, level-test}
+use Rattle.rules.specs.Service.{suits, Spaced, of, early-at}
+use Rattle.rules.proofs.HubTick.{started-state}
 use Rattle.rules.specs.SoundState.{Sound}
 use Rattle.rules.specs.SoundTest.{sound}
 use Rattle.rules.specs.Calls.{causes, heard, verdicts, verdict, eligibility-now, packet, done, refused-number, settle, answer}
-use Rattle.rules.specs.Runs.{Departure, History, logged, after, run-from, nothing-yet, run, departures, in-hub, bound-of, allowed, offer-ticks, Keeps-its-word, Exchange, exchanges, own-answer}
-use Rattle.rules.specs.Promises.{Demand-1-refusals, Test-is-exact, Verdict-1-exactly, No-link-means-zero, Sound-is-kept, Runs-are-sound, Rows-fit, Notices-fit, Notices-come-last, The-same-line, Fifteen-after-thirteen, Names-the-lowest, Level-test-tells, Short-is-told, Units-are-missing, Units-fit, Finer-test-says, At-the-bounds, Windows-at-the-bounds, Quick-test-is-exact, Sums-fit, Eligibilities-fit, Charges-fit, Distances-fit, Answers-fit, Conservation, Conservation-since, Conservation-by-owner, Left-by, Demand-3-first, Demand-3-second, Told-by-its-own, Bed-nine-and-bed-ten, Counted, Spacing-says, No-window-holds-more, The-count-is-reached, The-count-never-falls, Close-is-refused, Closed-gets-10, Closed-or-freed, Freed-by-the-tick, Charge-lasts, Lowest-number-is-given, Second-kind, Level-test-counts-alike, Ten-exactly, No-cause, Seventeen-exactly, No-finish-before, Demand-3-for-stamps, Stamps-told-by-their-own, Early-comes-last, Early-never-idles, Eighteen-exactly, Stamps-never-18, Never-far-ahead, Quiet-ticks-pass}
-use Rattle.rules.specs.Before.{Without-windows, Without-average, Without-silence, First-kind, Without-stand-by}
+use Rattle.rules.specs.Runs.{Departure, History, logged, after, run-from, nothing-yet, run, departures, in-hub, bound-of, allowed, own-ticks, Keeps-its-word, Exchange, exchanges}
+use Rattle.rules.proofs.RunWords.{first-answer, offer-ticks, Word}
+use Rattle.rules.specs.Promises.{Demand-1, No-link-means-zero, Runs-are-sound, Sound-states, Fifteen-after-thirteen, Names-the-lowest, Level-test-tells, Short-is-told, Units-fit, Sums-fit, Finer-test-says, Windows-at-the-bounds, Quick-test-is-exact, Conservation, Conservation-by-owner, Left-by, Demand-3-first, Demand-3-second, Bed-nine-and-bed-ten, Spacing-says, No-window-holds-more, The-count-is-reached, The-count-never-falls, Closing-frees, Lowest-number-is-given, by-its-gap, Verdicts-of-an-offer, No-finish-before, Demand-3-for-stamps}
+use Rattle.rules.specs.Before.{Without-windows, Without-average, Without-silence, First-kind, Second-kind, Without-stand-by}
 use Rattle.rules.proofs.Sums.{same, cond-is}
 use Rattle.rules.proofs.Tests.{and-true, and-intro, not-true-false, never-number}
 use Rattle.rules.proofs.Lists.{All, all-map}
@@ -38,20 +39,19 @@ use Rattle.rules.proofs.Count.{no-window-more, count-mono}
 use Rattle.rules.proofs.Reached.{count-reached}
 use Rattle.rules.proofs.InTime.{conserved-lists, Waits, Either}
 use Rattle.rules.proofs.Through.{either-through, over-left}
-use Rattle.rules.proofs.ByOwner.{since, by-owner}
-use Rattle.rules.proofs.Closing.{refusals, tens, closes, tick-frees, lasts, lowest-given}
+use Rattle.rules.proofs.ByOwner.{by-owner}
+use Rattle.rules.proofs.Closing.{refusals, tens, closes, lasts, lowest-given}
 use Rattle.rules.proofs.Bounds.{rows-fit-places, notices-fit-places, eligibilities-fit-32, charges-fit-32, distances-fit-32}
 use Rattle.rules.proofs.NoticesLast.{none-eligible}
 use Rattle.rules.proofs.Fields.{unit-done, unit-short, short-fits, answer-fits}
 use Rattle.rules.proofs.Shortage.{tells, names, sums-le, reserved-most}
 use Rattle.rules.proofs.Room.{near-arrival, not-for-room, welcome}
 use Rattle.rules.proofs.Lower.{call-begun, begun}
-use Rattle.rules.proofs.Finer.{quick-test-exact, finer-says, bounds-where-equal, as-without, no-windows-asked}
+use Rattle.rules.proofs.Finer.{bounds-as-unwindowed, quick-test-exact, finer-says, as-without, no-windows-asked}
 use Rattle.rules.proofs.Keeper.{run-append, All-taken, all-taken, Word-before, word-before, on-arrival, has-room}
-use Rattle.rules.proofs.Alone.{Own, own-ticks, told-by-own, ticks-are-own, no-exchanges, own-answers}
-use Rattle.rules.proofs.AloneStamped.{told-with-stamps, alike-with-stamps}
+use Rattle.rules.proofs.Alone.{Own, told-by-own, word-is, no-exchanges, own-answers}
+use Rattle.rules.proofs.AloneStamped.{alike-with-stamps}
 use Rattle.rules.proofs.StandBy.{comes-last, never-idles, never-far, eighteen, stamps-never, link-only, start-only, rows-only, service-only, verdict-only}
-use Rattle.rules.proofs.Quiet.{quiet-passes}
 use Rattle.rules.proofs.SecondKind.{first-as-before, second-as-asked, test-alike, ten, seventeen, no-cause-false, stamp-near, stamp-room, stamp-taken}
 
 -- ---- demand 1
@@ -62,7 +62,7 @@ done-verdict (admit x) s = refl
 done-verdict (offer c len tag st) s = refl
 done-verdict (notice len tag) s = refl
 done-verdict (close c) s = refl
-done-verdict tick s = unit-done (started s) (started s .to-go)
+done-verdict tick s = unit-done (started-state s) (started-state s .to-go)
 
 pub answer-verdict : (k : Call) (s : State) → answer k s .verdict ≡ verdict k s
 answer-verdict k s = go (verdict k s)
@@ -71,18 +71,16 @@ answer-verdict k s = go (verdict k s)
     go zero = done-verdict k s
     go (suc v) = refl
 
-pub demand-1-refusals : Demand-1-refusals
-demand-1-refusals k s =
+pub refusals-change-nothing : (k : Call) (s : State) → (answer k s .verdict ≡ 0 → ⊥)
+    → (answer k s .next ≡ s) × (answer k s .departed ≡ none) × (answer k s .number ≡ refused-number k)
+refusals-change-nothing k s =
     settled (λ a. (a .verdict ≡ 0 → ⊥) → (a .next ≡ s) × (a .departed ≡ none) × (a .number ≡ refused-number k)) k s (verdict k s)
     (λ _ n. absurd (n (done-verdict k s)))
     (λ v _. (refused-leaves k s (suc v), refl, refl))
 
 -- ---- the sound state
 
-pub test-is-exact : Test-is-exact
-test-is-exact s = exact s
-
-pub verdict-1-exactly : Verdict-1-exactly
+pub verdict-1-exactly : (k : Call) (s : State) → answer k s .verdict ≡ 1 ↔ (Sound s → ⊥)
 unfolding verdicts
 verdict-1-exactly k s = (to, from)
   where
@@ -98,23 +96,32 @@ verdict-1-exactly k s = (to, from)
 pub no-link-means-zero : No-link-means-zero
 no-link-means-zero s z = (λ S. S .with-no-link z, λ e. subst Sound (sym e) (fresh-invariant .sound))
 
-pub sound-is-kept : Sound-is-kept
-sound-is-kept k s S = kept k s S
+pub demand-1 : Demand-1
+demand-1 k s = record {
+  refusals-change-nothing = refusals-change-nothing k s;
+  test-is-exact = exact s;
+  verdict-1-exactly = verdict-1-exactly k s;
+  sound-is-kept = kept k s;
+  answers-fit = answer-fits k s;
+}
 
 pub runs-are-sound : Runs-are-sound
 runs-are-sound ks = invariant ks .sound
 
-pub rows-fit : Rows-fit
-rows-fit s S = rows-fit-places s S
-
-pub notices-fit : Notices-fit
-notices-fit s S = notices-fit-places s S
-
-pub notices-come-last : Notices-come-last
-notices-come-last s S idle e = none-eligible s S idle e
-
-pub the-same-line : The-same-line
-the-same-line s = refl
+pub sound-states : Sound-states
+sound-states s S = record {
+  rows-fit = rows-fit-places s S;
+  notices-fit = notices-fit-places s S;
+  held-fit = eligibilities-fit-32 s S .0;
+  charges-fit = charges-fit-32 s S;
+  next-fit = λ c. eligibilities-fit-32 s S .1 c .1;
+  sums-fit = λ c. eligibilities-fit-32 s S .1 c .2;
+  distances-fit = distances-fit-32 s S;
+  notices-come-last = none-eligible s S;
+  early-comes-last = λ p z l e late. let B = comes-last s p S z l e late in (B .it-is, B .none-eligible, B .no-notice);
+  early-never-idles = never-idles s S;
+  never-far-ahead = never-far s S;
+}
 
 pub fifteen-after-thirteen : Fifteen-after-thirteen
 unfolding verdicts
@@ -128,15 +135,6 @@ fifteen-after-thirteen len tag s e =
     go false false true d i f h = absurd (omega arith)
     go false false false true i f h = absurd (omega arith)
     go false false false false i f h = leb-false _ _ i
-
-pub eligibilities-fit : Eligibilities-fit
-eligibilities-fit s S = eligibilities-fit-32 s S
-
-pub charges-fit : Charges-fit
-charges-fit s S c = charges-fit-32 s S c
-
-pub distances-fit : Distances-fit
-distances-fit s S c = distances-fit-32 s S c
 
 -- ---- which level was short
 
@@ -165,7 +163,7 @@ short-is-told k s = (λ n. go k (verdict k s) (λ e. n (answer-verdict k s ∙ e
     go (offer c len tag st) zero n = refl
     go (notice len tag) zero n = refl
     go (close c) zero n = refl
-    go tick zero n = unit-short (started s) (started s .to-go)
+    go tick zero n = unit-short (started-state s) (started-state s .to-go)
     go (link l) (suc v) n = refl
     go (admit x) (suc v) n = cond-is (level-test (s .link) (joining (s .connections) x)) no-short (ne-eqb (suc v) 8 n)
     go (offer c len tag st) (suc v) n = refl
@@ -181,11 +179,8 @@ short-is-told k s = (λ n. go k (verdict k s) (λ e. n (answer-verdict k s ∙ e
         → (answer j s .short ≡ level-test (s .link) (joining (s .connections) x)) × Names-the-lowest (s .link) (joining (s .connections) x) (answer j s .short))
         (sym i) (λ e. (told-short x s e, short-named x s e))
 
-pub units-are-missing : Units-are-missing
-units-are-missing x s v e F = (λ h. omega (arith, F .units-are), λ h. omega (arith, F .units-are, F .fails))
-
 pub units-fit : Units-fit
-units-fit x s e = short-fits x s (short-refused s x (eight x s e)) (answer (admit x) s .short) (short-named x s e)
+units-fit x s e = short-fits x s (short-refused s x (eight x s e)) (answer (admit x) s .short) (short-named x s e) .1
 
 pub sums-fit : Sums-fit
 sums-fit l cs e few f = (sums-le l cs e few f, reserved-most l cs e few f)
@@ -195,29 +190,8 @@ sums-fit l cs e few f = (sums-le l cs e few f, reserved-most l cs e few f)
 pub finer-test-says : Finer-test-says
 finer-test-says l cs m e = finer-says l cs m e
 
-bounds-verdict : (s : State) (x : Connection) → At-the-bounds (s .link) → verdict (admit x) s ≡ first-number (bounds-verdicts x s)
-unfolding verdicts
-bounds-verdict s x h =
-    ap
-    (λ (t : Short).
-    first-number
-    ((1, not (sound s))
-    ∷ (2, eqb (s .link .levels) 0)
-    ∷ (5, not (level-within (s .link) x))
-    ∷ (6, not (figures-within (s .link) x))
-    ∷ (7, leb max-connections (free-number (s .connections)))
-    ∷ (8, not (eqb (t .level) 0))
-    ∷ (9, ltb max-reserved (reserved (s .link) (joining (s .connections) x))) ∷ []))
-    (bounds-where-equal (s .link) (joining (s .connections) x) h)
-
 pub windows-at-the-bounds : Windows-at-the-bounds
-windows-at-the-bounds = (
-  λ l cs h. bounds-where-equal l cs h,
-  λ s x h. (
-    answer-verdict (admit x) s ∙ bounds-verdict s x h,
-    λ e. told-short x s e ∙ bounds-where-equal (s .link) (joining (s .connections) x) h,
-  ),
-)
+windows-at-the-bounds l cs h = bounds-as-unwindowed l cs h
 
 pub without-windows : Without-windows
 without-windows = (no-windows-asked, as-without)
@@ -225,16 +199,10 @@ without-windows = (no-windows-asked, as-without)
 pub quick-test-is-exact : Quick-test-is-exact
 quick-test-is-exact l cs = quick-test-exact l cs
 
-pub answers-fit : Answers-fit
-answers-fit k s S = answer-fits k s S
-
 -- ---- conservation, and the first sentence of demand 3
 
 pub conservation : Conservation
 conservation ks c = conserved-lists (run ks) (invariant ks) c
-
-pub conservation-since : Conservation-since
-conservation-since earlier later c none-waits = since earlier later c none-waits
 
 pub conservation-by-owner : Conservation-by-owner
 conservation-by-owner earlier later x e = by-owner earlier later x (sym (answer-verdict (admit x) (run earlier .now)) ∙ e)
@@ -289,7 +257,7 @@ module _ (earlier : List Call) (c len tag : ℕ) (st : Option ℕ) (yes : verdic
         (subst (Either c (length (of c acc)) (packet s c len tag st) level (bound-of s c) (early-at s c)) (sym then-is) (inr waits-first)))
 
     left-in-time : eligibility-now s c st + bound-of s c ≤ run (earlier ++ it ∷ later) .now .clock
-        → Left-by (run (earlier ++ it ∷ later)) c (length (of c acc)) (packet s c len tag st) (eligibility-now s c st + bound-of s c)
+        → Left-by (run (earlier ++ it ∷ later) .departed) c (length (of c acc)) (packet s c len tag st) (eligibility-now s c st + bound-of s c)
     left-in-time over =
         let G = over-left c (length (of c acc)) (packet s c len tag st) level (bound-of s c) (early-at s c) (run (earlier ++ it ∷ later)) (invariant (earlier ++ it ∷ later)) all-through over in
         record { finish = G .0; is-departure = G .1; in-time = G .2 }
@@ -310,7 +278,7 @@ demand-3-first earlier later c len tag st e over =
 
 -- ---- the second sentence
 
-module _ (earlier : List Call) (c len tag : ℕ) (word : Keeps-its-word c (earlier ++ offer c len tag none ∷ [])) (ok : allowed (run earlier .now) c len none ≡ true) where
+module _ (earlier : List Call) (c len tag : ℕ) (word : Word c (earlier ++ offer c len tag none ∷ [])) (ok : allowed (run earlier .now) c len none ≡ true) where
   open History (run earlier) using (now as s, accepted as acc)
 
   standing : stands s c ≡ true
@@ -346,37 +314,38 @@ module _ (earlier : List Call) (c len tag : ℕ) (word : Keeps-its-word c (earli
   welcomed running = welcome (run earlier) (invariant earlier) c len tag none ok free-place refl (near-arrival s c none arrival) running
 
   leaves : s .clock < clock-end → (later : List Call) → s .clock + bound-of s c ≤ run (earlier ++ offer c len tag none ∷ later) .now .clock
-      → Left-by (run (earlier ++ offer c len tag none ∷ later)) c (length (of c acc)) (record { connection = c; len = len; tag = tag; arrival = s .clock; eligibility = s .clock }) (s .clock + bound-of s c)
+      → Left-by (run (earlier ++ offer c len tag none ∷ later) .departed) c (length (of c acc)) (record { connection = c; len = len; tag = tag; arrival = s .clock; eligibility = s .clock }) (s .clock + bound-of s c)
   leaves running later over =
       subst
-      (λ (e : ℕ). Left-by (run (earlier ++ offer c len tag none ∷ later)) c (length (of c acc)) (record { connection = c; len = len; tag = tag; arrival = s .clock; eligibility = e }) (e + bound-of s c))
+      (λ (e : ℕ). Left-by (run (earlier ++ offer c len tag none ∷ later) .departed) c (length (of c acc)) (record { connection = c; len = len; tag = tag; arrival = s .clock; eligibility = e }) (e + bound-of s c))
       arrival (left-in-time earlier c len tag none (welcomed running) later (omega (arith, arrival)))
 
 pub demand-3-second : Demand-3-second
-demand-3-second earlier later c len tag word ok = record {
-  never-for-room = λ e. not-for-room (run earlier) (invariant earlier) c len tag none ok (free-place earlier c len tag word ok) refl (near-arrival (run earlier .now) c none (arrival earlier c len tag word ok)) (sym (answer-verdict (offer c len tag none) (run earlier .now)) ∙ e);
-  accepted = λ running. answer-verdict (offer c len tag none) (run earlier .now) ∙ welcomed earlier c len tag word ok running;
-  eligible = λ running.
-      ap (λ (v : ℕ). settle (offer c len tag none) (run earlier .now) v .number) (welcomed earlier c len tag word ok running) ∙ arrival earlier c len tag word ok;
-  in-time = λ running over. leaves earlier c len tag word ok running later over;
-}
+demand-3-second earlier later c len tag w ok =
+    let word = word-is c (earlier ++ offer c len tag none ∷ []) w in record {
+      never-for-room = λ e. not-for-room (run earlier) (invariant earlier) c len tag none ok (free-place earlier c len tag word ok) refl (near-arrival (run earlier .now) c none (arrival earlier c len tag word ok)) (sym (answer-verdict (offer c len tag none) (run earlier .now)) ∙ e);
+      accepted = λ running. answer-verdict (offer c len tag none) (run earlier .now) ∙ welcomed earlier c len tag word ok running;
+      eligible = λ running.
+          ap (λ (v : ℕ). settle (offer c len tag none) (run earlier .now) v .number) (welcomed earlier c len tag word ok running) ∙ arrival earlier c len tag word ok;
+      in-time = λ running over. leaves earlier c len tag word ok running later over;
+    }
 
 -- ---- bed nine and bed ten
 
-pub told-by-its-own : Told-by-its-own
+pub told-by-its-own : (ks : List Call) (c : ℕ) → stamped (figures (run ks .now) c) ≡ false → Keeps-its-word c ks → All (Own (figures (run ks .now) c)) (exchanges c ks)
 told-by-its-own ks c kind word = go (same c notice-number)
   where
     go : (c ≡ notice-number) ⊎ (c ≡ notice-number → ⊥) → All (Own (figures (run ks .now) c)) (exchanges c ks)
     go (inl n) = subst (All (Own (figures (run ks .now) c))) (sym (no-exchanges c ks (subst (λ (j : ℕ). owned (run ks .now .connections) j ≡ false) (sym n) (no-owner (run ks .now) (invariant ks .sound))))) tt
-    go (inr level) = told-by-own c level ks kind word
+    go (inr level) = told-by-own c level ks kind (word-is c ks word)
 
 -- of the first kind
 of-first : (ks ms : List Call) (c d : ℕ) → figures (run ks .now) c ≡ figures (run ms .now) d → map (λ (e : Exchange). e .asked) (exchanges c ks) ≡ map (λ (e : Exchange). e .asked) (exchanges d ms)
     → stamped (figures (run ks .now) c) ≡ false → Keeps-its-word c ks → exchanges c ks ≡ exchanges d ms
 of-first ks ms c d alike asked kind word =
     own-answers x (exchanges c ks) (told-by-its-own ks c kind word)
-    ∙ ap (map (own-answer x)) asked
-    ∙ ap (λ (y : Connection). map (own-answer y) (map (λ (e : Exchange). e .asked) (exchanges d ms))) alike
+    ∙ ap (map (first-answer x)) asked
+    ∙ ap (λ (y : Connection). map (first-answer y) (map (λ (e : Exchange). e .asked) (exchanges d ms))) alike
     ∙ sym (own-answers (figures (run ms .now) d) (exchanges d ms) (told-by-its-own ms d (subst (λ (y : Connection). stamped y ≡ false) alike kind) word-there))
   where
     x : Connection
@@ -385,16 +354,8 @@ of-first ks ms c d alike asked kind word =
     -- it keeps its word there because it asks the same
     word-there : Keeps-its-word d ms
     word-there =
-        subst (Spaced (figures (run ms .now) d)) (sym (ticks-are-own d ms))
-        (subst (λ (y : Connection). Spaced y (own-ticks y (map (λ (e : Exchange). e .asked) (exchanges d ms)))) alike
-        (subst (λ qs. Spaced x (own-ticks x qs)) asked
-        (subst (Spaced x) (ticks-are-own c ks) word)))
-
-pub counted : Counted
-counted ks c =
-    ap length (conservation ks c)
-    ∙ length-append (map (λ (d : Departure). d .what) (departures c (run ks .departed))) (of c (in-hub (run ks .now)))
-    ∙ ap (λ (n : ℕ). n + length (of c (in-hub (run ks .now)))) (length-map (λ (d : Departure). d .what) (departures c (run ks .departed)))
+        subst (λ (y : Connection). Spaced y (own-ticks y (map (λ (e : Exchange). e .asked) (exchanges d ms)))) alike
+        (subst (λ qs. Spaced x (own-ticks x qs)) asked word)
 
 -- ---- without a silence
 
@@ -420,20 +381,14 @@ without-average c P = as-before c P
 
 -- ---- closing
 
-pub close-is-refused : Close-is-refused
-close-is-refused c s S linked = refusals c s S linked
-
-pub closed-gets-10 : Closed-gets-10
-closed-gets-10 s c len tag st S e = tens s S c e len tag st
-
-pub closed-or-freed : Closed-or-freed
-closed-or-freed c s v = closes c s v
-
-pub freed-by-the-tick : Freed-by-the-tick
-freed-by-the-tick c s v k = tick-frees c s v k
-
-pub charge-lasts : Charge-lasts
-charge-lasts k s c S e = lasts s S c e k
+pub closing-frees : Closing-frees
+closing-frees s c S linked = record {
+  gets-10 = refusals c s S linked .0;
+  gets-16 = refusals c s S linked .1;
+  offers-get-10 = λ e len tag st. tens s S c e len tag st .0;
+  closes = closes c s;
+  lasts = λ k e. lasts s S c e k;
+}
 
 pub lowest-number-is-given : Lowest-number-is-given
 lowest-number-is-given x s v = lowest-given x s v
@@ -446,18 +401,35 @@ first-kind c k a = first-as-before c k a
 pub second-kind : Second-kind
 second-kind c P = second-as-asked c P
 
-pub level-test-counts-alike : Level-test-counts-alike
+pub level-test-counts-alike : (l : Link) (cs : List Connection) → level-test l cs ≡ level-test l (map by-its-gap cs)
 level-test-counts-alike l cs = test-alike l cs
 
-pub ten-exactly : Ten-exactly
-ten-exactly c len tag st s S linked =
-    subst (λ (v : ℕ). v ≡ 10 ↔ ((stands s c ≡ true) × (suits (figures s c) st ≡ true) → ⊥)) (sym (answer-verdict (offer c len tag st) s)) (ten c len tag st s S linked)
+pub verdicts-of-an-offer : Verdicts-of-an-offer
+verdicts-of-an-offer s c len tag st S linked = record {
+  ten = subst (λ (v : ℕ). v ≡ 10 ↔ ((stands s c ≡ true) × (suits (figures s c) st ≡ true) → ⊥)) (sym is) (ten c len tag st s S linked);
+  seventeen = λ stamp i.
+      let k = seventeen c len tag stamp s S linked in (
+        λ e.
+            let r = k .0 (as-asked i (sym is ∙ e)) in
+            (record { ok = subst (λ (o : Option ℕ). allowed s c len o ≡ true) (sym i) (r .0); room = r .1; running = r .2 }, r .3),
+        λ r. is ∙ as-given i (k .1 (subst (λ (o : Option ℕ). allowed s c len o ≡ true) i (r .0 .ok), r .0 .room, r .0 .running, r .1)),
+      );
+  eighteen =
+      let k = eighteen c len tag st s S linked in (
+        λ e. let r = k .0 (sym is ∙ e) in (record { ok = r .0; room = r .1; running = r .2 }, r .3, r .4, r .5),
+        λ r. is ∙ k .1 (r .0 .ok, r .0 .room, r .0 .running, r .1, r .2, r .3),
+      );
+  stamps-never-18 = λ stamp i e. stamps-never c len tag stamp s (as-asked i (sym is ∙ e));
+}
+  where
+    is : answer (offer c len tag st) s .verdict ≡ verdict (offer c len tag st) s
+    is = answer-verdict (offer c len tag st) s
 
-pub seventeen-exactly : Seventeen-exactly
-seventeen-exactly c len tag stamp s S linked =
-    subst
-    (λ (v : ℕ). v ≡ 17 ↔ ((allowed s c len (some stamp) ≡ true) × (length (of c (s .held)) < reservation (s .link) (figures s c)) × (s .clock < clock-end) × (No-cause s c stamp → ⊥)))
-    (sym (answer-verdict (offer c len tag (some stamp)) s)) (seventeen c len tag stamp s S linked)
+    as-asked : {stamp v : ℕ} → st ≡ some stamp → verdict (offer c len tag st) s ≡ v → verdict (offer c len tag (some stamp)) s ≡ v
+    as-asked i e = ap (λ (o : Option ℕ). verdict (offer c len tag o) s) (sym i) ∙ e
+
+    as-given : {stamp v : ℕ} → st ≡ some stamp → verdict (offer c len tag (some stamp)) s ≡ v → verdict (offer c len tag st) s ≡ v
+    as-given i e = ap (λ (o : Option ℕ). verdict (offer c len tag o) s) i ∙ e
 
 pub no-finish-before : No-finish-before
 no-finish-before earlier later c len tag st finish e never is =
@@ -476,9 +448,6 @@ demand-3-for-stamps earlier later c len tag stamp ok n =
       in-time = λ running over. left-in-time earlier c len tag (some stamp) (stamp-taken earlier c len tag stamp ok no running) later over;
     }
 
-pub stamps-told-by-their-own : Stamps-told-by-their-own
-stamps-told-by-their-own ks c second word = told-with-stamps ks c second word
-
 pub bed-nine-and-bed-ten : Bed-nine-and-bed-ten
 bed-nine-and-bed-ten ks ms c d alike asked word = go (stamped (figures (run ks .now) c)) refl
   where
@@ -487,23 +456,6 @@ bed-nine-and-bed-ten ks ms c d alike asked word = go (stamped (figures (run ks .
     go false first-kind = of-first ks ms c d alike asked first-kind word
 
 -- ---- the stand-by queue
-
-pub early-comes-last : Early-comes-last
-early-comes-last s p S z l e late = comes-last s p S z l e late
-
-pub early-never-idles : Early-never-idles
-early-never-idles s S on z y h = never-idles s S on z y h
-
-pub eighteen-exactly : Eighteen-exactly
-eighteen-exactly c len tag st s S linked =
-    let k = eighteen c len tag st s S linked in
-    (λ e. k .0 (sym (answer-verdict (offer c len tag st) s) ∙ e), λ r. answer-verdict (offer c len tag st) s ∙ k .1 r)
-
-pub stamps-never-18 : Stamps-never-18
-stamps-never-18 c len tag stamp s e = stamps-never c len tag stamp s (sym (answer-verdict (offer c len tag (some stamp)) s) ∙ e)
-
-pub never-far-ahead : Never-far-ahead
-never-far-ahead s S on c o = never-far s S on c o
 
 pub without-stand-by : Without-stand-by
 without-stand-by = (
@@ -515,6 +467,3 @@ without-stand-by = (
     verdict-is = λ c len tag st. answer-verdict (offer c len tag st) s ∙ verdict-only s off c len tag st;
   },
 )
-
-pub quiet-ticks-pass : Quiet-ticks-pass
-quiet-ticks-pass s S n r q f = quiet-passes s S n r q f

@@ -13,7 +13,8 @@ use Rattle.rules.specs.Words.{within, upto}
 use Rattle.rules.specs.Limits.{clock-end}
 use Rattle.rules.specs.Model.{Link, Connection, Packet, State, offer, past, figures}
 use Rattle.rules.specs.Admission.{owned, stamped, stands, bound, reservation, distance}
-use Rattle.rules.specs.Service.{suits, untimely-by, Spaced, of, eligibilities, level-of}
+use Rattle.rules.specs.Service.{suits, untimely-by, Spaced, of, eligibilities}
+use Rattle.rules.proofs.Doings.{level-of}
 use Rattle.rules.specs.SoundState.{Sound}
 use Rattle.rules.specs.SoundTest.{sound}
 use Rattle.rules.specs.Calls.{heard, eligibility-now, too-far, verdicts, verdict}

@@ -19,8 +19,8 @@ use Rattle.rules.specs.SoundTest.{latest-by-gap, latest}
 use Rattle.rules.specs.Calls.{heard, too-far, verdict}
 use Rattle.rules.specs.WithoutAverage.{Apart, base-figures-within, Base-spaced, Memory-kept}
 use Rattle.rules.specs.Runs.{History, run, allowed}
-use Rattle.rules.specs.Promises.{Second, Second-kind, by-its-gap, Level-test-counts-alike, No-cause}
-use Rattle.rules.specs.Before.{First-kind}
+use Rattle.rules.specs.Promises.{by-its-gap, No-cause}
+use Rattle.rules.specs.Before.{First-kind, Second, Second-kind}
 use Rattle.rules.proofs.Lists.{all-map}
 use Rattle.rules.proofs.Sums.{split, cond-is, sum-eq}
 use Rattle.rules.proofs.Tests.{never, and-true, and-intro}
@@ -185,7 +185,7 @@ module _ (l : Link) (cs : List Connection) where
   short-alike m zero = refl
   short-alike m (suc k) = rw (excess-alike m 0 (conditions l m), short-alike (suc m) k) refl
 
-pub test-alike : Level-test-counts-alike
+pub test-alike : (l : Link) (cs : List Connection) → level-test l cs ≡ level-test l (map by-its-gap cs)
 unfolding level-test
 test-alike l cs = short-alike l cs 1 (l .levels)
 

@@ -13,12 +13,16 @@ use Rattle.rules.specs.Words.{upto, sum}
 use Rattle.rules.specs.Limits.{max-largest, max-silence, max-bound, max-level-window, max-allowance, max-connections}
 use Rattle.rules.specs.Model.{Link, Connection, Short, nth}
 use Rattle.rules.specs.Admission.{windowed, link-within, level-within, figures-within, free-number, joining, bound, window, count, cost, load-by, conditions, span, limit-at, reservation, reserved, level-sum, excess, short-from, level-test}
-use Rattle.rules.specs.Promises.{First-excess, Names-the-lowest, No-level-fails, own-term}
+use Rattle.rules.specs.Promises.{First-excess, Names-the-lowest, No-level-fails}
 use Rattle.rules.proofs.Sums.{same, cond-ind, sum-le, sum-add, only, only-at, sum-only, upto-le}
 use Rattle.rules.proofs.Standing.{length-joining, nth-new, nth-other}
 use Rattle.rules.proofs.LevelTest.{excess-holds, excess-first, test-holds, holds-test, names-lowest}
 use Rattle.rules.proofs.Count.{count-le}
 use Rattle.rules.proofs.Figures.{link-facts, figures-facts, conditions-none, conditions-own, connection-facts, reservation-is, sum-is}
+
+-- a connection's own term in the sum of a condition
+abbrev pub own-term : Link → Connection → ℕ → ℕ → ℕ
+own-term l x m i = count x (span l m i (x .level)) * cost l (x .size)
 
 -- ---- what the test tells
 

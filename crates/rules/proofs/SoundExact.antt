@@ -14,7 +14,9 @@ use Rattle.rules.specs.Limits.{max-levels, max-connections, clock-end, m
 use Rattle.rules.specs.Model.{Link, Connection, Past, Packet, Notice, State, no-link, no-connection, no-past, fresh, nth, past, figures, closed-at}
 use Rattle.rules.specs.Admission.{link-within, level-within, figures-within, owned, charge-time, reservation, passes, ahead}
 use Rattle.rules.specs.Service.{earliest, remember-all, of, eligibilities, early-at, wire, charge-over, expired}
-use Rattle.rules.specs.SoundState.{margin, Free-number, Orderly, departed-of, Fits, Dated, Notice-fits, Idle, In-service, Serves, Sound-with-link, Sound}
+use Rattle.rules.specs.SoundState.{margin, Orderly, departed-of, Fits, Dated, Waits, Sound-with-link, Sound}
+use Rattle.rules.proofs.Doings.{Free-number}
+use Rattle.rules.proofs.LineWords.{Idle, In-service, Serves}
 use Rattle.rules.specs.SoundTest.{all-zero, blank, free-sound, one-each, number-sound, closed-sound, nothing-used, connection-sound, admissions-sound, row-sound, departed-by, paced, left-in-time, same-numbers, kept-sound, before-pass, behind-pass, queues-sound, rows-sound, notice-sound, notices-sound, line-sound, sound}
 use Rattle.rules.proofs.Lists.{All, all-map}
 use Rattle.rules.proofs.Sums.{split, cond-is}
@@ -72,10 +74,10 @@ free-true : (s : State) (c : ℕ) → free-sound s c ≡ true → Free-number s 
 free-true s c h =
     let a = and-true (blank (figures s c)) _ h in
     let b = and-true (eqb (length (past s c)) 0) (not (closed-at s c)) (a .1) in
-    record { no-figures = blank-true (figures s c) (a .0); no-memory = nil-of (past s c) (eqb-true _ 0 (b .0)); not-closed = not-true _ (b .1) }
+    (blank-true (figures s c) (a .0), nil-of (past s c) (eqb-true _ 0 (b .0)), not-true _ (b .1))
 
 free-intro : (s : State) (c : ℕ) → Free-number s c → free-sound s c ≡ true
-free-intro s c f = rw (f .no-figures, f .no-memory, f .not-closed) refl
+free-intro s c f = rw (f .0, f .1, f .2) refl
 
 blank-state : (l : Link) (cs : List Connection) (hs : List Past) (ms : List Bool) (t : ℕ) (ps : List Packet) (ns : List Notice) (w u q : ℕ)
     → l ≡ no-link → cs ≡ fresh .connections → hs ≡ fresh .pasts → ms ≡ fresh .closed → t ≡ 0 → ps ≡ [] → ns ≡ [] → w ≡ 0 → u ≡ 0 → q ≡ 0
@@ -118,9 +120,9 @@ module _ (s : State) where
       let free : (j : ℕ) → j < max-connections → Free-number s j = λ j i. free-true s j (every-true max-connections (free-sound s) (d .0) j i) in
       let e1 : s .link .largest ≡ 0 = eqb-true _ 0 (l .0) in
       let e2 : s .link .bounds ≡ replicate max-levels 0 = zeros-of max-levels (s .link .bounds) (eqb-true _ max-levels (b .0)) (b .1) in
-      let e3 : s .connections ≡ replicate max-connections no-connection = same-entries max-connections (s .connections) no-connection no-connection (w .0) (λ j i. free j i .no-figures) in
-      let e4 : s .pasts ≡ replicate max-connections no-past = same-entries max-connections (s .pasts) no-past no-past (w .1) (λ j i. free j i .no-memory) in
-      let e12 : s .closed ≡ replicate max-connections false = same-entries max-connections (s .closed) false false (w .2) (λ j i. free j i .not-closed) in
+      let e3 : s .connections ≡ replicate max-connections no-connection = same-entries max-connections (s .connections) no-connection no-connection (w .0) (λ j i. free j i .0) in
+      let e4 : s .pasts ≡ replicate max-connections no-past = same-entries max-connections (s .pasts) no-past no-past (w .1) (λ j i. free j i .1) in
+      let e12 : s .closed ≡ replicate max-connections false = same-entries max-connections (s .closed) false false (w .2) (λ j i. free j i .2) in
       let e14 : s .link .windows ≡ replicate max-levels 0 = zeros-of max-levels (s .link .windows) (eqb-true _ max-levels (x .0)) (x .1) in
       let e5 : s .clock ≡ 0 = eqb-true _ 0 (e .0) in
       let e6 : s .held ≡ [] = nil-of (s .held) (eqb-true _ 0 (f .0)) in
@@ -193,13 +195,13 @@ module _ (c : Connection) (a : Option ℕ) (t : ℕ) (h : Past) (es : List ℕ) 
   kept-intro k =
       and-intro (leb (length h) max-remembered) (same-numbers h (remember-all (departed-of h es) es)) (le-leb _ _ (k .few)) (ap (same-numbers h) (k .last-rows) ∙ same-intro h)
 
-notice-true : (l : Link) (t : ℕ) (n : Notice) → notice-sound l t n ≡ true → Notice-fits l t n
+notice-true : (l : Link) (t : ℕ) (n : Notice) → notice-sound l t n ≡ true → Waits (l .largest) t n
 notice-true l t n h =
     let a = and-true (within 1 (l .largest) (n .len)) (leb (n .arrival) t) h in
     let w = within-true 1 (l .largest) (n .len) (a .0) in
     record { some-len = w .0; len-le = w .1; arrived = leb-true _ _ (a .1) }
 
-notice-intro : (l : Link) (t : ℕ) (n : Notice) → Notice-fits l t n → notice-sound l t n ≡ true
+notice-intro : (l : Link) (t : ℕ) (n : Notice) → Waits (l .largest) t n → notice-sound l t n ≡ true
 notice-intro l t n f =
     and-intro (within 1 (l .largest) (n .len)) (leb (n .arrival) t) (within-intro 1 (l .largest) (n .len) (f .some-len) (f .len-le)) (le-leb _ _ (f .arrived))
 
@@ -304,11 +306,13 @@ module _ (s : State) where
             queue-of (figures s j) (connection-facts (s .link) (figures s j) (own j l .0) (own j l .1) .burst-le) (ahead (s .link) (figures s j)) (s .clock) (past s j) (eligibilities j (s .held))
             (owner j l .1)
             (paced-chain (s .link) (s .connections) (s .clock) (departed-by s) [] (s .held) (i .0) j);
-        few-notices = leb-true _ _ (r .0);
-        notices-fit = all-map (λ n k. notice-true (s .link) (s .clock) n k) (s .notices) (each-true (notice-sound (s .link) (s .clock)) (s .notices) (r .1));
-        line = line-true s (q .1) .0;
-        silent-le = line-true s (q .1) .1;
-        silent-alone = line-true s (q .1) .2;
+        line = record {
+          few-notices = leb-true _ _ (r .0);
+          notices-fit = all-map (λ n k. notice-true (s .link) (s .clock) n k) (s .notices) (each-true (notice-sound (s .link) (s .clock)) (s .notices) (r .1));
+          line = line-true s (q .1) .0;
+          silent-le = line-true s (q .1) .1;
+          silent-alone = line-true s (q .1) .2;
+        };
         closed-empty = λ j k. shut j (closed-below (w .2) j k) k .0;
       } in
       record { orderly = O; charged = λ j l. not-expired j (shut j l) (closed-at s j) refl }
@@ -337,9 +341,9 @@ module _ (s : State) where
       (every-intro max-connections (behind-pass s) (λ j l. behind-intro j (owner S j)))))
       (every-intro max-connections (closed-sound s) (λ j l. closed-intro j (λ k. (S .closed-empty j k, unexpired-charged s j (T .charged j l) k)))))))
       (and-intro (notices-sound s) (line-sound s)
-      (and-intro (leb (length (s .notices)) max-notices) _ (le-leb _ _ (S .few-notices))
-      (each-intro (notice-sound (s .link) (s .clock)) (s .notices) (all-map (λ n f. notice-intro (s .link) (s .clock) n f) (s .notices) (S .notices-fit))))
-      (line-intro s (no-notice s S (s .serving) (s .to-go) (s .silent)) (S .line, S .silent-le, S .silent-alone))))
+      (and-intro (leb (length (s .notices)) max-notices) _ (le-leb _ _ (S .line .few-notices))
+      (each-intro (notice-sound (s .link) (s .clock)) (s .notices) (all-map (λ n f. notice-intro (s .link) (s .clock) n f) (s .notices) (S .line .notices-fit))))
+      (line-intro s (no-notice s S (s .serving) (s .to-go) (s .silent)) (S .line .line, S .line .silent-le, S .line .silent-alone))))
     where
       number : Orderly s → (j : ℕ) → j < max-connections → (b : Bool) → owned (s .connections) j ≡ b → number-sound s j ≡ true
       number S j l true o =

@@ -11,8 +11,12 @@ use lib.Seq.{getD-set-other}
 use Rattle.rules.specs.Model.{Link, Connection, no-connection, no-past, Notice, State, Call, link, admit, offer, notice, close, tick, fresh, nth, past, figures, closed-at, first-notice}
 use Rattle.rules.specs.Admission.{link-within, level-within, figures-within, owned, free-number, joining, bound, count, cost, span, reservation, goes-early, ahead}
 use Rattle.rules.specs.Service.{remember, of, eligibilities, early-at, ticked, expired, swept}
-use Rattle.rules.specs.SoundState.{Queue, Notice-fits, Notice-in-service, Free-number, Orderly, Sound-with-link, Sound}
-use Rattle.rules.specs.Calls.{verdict, linked, joined, eligibility-now, placed, noted, marked, done, answer}
+use Rattle.rules.specs.SoundState.{Queue, Waits, Orderly, Sound-with-link, Sound}
+use Rattle.rules.proofs.Doings.{Free-number}
+use Rattle.rules.proofs.LineWords.{Notice-in-service}
+use Rattle.rules.specs.Calls.{verdict, eligibility-now, done, answer}
+use Rattle.rules.proofs.Doings.{placed}
+use Rattle.rules.proofs.Doings.{linked, joined, noted, marked}
 use Rattle.rules.proofs.Lists.{all-map, all-snoc}
 use Rattle.rules.specs.Words.{upto, sum}
 use Rattle.rules.specs.Limits.{max-connections}
@@ -50,7 +54,7 @@ module _ (s : State) (T : Sound-with-link s) (x : Connection) (D : Admit-done s 
   was-free = level-free (s .connections) (free-number (s .connections)) (free-is (s .connections) room-left)
 
   new-past : past s (free-number (s .connections)) ≡ no-past
-  new-past = S .free-blank (free-number (s .connections)) (D .free) was-free .no-memory
+  new-past = S .free-blank (free-number (s .connections)) (D .free) was-free .1
 
   no-rows : of (free-number (s .connections)) (s .held) ≡ []
   no-rows = of-none (free-number (s .connections)) (s .held) (all-map (λ p f e. true≢false (sym (f .owner) ∙ ap (owned (s .connections)) e ∙ was-free)) (s .held) (S .fit))
@@ -74,11 +78,13 @@ module _ (s : State) (T : Sound-with-link s) (x : Connection) (D : Admit-done s 
     queue =
         nth-joined (s .connections) x room-left (λ c f. Queue f (ahead (s .link) f) (s .clock) (past s c) (eligibilities c (s .held))) (S .queue)
         (rw (no-rows, new-past) (chained-queue x (regulated-of (s .link) x (connection-facts (s .link) x (D .level-in) (D .figures-in))) (ahead (s .link) x) (s .clock) no-past [] (chained-new x (ahead (s .link) x) (s .clock))));
-    few-notices = S .few-notices;
-    notices-fit = S .notices-fit;
-    line = ⊎-elim (λ z. inl z) (λ k. inr (⊎-elim (λ r. inl (served-on (λ e. sym (early-joined s x room-left (s .serving) (serving-owned s (S .fit) r)) ∙ e) r)) (λ n. inr n) k)) (S .line);
-    silent-le = S .silent-le;
-    silent-alone = S .silent-alone;
+    line = record {
+      few-notices = S .line .few-notices;
+      notices-fit = S .line .notices-fit;
+      line = ⊎-elim (λ z. inl z) (λ k. inr (⊎-elim (λ r. inl (served-on (λ e. sym (early-joined s x room-left (s .serving) (serving-owned s (S .fit) r)) ∙ e) r)) (λ n. inr n) k)) (S .line .line);
+      silent-le = S .line .silent-le;
+      silent-alone = S .line .silent-alone;
+    };
     closed-empty = S .closed-empty;
   }
     where
@@ -95,7 +101,7 @@ module _ (s : State) (T : Sound-with-link s) (x : Connection) (D : Admit-done s 
       blank c l o (inr e) =
           let k = nth-other (s .connections) x room-left c e in
           let f = T .orderly .free-blank c l (sym (owned-same (s .connections) (joining (s .connections) x) c k) ∙ o) in
-          record { no-figures = k ∙ f .no-figures; no-memory = f .no-memory; not-closed = f .not-closed }
+          (k ∙ f .0, f .1, f .2)
 
   sound-joined : Sound-with-link (joined s x)
   unfolding expired
@@ -143,7 +149,7 @@ module _ (s : State) (T : Sound-with-link s) (len tag : ℕ) (D : Notice-done s 
     numbers = W .numbers;
     one-past-each = W .one-past-each;
     one-mark-each = W .one-mark-each;
-    free-blank = λ c l o. let f = W .free-blank c l o in record { no-figures = f .no-figures; no-memory = f .no-memory; not-closed = f .not-closed };
+    free-blank = λ c l o. let f = W .free-blank c l o in (f .0, f .1, f .2);
     tested = W .tested;
     reserved-le = W .reserved-le;
     clock-le = W .clock-le;
@@ -151,11 +157,13 @@ module _ (s : State) (T : Sound-with-link s) (len tag : ℕ) (D : Notice-done s 
     dated = W .dated;
     room = W .room;
     queue = W .queue;
-    few-notices = omega (arith, D .room, length-append (s .notices) (new ∷ []));
-    notices-fit = all-snoc (Notice-fits (s .link) (s .clock)) (s .notices) new (W .notices-fit) (record { some-len = D .some-len; len-le = D .len-le; arrived = omega arith });
-    line = ⊎-elim (λ z. inl z) (λ k. inr (⊎-elim (λ r. inl r) (λ r. inr (still-first r)) k)) (W .line);
-    silent-le = W .silent-le;
-    silent-alone = W .silent-alone;
+    line = record {
+      few-notices = omega (arith, D .room, length-append (s .notices) (new ∷ []));
+      notices-fit = all-snoc (Waits (s .link .largest) (s .clock)) (s .notices) new (W .line .notices-fit) (record { some-len = D .some-len; len-le = D .len-le; arrived = omega arith });
+      line = ⊎-elim (λ z. inl z) (λ k. inr (⊎-elim (λ r. inl r) (λ r. inr (still-first r)) k)) (W .line .line);
+      silent-le = W .line .silent-le;
+      silent-alone = W .line .silent-alone;
+    };
     closed-empty = W .closed-empty;
   }
 
@@ -203,7 +211,7 @@ orderly-first l ok = record {
   numbers = length-replicate max-connections no-connection;
   one-past-each = length-replicate max-connections no-past;
   one-mark-each = length-replicate max-connections false;
-  free-blank = λ c k o. record { no-figures = fresh-figures c; no-memory = fresh-past c; not-closed = fresh-open c };
+  free-blank = λ c k o. (fresh-figures c, fresh-past c, fresh-open c);
   tested = λ m low high i k.
       omega (
         arith,
@@ -218,11 +226,13 @@ orderly-first l ok = record {
   dated = tt;
   room = λ c o. nobody c o;
   queue = λ c o. nobody c o;
-  few-notices = omega arith;
-  notices-fit = tt;
-  line = inl (refl, refl);
-  silent-le = omega arith;
-  silent-alone = λ n. refl;
+  line = record {
+    few-notices = omega arith;
+    notices-fit = tt;
+    line = inl (refl, refl);
+    silent-le = omega arith;
+    silent-alone = λ n. refl;
+  };
   closed-empty = λ c k. refl;
 }
 

@@ -11,8 +11,10 @@ use lib.Seq.{getD-set-same, getD-set-other}
 use Rattle.rules.specs.Model.{Past, no-past, Packet, State, past, figures, closed-at}
 use Rattle.rules.specs.Admission.{owned, reservation, ahead}
 use Rattle.rules.specs.Service.{of, eligibilities, remember}
-use Rattle.rules.specs.SoundState.{Fits, Dated, Queue, In-service, Orderly}
-use Rattle.rules.specs.Calls.{eligibility-now, packet, placed}
+use Rattle.rules.specs.SoundState.{Fits, Dated, Queue, Orderly}
+use Rattle.rules.proofs.LineWords.{In-service}
+use Rattle.rules.specs.Calls.{eligibility-now, packet}
+use Rattle.rules.proofs.Doings.{placed}
 use Rattle.rules.proofs.Lists.{all-snoc}
 use Rattle.rules.proofs.Sums.{same}
 use Rattle.rules.proofs.Rows.{first-append, of-snoc-same, of-snoc-other, eligibilities-snoc-same, eligibilities-snoc-other}
@@ -80,7 +82,7 @@ module _ (s : State) (S : Orderly s) (c len tag : ℕ) (st : Option ℕ) (D : Of
     one-mark-each = S .one-mark-each;
     free-blank = λ d l o.
         let f = S .free-blank d l o in
-        record { no-figures = f .no-figures; no-memory = getD-set-other (s .pasts) c d new no-past (λ e. other d o (sym e)) ∙ f .no-memory; not-closed = f .not-closed };
+        (f .0, getD-set-other (s .pasts) c d new no-past (λ e. other d o (sym e)) ∙ f .1, f .2);
     tested = S .tested;
     reserved-le = S .reserved-le;
     clock-le = S .clock-le;
@@ -88,10 +90,12 @@ module _ (s : State) (S : Orderly s) (c len tag : ℕ) (st : Option ℕ) (D : Of
     dated = all-snoc (Dated (s .clock)) (s .held) p (S .dated) (record { arrived = omega arith; not-before = in-step .not-before });
     room = λ d l. room-placed d l (same c d);
     queue = λ d l. queue-placed d l (same c d);
-    few-notices = S .few-notices;
-    notices-fit = S .notices-fit;
-    line = ⊎-elim (λ z. inl z) (λ k. inr (⊎-elim (λ r. inl (behind r)) (λ r. inr r) k)) (S .line);
-    silent-le = S .silent-le;
-    silent-alone = S .silent-alone;
+    line = record {
+      few-notices = S .line .few-notices;
+      notices-fit = S .line .notices-fit;
+      line = ⊎-elim (λ z. inl z) (λ k. inr (⊎-elim (λ r. inl (behind r)) (λ r. inr r) k)) (S .line .line);
+      silent-le = S .line .silent-le;
+      silent-alone = S .line .silent-alone;
+    };
     closed-empty = λ d k. of-snoc-other d (s .held) p (λ e. true≢false (sym k ∙ ap (closed-at s) (sym e) ∙ stands-open s c (D .standing))) ∙ S .closed-empty d k;
   }

@@ -14,8 +14,10 @@ use Rattle.rules.specs.Limits.{max-connections}
 use Rattle.rules.specs.Model.{Connection, Past, Packet, State, no-connection, nth, past, figures, closed-at}
 use Rattle.rules.specs.Admission.{owned, stands, level-within, figures-within, bound, count, reservation, reserved, cost, span, level-sum, goes-early, ahead}
 use Rattle.rules.specs.Service.{of, eligibilities, early-at, expired, swept}
-use Rattle.rules.specs.SoundState.{Fits, Queue, In-service, Free-number, Orderly, Sound-with-link}
-use Rattle.rules.specs.Calls.{marked}
+use Rattle.rules.specs.SoundState.{Fits, Queue, Orderly, Sound-with-link}
+use Rattle.rules.proofs.Doings.{Free-number}
+use Rattle.rules.proofs.LineWords.{In-service}
+use Rattle.rules.proofs.Doings.{marked}
 use Rattle.rules.proofs.Lists.{All, all-map, all-zip}
 use Rattle.rules.proofs.Sums.{split, same, cond-is, sum-le, upto-le}
 use Rattle.rules.proofs.Rows.{nil-of, first-all, first-of}
@@ -130,19 +132,21 @@ module _ (s : State) (S : Orderly s) where
         let k = swept-owner s c o in
         subst (λ (x : Connection). Queue x (ahead (s .link) x) (s .clock) (past (swept s) c) (eligibilities c (s .held))) (sym (kept-figures s c (k .0) (k .1)))
         (subst (λ (h : Past). Queue (figures s c) (ahead (s .link) (figures s c)) (s .clock) h (eligibilities c (s .held))) (sym (kept-past s c (k .0) (k .1))) (S .queue c (swept-was s c o)));
-    few-notices = S .few-notices;
-    notices-fit = S .notices-fit;
-    line = ⊎-elim (λ z. inl z) (λ k. inr (⊎-elim (λ r. inl (served-on (λ e. sym (early-swept r) ∙ e) r)) (λ n. inr n) k)) (S .line);
-    silent-le = S .silent-le;
-    silent-alone = S .silent-alone;
+    line = record {
+      few-notices = S .line .few-notices;
+      notices-fit = S .line .notices-fit;
+      line = ⊎-elim (λ z. inl z) (λ k. inr (⊎-elim (λ r. inl (served-on (λ e. sym (early-swept r) ∙ e) r)) (λ n. inr n) k)) (S .line .line);
+      silent-le = S .line .silent-le;
+      silent-alone = S .line .silent-alone;
+    };
     closed-empty = λ c k. empty c (closed-below c k) k (expired s c) refl;
   }
     where
       blank : (c : ℕ) → c < max-connections → owned (swept s .connections) c ≡ false → (b : Bool) → expired s c ≡ b → Free-number (swept s) c
-      blank c l o true e = record { no-figures = freed-figures s c l e; no-memory = freed-past s c l e; not-closed = freed-closed s c l e }
+      blank c l o true e = (freed-figures s c l e, freed-past s c l e, freed-closed s c l e)
       blank c l o false e =
           let f = S .free-blank c l (sym (owned-same (s .connections) (swept s .connections) c (kept-figures s c l e)) ∙ o) in
-          record { no-figures = kept-figures s c l e ∙ f .no-figures; no-memory = kept-past s c l e ∙ f .no-memory; not-closed = kept-closed s c l e ∙ f .not-closed }
+          (kept-figures s c l e ∙ f .0, kept-past s c l e ∙ f .1, kept-closed s c l e ∙ f .2)
 
       empty : (c : ℕ) → c < max-connections → closed-at (swept s) c ≡ true → (b : Bool) → expired s c ≡ b → of c (s .held) ≡ []
       empty c l k true e = absurd (true≢false (sym k ∙ freed-closed s c l e))
@@ -162,11 +166,7 @@ module _ (s : State) (S : Orderly s) where
     one-mark-each = length-set (s .closed) c true ∙ S .one-mark-each;
     free-blank = λ d l o.
         let f = S .free-blank d l o in
-        record {
-          no-figures = f .no-figures;
-          no-memory = f .no-memory;
-          not-closed = getD-set-other (s .closed) c d true false (λ e. true≢false (sym (stands-owned s c up) ∙ ap (owned (s .connections)) (sym e) ∙ o)) ∙ f .not-closed;
-        };
+        (f .0, f .1, getD-set-other (s .closed) c d true false (λ e. true≢false (sym (stands-owned s c up) ∙ ap (owned (s .connections)) (sym e) ∙ o)) ∙ f .2);
     tested = S .tested;
     reserved-le = S .reserved-le;
     clock-le = S .clock-le;
@@ -174,11 +174,13 @@ module _ (s : State) (S : Orderly s) where
     dated = S .dated;
     room = S .room;
     queue = S .queue;
-    few-notices = S .few-notices;
-    notices-fit = S .notices-fit;
-    line = S .line;
-    silent-le = S .silent-le;
-    silent-alone = S .silent-alone;
+    line = record {
+      few-notices = S .line .few-notices;
+      notices-fit = S .line .notices-fit;
+      line = S .line .line;
+      silent-le = S .line .silent-le;
+      silent-alone = S .line .silent-alone;
+    };
     closed-empty = λ d k. none d k (same d c);
   }
     where

@@ -10,8 +10,11 @@ use lib.ListN.{length}
 use Rattle.rules.specs.Limits.{clock-end, max-notices, notice-number}
 use Rattle.rules.specs.Model.{Packet, Notice, State, Answer, past, figures, notice-packet, with-line}
 use Rattle.rules.specs.Admission.{owned, ahead}
-use Rattle.rules.specs.Service.{of, eligibilities, first, without, level-of, chosen, early-at, stand-by, Wire, on-line, free-line, begun, sends, Sent, sent, wire, later, moves-on, ticked}
-use Rattle.rules.specs.SoundState.{Fits, Dated, Queue, Notice-fits, Idle, In-service-of, In-service, Notice-in-service, Serves, Orderly}
+use Rattle.rules.specs.Service.{of, eligibilities, first, without, chosen, early-at, stand-by, Wire, on-line, free-line, begun, sends, Sent, sent, wire, moves-on, ticked}
+use Rattle.rules.proofs.Doings.{level-of}
+use Rattle.rules.proofs.HubTick.{later}
+use Rattle.rules.specs.SoundState.{Fits, Dated, Queue, Waits, In-service-of, Orderly}
+use Rattle.rules.proofs.LineWords.{Idle, In-service, Notice-in-service, Serves}
 use Rattle.rules.specs.SoundLine.{Packet-on, Notice-on, Wire-sound}
 use Rattle.rules.proofs.Lists.{All, all-map, all-sub, Pairs, Sub, sub-refl}
 use Rattle.rules.proofs.Sums.{same}
@@ -68,13 +71,7 @@ module _ (s : State) (S : Orderly s) where
       (s .held) (S .fit)
 
   pub own-line : Wire-sound (early-at s) (s .link .largest) (s .link .silence) (s .clock) (wire s)
-  own-line = record {
-    few-notices = S .few-notices;
-    notices-fit = all-map (λ n f. record { some-len = f .some-len; len-le = f .len-le; arrived = f .arrived }) (s .notices) (S .notices-fit);
-    line = S .line;
-    silent-le = S .silent-le;
-    silent-alone = S .silent-alone;
-  }
+  own-line = S .line
 
   pub picks : Picks (s .clock) (s .held) (chosen s)
   picks = go (chosen s) choice-holds
@@ -121,7 +118,7 @@ module _ (s : State) (S : Orderly s) where
         → ((c : ℕ) → length (of c held) ≤ length (of c (s .held)))
         → ((c : ℕ) → owned (s .connections) c ≡ true → Queue (figures s c) (ahead (s .link) (figures s c)) (s .clock) (past s c) (eligibilities c held))
         → length ns ≤ max-notices
-        → All (Notice-fits (s .link) (s .clock)) ns
+        → All (Waits (s .link .largest) (s .clock)) ns
         → Idle (later s held ns serving to-go silent) ⊎ Serves (later s held ns serving to-go silent)
         → silent ≤ s .link .silence
         → (1 ≤ to-go → silent ≡ 0)
@@ -133,7 +130,7 @@ module _ (s : State) (S : Orderly s) where
       numbers = S .numbers;
       one-past-each = S .one-past-each;
       one-mark-each = S .one-mark-each;
-      free-blank = λ c l o. let f = S .free-blank c l o in record { no-figures = f .no-figures; no-memory = f .no-memory; not-closed = f .not-closed };
+      free-blank = λ c l o. let f = S .free-blank c l o in (f .0, f .1, f .2);
       tested = S .tested;
       reserved-le = S .reserved-le;
       clock-le = omega (arith, running);
@@ -143,11 +140,13 @@ module _ (s : State) (S : Orderly s) where
       queue = λ c l.
           chained-queue (figures s c) (regulated c l) (ahead (s .link) (figures s c)) (s .clock + 1) (past s c) (eligibilities c held)
           (chained-later (figures s c) (ahead (s .link) (figures s c)) (s .clock) (past s c) (eligibilities c held) (queue-chained (figures s c) (regulated c l) (ahead (s .link) (figures s c)) (s .clock) (past s c) (eligibilities c held) (queue c l)));
-      few-notices = few;
-      notices-fit = all-map (λ n f. record { some-len = f .some-len; len-le = f .len-le; arrived = omega (arith, f .arrived) }) ns fit;
-      line = line;
-      silent-le = quiet;
-      silent-alone = alone;
+      line = record {
+        few-notices = few;
+        notices-fit = all-map (λ n f. record { some-len = f .some-len; len-le = f .len-le; arrived = omega (arith, f .arrived) }) ns fit;
+        line = line;
+        silent-le = quiet;
+        silent-alone = alone;
+      };
       closed-empty = λ c k. nil-of (of c held) (omega (arith, fewer c, ap length (S .closed-empty c k)));
     }
 
@@ -155,7 +154,7 @@ module _ (s : State) (S : Orderly s) where
     sound-departed : (w u : ℕ) → In-service-of (early-at s w) (s .held) w u (s .clock) → Orderly (later s (without w (s .held)) (s .notices) 0 0 (s .link .silence))
     sound-departed w u r =
         sound-later (without w (s .held)) (s .notices) 0 0 (s .link .silence) (sub-without w (sub-refl (s .held))) (λ c. fewer c (same w c)) (λ c l. shorter c l (same w c))
-        (S .few-notices) (S .notices-fit) (inl (refl, refl)) (omega arith) (λ n. absurd (omega arith))
+        (S .line .few-notices) (S .line .notices-fit) (inl (refl, refl)) (omega arith) (λ n. absurd (omega arith))
       where
         shorter : (c : ℕ) → owned (s .connections) c ≡ true → (w ≡ c) ⊎ (w ≡ c → ⊥) → Queue (figures s c) (ahead (s .link) (figures s c)) (s .clock) (past s c) (eligibilities c (without w (s .held)))
         shorter c l (inl e) =
@@ -178,21 +177,21 @@ module _ (s : State) (S : Orderly s) where
     sound-notice-gone : (n : Notice) (ns : List Notice) → s .notices ≡ n ∷ ns → Orderly (later s (s .held) ns 0 0 (s .link .silence))
     sound-notice-gone n ns e =
         sound-later (s .held) ns 0 0 (s .link .silence) (sub-refl (s .held)) (λ c. omega arith) (S .queue)
-        (omega (arith, S .few-notices, ap length e))
-        (subst (All (Notice-fits (s .link) (s .clock))) e (S .notices-fit) .1)
+        (omega (arith, S .line .few-notices, ap length e))
+        (subst (All (Waits (s .link .largest) (s .clock))) e (S .line .notices-fit) .1)
         (inl (refl, refl)) (omega arith) (λ n. absurd (omega arith))
 
     -- something else than a last unit goes, or nothing
     sound-on : (w u q : ℕ) → Idle (later s (s .held) (s .notices) w u q) ⊎ Serves (later s (s .held) (s .notices) w u q)
         → q ≤ s .link .silence → (1 ≤ u → q ≡ 0)
         → Orderly (later s (s .held) (s .notices) w u q)
-    sound-on w u q line quiet alone = sound-later (s .held) (s .notices) w u q (sub-refl (s .held)) (λ c. omega arith) (S .queue) (S .few-notices) (S .notices-fit) line quiet alone
+    sound-on w u q line quiet alone = sound-later (s .held) (s .notices) w u q (sub-refl (s .held)) (λ c. omega arith) (S .queue) (S .line .few-notices) (S .line .notices-fit) line quiet alone
 
     pub sound-ticked : Orderly (ticked s .next)
     sound-ticked =
         subst (λ (a : Answer). Orderly (a .next)) (sym tick-is)
         (tick-cases (λ x. Orderly (moves-on s (x .departed) (x .wire) .next))
-        (sound-on 0 0 (s .silent - 1) (inl (refl, refl)) (omega (arith, S .silent-le)) (λ n. absurd (omega arith)))
+        (sound-on 0 0 (s .silent - 1) (inl (refl, refl)) (omega (arith, S .line .silent-le)) (λ n. absurd (omega arith)))
         (λ r. sound-departed (ready .serving) (ready .to-go) r)
         sound-notice-gone
         (λ u e k.
@@ -202,4 +201,4 @@ module _ (s : State) (S : Orderly s) where
         (λ r. inl (record { it = r .it; is-first = r .is-first; eligible = λ off. omega (arith, r .eligible off); some-to-go = omega arith; to-go-le = omega (arith, r .to-go-le) }))
         (λ r. inr (record { it = r .it; is-first = r .is-first; is-notice = r .is-notice; some-to-go = omega arith; to-go-le = omega (arith, r .to-go-le) }))
         k))
-        (S .silent-le) (λ n. ready-sound .silent-alone (omega arith))))
+        (S .line .silent-le) (λ n. ready-sound .silent-alone (omega arith))))

@@ -14,13 +14,15 @@ use Rattle.rules.specs.Words.{within, first-number}
 use Rattle.rules.specs.Limits.{clock-end, notice-number}
 use Rattle.rules.specs.Model.{Link, Connection, Past, Packet, Notice, State, offer, past, figures}
 use Rattle.rules.specs.Admission.{link-within, owned, stamped, reservation, stand-by-on, distance, ahead}
-use Rattle.rules.specs.Service.{untimely-by, of, eligibilities, first, level-of, chosen, first-early, early-at, stand-by, takes, line-after-start, started}
-use Rattle.rules.specs.SoundState.{departed-of, Beyond, Queue, In-service, Fits, Notice-fits, Orderly, Sound}
+use Rattle.rules.specs.Service.{untimely-by, of, eligibilities, first, chosen, first-early, early-at, stand-by, takes}
+use Rattle.rules.proofs.Doings.{level-of}
+use Rattle.rules.proofs.HubTick.{line-after-start, started-state}
+use Rattle.rules.specs.SoundState.{departed-of, Beyond, Queue, Fits, Waits, Orderly, Sound}
+use Rattle.rules.proofs.LineWords.{In-service}
 use Rattle.rules.specs.SoundTest.{sound}
 use Rattle.rules.specs.Calls.{heard, eligibility-now, too-far, verdicts, verdict}
 use Rattle.rules.specs.WithoutStandBy.{only-link-within, only-takes, only-start, Only-beyond, Only-queue, Only-in-service, only-verdicts}
 use Rattle.rules.specs.Runs.{allowed}
-use Rattle.rules.specs.Promises.{Stands-by}
 use Rattle.rules.proofs.Lists.{All, all-map}
 use Rattle.rules.proofs.Sums.{same, cond-is}
 use Rattle.rules.proofs.Tests.{never, and-true, and-intro}
@@ -34,6 +36,14 @@ use Rattle.rules.proofs.SoundTick.{choice-holds, facts, regulated}
 use Rattle.rules.proofs.SoundExact.{exact}
 use Rattle.rules.proofs.Queue.{queue-chained, chained-ahead, chained-allowed}
 use Rattle.rules.proofs.Room.{allowance-near, near-stamp, offer-verdict}
+
+-- p stands by (document 02, R-11): the queue is on, the packet's connection is of the first kind, no held packet of such a connection was offered before it, no held packet is eligible and no notice waits
+pub record Stands-by (s : State) (p : Packet) : Type 0 where
+  pub is-on : stand-by-on (s .link) ≡ true
+  pub first-kind : stamped (figures s (p .connection)) ≡ false
+  pub it-is : stand-by s ≡ some p
+  pub none-eligible : All (λ q. s .clock < q .eligibility) (s .held)
+  pub no-notice : s .notices ≡ []
 
 -- ---- which packet goes early
 
@@ -70,7 +80,7 @@ module _ (s : State) (S : Orderly s) where
   takes-some : (stand-by s ≡ none → ⊥) → (o : Option Packet) → Chosen (level-of s) (s .clock) (s .held) o
       → (ns : List Notice) → s .notices ≡ ns → (b : Option Packet) → stand-by s ≡ b → 1 ≤ takes o ns b .1
   takes-some h (some p) k ns i b j = first-all (p .connection) (Fits (s .connections)) (s .held) p (k .2) (S .fit) .some-len
-  takes-some h none k (n ∷ ns) i b j = subst (All (Notice-fits (s .link) (s .clock))) i (S .notices-fit) .0 .some-len
+  takes-some h none k (n ∷ ns) i b j = subst (All (Waits (s .link .largest) (s .clock))) i (S .line .notices-fit) .0 .some-len
   takes-some h none k [] i (some p) j = first-all (p .connection) (Fits (s .connections)) (s .held) p (stands-by s p j .1) (S .fit) .some-len
   takes-some h none k [] i none j = absurd (h j)
 
@@ -112,10 +122,10 @@ none-early may (p ∷ ps) e = go (may (p .connection)) refl e (λ k. none-early 
 
 -- ---- with or without a link
 
-pub comes-last : (s : State) (p : Packet) → Sound s → s .to-go ≡ 0 → 1 ≤ started s .to-go → first (started s .serving) (s .held) ≡ some p → s .clock < p .eligibility → Stands-by s p
+pub comes-last : (s : State) (p : Packet) → Sound s → s .to-go ≡ 0 → 1 ≤ started-state s .to-go → first (started-state s .serving) (s .held) ≡ some p → s .clock < p .eligibility → Stands-by s p
 comes-last s p S z l e late =
     ⊎-elim
-    (λ n. absurd (none-some (sym (ap (λ (r : State). first (started s .serving) (r .held)) (S .with-no-link n)) ∙ e)))
+    (λ n. absurd (none-some (sym (ap (λ (r : State). first (started-state s .serving) (r .held)) (S .with-no-link n)) ∙ e)))
     (λ n. early-start s (S .with-one n .orderly) p late (s .to-go) (s .silent) z l e)
     (same (s .link .levels) 0)
 
@@ -123,7 +133,7 @@ unset-off : (s : State) → Sound s → stand-by-on (s .link) ≡ true → s .li
 unfolding stand-by-on
 unset-off s S on n = true≢false (sym on ∙ ap (λ (r : State). stand-by-on (r .link)) (S .with-no-link n))
 
-pub never-idles : (s : State) → Sound s → stand-by-on (s .link) ≡ true → s .to-go ≡ 0 → s .silent ≡ 0 → (All (λ p. stamped (figures s (p .connection)) ≡ true) (s .held) → ⊥) → 1 ≤ started s .to-go
+pub never-idles : (s : State) → Sound s → stand-by-on (s .link) ≡ true → s .to-go ≡ 0 → s .silent ≡ 0 → (All (λ p. stamped (figures s (p .connection)) ≡ true) (s .held) → ⊥) → 1 ≤ started-state s .to-go
 never-idles s S on z y h =
     some-start s (S .with-one (unset-off s S on) .orderly)
     (λ e. h (all-map (λ p k. kind p (stamped (figures s (p .connection))) refl k) (s .held) (none-early (early-at s) (s .held) e)))

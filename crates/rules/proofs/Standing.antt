@@ -14,7 +14,8 @@ use Rattle.rules.specs.Words.{tabulate}
 use Rattle.rules.specs.Limits.{max-connections}
 use Rattle.rules.specs.Model.{Connection, Past, Packet, State, no-connection, no-past, nth, past, figures, closed-at}
 use Rattle.rules.specs.Admission.{owned, stands, free-number, joining, charge-time}
-use Rattle.rules.specs.Service.{charge-over, expired, swept-connections, swept-pasts, swept-marks, swept}
+use Rattle.rules.specs.Service.{charge-over, expired, swept, cleared}
+use Rattle.rules.proofs.Doings.{swept-connections, swept-pasts, swept-marks}
 use Rattle.rules.specs.SoundState.{Fits}
 use Rattle.rules.proofs.Sums.{split, same, cond-is}
 use Rattle.rules.proofs.Tests.{never, and-true, and-intro}
@@ -161,28 +162,28 @@ charged-unexpired s c e = go (closed-at s c) (charge-over (charge-time (s .link)
 
 module _ (s : State) where
   pub swept-length : length (swept s .connections) ≡ max-connections
-  unfolding swept-connections
+  unfolding cleared
   swept-length = length-tabulate max-connections (λ i. cond (expired s i) no-connection (figures s i))
 
   pub swept-pasts-length : length (swept s .pasts) ≡ max-connections
-  unfolding swept-pasts
+  unfolding cleared
   swept-pasts-length = length-tabulate max-connections (λ i. cond (expired s i) no-past (past s i))
 
   pub swept-marks-length : length (swept s .closed) ≡ max-connections
-  unfolding swept-marks
+  unfolding cleared
   swept-marks-length = length-tabulate max-connections (λ i. cond (expired s i) false (closed-at s i))
 
 module _ (s : State) (c : ℕ) (l : c < max-connections) where
   pub swept-figures : figures (swept s) c ≡ cond (expired s c) no-connection (figures s c)
-  unfolding swept-connections
+  unfolding cleared
   swept-figures = getD-tabulate max-connections (λ i. cond (expired s i) no-connection (figures s i)) no-connection c l
 
   pub swept-past : past (swept s) c ≡ cond (expired s c) no-past (past s c)
-  unfolding swept-pasts
+  unfolding cleared
   swept-past = getD-tabulate max-connections (λ i. cond (expired s i) no-past (past s i)) no-past c l
 
   pub swept-closed : closed-at (swept s) c ≡ cond (expired s c) false (closed-at s c)
-  unfolding swept-marks
+  unfolding cleared
   swept-closed = getD-tabulate max-connections (λ i. cond (expired s i) false (closed-at s i)) false c l
 
   module _ (e : expired s c ≡ false) where
@@ -209,15 +210,15 @@ module _ (s : State) (c : ℕ) (l : c < max-connections) where
 module _ (s : State) (a : length (s .connections) ≡ max-connections) (b : length (s .pasts) ≡ max-connections) (k : length (s .closed) ≡ max-connections)
     (none : (c : ℕ) → c < max-connections → expired s c ≡ false) where
   pub connections-stay : swept-connections s ≡ s .connections
-  unfolding swept-connections
+  unfolding cleared
   connections-stay = tabulate-list max-connections _ (s .connections) no-connection a (λ c l. cond-is no-connection (figures s c) (none c l))
 
   pub pasts-stay : swept-pasts s ≡ s .pasts
-  unfolding swept-pasts
+  unfolding cleared
   pasts-stay = tabulate-list max-connections _ (s .pasts) no-past b (λ c l. cond-is no-past (past s c) (none c l))
 
   pub marks-stay : swept-marks s ≡ s .closed
-  unfolding swept-marks
+  unfolding cleared
   marks-stay = tabulate-list max-connections _ (s .closed) false k (λ c l. cond-is false (closed-at s c) (none c l))
 
   pub nothing-swept : swept s ≡ s

@@ -14,8 +14,10 @@ use Rattle.rules.specs.Words.{push}
 use Rattle.rules.specs.Limits.{notice-number}
 use Rattle.rules.specs.Model.{Packet, State, Call, link, admit, offer, notice, close, tick, Answer, notice-packet}
 use Rattle.rules.specs.Service.{of, early-at, ticked, swept}
-use Rattle.rules.specs.Calls.{verdict, packet, done, refused, answer}
-use Rattle.rules.specs.Runs.{Departure, History, leaving, logged, after, run-from, departures, in-hub, bound-of}
+use Rattle.rules.specs.Calls.{verdict, packet, done, answer}
+use Rattle.rules.proofs.Doings.{refused}
+use Rattle.rules.specs.Runs.{Departure, History, logged, after, run-from, departures, in-hub, bound-of}
+use Rattle.rules.proofs.RunWords.{leaving}
 use Rattle.rules.proofs.Sums.{split, same}
 use Rattle.rules.proofs.Rows.{none-some, some-inj, of-append}
 use Rattle.rules.proofs.Verdicts.{settled}

@@ -1,5 +1,5 @@
 -- THE PROOF of specs/TwoHubs: no cause of 17 applies to what comes from the hub before.
-use Prim.Native.Nat.{ℕ, _+_, _≤_, _<_}
+use Prim.Native.Nat.{ℕ, _+_, _≤_}
 use native.Mathlib.Omega.{arith}
 use mathlib.Core.Path.{_≡_, refl, sym, ap, _∙_, subst}
 use mathlib.Core.Bool.{Bool, true, false, cond, _&&_, true≢false}
@@ -7,34 +7,36 @@ use mathlib.Core.Logic.{_⊎_, inl, inr}
 use mathlib.Core.List.{List, [], _∷_, _++_, map}
 use mathlib.Core.Option.{Option, none, some}
 use lib.Dec.{eqb}
-use lib.ListN.{length, getElem?, length-append}
-use borrow.Author.Tests.{eqb-true, eq-eqb, not-true}
+use lib.ListN.{length, getElem?}
+use borrow.Author.Tests.{eq-eqb, not-true}
 use Rattle.rules.specs.Words.{All, Pairs, within, push}
-use Rattle.rules.specs.Limits.{clock-end, notice-number}
-use Rattle.rules.specs.Model.{Connection, Packet, State, Answer, Call, link, admit, offer, notice, close, tick, past, figures, notice-packet}
+use Rattle.rules.specs.Limits.{notice-number}
+use Rattle.rules.specs.Model.{Connection, Packet, State, Call, link, admit, offer, notice, close, tick, past, figures, notice-packet}
 use Rattle.rules.specs.Admission.{owned, stands, stamped}
-use Rattle.rules.specs.Service.{Spaced, of, eligibilities, early-at}
-use Rattle.rules.specs.Calls.{heard, verdict, eligibility-now, packet, done, answer}
-use Rattle.rules.specs.Runs.{Departure, History, taken, leaving, after, run-from, nothing-yet, run, in-hub, departures, own-departures, bound-of, allowed, offer-tick, offer-ticks, Keeps-its-word, Asked, Exchange, exchange, exchanges}
-use Rattle.rules.specs.Promises.{Left-by, stamp-plus, No-cause, Kept-promise}
-use Rattle.rules.specs.TwoHubs.{Follows, Carried, Carries, asked-of, Passed-on, Two-hubs-in-a-row, Goes-through, All-go-through}
+use Rattle.rules.specs.Service.{Spaced, eligibilities, early-at}
+use Rattle.rules.specs.Calls.{heard, verdict, eligibility-now, packet, answer}
+use Rattle.rules.specs.Runs.{Departure, History, after, run, own-departures, bound-of, allowed, asked-of, Asked, Exchange, exchange, exchanges}
+use Rattle.rules.proofs.RunWords.{taken}
+use Rattle.rules.proofs.RunWords.{offer-tick, offer-ticks, Word}
+use Rattle.rules.specs.Promises.{No-cause, Kept-promise}
+use Rattle.rules.specs.TwoHubs.{Follows, Carried, Carries, Passed-on, Two-hubs-in-a-row}
 use Rattle.rules.proofs.Lists.{Sub, nil, sub-snoc, sub-more, all-map, all-snoc, all-sub, all-filter, all-every}
-use Rattle.rules.proofs.Sums.{split, same, cond-is}
-use Rattle.rules.proofs.Tests.{never, and-true, and-intro, within-intro}
-use Rattle.rules.proofs.Rows.{find-below, none-some, length-map, map-append, all-of-map, all-map-of, eligibilities-snoc-same, eligibilities-snoc-other}
+use Rattle.rules.proofs.Sums.{same, cond-is}
+use Rattle.rules.proofs.Tests.{never, and-intro, within-intro}
+use Rattle.rules.proofs.Rows.{none-some, map-append, all-of-map, all-map-of, eligibilities-snoc-same, eligibilities-snoc-other}
 use Rattle.rules.proofs.Notices.{of-none}
 use Rattle.rules.proofs.Memory.{all-remember-all}
 use Rattle.rules.proofs.Standing.{stands-owned}
-use Rattle.rules.proofs.Verdicts.{settled, heard-parts, heard-intro, offer-done, tick-done}
+use Rattle.rules.proofs.Verdicts.{settled, heard-parts, heard-intro, offer-done}
 use Rattle.rules.proofs.SoundKept.{fresh-free}
-use Rattle.rules.proofs.Invariant.{whats, Invariant}
+use Rattle.rules.proofs.Invariant.{Invariant}
 use Rattle.rules.proofs.KeptBySweep.{of-filter}
 use Rattle.rules.proofs.Every.{no-owner, keeps, invariant}
-use Rattle.rules.proofs.InTime.{find-all, conserved-lists}
-use Rattle.rules.proofs.Keeper.{run-append, from-end, run-last, owner-stays, kind-before, All-taken, all-taken, word-before, on-arrival}
-use Rattle.rules.proofs.Alone.{exchanges-last, no-exchanges, asks}
+use Rattle.rules.proofs.InTime.{find-all}
+use Rattle.rules.proofs.Keeper.{from-end, run-last, owner-stays, kind-before, All-taken, all-taken, word-before, on-arrival}
+use Rattle.rules.proofs.Alone.{word-is, exchanges-last, no-exchanges, asks}
 use Rattle.rules.proofs.OwnLine.{no-own, Sent, own-line, own-all, own-spaced, own-lengths}
-use Rattle.rules.proofs.Results.{seventeen-exactly, no-finish-before, demand-3-for-stamps}
+use Rattle.rules.proofs.Results.{verdicts-of-an-offer, demand-3-for-stamps}
 
 -- ---- hub 2: what was accepted of a connection of the second kind was asked, each with its stamp and the allowance
 
@@ -208,7 +210,7 @@ module _ (c : ℕ) where
         own (some stamp) i e w = never (sym kind ∙ offer-done s c len tag (some stamp) e .suited)
 
   -- one call more
-  still-on-arrival : (level : c ≡ notice-number → ⊥) (ks : List Call) → stamped (figures (run ks .now) c) ≡ false → Keeps-its-word c ks → All On-arrival (run ks .present)
+  still-on-arrival : (level : c ≡ notice-number → ⊥) (ks : List Call) → stamped (figures (run ks .now) c) ≡ false → Word c ks → All On-arrival (run ks .present)
       → (k : Call) → ((t : ℕ) → offer-tick c (run ks .now) k ≡ some t → Spaced (figures (run ks .now) c) (offer-ticks c ks ++ t ∷ []))
       → All On-arrival (push (run ks .present) (taken k (run ks .now) (answer k (run ks .now))))
   still-on-arrival level ks kind word P (link l) w = P
@@ -223,11 +225,11 @@ module _ (c : ℕ) where
   still-on-arrival level ks kind word P (close d) w = P
   still-on-arrival level ks kind word P tick w = P
 
-  pub all-on-arrival : (c ≡ notice-number → ⊥) → (ks : List Call) → stamped (figures (run ks .now) c) ≡ false → Keeps-its-word c ks → All On-arrival (run ks .present)
-  all-on-arrival level = from-end (λ ks. stamped (figures (run ks .now) c) ≡ false → Keeps-its-word c ks → All On-arrival (run ks .present)) (λ _ _. tt) one
+  pub all-on-arrival : (c ≡ notice-number → ⊥) → (ks : List Call) → stamped (figures (run ks .now) c) ≡ false → Word c ks → All On-arrival (run ks .present)
+  all-on-arrival level = from-end (λ ks. stamped (figures (run ks .now) c) ≡ false → Word c ks → All On-arrival (run ks .present)) (λ _ _. tt) one
     where
-      one : (ks : List Call) (k : Call) → (stamped (figures (run ks .now) c) ≡ false → Keeps-its-word c ks → All On-arrival (run ks .present))
-          → stamped (figures (run (ks ++ k ∷ []) .now) c) ≡ false → Keeps-its-word c (ks ++ k ∷ []) → All On-arrival (run (ks ++ k ∷ []) .present)
+      one : (ks : List Call) (k : Call) → (stamped (figures (run ks .now) c) ≡ false → Word c ks → All On-arrival (run ks .present))
+          → stamped (figures (run (ks ++ k ∷ []) .now) c) ≡ false → Word c (ks ++ k ∷ []) → All On-arrival (run (ks ++ k ∷ []) .present)
       one ks k ih kind word =
           subst (λ (h : History). All On-arrival (h .present)) (sym (run-last ks k)) (go (owned (after (run ks) k .now .connections) c) refl)
         where
@@ -242,27 +244,6 @@ module _ (c : ℕ) where
               all-map (λ p f. f .1) (after (run ks) k .present)
               (all-filter On-arrival (λ p. owned (after (run ks) k .now .connections) (p .connection)) (push (run ks .present) (taken k (run ks .now) (answer k (run ks .now))))
               (still-on-arrival level ks was (W .so-far) (ih was (W .so-far)) k (W .this-one)))
-
--- ---- once the clock has ended nothing leaves
-
-module _ (h : History) (ended : clock-end ≤ h .now .clock) where
-  abbrev Stopped : Answer → Type 0
-  Stopped a = (push (h .departed) (leaving (h .now) (a .departed)) ≡ h .departed) × (a .next .clock ≡ h .now .clock)
-
-  done-stopped : (k : Call) → verdict k (h .now) ≡ 0 → Stopped (done k (h .now))
-  done-stopped (link l) e = (refl, refl)
-  done-stopped (admit x) e = (refl, refl)
-  done-stopped (offer c len tag st) e = (refl, refl)
-  done-stopped (notice len tag) e = (refl, refl)
-  done-stopped (close c) e = (refl, refl)
-  done-stopped tick e = absurd (omega (arith, tick-done (h .now) e .running))
-
-  call-stopped : (k : Call) → Stopped (answer k (h .now))
-  call-stopped k = settled Stopped k (h .now) (verdict k (h .now)) (done-stopped k) (λ _. (refl, refl))
-
-nothing-leaves : (ks : List Call) (h : History) → clock-end ≤ h .now .clock → run-from h ks .departed ≡ h .departed
-nothing-leaves [] h ended = refl
-nothing-leaves (k ∷ ks) h ended = let r = call-stopped h ended k in nothing-leaves ks (after h k) (omega (arith, r .1)) ∙ r .0
 
 -- ---- THE OFFER AT HUB 2
 
@@ -341,29 +322,15 @@ module _ (ks earlier later : List Call) (c c2 delay len tag : ℕ) (F : Follows 
       gap-after = λ last i. find-all Earlier (past s c2) 0 last past-earlier i;
     }
 
-    promise : Kept-promise earlier later c2 len tag (some (d .what .eligibility)) (stamp-plus (run earlier .now) c2 (d .what .eligibility))
+    promise : Kept-promise earlier later c2 len tag (some (d .what .eligibility)) (eligibility-now (run earlier .now) c2 (some (d .what .eligibility)))
     promise = demand-3-for-stamps earlier later c2 len tag (d .what .eligibility) ok no-cause
 
     abbrev total-delay : ℕ
     total-delay = bound-of (run ks .now) c + delay
 
-    -- it leaves in time, counted from a tick that is its eligibility at hub 1
-    leaves : (f : ℕ) → d .what .eligibility ≡ f → s .clock < clock-end
-        → f + (bound-of (run ks .now) c + delay) + bound-of s c2 ≤ run (earlier ++ offer c2 len tag (some (d .what .eligibility)) ∷ later) .now .clock
-        → Left-by (run (earlier ++ offer c2 len tag (some (d .what .eligibility)) ∷ later)) c2 (length (of c2 (run earlier .accepted)))
-        (record { connection = c2; len = len; tag = tag; arrival = s .clock; eligibility = f + (bound-of (run ks .now) c + delay) })
-        (f + (bound-of (run ks .now) c + delay) + bound-of s c2)
-    leaves f i running =
-        subst
-        (λ (g : ℕ). g + (bound-of (run ks .now) c + delay) + bound-of s c2 ≤ run (earlier ++ offer c2 len tag (some (d .what .eligibility)) ∷ later) .now .clock
-        → Left-by (run (earlier ++ offer c2 len tag (some (d .what .eligibility)) ∷ later)) c2 (length (of c2 (run earlier .accepted)))
-        (record { connection = c2; len = len; tag = tag; arrival = s .clock; eligibility = g + (bound-of (run ks .now) c + delay) })
-        (g + (bound-of (run ks .now) c + delay) + bound-of s c2)) i
-        (subst
-        (λ (a : ℕ). d .what .eligibility + a + bound-of s c2 ≤ run (earlier ++ offer c2 len tag (some (d .what .eligibility)) ∷ later) .now .clock
-        → Left-by (run (earlier ++ offer c2 len tag (some (d .what .eligibility)) ∷ later)) c2 (length (of c2 (run earlier .accepted)))
-        (record { connection = c2; len = len; tag = tag; arrival = s .clock; eligibility = d .what .eligibility + a })
-        (d .what .eligibility + a + bound-of s c2)) (F .allowance) (promise .in-time running))
+    -- .. with the eligibility that hub 2 gives it
+    kept : Kept-promise earlier later c2 len tag (some (d .what .eligibility)) (d .what .eligibility + total-delay)
+    kept = subst (λ (a : ℕ). Kept-promise earlier later c2 len tag (some (d .what .eligibility)) (d .what .eligibility + a)) (F .allowance) promise
 
     -- the number of c is a connection's
     level : c ≡ notice-number → ⊥
@@ -373,7 +340,7 @@ module _ (ks earlier later : List Call) (c c2 delay len tag : ℕ) (F : Follows 
         (sym (no-own c ks (subst (λ (j : ℕ). owned (run ks .now .connections) j ≡ false) (sym i) (no-owner (run ks .now) (invariant ks .sound)))) ∙ parts)
         ∙ find-at before d behind)
 
-    on-its-arrival : stamped (figures (run ks .now) c) ≡ false → Keeps-its-word c ks → d .what .eligibility ≡ d .what .arrival
+    on-its-arrival : stamped (figures (run ks .now) c) ≡ false → Word c ks → d .what .eligibility ≡ d .what .arrival
     on-its-arrival kind word =
         sym
         (all-at (λ y. y .what .arrival ≡ y .what .eligibility) before d behind
@@ -385,44 +352,15 @@ module _ (ks earlier later : List Call) (c c2 delay len tag : ℕ) (F : Follows 
       is-departure = ap (λ (l : List Departure). getElem? l (length before)) parts ∙ find-at before d behind;
       carried = carried;
       never-17 = λ v. not-seventeen v;
-      never-12 = promise .never-for-room;
-      accepted = promise .accepted;
-      eligible = λ running. promise .eligible running ∙ ap (λ (a : ℕ). d .what .eligibility + a) (F .allowance);
-      in-time = leaves (d .what .eligibility) refl;
-      not-early = λ finish i. leaves-late finish i (split clock-end (s .clock));
-      since-arrival = λ kind word. leaves (d .what .arrival) (on-its-arrival kind word);
+      kept = kept;
+      since-arrival = λ kind word. subst (λ (f : ℕ). Kept-promise earlier later c2 len tag (some (d .what .eligibility)) (f + total-delay)) (on-its-arrival kind (word-is c ks word)) kept;
     }
       where
-        -- it is of the second kind, and never goes early; at the clock's end nothing leaves
-        leaves-late : (finish : ℕ)
-            → getElem? (departures c2 (run (earlier ++ offer c2 len tag (some (d .what .eligibility)) ∷ later) .departed)) (length (of c2 (run earlier .accepted)))
-            ≡ some (record { what = record { connection = c2; len = len; tag = tag; arrival = s .clock; eligibility = d .what .eligibility + (bound-of (run ks .now) c + delay) }; finish = finish })
-            → (clock-end ≤ s .clock) ⊎ (s .clock < clock-end)
-            → d .what .eligibility + (bound-of (run ks .now) c + delay) + len ≤ finish
-        leaves-late finish i (inl ended) =
-            absurd
-            (omega (
-              arith,
-              find-below (departures c2 (run (earlier ++ offer c2 len tag (some (d .what .eligibility)) ∷ later) .departed)) (length (of c2 (run earlier .accepted))) _ i,
-              ap (λ (h : History). length (departures c2 (h .departed))) (run-append earlier (offer c2 len tag (some (d .what .eligibility)) ∷ later) nothing-yet),
-              ap (λ (l : List Departure). length (departures c2 l)) (nothing-leaves (offer c2 len tag (some (d .what .eligibility)) ∷ later) (run earlier) ended),
-              ap length (conserved-lists (run earlier) (invariant earlier) c2),
-              length-append (whats (departures c2 (run earlier .departed))) (of c2 (in-hub s)),
-              length-map (λ (y : Departure). y .what) (departures c2 (run earlier .departed)),
-            ))
-        leaves-late finish i (inr running) =
-            omega (
-              arith,
-              F .allowance,
-              no-finish-before earlier later c2 len tag (some (d .what .eligibility)) finish (promise .accepted running) (inl (F .second-kind))
-                  (i ∙ ap (λ (a : ℕ). some (record { what = record { connection = c2; len = len; tag = tag; arrival = s .clock; eligibility = d .what .eligibility + a }; finish = finish })) (sym (F .allowance))),
-            )
-
         not-seventeen : answer (offer c2 len tag (some (d .what .eligibility))) s .verdict ≡ 17 → ⊥
         not-seventeen v =
-            seventeen-exactly c2 len tag (d .what .eligibility) s (invariant earlier .sound)
+            verdicts-of-an-offer s c2 len tag (some (d .what .eligibility)) (invariant earlier .sound)
             (λ z. true≢false (sym (stands-owned s c2 (heard-parts s c2 (some (d .what .eligibility)) hears .0)) ∙ subst (λ (r : State). owned (r .connections) c2 ≡ false) (sym (invariant earlier .sound .with-no-link z)) (fresh-free c2)))
-            .0 v .3 no-cause
+            .seventeen (d .what .eligibility) refl .0 v .1 no-cause
 
 pub two-hubs-in-a-row : Two-hubs-in-a-row
 two-hubs-in-a-row ks earlier later c c2 delay len tag st F hears C =
@@ -435,98 +373,3 @@ two-hubs-in-a-row ks earlier later c c2 delay len tag st F hears C =
           (subst (λ (o : Option ℕ). Carried delay (L .it) (record { at = run earlier .now .clock; len = len; tag = tag; stamp = o })) (sym i) (L .carried))
           (subst (λ (o : Option ℕ). heard (run earlier .now) c2 o ≡ true) (sym i) hears)),
     )
-
--- ---- a whole run of hub 2
-
-carries-front : (delay : ℕ) (ds : List Departure) (qs ps : List Asked) → Carries delay ds (qs ++ ps) → Carries delay ds qs
-carries-front delay ds [] ps k = tt
-carries-front delay [] (q ∷ qs) ps k = k
-carries-front delay (d ∷ ds) (q ∷ qs) ps (inl k) = inl (k .0, carries-front delay ds qs ps (k .1))
-carries-front delay (d ∷ ds) (q ∷ qs) ps (inr k) = inr (carries-front delay ds (q ∷ qs) ps k)
-
-module _ (ks : List Call) (c c2 delay : ℕ) where
-  abbrev extra : ℕ
-  extra = bound-of (run ks .now) c + delay
-
-  -- an offer that is the last call
-  goes : (ms : List Call) (len tag : ℕ) (st : Option ℕ) → Follows (run ks .now) (run ms .now) c c2 delay → heard (run ms .now) c2 st ≡ true
-      → Carries delay (own-departures c ks) (asked-of c2 (ms ++ offer c2 len tag st ∷ []))
-      → Goes-through extra (record {
-        asked = record { at = run ms .now .clock; len = len; tag = tag; stamp = st };
-        verdict = answer (offer c2 len tag st) (run ms .now) .verdict;
-        eligibility = answer (offer c2 len tag st) (run ms .now) .number;
-      })
-  goes ms len tag st F hears C =
-      let P = two-hubs-in-a-row ks ms [] c c2 delay len tag st F hears C in
-      record { never-17 = P .1 .never-17; never-12 = P .1 .never-12; accepted = P .1 .accepted; eligible = λ running. (P .0 .what .eligibility, P .1 .carried .stamp, P .1 .eligible running) }
-
-  call-goes : (ms : List Call) (k : Call) → (heard-then : (st : Option ℕ) → heard (run ms .now) c2 st ≡ true → Follows (run ks .now) (run ms .now) c c2 delay)
-      → Carries delay (own-departures c ks) (asks (push (exchanges c2 ms) (exchange c2 (run ms .now) k)))
-      → owned (after (run ms) k .now .connections) c2 ≡ true
-      → All (Goes-through extra) (exchanges c2 ms) → All (Goes-through extra) (push (exchanges c2 ms) (exchange c2 (run ms .now) k))
-  call-goes ms (link l) f C o G = G
-  call-goes ms (admit x) f C o G = G
-  call-goes ms (notice len tag) f C o G = G
-  call-goes ms (close d) f C o G = G
-  call-goes ms tick f C o G = G
-  call-goes ms (offer d len tag st) f C o G = go (eqb d c2 && heard (run ms .now) c2 st) refl
-    where
-      q : ℕ → Exchange
-      q d = record {
-        asked = record { at = run ms .now .clock; len = len; tag = tag; stamp = st };
-        verdict = answer (offer d len tag st) (run ms .now) .verdict;
-        eligibility = answer (offer d len tag st) (run ms .now) .number;
-      }
-
-      own : d ≡ c2 → heard (run ms .now) c2 st ≡ true → Goes-through extra (q d)
-      own i hears =
-          subst (λ (j : ℕ). Goes-through extra (q j)) (sym i)
-          (goes ms len tag st (f st hears) hears
-          (subst (λ (es : List Exchange). Carries delay (own-departures c ks) (asks es))
-          (sym (exchanges-last c2 ms (offer c2 len tag st) ∙ cond-is (push (exchanges c2 ms) (exchange c2 (run ms .now) (offer c2 len tag st))) [] (subst (λ (j : ℕ). owned (answer (offer j len tag st) (run ms .now) .next .connections) c2 ≡ true) i o)))
-          (subst (λ (j : ℕ). Carries delay (own-departures c ks) (asks (push (exchanges c2 ms) (exchange c2 (run ms .now) (offer j len tag st))))) i C)))
-
-      go : (b : Bool) → (eqb d c2 && heard (run ms .now) c2 st) ≡ b → All (Goes-through extra) (push (exchanges c2 ms) (cond b (some (q d)) none))
-      go false e = G
-      go true e = let p = and-true (eqb d c2) (heard (run ms .now) c2 st) e in all-snoc (Goes-through extra) (exchanges c2 ms) (q d) G (own (eqb-true d c2 (p .0)) (p .1))
-
-  all-go : (ms : List Call) → Follows (run ks .now) (run ms .now) c c2 delay → Carries delay (own-departures c ks) (asked-of c2 ms) → All (Goes-through extra) (exchanges c2 ms)
-  all-go = from-end (λ ms. Follows (run ks .now) (run ms .now) c c2 delay → Carries delay (own-departures c ks) (asked-of c2 ms) → All (Goes-through extra) (exchanges c2 ms)) (λ _ _. tt) one
-    where
-      one : (ms : List Call) (k : Call) → (Follows (run ks .now) (run ms .now) c c2 delay → Carries delay (own-departures c ks) (asked-of c2 ms) → All (Goes-through extra) (exchanges c2 ms))
-          → Follows (run ks .now) (run (ms ++ k ∷ []) .now) c c2 delay → Carries delay (own-departures c ks) (asked-of c2 (ms ++ k ∷ [])) → All (Goes-through extra) (exchanges c2 (ms ++ k ∷ []))
-      one ms k ih =
-          subst (λ (h : History). Follows (run ks .now) (h .now) c c2 delay → Carries delay (own-departures c ks) (asked-of c2 (ms ++ k ∷ [])) → All (Goes-through extra) (exchanges c2 (ms ++ k ∷ []))) (sym (run-last ms k))
-          (subst (λ (es : List Exchange). Follows (run ks .now) (after (run ms) k .now) c c2 delay → Carries delay (own-departures c ks) (asks es) → All (Goes-through extra) es) (sym (exchanges-last c2 ms k))
-          (go (owned (after (run ms) k .now .connections) c2) refl))
-        where
-          follows-from : (s r : State) → figures r c2 ≡ figures s c2 → Follows (run ks .now) r c c2 delay → Follows (run ks .now) s c c2 delay
-          follows-from s r e F = record {
-            never-early = F .never-early;
-            second-kind = sym (ap stamped e) ∙ F .second-kind;
-            same-gap = sym (ap (λ (x : Connection). x .gap) e) ∙ F .same-gap;
-            same-size = sym (ap (λ (x : Connection). x .size) e) ∙ F .same-size;
-            allowance = sym (ap (λ (x : Connection). x .allowance) e) ∙ F .allowance;
-          }
-
-          front : (o : Option Exchange) → Carries delay (own-departures c ks) (asks (push (exchanges c2 ms) o)) → Carries delay (own-departures c ks) (asked-of c2 ms)
-          front none C = C
-          front (some x) C =
-              carries-front delay (own-departures c ks) (asked-of c2 ms) (x .asked ∷ [])
-              (subst (Carries delay (own-departures c ks)) (map-append (λ (e : Exchange). e .asked) (exchanges c2 ms) (x ∷ [])) C)
-
-          go : (b : Bool) → owned (after (run ms) k .now .connections) c2 ≡ b → Follows (run ks .now) (after (run ms) k .now) c c2 delay
-              → Carries delay (own-departures c ks) (asks (cond b (push (exchanges c2 ms) (exchange c2 (run ms .now) k)) []))
-              → All (Goes-through extra) (cond b (push (exchanges c2 ms) (exchange c2 (run ms .now) k)) [])
-          go false o F C = tt
-          go true o F C = call-goes ms k (λ st hears. back (stands-owned (run ms .now) c2 (heard-parts (run ms .now) c2 st hears .0))) C o (was (owned (run ms .now .connections) c2) refl)
-            where
-              back : owned (run ms .now .connections) c2 ≡ true → Follows (run ks .now) (run ms .now) c c2 delay
-              back b = follows-from (run ms .now) (after (run ms) k .now) (owner-stays c2 (run ms .now) (invariant ms .sound) b k o) F
-
-              was : (b : Bool) → owned (run ms .now .connections) c2 ≡ b → All (Goes-through extra) (exchanges c2 ms)
-              was true b = ih (back b) (front (exchange c2 (run ms .now) k) C)
-              was false b = subst (All (Goes-through extra)) (sym (no-exchanges c2 ms b)) tt
-
-pub all-go-through : All-go-through
-all-go-through ks ms c c2 delay F C = all-go ks c c2 delay ms F C

@@ -13,7 +13,8 @@ use Rattle.rules.specs.Model.{Link, Connection, State, Call, link, admit
 use Rattle.rules.specs.Admission.{link-within, level-within, figures-within, free-number, joining, stands, reservation, stand-by-on, distance, reserved, passes}
 use Rattle.rules.specs.Service.{suits, untimely-by, of}
 use Rattle.rules.specs.SoundTest.{sound}
-use Rattle.rules.specs.Calls.{causes, heard, eligibility-now, too-far, verdicts, verdict, done, refused, settle}
+use Rattle.rules.specs.Calls.{causes, heard, eligibility-now, too-far, verdicts, verdict, done, settle}
+use Rattle.rules.proofs.Doings.{refused}
 use Rattle.rules.proofs.Lists.{All, all-map}
 use Rattle.rules.proofs.Tests.{passed, and-true, and-intro, within-true}
 

@@ -14,7 +14,8 @@ use Rattle.rules.specs.Limits.{max-gap, max-remembered}
 use Rattle.rules.specs.Model.{Link, Connection, Past}
 use Rattle.rules.specs.Admission.{burst, stamped, average-within, figures-within, count}
 use Rattle.rules.specs.Service.{nth-before, ticks-after, earliest, next-eligibility, remember, remember-all, Spaced-behind, Spaced}
-use Rattle.rules.specs.SoundState.{departed-of, reach, Near-by, Beyond, Queue}
+use Rattle.rules.specs.SoundState.{departed-of, Near-by, Beyond, Queue}
+use Rattle.rules.specs.SoundTest.{reach}
 use Rattle.rules.specs.SoundTest.{latest}
 use Rattle.rules.specs.WithoutAverage.{Plain, Apart, in-ticks, base-figures-within, base-count, base-eligibility, Base-spaced, last-of, Ends-at, First-near, In-steps, Later-exact, Base-queue, Memory-kept}
 use Rattle.rules.proofs.Lists.{All, Pairs, all-map, all-sub, all-every, Sub, nil, skip, keep}

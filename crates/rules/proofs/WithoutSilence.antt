@@ -14,7 +14,8 @@ use Rattle.rules.specs.Limits.{max-silence, notice-number}
 use Rattle.rules.specs.Model.{Link, Connection, Notice, State, Call, link, admit, offer, notice, close, tick, nth}
 use Rattle.rules.specs.Admission.{link-within, bound, count, cost}
 use Rattle.rules.specs.WithoutWindows.{bounds-sum, bounds-from, bounds-test}
-use Rattle.rules.specs.Service.{started, packet-departs, notice-departs, after-unit, ticked}
+use Rattle.rules.specs.Service.{ticked}
+use Rattle.rules.proofs.HubTick.{started-state, packet-departs, notice-departs, after-unit}
 use Rattle.rules.specs.SoundState.{Sound}
 use Rattle.rules.specs.Calls.{verdict, done}
 use Rattle.rules.specs.Before.{base-within, base-sum, base-short, As-in-the-base, No-silence-runs}
@@ -76,14 +77,14 @@ unit-silent s z (suc (suc u)) = le-refl (s .silent)
 
 module _ (s : State) (z : s .link .silence ≡ 0) where
   tick-silent : ticked s .next .silent ≤ s .silent
-  tick-silent = unit-silent (started s) z (started s .to-go)
+  tick-silent = unit-silent (started-state s) z (started-state s .to-go)
 
   now-silent : Sound s → s .silent ≡ 0
   now-silent S = go (same (s .link .levels) 0)
     where
       go : (s .link .levels ≡ 0) ⊎ (s .link .levels ≡ 0 → ⊥) → s .silent ≡ 0
       go (inl e) = ap (λ (r : State). r .silent) (S .with-no-link e)
-      go (inr n) = omega (arith, S .with-one n .orderly .silent-le)
+      go (inr n) = omega (arith, S .with-one n .orderly .line .silent-le)
 
   done-silent : Sound s → (k : Call) → done k s .next .silent ≡ 0
   done-silent S (link l) = now-silent S

@@ -7,7 +7,7 @@ use mathlib.Core.Option.{Option, none, some}
 use lib.Dec.{leb, ltb, eqb}
 use lib.ListN.{length, getD, set}
 use Rattle.rules.specs.Words.{within, upto, sum}
-use Rattle.rules.specs.Limits.{max-levels, max-largest, max-silence, max-bound, max-level-window, max-gap, max-window, max-burst, max-allowance}
+use Rattle.rules.specs.Limits.{max-levels, max-largest, max-silence, max-bound, max-level-window, max-gap, max-window, max-allowance, max-remembered}
 use Rattle.rules.specs.Model.{Link, Connection, State, Short, no-short, nth, closed-at}
 
 -- ---- "Link, connections, places"
@@ -59,7 +59,7 @@ burst c = c .window / c .average
 abbrev pub average-within : Connection → Bool
 average-within c =
     (eqb (c .window) 0 && eqb (c .average) 0)
-    || (leb (c .window) max-window && (leb (c .gap) (c .average) && (eqb (c .window % c .average) 0 && within 1 max-burst (burst c))))
+    || (leb (c .window) max-window && (leb (c .gap) (c .average) && (eqb (c .window % c .average) 0 && within 1 max-remembered (burst c))))
 
 -- a connection of the second kind, by stamps: each of its offers brings one (document 02, R-9). The first kind is regulated by its gap
 unfoldable pub stamped : Connection → Bool

@@ -8,12 +8,13 @@ use mathlib.Core.List.{List}
 use mathlib.Core.Option.{Option, none, some}
 use lib.Dec.{leb}
 use lib.ListN.{length}
-use Rattle.rules.specs.Words.{within, upto, sum, first-number}
-use Rattle.rules.specs.Limits.{max-levels, max-largest}
+use Rattle.rules.specs.Words.{within, upto, sum, first-number, All}
+use Rattle.rules.specs.Limits.{max-levels, max-largest, max-allowance}
 use Rattle.rules.specs.Model.{Link, Connection, Past, State, Call, link, offer, Short, no-short, no-windows, nth, figures}
-use Rattle.rules.specs.Admission.{rising, cost, link-within, average-within, figures-within, stands, windowed, windows-within, bound, largest-bound, charge-time, count, reservation, stand-by-on, ahead, conditions, limit-at, level-sum, level-test}
-use Rattle.rules.specs.Service.{next-eligibility, Spaced, line-after-start, ticked}
-use Rattle.rules.specs.SoundState.{Queue, In-service, Sound}
+use Rattle.rules.specs.Admission.{rising, cost, link-within, average-within, figures-within, stands, windowed, windows-within, bound, largest-bound, charge-time, count, reservation, stand-by-on, ahead, conditions, limit-at, level-sum, level-test, rounded-up}
+use Rattle.rules.specs.Service.{next-eligibility, Spaced, chosen, early-at, stand-by, begins, wire, ticked}
+use Rattle.rules.specs.SoundState.{Queue, Sound}
+use Rattle.rules.specs.SoundLine.{Packet-on}
 use Rattle.rules.specs.SoundTest.{latest-by-gap, latest}
 use Rattle.rules.specs.Calls.{heard, answer}
 use Rattle.rules.specs.WithoutAverage.{Plain, base-figures-within, base-count, base-eligibility, Base-spaced, Base-queue, Memory-kept}
@@ -81,13 +82,28 @@ First-kind =
     × ((t : ℕ) (h : Past) → latest c t h ≡ latest-by-gap c t h)
     × ((s : State) (n : ℕ) → figures s n ≡ c → (heard s n none ≡ stands s n) × ((stamp : ℕ) → heard s n (some stamp) ≡ false))
 
+-- a connection of the second kind
+abbrev pub Second : Connection → Type 0
+Second c = (c .kind ≡ 1) × (c .window ≡ 0) × (c .average ≡ 0)
+
+-- its limits are document 01's and that of the allowance; its count, window / X rounded up; its reservation, (a + d) / X rounded up; its spacing; and its rows in a sound state: at most the allowance
+-- beyond the clock, beside what is asked of the memory, which says that all rise by X. So it is whether the stand-by queue is on or off (document 02, R-11)
+abbrev pub Second-kind : Type 0
+Second-kind =
+    (c : Connection) → Second c
+    → ((l : Link) → figures-within l c ≡ (base-figures-within l c && leb (c .allowance) max-allowance))
+    × ((w : ℕ) → count c w ≡ base-count c w)
+    × ((l : Link) → reservation l c ≡ rounded-up (c .allowance + bound l (c .level)) (c .gap))
+    × ((es : List ℕ) → Spaced c es ↔ Base-spaced c es)
+    × ((l : Link) (t : ℕ) (h : Past) (es : List ℕ) → Queue c (ahead l c) t h es ↔ (Memory-kept c t h es × All (λ e. e ≤ t + c .allowance) es))
+
 -- ---- the stand-by queue (document 02, R-11)
 
 -- where it is off all is as it was: what an idle line takes, what a sound state asks of a connection's rows and of the packet in service, and the verdict of an offer
 pub record As-without-stand-by (s : State) : Type 0 where
-  pub line-is : (u q : ℕ) → line-after-start s u q ≡ only-start s u q
+  pub line-is : (u q : ℕ) → begins (chosen s) (stand-by s) (wire s) u q ≡ only-start s u q
   pub rows-are : (c : Connection) (t : ℕ) (h : Past) (es : List ℕ) → Queue c (ahead (s .link) c) t h es ↔ Only-queue c t h es
-  pub service-is : In-service s ↔ Only-in-service (s .held) (s .serving) (s .to-go) (s .clock)
+  pub service-is : Packet-on (early-at s) (s .clock) (wire s) ↔ Only-in-service (s .held) (s .serving) (s .to-go) (s .clock)
   pub verdict-is : (c len tag : ℕ) (st : Option ℕ) → answer (offer c len tag st) s .verdict ≡ first-number (only-verdicts c len st s)
 
 -- .. and a link that does not ask for it is off, with the limits that it had

@@ -3,14 +3,14 @@
 use Prim.Native.Nat.{ℕ, zero, suc, _+_}
 use mathlib.Core.Bool.{Bool, true, cond, not, _&&_}
 use mathlib.Core.List.{List, [], _∷_, _++_}
-use mathlib.Core.Option.{Option, none}
+use mathlib.Core.Option.{Option, none, some}
 use lib.Dec.{leb, ltb, eqb}
 use lib.ListN.{length, set}
 use Rattle.rules.specs.Words.{within, first-number}
-use Rattle.rules.specs.Limits.{max-connections, max-reserved, clock-end, max-notices, no-connection-number}
-use Rattle.rules.specs.Model.{Link, Connection, Packet, State, Call, link, admit, offer, notice, close, tick, Short, no-short, Answer, past, figures, with-link, with-connections, with-closed, with-held, with-notices}
+use Rattle.rules.specs.Limits.{max-connections, max-reserved, clock-end, max-notices, notice-number, no-connection-number}
+use Rattle.rules.specs.Model.{Connection, Packet, State, Call, link, admit, offer, notice, close, tick, Short, no-short, Answer, done-with, past, figures, with-link, with-connections, with-closed, with-held, with-notices}
 use Rattle.rules.specs.Admission.{link-within, level-within, figures-within, free-number, joining, stands, reservation, stand-by-on, distance, reserved, level-test, passes}
-use Rattle.rules.specs.Service.{suits, eligibility-by, untimely-by, remember, of, ticked, swept, sweeping}
+use Rattle.rules.specs.Service.{suits, eligibility-by, untimely-by, remember, of, ticked, swept}
 use Rattle.rules.specs.SoundTest.{sound}
 
 -- an offer is heard by number c if c stands, and is of the second kind exactly where the offer brings a stamp (document 02, R-9)
@@ -27,12 +27,9 @@ too-far s c st = stand-by-on (s .link) && ltb (s .clock + distance (s .link) (fi
 
 -- ---- the table "Verdict numbers", call by call, each in the document's order: number, given exactly when
 
--- no link set; no such connection; the clock has ended
+-- no link set; the clock has ended
 abbrev pub no-link-set : State → ℕ × Bool
 no-link-set s = (2, eqb (s .link .levels) 0)
-
-abbrev pub no-such-connection : State → ℕ → ℕ × Bool
-no-such-connection s c = (10, not (stands s c))
 
 abbrev pub clock-ended : State → ℕ × Bool
 clock-ended s = (13, leb clock-end (s .clock))
@@ -77,7 +74,8 @@ causes (notice len tag) s =
     ∷ (15, leb max-notices (length (s .notices))) ∷ []
 causes (close c) s =
     no-link-set s
-    ∷ no-such-connection s c
+    -- no such connection
+    ∷ (10, not (stands s c))
     -- it still holds packets
     ∷ (16, leb 1 (length (of c (s .held)))) ∷ []
 causes tick s = no-link-set s ∷ clock-ended s ∷ []
@@ -91,67 +89,47 @@ verdict k s = first-number (verdicts k s)
 
 -- ---- what a call does
 
-abbrev pub linked : State → Link → State
-linked s l = with-link s l
-
--- the newcomer at the lowest free number: nothing is remembered there, and there is no mark (`Free-number`, SoundState)
-abbrev pub joined : State → Connection → State
-joined s x = with-connections s (joining (s .connections) x) (s .pasts)
-
+-- the packet that an offer brings
 abbrev pub packet : State → ℕ → ℕ → ℕ → Option ℕ → Packet
 packet s c len tag st = record { connection = c; len = len; tag = tag; arrival = s .clock; eligibility = eligibility-now s c st }
 
-abbrev pub placed : State → ℕ → ℕ → ℕ → Option ℕ → State
-placed s c len tag st =
-    with-held
-    (with-connections s (s .connections) (set (s .pasts) c (remember (past s c) (eligibility-now s c st))))
-    (s .held ++ packet s c len tag st ∷ [])
-
--- a notice behind the others
-abbrev pub noted : State → ℕ → ℕ → State
-noted s len tag = with-notices s (s .notices ++ record { len = len; tag = tag; arrival = s .clock } ∷ [])
-
--- connection c is closed; it is freed at once if its charge is over (`swept`)
-abbrev pub marked : State → ℕ → State
-marked s c = with-closed s (set (s .closed) c true)
-
 -- no packet leaves but in a tick
-abbrev pub accepted : ℕ → State → Answer
-accepted n s = record { verdict = 0; number = n; short = no-short; departed = none; next = s }
-
 abbrev pub done : Call → State → Answer
-done (link l) s = accepted 0 (linked s l)
-done (admit x) s = accepted (free-number (s .connections)) (joined s x)
-done (offer c len tag st) s = accepted (eligibility-now s c st) (placed s c len tag st)
-done (notice len tag) s = accepted (s .clock) (noted s len tag)
-done (close c) s = accepted 0 (swept (marked s c))
-done tick s = sweeping (ticked s)
+done (link l) s = done-with 0 none (with-link s l)
+-- the newcomer at the lowest free number: nothing is remembered there, and there is no mark (`free-blank`, SoundState)
+done (admit x) s = done-with (free-number (s .connections)) none (with-connections s (joining (s .connections) x) (s .pasts))
+-- the packet behind those held, and its eligibility remembered
+done (offer c len tag st) s =
+    done-with (eligibility-now s c st) none
+    (with-held (with-connections s (s .connections) (set (s .pasts) c (remember (past s c) (eligibility-now s c st)))) (s .held ++ packet s c len tag st ∷ []))
+-- a notice behind the others
+done (notice len tag) s = done-with (s .clock) none (with-notices s (s .notices ++ record { len = len; tag = tag; arrival = s .clock } ∷ []))
+-- connection c is closed; it is freed at once if its charge is over (`swept`)
+done (close c) s = done-with 0 none (swept (with-closed s (set (s .closed) c true)))
+-- a tick, and the numbers whose charge it ends are freed
+done tick s = let a = ticked s in record { verdict = a .verdict; number = a .number; short = a .short; departed = a .departed; next = swept (a .next) }
 
--- a refused admission gives connection 255, a refused offer or notice eligibility 0
+-- what each call is: what it offers, if it does, the connection or the notices' number, the length and the tag; the number that it gets where it is refused, of an admission connection 255, of an
+-- offer or a notice eligibility 0; and the newcomer that it brings, if it does
+abbrev pub form : Call → Option (ℕ × ℕ × ℕ) × ℕ × Option Connection
+form (link l) = (none, 0, none)
+form (admit x) = (none, no-connection-number, some x)
+form (offer c len tag st) = (some (c, len, tag), 0, none)
+form (notice len tag) = (some (notice-number, len, tag), 0, none)
+form (close c) = (none, 0, none)
+form tick = (none, 0, none)
+
 abbrev pub refused-number : Call → ℕ
-refused-number (link l) = 0
-refused-number (admit x) = no-connection-number
-refused-number (offer c len tag st) = 0
-refused-number (notice len tag) = 0
-refused-number (close c) = 0
-refused-number tick = 0
+refused-number k = form k .1
 
 -- document 02, R-2: which level was short and by how many units, with the new one counted; nothing unless the verdict is 8
 abbrev pub refused-short : Call → State → ℕ → Short
-refused-short (link l) s v = no-short
-refused-short (admit x) s v = cond (eqb v 8) (level-test (s .link) (joining (s .connections) x)) no-short
-refused-short (offer c len tag st) s v = no-short
-refused-short (notice len tag) s v = no-short
-refused-short (close c) s v = no-short
-refused-short tick s v = no-short
+refused-short k s v = elim (form k .2) [ none ↦ no-short | some x ↦ cond (eqb v 8) (level-test (s .link) (joining (s .connections) x)) no-short ]
 
 -- a verdict other than 0 changes nothing, and no packet leaves
-abbrev pub refused : Call → State → ℕ → Answer
-refused k s v = record { verdict = v; number = refused-number k; short = refused-short k s v; departed = none; next = s }
-
 abbrev pub settle : Call → State → ℕ → Answer
 settle k s zero = done k s
-settle k s (suc v) = refused k s (suc v)
+settle k s (suc v) = record { verdict = suc v; number = refused-number k; short = refused-short k s (suc v); departed = none; next = s }
 
 -- THE RULES: the answer to a call on any state at all
 abbrev pub answer : Call → State → Answer

@@ -11,9 +11,9 @@ use Rattle.rules.specs.Model.{Connection, Past, State, Call, link, admit
 use Rattle.rules.specs.Admission.{joining, reservation, level-sum}
 use Rattle.rules.specs.Service.{remember-all, Spaced, eligibilities}
 use Rattle.rules.specs.SoundState.{in-order, departed-of, Beyond}
-use Rattle.rules.specs.Calls.{causes, placed, answer}
-use Rattle.rules.specs.Runs.{Departure, History, run-from, run, own-departures, Exchange, exchanges}
-use Rattle.rules.specs.TwoHubs.{Follows, Carries, asked-of}
+use Rattle.rules.specs.Calls.{causes, done, answer}
+use Rattle.rules.specs.Runs.{Departure, History, run-from, run, own-departures, Exchange, exchanges, asked-of}
+use Rattle.rules.specs.TwoHubs.{Follows, Carries}
 
 -- what is seen of a call: its verdict, its number, which level was short and by how many units, and for an admission the level sums with the newcomer counted, within d or
 -- within w where the link has windows, and its reservation;
@@ -256,11 +256,11 @@ left-too-early =
 -- n offers, one after the other: the state behind them, and for each the lowest verdict that applies, 1 left out
 abbrev pub offered : ℕ → State → State
 offered zero s = s
-offered (suc n) s = offered n (placed s 0 1 72 none)
+offered (suc n) s = offered n (done (offer 0 1 72 none) s .next)
 
 abbrev pub told : ℕ → State → List ℕ
 told zero s = []
-told (suc n) s = first-number (causes (offer 0 1 72 none) s) ∷ told n (placed s 0 1 72 none)
+told (suc n) s = first-number (causes (offer 0 1 72 none) s) ∷ told n (done (offer 0 1 72 none) s .next)
 
 -- these clauses hold of it, fifteen offers get no such verdict, and then the clauses hold no longer: 156 is forgotten, and 160 lies too far past the clock
 abbrev pub Left-must-be-eligible : Type 0

@@ -22,9 +22,6 @@ max-gap = 65_535
 abbrev pub max-window : ℕ
 max-window = 65_535
 
-abbrev pub max-burst : ℕ
-max-burst = 16
-
 abbrev pub max-remembered : ℕ
 max-remembered = 16
 

@@ -56,6 +56,10 @@ pub record Outcome (State : Type 0) : Type 0 where
   pub departed : Option Packet
   pub next : State
 
+-- done: verdict 0, with a number, the packet that departs, if one does, and the state that is left
+abbrev pub done-with : {State : Type 0} → ℕ → Option Packet → State → Outcome State
+done-with n o s = record { verdict = 0; number = n; short = no-short; departed = o; next = s }
+
 abbrev pub Answer : Type 0
 Answer = Outcome State
 

@@ -1,93 +1,91 @@
 -- THE STATEMENTS, apart from their proofs: each is proved in proofs/Results under the same name in small letters.
 use Prim.Native.Nat.{ℕ, suc, _+_, _*_, _-_, _≤_, _<_, min}
 use mathlib.Core.Path.{_≡_}
-use mathlib.Core.Bool.{true, false, cond, _&&_}
+use mathlib.Core.Bool.{true, false, cond, Bool}
 use mathlib.Core.Logic.{_⊎_, _↔_}
 use mathlib.Core.List.{List, [], _∷_, _++_, map}
 use mathlib.Core.Option.{Option, none, some}
-use lib.Dec.{leb, eqb}
+use lib.Dec.{leb, eqb, ltb}
 use lib.ListN.{length, getElem?, drop}
-use Rattle.rules.specs.Words.{upto, sum, first-number, All}
+use Rattle.rules.specs.Words.{sum, All}
 use Rattle.rules.specs.Limits.{max-largest, max-silence, max-bound, max-level-window, max-allowance, max-connections, max-reserved, clock-end, beyond-32-bits, max-notices, notice-number}
-use Rattle.rules.specs.Model.{Link, Connection, Past, Packet, State, Call, link, admit, offer, notice, close, tick, Short, no-short, fresh, no-past, nth, past, figures, closed-at, with-clock, with-line}
-use Rattle.rules.specs.Admission.{cost, link-within, level-within, burst, stamped, figures-within, owned, stands, joining, windowed, window, bound, charge-time, rounded-up, count, reservation, reserved, stand-by-on, distance, ahead, conditions, span, limit-at, level-sum, Level-holds, level-test}
+use Rattle.rules.specs.Model.{Link, Connection, Packet, State, Call, link, admit, offer, notice, close, Short, no-short, fresh, no-past, nth, past, figures, closed-at, Outcome, no-windows}
+use Rattle.rules.specs.Admission.{cost, link-within, level-within, burst, stamped, figures-within, owned, stands, joining, windowed, window, bound, charge-time, count, reservation, reserved, stand-by-on, distance, conditions, limit-at, level-sum, Level-holds, level-test}
 use Rattle.rules.specs.QuickTest.{quick-test}
-use Rattle.rules.specs.Service.{nth-before, suits, untimely-by, Spaced, of, eligibilities, first, chosen, stand-by, Quiet-wire, wire, wire-tick, started, tick-answer, moves-on, ticked, charge-over}
-use Rattle.rules.specs.SoundState.{Queue, Sound}
+use Rattle.rules.specs.Service.{nth-before, suits, untimely-by, Spaced, of, eligibilities, first, stand-by, started, charge-over}
+use Rattle.rules.specs.SoundState.{Sound}
 use Rattle.rules.specs.SoundTest.{sound}
 use Rattle.rules.specs.Calls.{answer, refused-number, eligibility-now, packet}
-use Rattle.rules.specs.WithoutAverage.{Apart, in-ticks, base-figures-within, base-count, Base-spaced, Memory-kept}
-use Rattle.rules.specs.WithoutWindows.{bounds-test, bounds-verdicts}
-use Rattle.rules.specs.Runs.{History, run, departures, in-hub, bound-of, allowed, Keeps-its-word, Exchange, exchanges, own-answer, own-stamp-answers}
+use Rattle.rules.specs.WithoutAverage.{Apart, in-ticks, Base-spaced}
+use Rattle.rules.specs.Runs.{run, departures, in-hub, bound-of, allowed, asked-of, Keeps-its-word, exchanges, Departure}
 
--- ---- demand 1: any call on any state ends with an answer or a numbered refusal (`answer` is a function); a refused call changes nothing
+-- an answer's numbers fit the fields of its record (document 01, "Trace and answer records"): one byte of verdict and of level, four of units, of an eligibility, of an arrival and of a
+-- finish, which is the clock then; one byte of a connection's number, which is the number of an answer whose refusal gives 255. A departed packet's tag is as it was offered (`Conservation`)
+-- the number of its refusal, the answer, the clock then
+pub record Answer-fits {State : Type 0} (refused : ℕ) (a : Outcome State) (t : ℕ) : Type 0 where
+  pub verdict : a .verdict < 256
+  pub number : a .number < cond (eqb refused 0) beyond-32-bits 256
+  pub level : a .short .level < 256
+  pub units : a .short .units < beyond-32-bits
+  pub departed : (p : Packet) → a .departed ≡ some p → (p .connection < 256) × (p .arrival < beyond-32-bits) × (p .eligibility < beyond-32-bits)
+  pub finish : t < beyond-32-bits
 
-abbrev pub Demand-1-refusals : Type 0
-Demand-1-refusals =
-    (k : Call) (s : State)
-    → (answer k s .verdict ≡ 0 → ⊥)
-    → (answer k s .next ≡ s) × (answer k s .departed ≡ none) × (answer k s .number ≡ refused-number k)
+-- ---- demand 1: any call on any state ends with an answer or a numbered refusal (`answer` is a function)
+
+-- what holds of every call of any discipline: the answer a to a call on the state s, with `refusal` for the number that the call gets where it is refused; by the sound states of the discipline, the
+-- test of them, and its clock
+pub record Answered {State : Type 0} (Sound : State → Type 0) (sound : State → Bool) (clock : State → ℕ) (s : State) (refusal : ℕ) (a : Outcome State) : Type 0 where
+  -- a refused call changes nothing, and no packet leaves
+  pub refusals-change-nothing : (a .verdict ≡ 0 → ⊥) → (a .next ≡ s) × (a .departed ≡ none) × (a .number ≡ refusal)
+  -- the test that computes is true exactly of a sound state, and verdict 1 is given exactly where the state is not sound
+  pub test-is-exact : sound s ≡ true ↔ Sound s
+  pub verdict-1-exactly : a .verdict ≡ 1 ↔ (Sound s → ⊥)
+  -- a call on a sound state leaves a sound one, and its answer fits its record
+  pub sound-is-kept : Sound s → Sound (a .next)
+  pub answers-fit : Sound s → Answer-fits refusal a (clock (a .next))
+
+abbrev pub Demand-1 : Type 0
+Demand-1 = (k : Call) (s : State) → Answered Sound sound State.clock s (refused-number k) (answer k s)
 
 -- ---- the sound state (document 01, "A sound state")
-
--- the test that computes is true exactly of a sound state
-abbrev pub Test-is-exact : Type 0
-Test-is-exact = (s : State) → sound s ≡ true ↔ Sound s
-
--- verdict 1 is given exactly where the state is not sound, whatever the call
-abbrev pub Verdict-1-exactly : Type 0
-Verdict-1-exactly = (k : Call) (s : State) → answer k s .verdict ≡ 1 ↔ (Sound s → ⊥)
 
 -- with no link set, sound means everything zero
 abbrev pub No-link-means-zero : Type 0
 No-link-means-zero = (s : State) → s .link .levels ≡ 0 → Sound s ↔ s ≡ fresh
 
--- a call on a sound state leaves a sound one
-abbrev pub Sound-is-kept : Type 0
-Sound-is-kept = (k : Call) (s : State) → Sound s → Sound (answer k s .next)
-
--- so every state of a run is sound
+-- every state of a run is sound
 abbrev pub Runs-are-sound : Type 0
 Runs-are-sound = (ks : List Call) → Sound (run ks .now)
 
--- a sound state holds no more packets than the places table has rows
-abbrev pub Rows-fit : Type 0
-Rows-fit = (s : State) → Sound s → length (s .held) ≤ max-reserved
+pub record In-a-sound-state (s : State) : Type 0 where
+  -- no more packets are held than the places table has rows, and no more notices wait than their queue has places
+  pub rows-fit : length (s .held) ≤ max-reserved
+  pub notices-fit : length (s .notices) ≤ max-notices
+  -- each eligibility that can arise fits 32 bits: those held, those remembered with the time of a charge (document 02, R-8), the next of each connection, of one with an allowance the sum with
+  -- any stamp that is not later than the present tick, and the farthest that may be given while the stand-by queue is on (document 02, R-11)
+  pub held-fit : All (λ p. p .eligibility < beyond-32-bits) (s .held)
+  pub charges-fit : (c : ℕ) → All (λ e. e + charge-time (s .link) < beyond-32-bits) (past s c)
+  pub next-fit : (c : ℕ) → eligibility-now s c none < beyond-32-bits
+  pub sums-fit : (c stamp : ℕ) → stamp ≤ s .clock → eligibility-now s c (some stamp) < beyond-32-bits
+  pub distances-fit : (c : ℕ) → s .clock + distance (s .link) (figures s c) < beyond-32-bits
+  -- a notice comes into service only where no held packet is eligible (document 02, R-1)
+  pub notices-come-last : s .to-go ≡ 0 → started s .serving ≡ notice-number → All (λ p. s .clock < p .eligibility) (s .held)
+  -- a packet comes into service before its eligibility only where it stands by, so that the queue is on and its connection is of the first kind, no held packet is eligible and no notice waits (document 02, R-11)
+  pub early-comes-last : (p : Packet) → s .to-go ≡ 0 → 1 ≤ started s .to-go → first (started s .serving) (s .held) ≡ some p → s .clock < p .eligibility
+      → (stand-by s ≡ some p) × All (λ q. s .clock < q .eligibility) (s .held) × (s .notices ≡ [])
+  -- a line whose stand-by queue is on does not idle, but for the silence, unless every packet that it holds is of the second kind
+  pub early-never-idles : stand-by-on (s .link) ≡ true → s .to-go ≡ 0 → s .silent ≡ 0
+      → (All (λ p. stamped (figures s (p .connection)) ≡ true) (s .held) → ⊥) → 1 ≤ started s .to-go
+  -- so no flood pushes eligibilities on for ever: while that queue is on, none that is held or remembered lies further past the clock
+  pub never-far-ahead : stand-by-on (s .link) ≡ true → (c : ℕ) → owned (s .connections) c ≡ true
+      → All (λ e. e ≤ s .clock + distance (s .link) (figures s c)) (eligibilities c (s .held)) × All (λ e. e ≤ s .clock + distance (s .link) (figures s c)) (past s c)
 
--- .. and no more notices than the queue has places
-abbrev pub Notices-fit : Type 0
-Notices-fit = (s : State) → Sound s → length (s .notices) ≤ max-notices
+abbrev pub Sound-states : Type 0
+Sound-states = (s : State) → Sound s → In-a-sound-state s
 
--- a notice comes into service only where no held packet is eligible (document 02, R-1)
-abbrev pub Notices-come-last : Type 0
-Notices-come-last = (s : State) → Sound s → s .to-go ≡ 0 → started s .serving ≡ notice-number → All (λ p. s .clock < p .eligibility) (s .held)
-
--- the tick is one tick of the line that both disciplines share (document 02, R-13), with the hub's own choice and the packet that stands by
-abbrev pub The-same-line : Type 0
-The-same-line = (s : State) → ticked s ≡ wire-tick (s .link .silence) (moves-on s) (chosen s) (stand-by s) (wire s)
-
--- verdict 15 comes after 13: it is given only while the clock runs
+-- verdict 15 comes after 13 (document 02, R-1): it is given only while the clock runs
 abbrev pub Fifteen-after-thirteen : Type 0
 Fifteen-after-thirteen = (len tag : ℕ) (s : State) → answer (notice len tag) s .verdict ≡ 15 → s .clock < clock-end
-
--- each eligibility that can arise fits 32 bits: those held, those remembered, the next of each connection, and of one with an allowance the sum with any stamp
--- that is not later than the present tick
-abbrev pub Eligibilities-fit : Type 0
-Eligibilities-fit =
-    (s : State) → Sound s
-    → All (λ p. p .eligibility < beyond-32-bits) (s .held)
-    × ((c : ℕ)
-    → All (λ e. e < beyond-32-bits) (past s c)
-    × (eligibility-now s c none < beyond-32-bits)
-    × ((stamp : ℕ) → stamp ≤ s .clock → eligibility-now s c (some stamp) < beyond-32-bits))
-
--- .. and so does each time at which a charge can end (document 02, R-8)
-abbrev pub Charges-fit : Type 0
-Charges-fit = (s : State) → Sound s → (c : ℕ) → All (λ e. e + charge-time (s .link) < beyond-32-bits) (past s c)
-
--- .. and the farthest eligibility that may be given while the stand-by queue is on (document 02, R-11)
-abbrev pub Distances-fit : Type 0
-Distances-fit = (s : State) → Sound s → (c : ℕ) → s .clock + distance (s .link) (figures s c) < beyond-32-bits
 
 -- ---- which level was short (document 02, R-2)
 
@@ -126,30 +124,11 @@ Short-is-told =
     × ((x : Connection) → k ≡ admit x → answer k s .verdict ≡ 8
     → (answer k s .short ≡ level-test (s .link) (joining (s .connections) x)) × Names-the-lowest (s .link) (joining (s .connections) x) (answer k s .short))
 
--- the units are what the technician is short of: the sum of the condition that failed stays within its limit and v units more exactly if v is at least the units.
--- (On a link without windows a larger bound would lengthen the window too: `Examples`, `longer-bound`)
-abbrev pub Units-are-missing : Type 0
-Units-are-missing =
-    (x : Connection) (s : State) (v : ℕ)
-    → answer (admit x) s .verdict ≡ 8
-    → (F : First-excess (s .link) (joining (s .connections) x) (answer (admit x) s .short .level) (answer (admit x) s .short .units))
-    → level-sum (s .link) (joining (s .connections) x) (answer (admit x) s .short .level) (F .which) ≤ limit-at (s .link) (answer (admit x) s .short .level) (F .which) + v
-    ↔ answer (admit x) s .short .units ≤ v
-
--- the units are at most the newcomer's own term in the sum of the condition that failed, and so at most 69,206,016: four bytes hold them
-abbrev pub own-term : Link → Connection → ℕ → ℕ → ℕ
-own-term l x m i = count x (span l m i (x .level)) * cost l (x .size)
-
-abbrev pub Units-fit : Type 0
-Units-fit =
-    (x : Connection) (s : State)
-    → answer (admit x) s .verdict ≡ 8
-    → ((F : First-excess (s .link) (joining (s .connections) x) (answer (admit x) s .short .level) (answer (admit x) s .short .units))
-    → answer (admit x) s .short .units ≤ own-term (s .link) x (answer (admit x) s .short .level) (F .which))
-    × (answer (admit x) s .short .units ≤ max-level-window * (max-largest + max-silence))
-
--- over any connections within the limits, as many as may stand, whether they pass the tests or not (document 02, R-7): the sum of each condition of a level is at
+-- the units are at most 69,206,016: four bytes hold them. Over any connections within the limits, as many as may stand, whether they pass the tests or not (document 02, R-7): the sum of each condition of a level is at
 -- most 13,841,205,312, which is within 34 bits, and all reservations together are at most 19,660,600
+abbrev pub Units-fit : Type 0
+Units-fit = (x : Connection) (s : State) → answer (admit x) s .verdict ≡ 8 → answer (admit x) s .short .units ≤ max-level-window * (max-largest + max-silence)
+
 abbrev pub Sums-fit : Type 0
 Sums-fit =
     (l : Link) (cs : List Connection)
@@ -162,74 +141,34 @@ Sums-fit =
 
 -- ---- the finer test (document 02, R-12)
 
--- b of a connection within w ticks, "the window count of R-6 times the sum of size and silence"; added up over levels 1 to m, over level m alone, and over the more
--- urgent levels
-abbrev pub b-of : Link → Connection → ℕ → ℕ
-b-of l x w = count x w * cost l (x .size)
-
-abbrev pub b-up-to : Link → List Connection → ℕ → ℕ → ℕ
-b-up-to l cs m w = sum (length cs) (λ c. upto (nth cs c .level) m (b-of l (nth cs c) w))
-
-abbrev pub b-at : Link → List Connection → ℕ → ℕ → ℕ
-b-at l cs m w = sum (length cs) (λ c. cond (eqb (nth cs c .level) m) (b-of l (nth cs c) w) 0)
-
-abbrev pub b-before : Link → List Connection → ℕ → ℕ → ℕ
-b-before l cs m w = sum (length cs) (λ c. upto (suc (nth cs c .level)) m (b-of l (nth cs c) w))
+-- the sum of b(w), "the window count of R-6 times the sum of size and silence", over the connections whose level is one of these
+abbrev pub b-over : Link → List Connection → (ℕ → Bool) → ℕ → ℕ
+b-over l cs at w = sum (length cs) (λ c. cond (at (nth cs c .level)) (count (nth cs c) w * cost l (nth cs c .size)) 0)
 
 -- "accept at level m exactly if S plus the sum of b(w) over levels 1 to m is at most w, and for every β from 0 to w - 1, S plus the sum of b(β + 1) over level m plus the
 -- sum of b over the more urgent levels, for the smaller of d + β and w, is at most d + β"; S with its silence
 pub record Accepts-at (l : Link) (cs : List Connection) (m : ℕ) : Type 0 where
-  pub within-w : cost l (l .largest) + b-up-to l cs m (window l m) ≤ window l m
+  pub within-w : cost l (l .largest) + b-over l cs (λ v. leb v m) (window l m) ≤ window l m
   pub for-every-β : (β : ℕ) → β < window l m
-      → cost l (l .largest) + b-at l cs m (suc β) + b-before l cs m (min (bound l m + β) (window l m)) ≤ bound l m + β
+      → cost l (l .largest) + b-over l cs (λ v. eqb v m) (suc β) + b-over l cs (λ v. ltb v m) (min (bound l m + β) (window l m)) ≤ bound l m + β
 
 -- on a link with windows this is what the conditions of a level say
 abbrev pub Finer-test-says : Type 0
 Finer-test-says = (l : Link) (cs : List Connection) (m : ℕ) → windowed l ≡ true → Level-holds l cs m ↔ Accepts-at l cs m
 
--- "with every w equal to its d the verdicts are the old test's": level and units, whatever the connections; so is the verdict of an admission on any state, and what is
--- told with 8
-abbrev pub At-the-bounds : Link → Type 0
-At-the-bounds l = (m : ℕ) → 1 ≤ m → m ≤ l .levels → window l m ≡ bound l m
+-- "with every w equal to its d the verdicts are the old test's": level and units are those of the same link without windows, whatever the connections
+abbrev pub unwindowed : Link → Link
+unwindowed l = record { levels = l .levels; largest = l .largest; silence = l .silence; early = l .early; bounds = l .bounds; windows = no-windows }
 
 abbrev pub Windows-at-the-bounds : Type 0
 Windows-at-the-bounds =
-    ((l : Link) (cs : List Connection) → At-the-bounds l → level-test l cs ≡ bounds-test l cs)
-    × ((s : State) (x : Connection) → At-the-bounds (s .link)
-    → (answer (admit x) s .verdict ≡ first-number (bounds-verdicts x s))
-    × (answer (admit x) s .verdict ≡ 8 → answer (admit x) s .short ≡ bounds-test (s .link) (joining (s .connections) x)))
+    (l : Link) (cs : List Connection) → ((m : ℕ) → 1 ≤ m → m ≤ l .levels → window l m ≡ bound l m) → level-test l cs ≡ level-test (unwindowed l) cs
 
 -- the quick test (QuickTest) says what the level test says: the first failing level and its first excess
 abbrev pub Quick-test-is-exact : Type 0
 Quick-test-is-exact = (l : Link) (cs : List Connection) → quick-test l cs ≡ level-test l cs
 
--- an answer's numbers fit the fields of its record (document 01, "Trace and answer records"), whatever the call: one byte of verdict and of level, four of units, of an eligibility, of an
--- arrival and of a finish, which is the clock then; one byte of a connection's number, which is the number of an answer whose refusal gives 255. A departed packet's tag is as it was offered
--- (`Conservation`)
-abbrev pub number-limit : ℕ → ℕ
-number-limit refused = cond (eqb refused 0) beyond-32-bits 256
-
-pub record Packet-fits (p : Packet) : Type 0 where
-  pub connection : p .connection < 256
-  pub arrival : p .arrival < beyond-32-bits
-  pub eligibility : p .eligibility < beyond-32-bits
-
--- of any discipline: the number of its refusal, its verdict, its number, what was short, what departed, the clock then
-pub record Answer-fits (refused v n : ℕ) (o : Short) (d : Option Packet) (t : ℕ) : Type 0 where
-  pub verdict : v < 256
-  pub number : n < number-limit refused
-  pub level : o .level < 256
-  pub units : o .units < beyond-32-bits
-  pub departed : (p : Packet) → d ≡ some p → Packet-fits p
-  pub finish : t < beyond-32-bits
-
-abbrev pub Answers-fit : Type 0
-Answers-fit =
-    (k : Call) (s : State)
-    → Sound s
-    → Answer-fits (refused-number k) (answer k s .verdict) (answer k s .number) (answer k s .short) (answer k s .departed) (answer k s .next .clock)
-
--- ---- conservation: for each connection, and for the notices under their number, accepted = departed followed by what waits, as lists. Over all time, so
+-- ---- conservation: for each connection, and for the notices under their number, accepted = departed followed by what waits, as lists, and so counted too (document 02, R-3). Over all time, so
 -- through every owner of a number
 
 abbrev pub Conservation : Type 0
@@ -237,31 +176,23 @@ Conservation =
     (ks : List Call) (c : ℕ)
     → of c (run ks .accepted) ≡ map (λ d. d .what) (departures c (run ks .departed)) ++ of c (in-hub (run ks .now))
 
--- from one moment on: what was accepted of number c since = what departed since, followed by what waits
-abbrev pub Conserved-since : List Call → List Call → ℕ → Type 0
-Conserved-since earlier later c =
-    drop (length (of c (run earlier .accepted))) (of c (run (earlier ++ later) .accepted))
-    ≡ map (λ d. d .what) (drop (length (departures c (run earlier .departed))) (departures c (run (earlier ++ later) .departed)))
-    ++ of c (in-hub (run (earlier ++ later) .now))
-
--- it holds from any moment on at which nothing of number c waits
-abbrev pub Conservation-since : Type 0
-Conservation-since = (earlier later : List Call) (c : ℕ) → of c (in-hub (run earlier .now)) ≡ [] → Conserved-since earlier later c
-
--- .. so from each admission on, for the owner that it gives the number to (document 02, R-8)
+-- .. and from each admission on, for the owner that it gives the number c to (document 02, R-8): what was accepted since = what departed since, followed by what waits
 abbrev pub Conservation-by-owner : Type 0
 Conservation-by-owner =
     (earlier later : List Call) (x : Connection)
     → answer (admit x) (run earlier .now) .verdict ≡ 0
-    → Conserved-since earlier (admit x ∷ later) (answer (admit x) (run earlier .now) .number)
+    → let c = answer (admit x) (run earlier .now) .number in
+    let h = run (earlier ++ admit x ∷ later) in
+    drop (length (of c (run earlier .accepted))) (of c (h .accepted))
+    ≡ map (λ d. d .what) (drop (length (departures c (run earlier .departed))) (departures c (h .departed))) ++ of c (in-hub (h .now))
 
 -- ---- demand 3, first sentence: from a fresh hub, through any calls, each accepted packet has left by its eligibility plus its level's bound,
 -- whatever the other connections and the notices do. The i-th accepted packet of c is the i-th departure of c once the clock is there, with a finish no later.
 -- It speaks of level packets only (document 02, R-1)
 
-pub record Left-by (h : History) (c i : ℕ) (p : Packet) (deadline : ℕ) : Type 0 where
+pub record Left-by (ds : List Departure) (c i : ℕ) (p : Packet) (deadline : ℕ) : Type 0 where
   pub finish : ℕ
-  pub is-departure : getElem? (departures c (h .departed)) i ≡ some (record { what = p; finish = finish })
+  pub is-departure : getElem? (departures c ds) i ≡ some (record { what = p; finish = finish })
   pub in-time : finish ≤ deadline
 
 -- through any opens and closes (document 02, R-8): any calls `earlier`, an offer of c that is accepted, any calls `later`. The bound is the one of c's owner when
@@ -271,7 +202,7 @@ Demand-3-first =
     (earlier later : List Call) (c len tag : ℕ) (st : Option ℕ)
     → answer (offer c len tag st) (run earlier .now) .verdict ≡ 0
     → eligibility-now (run earlier .now) c st + bound-of (run earlier .now) c ≤ run (earlier ++ offer c len tag st ∷ later) .now .clock
-    → Left-by (run (earlier ++ offer c len tag st ∷ later)) c (length (of c (run earlier .accepted))) (packet (run earlier .now) c len tag st)
+    → Left-by (run (earlier ++ offer c len tag st ∷ later) .departed) c (length (of c (run earlier .accepted))) (packet (run earlier .now) c len tag st)
     (eligibility-now (run earlier .now) c st + bound-of (run earlier .now) c)
 
 -- ---- demand 3, second sentence: a connection that keeps its word is never refused for room and leaves within the bound of its arrival
@@ -283,7 +214,7 @@ pub record Kept-promise (earlier later : List Call) (c len tag : ℕ) (st : Opti
   pub eligible : run earlier .now .clock < clock-end → answer (offer c len tag st) (run earlier .now) .number ≡ e
   pub in-time : run earlier .now .clock < clock-end
       → e + bound-of (run earlier .now) c ≤ run (earlier ++ offer c len tag st ∷ later) .now .clock
-      → Left-by (run (earlier ++ offer c len tag st ∷ later)) c (length (of c (run earlier .accepted)))
+      → Left-by (run (earlier ++ offer c len tag st ∷ later) .departed) c (length (of c (run earlier .accepted)))
       (record { connection = c; len = len; tag = tag; arrival = run earlier .now .clock; eligibility = e })
       (e + bound-of (run earlier .now) c)
 
@@ -298,30 +229,16 @@ Demand-3-second =
 
 -- ---- bed nine and bed ten (document 02, R-3): nothing that another connection does changes what a connection that keeps its word is told
 
--- in any run, each answer to a connection of the first kind that keeps its word is the one that its own figures and its own offer decide. It speaks of the
--- present owner of a number, standing or charged: of a freed number nothing is noted (document 02, R-8)
-abbrev pub Told-by-its-own : Type 0
-Told-by-its-own =
-    (ks : List Call) (c : ℕ)
-    → stamped (figures (run ks .now) c) ≡ false
-    → Keeps-its-word c ks
-    → All (λ (e : Exchange). e ≡ own-answer (figures (run ks .now) c) (e .asked)) (exchanges c ks)
-
--- so in any two runs a connection that keeps its word, of either kind, with the same figures and the same offers at the same ticks is told the same, whatever its number in each. That the
--- links are the same and that it was accepted at the same tick need not even be asked. Of the second kind (document 02, R-9): `Stamps-told-by-their-own`
+-- in any two runs a connection that keeps its word, of either kind (document 02, R-9), with the same figures and the same offers at the same ticks is told the same, whatever its number in each. That the
+-- links are the same and that it was accepted at the same tick need not even be asked. It speaks of the present owner of a number, standing or charged: of a freed number nothing is noted (document 02,
+-- R-8). Offers with stamps that come closer than the gap can be told apart (`Examples`, `stamps-broken-calls`)
 abbrev pub Bed-nine-and-bed-ten : Type 0
 Bed-nine-and-bed-ten =
     (ks ms : List Call) (c d : ℕ)
     → figures (run ks .now) c ≡ figures (run ms .now) d
-    → map (λ e. e .asked) (exchanges c ks) ≡ map (λ e. e .asked) (exchanges d ms)
+    → asked-of c ks ≡ asked-of d ms
     → Keeps-its-word c ks
     → exchanges c ks ≡ exchanges d ms
-
--- for every connection, counted from the answers: accepted since the hub was fresh = departed plus held
-abbrev pub Counted : Type 0
-Counted =
-    (ks : List Call) (c : ℕ)
-    → length (of c (run ks .accepted)) ≡ length (departures c (run ks .departed)) + length (of c (in-hub (run ks .now)))
 
 -- ---- average rates (document 02, R-6)
 
@@ -343,43 +260,26 @@ The-count-never-falls = (c : Connection) → 1 ≤ c .gap → (w v : ℕ) → w 
 
 -- ---- closing (document 02, R-8)
 
--- verdicts 10 and 16 of a close, on a sound state with a link: 10 exactly for a number that does not stand, 16 exactly for one that does and holds packets
-abbrev pub Close-is-refused : Type 0
-Close-is-refused =
-    (c : ℕ) (s : State) → Sound s → (s .link .levels ≡ 0 → ⊥)
-    → (answer (close c) s .verdict ≡ 10 ↔ stands s c ≡ false) × (answer (close c) s .verdict ≡ 16 ↔ ((stands s c ≡ true) × (1 ≤ length (of c (s .held)))))
+-- in r it is charged: closed, it counts in the tests, the reservations and the numbers with the figures that it had in s; or freed, where it never sent or the clock t has reached its last eligibility plus
+-- the charge's time
+abbrev pub Charged-or-freed : State → ℕ → ℕ → State → Type 0
+Charged-or-freed s c t r =
+    (charge-over (charge-time (s .link)) t (past s c) ≡ false → (closed-at r c ≡ true) × (figures r c ≡ figures s c) × (past r c ≡ past s c))
+    × (charge-over (charge-time (s .link)) t (past s c) ≡ true → owned (r .connections) c ≡ false)
 
--- an offer to a closed number, and another close of it, get 10
-abbrev pub Closed-gets-10 : Type 0
-Closed-gets-10 =
-    (s : State) (c len tag : ℕ) (st : Option ℕ) → Sound s → closed-at s c ≡ true → (answer (offer c len tag st) s .verdict ≡ 10) × (answer (close c) s .verdict ≡ 10)
+pub record Closing (s : State) (c : ℕ) : Type 0 where
+  -- a close gets 10 exactly for a number that does not stand, 16 exactly for one that does and holds packets
+  pub gets-10 : answer (close c) s .verdict ≡ 10 ↔ stands s c ≡ false
+  pub gets-16 : answer (close c) s .verdict ≡ 16 ↔ ((stands s c ≡ true) × (1 ≤ length (of c (s .held))))
+  -- an offer to a closed number gets 10
+  pub offers-get-10 : closed-at s c ≡ true → (len tag : ℕ) (st : Option ℕ) → answer (offer c len tag st) s .verdict ≡ 10
+  -- a connection that is closed is freed at once or charged
+  pub closes : answer (close c) s .verdict ≡ 0 → Charged-or-freed s c (s .clock) (answer (close c) s .next)
+  -- from then on, whatever the call: it is freed by the tick that reaches its time, and by no other
+  pub lasts : (k : Call) → closed-at s c ≡ true → Charged-or-freed s c (answer k s .next .clock) (answer k s .next)
 
--- closed in r and still charged: it counts in the tests, the reservations and the numbers with the figures that it had in s
-pub record Still-charged (s : State) (c : ℕ) (r : State) : Type 0 where
-  pub is-marked : closed-at r c ≡ true
-  pub same-figures : figures r c ≡ figures s c
-  pub same-memory : past r c ≡ past s c
-
--- a connection that is closed is freed at once where it never sent or the clock has reached its last eligibility plus the charge's time; else it is charged
-abbrev pub Closed-or-freed : Type 0
-Closed-or-freed =
-    (c : ℕ) (s : State) → answer (close c) s .verdict ≡ 0
-    → (charge-over (charge-time (s .link)) (s .clock) (past s c) ≡ true → owned (answer (close c) s .next .connections) c ≡ false)
-    × (charge-over (charge-time (s .link)) (s .clock) (past s c) ≡ false → Still-charged s c (answer (close c) s .next))
-
--- a charged connection is freed by the tick that reaches its time, and by no other
-abbrev pub Freed-by-the-tick : Type 0
-Freed-by-the-tick =
-    (c : ℕ) (s : State) → answer tick s .verdict ≡ 0 → closed-at s c ≡ true
-    → (charge-over (charge-time (s .link)) (s .clock + 1) (past s c) ≡ true → owned (answer tick s .next .connections) c ≡ false)
-    × (charge-over (charge-time (s .link)) (s .clock + 1) (past s c) ≡ false → Still-charged s c (answer tick s .next))
-
--- so from the close on, whatever the call: a number is charged as long as the clock has not reached its time, and free once it has
-abbrev pub Charge-lasts : Type 0
-Charge-lasts =
-    (k : Call) (s : State) (c : ℕ) → Sound s → closed-at s c ≡ true
-    → (charge-over (charge-time (s .link)) (answer k s .next .clock) (past s c) ≡ false → Still-charged s c (answer k s .next))
-    × (charge-over (charge-time (s .link)) (answer k s .next .clock) (past s c) ≡ true → owned (answer k s .next .connections) c ≡ false)
+abbrev pub Closing-frees : Type 0
+Closing-frees = (s : State) (c : ℕ) → Sound s → (s .link .levels ≡ 0 → ⊥) → Closing s c
 
 -- an admission gives the lowest number n that has no owner, and its new owner starts fresh
 pub record Lowest-free (s : State) (x : Connection) (n : ℕ) (r : State) : Type 0 where
@@ -395,55 +295,39 @@ Lowest-number-is-given =
 
 -- ---- a second hub behind the first (document 02, R-9): connections of the second kind. The first sentence of demand 3 is theirs too (`Demand-3-first`)
 
--- a connection of the second kind
-abbrev pub Second : Connection → Type 0
-Second c = (c .kind ≡ 1) × (c .window ≡ 0) × (c .average ≡ 0)
-
--- its limits; its count, window / X rounded up; its reservation, (a + d) / X rounded up; its spacing; and its rows in a sound state: at most the allowance
--- beyond the clock, beside what is asked of the memory, which says that all rise by X. So it is whether the stand-by queue is on or off (document 02, R-11)
-abbrev pub Second-kind : Type 0
-Second-kind =
-    (c : Connection) → Second c
-    → ((l : Link) → figures-within l c ≡ (base-figures-within l c && leb (c .allowance) max-allowance))
-    × ((w : ℕ) → count c w ≡ base-count c w)
-    × ((l : Link) → reservation l c ≡ rounded-up (c .allowance + bound l (c .level)) (c .gap))
-    × ((es : List ℕ) → Spaced c es ↔ Base-spaced c es)
-    × ((l : Link) (t : ℕ) (h : Past) (es : List ℕ) → Queue c (ahead l c) t h es ↔ (Memory-kept c t h es × All (λ e. e ≤ t + c .allowance) es))
-
 -- the same connection regulated by its gap
 abbrev pub by-its-gap : Connection → Connection
 by-its-gap c = record { level = c .level; gap = c .gap; size = c .size; window = c .window; average = c .average; kind = 0; allowance = 0 }
-
--- the level test counts both kinds alike: it says the same with each connection regulated by its gap
-abbrev pub Level-test-counts-alike : Type 0
-Level-test-counts-alike = (l : Link) (cs : List Connection) → level-test l cs ≡ level-test l (map by-its-gap cs)
-
--- verdict 10 of an offer, on a sound state with a link: exactly for a number that does not stand, for a stamp to the first kind, and for none to the second
-abbrev pub Ten-exactly : Type 0
-Ten-exactly =
-    (c len tag : ℕ) (st : Option ℕ) (s : State) → Sound s → (s .link .levels ≡ 0 → ⊥)
-    → answer (offer c len tag st) s .verdict ≡ 10 ↔ ((stands s c ≡ true) × (suits (figures s c) st ≡ true) → ⊥)
-
--- "eligibility is that stamp plus a"
-abbrev pub stamp-plus : State → ℕ → ℕ → ℕ
-stamp-plus s c stamp = stamp + figures s c .allowance
 
 -- no cause of 17 applies to an offer with this stamp to c now: the stamp is not later than the present tick, the sum is not before it, and it is X or more after
 -- the last eligibility, if there is one
 pub record No-cause (s : State) (c stamp : ℕ) : Type 0 where
   pub not-later : stamp ≤ s .clock
-  pub not-over : s .clock ≤ stamp-plus s c stamp
-  pub gap-after : (last : ℕ) → nth-before 1 (past s c) ≡ some last → last + figures s c .gap ≤ stamp-plus s c stamp
+  pub not-over : s .clock ≤ eligibility-now s c (some stamp)
+  pub gap-after : (last : ℕ) → nth-before 1 (past s c) ≡ some last → last + figures s c .gap ≤ eligibility-now s c (some stamp)
 
--- verdict 17, on a sound state with a link: exactly where a cause applies, and neither 10, 11, 12 nor 13 is given
-abbrev pub Seventeen-exactly : Type 0
-Seventeen-exactly =
-    (c len tag stamp : ℕ) (s : State) → Sound s → (s .link .levels ≡ 0 → ⊥)
-    → answer (offer c len tag (some stamp)) s .verdict ≡ 17
-    ↔ ((allowed s c len (some stamp) ≡ true)
-    × (length (of c (s .held)) < reservation (s .link) (figures s c))
-    × (s .clock < clock-end)
-    × (No-cause s c stamp → ⊥))
+-- an offer to c that gets neither 10, 11, 12 nor 13
+pub record May-offer (s : State) (c len : ℕ) (st : Option ℕ) : Type 0 where
+  pub ok : allowed s c len st ≡ true
+  pub room : length (of c (s .held)) < reservation (s .link) (figures s c)
+  pub running : s .clock < clock-end
+
+pub record Offer-gets (s : State) (c len tag : ℕ) (st : Option ℕ) : Type 0 where
+  -- 10 exactly for a number that does not stand, for a stamp to the first kind, and for none to the second
+  pub ten : answer (offer c len tag st) s .verdict ≡ 10 ↔ ((stands s c ≡ true) × (suits (figures s c) st ≡ true) → ⊥)
+  -- 17 exactly where a cause of it applies, and none of the numbers before it
+  pub seventeen : (stamp : ℕ) → st ≡ some stamp → answer (offer c len tag st) s .verdict ≡ 17 ↔ (May-offer s c len st × (No-cause s c stamp → ⊥))
+  -- 18 exactly where the stand-by queue is on and the eligibility would be more than reservation times X past the present tick (document 02, R-11), and none of the numbers before it
+  pub eighteen : answer (offer c len tag st) s .verdict ≡ 18
+      ↔ (May-offer s c len st
+      × (untimely-by (figures s c) (past s c) (s .clock) st ≡ false)
+      × (stand-by-on (s .link) ≡ true)
+      × (s .clock + distance (s .link) (figures s c) < eligibility-now s c st))
+  -- .. so never with a stamp: the allowance is no longer than that
+  pub stamps-never-18 : (stamp : ℕ) → st ≡ some stamp → answer (offer c len tag st) s .verdict ≡ 18 → ⊥
+
+abbrev pub Verdicts-of-an-offer : Type 0
+Verdicts-of-an-offer = (s : State) (c len tag : ℕ) (st : Option ℕ) → Sound s → (s .link .levels ≡ 0 → ⊥) → Offer-gets s c len tag st
 
 -- no packet of a connection of the second kind leaves before its eligibility plus its length, whether the stand-by queue is on or off; nor, where it is off, one of
 -- the first kind (document 02, R-11). Any calls `earlier`, an offer of c that is accepted, any calls `later`
@@ -462,80 +346,4 @@ Demand-3-for-stamps =
     (earlier later : List Call) (c len tag stamp : ℕ)
     → allowed (run earlier .now) c len (some stamp) ≡ true
     → No-cause (run earlier .now) c stamp
-    → Kept-promise earlier later c len tag (some stamp) (stamp-plus (run earlier .now) c stamp)
-
--- bed nine and bed ten for these (document 02, R-3), where the offers of allowed length come a gap apart, whatever their stamps: each answer is the one that its
--- own figures and its own offers so far decide, so in any two runs one with the same figures and the same offers at the same ticks is told the same. Offers
--- closer than the gap can be told apart (`Examples`, `stamps-broken-calls`)
-abbrev pub Stamps-told-by-their-own : Type 0
-Stamps-told-by-their-own =
-    (ks : List Call) (c : ℕ)
-    → stamped (figures (run ks .now) c) ≡ true
-    → Keeps-its-word c ks
-    → exchanges c ks ≡ own-stamp-answers (figures (run ks .now) c) no-past (map (λ e. e .asked) (exchanges c ks))
-
--- ---- the stand-by queue (document 02, R-11). Nothing above asks whether it is on, but where that is said: demand 3, R-3, conservation, R-8 and R-9 hold in both
--- settings
-
--- a packet comes into service before its eligibility only where the queue is on, and its connection is of the first kind; no held packet is eligible, no notice
--- waits, and it is the packet that stands by: no held packet of such a connection was offered before it
-pub record Stands-by (s : State) (p : Packet) : Type 0 where
-  pub is-on : stand-by-on (s .link) ≡ true
-  pub first-kind : stamped (figures s (p .connection)) ≡ false
-  pub it-is : stand-by s ≡ some p
-  pub none-eligible : All (λ q. s .clock < q .eligibility) (s .held)
-  pub no-notice : s .notices ≡ []
-
-abbrev pub Early-comes-last : Type 0
-Early-comes-last =
-    (s : State) (p : Packet) → Sound s → s .to-go ≡ 0 → 1 ≤ started s .to-go → first (started s .serving) (s .held) ≡ some p → s .clock < p .eligibility
-    → Stands-by s p
-
--- a line whose queue is on does not idle, but for the silence, unless every packet that it holds is of the second kind
-abbrev pub Early-never-idles : Type 0
-Early-never-idles =
-    (s : State) → Sound s → stand-by-on (s .link) ≡ true → s .to-go ≡ 0 → s .silent ≡ 0
-    → (All (λ p. stamped (figures s (p .connection)) ≡ true) (s .held) → ⊥)
-    → 1 ≤ started s .to-go
-
--- verdict 18, on a sound state with a link: exactly where the queue is on and the eligibility would be more than reservation times X past the present tick, and
--- neither 10, 11, 12, 13 nor 17 is given
-abbrev pub Eighteen-exactly : Type 0
-Eighteen-exactly =
-    (c len tag : ℕ) (st : Option ℕ) (s : State) → Sound s → (s .link .levels ≡ 0 → ⊥)
-    → answer (offer c len tag st) s .verdict ≡ 18
-    ↔ ((allowed s c len st ≡ true)
-    × (length (of c (s .held)) < reservation (s .link) (figures s c))
-    × (s .clock < clock-end)
-    × (untimely-by (figures s c) (past s c) (s .clock) st ≡ false)
-    × (stand-by-on (s .link) ≡ true)
-    × (s .clock + distance (s .link) (figures s c) < eligibility-now s c st))
-
--- an offer with a stamp never gets it: the allowance is no longer than that
-abbrev pub Stamps-never-18 : Type 0
-Stamps-never-18 = (c len tag stamp : ℕ) (s : State) → answer (offer c len tag (some stamp)) s .verdict ≡ 18 → ⊥
-
--- so no flood pushes eligibilities on for ever: while the queue is on, none that is held or remembered lies further past the clock
-abbrev pub Never-far-ahead : Type 0
-Never-far-ahead =
-    (s : State) → Sound s → stand-by-on (s .link) ≡ true → (c : ℕ) → owned (s .connections) c ≡ true
-    → All (λ e. e ≤ s .clock + distance (s .link) (figures s c)) (eligibilities c (s .held))
-    × All (λ e. e ≤ s .clock + distance (s .link) (figures s c)) (past s c)
-
--- ---- quiet ticks: those in which nothing starts, nothing departs and no number is freed
-
--- the line: `Quiet-wire` (Service) with the packet that stands by
-abbrev pub Quiet-line : State → Type 0
-Quiet-line s = Quiet-wire (s .clock) (stand-by s) (wire s)
-
--- no charge ends with the tick
-abbrev pub Nobody-freed : State → Type 0
-Nobody-freed s = (c : ℕ) → c < max-connections → closed-at s c ≡ true → charge-over (charge-time (s .link)) (s .clock + 1) (past s c) ≡ false
-
--- such a tick moves the clock, and takes a unit or a tick of the silence
-abbrev pub passed-by : State → State
-passed-by s = with-line (with-clock s (s .clock + 1)) (s .serving) (s .to-go - 1) (s .silent - 1)
-
-abbrev pub Quiet-ticks-pass : Type 0
-Quiet-ticks-pass =
-    (s : State) → Sound s → (s .link .levels ≡ 0 → ⊥) → s .clock < clock-end → Quiet-line s → Nobody-freed s → answer tick s ≡ tick-answer none (passed-by s)
+    → Kept-promise earlier later c len tag (some stamp) (eligibility-now (run earlier .now) c (some stamp))

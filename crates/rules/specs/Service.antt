@@ -9,8 +9,8 @@ use lib.Dec.{leb, ltb, eqb}
 use lib.ListN.{getElem?, take}
 use Rattle.rules.specs.Words.{tabulate, All}
 use Rattle.rules.specs.Limits.{max-connections, notice-number, max-remembered}
-use Rattle.rules.specs.Model.{Connection, Past, Packet, Notice, State, Answer, no-short, no-connection, no-past, past, figures, closed-at, notice-packet, with-connections, with-closed, with-clock, with-held, with-notices, with-line}
-use Rattle.rules.specs.Admission.{cost, burst, charge-time, stamped, goes-early}
+use Rattle.rules.specs.Model.{Connection, Past, Packet, Notice, State, Answer, done-with, no-connection, no-past, past, figures, closed-at, notice-packet, with-connections, with-closed, with-clock, with-held, with-notices, with-line}
+use Rattle.rules.specs.Admission.{burst, charge-time, stamped, goes-early}
 
 -- ---- "Eligibility"
 
@@ -108,12 +108,8 @@ abbrev pub choice : (ℕ → ℕ) → ℕ → List Packet → Option Packet
 choice level t [] = none
 choice level t (p ∷ ps) = cond (leb (p .eligibility) t) (better level p (choice level t ps)) (choice level t ps)
 
--- the level of connection c
-abbrev pub level-of : State → ℕ → ℕ
-level-of s c = figures s c .level
-
 abbrev pub chosen : State → Option Packet
-chosen s = choice (level-of s) (s .clock) (s .held)
+chosen s = choice (λ c. figures s c .level) (s .clock) (s .held)
 
 -- the packet that stands by: "the first offered held packet of the gap-regulated connections", where the queue is on (document 02, R-11)
 abbrev pub first-early : (ℕ → Bool) → List Packet → Option Packet
@@ -202,46 +198,23 @@ pub record Sent : Type 0 where
 abbrev pub sent : Option Packet → Wire → Sent
 sent o w = record { departed = o; wire = w }
 
--- ---- "One tick" of the hub, the three steps (`The-same-line`, Promises: it is `wire-tick` with the hub's choice)
+-- ---- "One tick" of the hub: a tick of that line, with the hub's own choice and the packet that stands by
 
 abbrev pub wire : State → Wire
 wire s = record { held = s .held; notices = s .notices; serving = s .serving; to-go = s .to-go; silent = s .silent }
 
--- the state one tick later, with the packets held, the notices and the line given anew
-abbrev pub later : State → List Packet → List Notice → ℕ → ℕ → ℕ → State
-later s held notices serving to-go silent = with-line (with-notices (with-held (with-clock s (s .clock + 1)) held) notices) serving to-go silent
+-- 1. the line once it has taken what is next, if it was idle
+abbrev pub started : State → Wire
+started s = begun (chosen s) (stand-by s) (wire s)
 
--- 1. given the units to go and the silence: the line then
-abbrev pub line-after-start : State → ℕ → ℕ → ℕ × ℕ
-line-after-start s u q = begins (chosen s) (stand-by s) (wire s) u q
-
-abbrev pub started : State → State
-started s = let l = line-after-start s (s .to-go) (s .silent) in with-line s (l .0) (l .1) (s .silent)
-
--- the answer to a tick: the packet that departs, if one does, and the state then
-abbrev pub tick-answer : Option Packet → State → Answer
-tick-answer o s = record { verdict = 0; number = 0; short = no-short; departed = o; next = s }
-
--- 3. the clock moves on
+-- 3. the clock moves on; the packet that departs is told, if one does
 abbrev pub moves-on : State → Option Packet → Wire → Answer
-moves-on s o w = tick-answer o (later s (w .held) (w .notices) (w .serving) (w .to-go) (w .silent))
+moves-on s o w =
+    done-with 0 o (with-line (with-notices (with-held (with-clock s (s .clock + 1)) (w .held)) (w .notices)) (w .serving) (w .to-go) (w .silent))
 
--- 2. and 3.
-abbrev pub packet-departs : State → Answer
-packet-departs s = packet-leaves (s .link .silence) (moves-on s) (wire s)
-
-abbrev pub notice-departs : State → List Notice → Answer
-notice-departs s ns = notice-leaves (s .link .silence) (moves-on s) (wire s) ns
-
-abbrev pub after-unit : State → ℕ → Answer
-after-unit s u = sends (s .link .silence) (moves-on s) (wire s) u
-
+-- all three
 abbrev pub ticked : State → Answer
-ticked s = after-unit (started s) (started s .to-go)
-
--- the ticks for which the line is still taken: by what is in service and the silence after it, or by the rest of a silence
-unfoldable pub line-left : State → ℕ
-line-left s = cond (eqb (s .to-go) 0) (s .silent) (cost (s .link) (s .to-go))
+ticked s = wire-tick (s .link .silence) (moves-on s) (chosen s) (stand-by s) (wire s)
 
 -- ---- closed connections (document 02, R-8)
 
@@ -254,19 +227,9 @@ charge-over time t (e ∷ h) = leb (e + time) t
 unfoldable pub expired : State → ℕ → Bool
 expired s c = closed-at s c && charge-over (charge-time (s .link)) (s .clock) (past s c)
 
--- every such number is freed: nothing is left of its owner
-unfoldable pub swept-connections : State → List Connection
-swept-connections s = tabulate max-connections (λ c. cond (expired s c) no-connection (figures s c))
-
-unfoldable pub swept-pasts : State → List Past
-swept-pasts s = tabulate max-connections (λ c. cond (expired s c) no-past (past s c))
-
-unfoldable pub swept-marks : State → List Bool
-swept-marks s = tabulate max-connections (λ c. cond (expired s c) false (closed-at s c))
+-- every such number is freed: nothing is left of its owner, neither its figures nor its memory nor its mark
+unfoldable pub cleared : {A : Type 0} → State → A → (ℕ → A) → List A
+cleared s blank at = tabulate max-connections (λ c. cond (expired s c) blank (at c))
 
 abbrev pub swept : State → State
-swept s = with-closed (with-connections s (swept-connections s) (swept-pasts s)) (swept-marks s)
-
--- the answer with them freed
-abbrev pub sweeping : Answer → Answer
-sweeping a = record { verdict = a .verdict; number = a .number; short = a .short; departed = a .departed; next = swept (a .next) }
+swept s = with-closed (with-connections s (cleared s no-connection (figures s)) (cleared s no-past (past s))) (cleared s false (closed-at s))

@@ -11,9 +11,9 @@ use lib.Dec.{ltb, eqb}
 use lib.ListN.{length, drop}
 use Rattle.rules.specs.Words.{All}
 use Rattle.rules.specs.Limits.{max-connections, max-reserved, clock-end, max-notices, notice-number, max-remembered}
-use Rattle.rules.specs.Model.{Link, Connection, Past, Packet, Notice, State, no-connection, no-past, fresh, nth, past, figures, closed-at, first-notice}
+use Rattle.rules.specs.Model.{Connection, Past, Packet, Notice, State, no-connection, no-past, fresh, nth, past, figures, closed-at, first-notice}
 use Rattle.rules.specs.Admission.{link-within, level-within, figures-within, owned, burst, stamped, reservation, ahead, reserved, Level-holds}
-use Rattle.rules.specs.Service.{nth-before, ticks-after, earliest, remember-all, Spaced, of, eligibilities, first, early-at, expired}
+use Rattle.rules.specs.Service.{nth-before, ticks-after, earliest, remember-all, Spaced, of, eligibilities, first, early-at, Wire, wire, expired}
 
 -- ---- the held rows, each by itself
 
@@ -39,16 +39,12 @@ in-order (e ∷ h) es = in-order h (e ∷ es)
 abbrev pub departed-of : Past → List ℕ → Past
 departed-of h es = drop (length es) h
 
--- how far past the clock a rule can hold a packet back whose n-th before is not known: I, or X where there is no average
-abbrev pub reach : Connection → ℕ
-reach c = cond (eqb (burst c) 0) (c .gap) (c .window)
-
 -- an eligibility e beyond the clock, behind those in h: the least that both rules allow if the n-th packet before is held or remembered, else at most the
 -- greater of I past the clock and X past the one before. Without an average: at most the greater of X past the clock and X past the one before.
 -- Of the second kind (document 02, R-9): at most the allowance beyond the clock
 abbrev pub Near-by : Connection → ℕ → List ℕ → ℕ → Bool → Option ℕ → Type 0
 Near-by c t h e true o = e ≤ t + c .allowance
-Near-by c t h e false none = e ≤ max (t + reach c) (ticks-after (c .gap) (nth-before 1 h))
+Near-by c t h e false none = e ≤ max (t + cond (eqb (burst c) 0) (c .gap) (c .window)) (ticks-after (c .gap) (nth-before 1 h))
 Near-by c t h e false (some a) = e ≡ earliest c h
 
 -- of a connection whose packets may go early (document 02, R-11): whether those in h settle an eligibility beyond the clock. They do if the n-th packet before is held
@@ -68,14 +64,10 @@ settled-by (suc n) t h = is-known (nth-before (suc n) h)
 unfoldable pub settles : Connection → ℕ → List ℕ → Bool
 settles c t h = settled-by (burst c) t h
 
--- .. such an eligibility lies at most r beyond the clock, and where it is settled it is the least that both rules allow
-abbrev pub Near-early : Connection → ℕ → ℕ → List ℕ → ℕ → Type 0
-Near-early c r t h e = (e ≤ t + r) × (settles c t h ≡ true → e ≡ earliest c h)
-
--- an eligibility beyond the clock, by whether the connection's packets may go early, and then how far past the clock it may lie: a is `ahead`
+-- an eligibility beyond the clock, by whether the connection's packets may go early: then it lies at most r beyond the clock, a being `ahead`, and where it is settled it is the least that both rules allow
 abbrev pub Near : Connection → Option ℕ → ℕ → List ℕ → ℕ → Type 0
 Near c none t h e = Near-by c t h e (stamped c) (nth-before (burst c) h)
-Near c (some r) t h e = Near-early c r t h e
+Near c (some r) t h e = (e ≤ t + r) × (settles c t h ≡ true → e ≡ earliest c h)
 
 -- each of es that lies beyond the clock, behind those in h
 abbrev pub Beyond : Connection → Option ℕ → ℕ → List ℕ → List ℕ → Type 0
@@ -98,13 +90,6 @@ pub record Queue (c : Connection) (a : Option ℕ) (t : ℕ) (h : Past) (es : Li
   -- no row lies further beyond the clock than the rules put it
   pub beyond : Beyond c a t (departed-of h es) es
 
--- ---- the notices, each by itself: a length from 1 to S, arrival at most the clock
-
-pub record Notice-fits (l : Link) (t : ℕ) (n : Notice) : Type 0 where
-  pub some-len : 1 ≤ n .len
-  pub len-le : n .len ≤ l .largest
-  pub arrived : n .arrival ≤ t
-
 -- ---- the line
 
 -- a packet in service: the first row of its connection, eligible unless it may go early, with 1 to its length units to go
@@ -115,9 +100,6 @@ pub record In-service-of (early : Bool) (held : List Packet) (serving to-go t : 
   pub some-to-go : 1 ≤ to-go
   pub to-go-le : to-go ≤ it .len
 
-abbrev pub In-service : State → Type 0
-In-service s = In-service-of (early-at s (s .serving)) (s .held) (s .serving) (s .to-go) (s .clock)
-
 -- a notice in service: the first one, marked by the queue's number, with 1 to its length units to go
 pub record Notice-in-service-of (notices : List Notice) (serving to-go : ℕ) : Type 0 where
   pub it : Notice
@@ -126,24 +108,25 @@ pub record Notice-in-service-of (notices : List Notice) (serving to-go : ℕ) : 
   pub some-to-go : 1 ≤ to-go
   pub to-go-le : to-go ≤ it .len
 
-abbrev pub Notice-in-service : State → Type 0
-Notice-in-service s = Notice-in-service-of (s .notices) (s .serving) (s .to-go)
+-- a notice that waits: a length from 1 to S, arrival at most the clock
+pub record Waits (largest t : ℕ) (n : Notice) : Type 0 where
+  pub some-len : 1 ≤ n .len
+  pub len-le : n .len ≤ largest
+  pub arrived : n .arrival ≤ t
 
--- something is in service
-abbrev pub Serves : State → Type 0
-Serves s = In-service s ⊎ Notice-in-service s
-
--- an idle line: everything unused is zero
-abbrev pub Idle : State → Type 0
-Idle s = (s .to-go ≡ 0) × (s .serving ≡ 0)
+-- a sound line with what waits for it, whatever the discipline (document 02, R-13): whose packets may go early, S, the link's silence and the clock
+pub record Wire-sound (may : ℕ → Bool) (largest q t : ℕ) (w : Wire) : Type 0 where
+  -- the notices fill no more than their places
+  pub few-notices : length (w .notices) ≤ max-notices
+  pub notices-fit : All (Waits largest t) (w .notices)
+  -- nothing in service: everything unused is zero; or a packet, or a notice
+  pub line : ((w .to-go ≡ 0) × (w .serving ≡ 0))
+      ⊎ (In-service-of (may (w .serving)) (w .held) (w .serving) (w .to-go) t ⊎ Notice-in-service-of (w .notices) (w .serving) (w .to-go))
+  -- the silence still to run: at most the link's, and none while something is in service
+  pub silent-le : w .silent ≤ q
+  pub silent-alone : 1 ≤ w .to-go → w .silent ≡ 0
 
 -- ---- the state
-
--- a free number: everything unused is zero
-pub record Free-number (s : State) (c : ℕ) : Type 0 where
-  pub no-figures : figures s c ≡ no-connection
-  pub no-memory : past s c ≡ no-past
-  pub not-closed : closed-at s c ≡ false
 
 -- all but the last clause, which a tick and a close see to (`swept`)
 pub record Orderly (s : State) : Type 0 where
@@ -155,7 +138,7 @@ pub record Orderly (s : State) : Type 0 where
   pub numbers : length (s .connections) ≡ max-connections
   pub one-past-each : length (s .pasts) ≡ max-connections
   pub one-mark-each : length (s .closed) ≡ max-connections
-  pub free-blank : (c : ℕ) → c < max-connections → owned (s .connections) c ≡ false → Free-number s c
+  pub free-blank : (c : ℕ) → c < max-connections → owned (s .connections) c ≡ false → (figures s c ≡ no-connection) × (past s c ≡ no-past) × (closed-at s c ≡ false)
   pub tested : (m : ℕ) → 1 ≤ m → m ≤ s .link .levels → Level-holds (s .link) (s .connections) m
   pub reserved-le : reserved (s .link) (s .connections) ≤ max-reserved
   -- the clock is at most its end
@@ -166,14 +149,8 @@ pub record Orderly (s : State) : Type 0 where
   -- no connection holds more than its reservation, and its rows are in order
   pub room : (c : ℕ) → owned (s .connections) c ≡ true → length (of c (s .held)) ≤ reservation (s .link) (figures s c)
   pub queue : (c : ℕ) → owned (s .connections) c ≡ true → Queue (figures s c) (ahead (s .link) (figures s c)) (s .clock) (past s c) (eligibilities c (s .held))
-  -- the notices fill no more than their places
-  pub few-notices : length (s .notices) ≤ max-notices
-  pub notices-fit : All (Notice-fits (s .link) (s .clock)) (s .notices)
-  -- the line
-  pub line : Idle s ⊎ Serves s
-  -- the silence still to run: at most the link's, and none while something is in service
-  pub silent-le : s .silent ≤ s .link .silence
-  pub silent-alone : 1 ≤ s .to-go → s .silent ≡ 0
+  -- the notices, the line and its silence
+  pub line : Wire-sound (early-at s) (s .link .largest) (s .link .silence) (s .clock) (wire s)
   -- a closed connection holds no packet
   pub closed-empty : (c : ℕ) → closed-at s c ≡ true → of c (s .held) ≡ []
 

@@ -11,7 +11,7 @@ use Rattle.rules.specs.Limits.{max-levels, max-connections, max-reserved
 use Rattle.rules.specs.Model.{Link, Connection, Past, Packet, Notice, State, nth, past, figures, closed-at, first-notice}
 use Rattle.rules.specs.Admission.{link-within, level-within, figures-within, owned, charge-time, burst, stamped, reservation, ahead, reserved, passes}
 use Rattle.rules.specs.Service.{nth-before, ticks-after, earliest, remember-all, of, eligibilities, first, early-at, charge-over}
-use Rattle.rules.specs.SoundState.{departed-of, reach, settles, margin}
+use Rattle.rules.specs.SoundState.{departed-of, settles, margin}
 
 -- ---- with no link set
 
@@ -61,6 +61,10 @@ abbrev pub row-sound : List Connection → ℕ → Packet → Bool
 row-sound cs t p =
     owned cs (p .connection)
     && (within 1 (nth cs (p .connection) .size) (p .len) && (leb (p .arrival) t && leb (p .arrival) (p .eligibility)))
+
+-- how far past the clock a rule can hold a packet back whose n-th before is not known: I, or X where there is no average
+abbrev pub reach : Connection → ℕ
+reach c = cond (eqb (burst c) 0) (c .gap) (c .window)
 
 -- how late an eligibility may be behind those in h: as early as the rules allow if the n-th before is known, else the greater of X past the one before and of
 -- I (or X, where there is no average) past the clock t; of the second kind the allowance past the clock (document 02, R-9)

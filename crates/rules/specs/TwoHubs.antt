@@ -1,21 +1,19 @@
 -- TWO HUBS IN A ROW (document 02, R-9): statements over two runs of the rules, to be read alone; they are proved in proofs/TwoHubs under their names in small
 -- letters. Hub 1 gets the calls `ks` from fresh; hub 2 the calls `earlier`, then one offer, then `later`. Both count the same ticks. What leaves hub 1 on
 -- connection c is offered to hub 2 on connection c2, with its eligibility at hub 1 as its stamp.
-use Prim.Native.Nat.{ℕ, _+_, _≤_, _<_}
+use Prim.Native.Nat.{ℕ, _+_, _≤_}
 use mathlib.Core.Path.{_≡_}
 use mathlib.Core.Bool.{true, false}
 use mathlib.Core.Logic.{_⊎_}
-use mathlib.Core.List.{List, [], _∷_, _++_, map}
+use mathlib.Core.List.{List, [], _∷_, _++_}
 use mathlib.Core.Option.{Option, some}
-use lib.ListN.{length, getElem?}
-use Rattle.rules.specs.Words.{All}
-use Rattle.rules.specs.Limits.{clock-end}
-use Rattle.rules.specs.Model.{Packet, State, Call, offer, figures}
+use lib.ListN.{getElem?}
+use Rattle.rules.specs.Model.{State, Call, offer, figures}
 use Rattle.rules.specs.Admission.{stamped}
-use Rattle.rules.specs.Service.{of, early-at}
+use Rattle.rules.specs.Service.{early-at}
 use Rattle.rules.specs.Calls.{heard, answer}
-use Rattle.rules.specs.Runs.{Departure, run, departures, own-departures, bound-of, Keeps-its-word, Asked, Exchange, exchanges}
-use Rattle.rules.specs.Promises.{Left-by}
+use Rattle.rules.specs.Runs.{Departure, run, own-departures, bound-of, asked-of, Keeps-its-word, Asked}
+use Rattle.rules.specs.Promises.{Kept-promise}
 
 -- the connections fit: c2 is of the second kind, with the gap and the size of c, and its allowance is the bound of c plus the delay of the line between the hubs.
 -- c may be of either kind, so a row may be longer than two. Its packets do not go early: it is of the second kind, or the stand-by queue of hub 1 is off (document
@@ -41,49 +39,16 @@ Carries delay ds [] = Unit {0}
 Carries delay [] (q ∷ qs) = ⊥
 Carries delay (d ∷ ds) (q ∷ qs) = (Carried delay d q × Carries delay ds qs) ⊎ Carries delay ds (q ∷ qs)
 
--- all that the present owner of c has been offered in a run, in order
-abbrev pub asked-of : ℕ → List Call → List Asked
-asked-of c ks = map (λ (e : Exchange). e .asked) (exchanges c ks)
-
--- what hub 2 adds to a stamp: the bound of c at hub 1 plus the delay
-abbrev pub upstream : List Call → ℕ → ℕ → ℕ
-upstream ks c delay = bound-of (run ks .now) c + delay
-
--- the packet as hub 2 holds it, with the eligibility e there
-abbrev pub behind : List Call → ℕ → ℕ → ℕ → ℕ → Packet
-behind earlier c2 len tag e = record { connection = c2; len = len; tag = tag; arrival = run earlier .now .clock; eligibility = e }
-
--- .. with which it has left hub 2 by e plus the bound there, once the clock is there
-abbrev pub Left-behind : List Call → List Call → ℕ → ℕ → ℕ → Option ℕ → ℕ → Type 0
-Left-behind earlier later c2 len tag st e =
-    e + bound-of (run earlier .now) c2 ≤ run (earlier ++ offer c2 len tag st ∷ later) .now .clock
-    → Left-by (run (earlier ++ offer c2 len tag st ∷ later)) c2 (length (of c2 (run earlier .accepted))) (behind earlier c2 len tag e)
-    (e + bound-of (run earlier .now) c2)
-
--- .. and, if it has left, not before e plus its length
-abbrev pub Not-early : List Call → List Call → ℕ → ℕ → ℕ → Option ℕ → ℕ → Type 0
-Not-early earlier later c2 len tag st e =
-    (finish : ℕ)
-    → getElem? (departures c2 (run (earlier ++ offer c2 len tag st ∷ later) .departed)) (length (of c2 (run earlier .accepted)))
-    ≡ some (record { what = behind earlier c2 len tag e; finish = finish })
-    → e + len ≤ finish
-
--- the offer at hand is a departure d of c at hub 1. It does not get 17, nor 12; while the clock runs it is accepted, eligible at its eligibility at hub 1 plus the
--- bound of hub 1 and the delay; it has left hub 2 by that plus the bound of hub 2, and not before that plus its length. If c is of the first kind and keeps its
--- word at hub 1, its arrival there stands for its eligibility there
+-- the offer at hand is a departure d of c at hub 1. It does not get 17, and its promise is kept: it does not get 12; while the clock runs it is accepted, eligible at its eligibility at hub 1 plus
+-- the bound of hub 1 and the delay, and has left hub 2 by that plus the bound of hub 2 (not before that plus its length: `No-finish-before`). If c is of the first kind and keeps its word at hub 1,
+-- its arrival there stands for its eligibility there
 pub record Passed-on (ks earlier later : List Call) (c c2 delay len tag : ℕ) (st : Option ℕ) (d : Departure) : Type 0 where
   pub place : ℕ
   pub is-departure : getElem? (own-departures c ks) place ≡ some d
   pub carried : Carried delay d (record { at = run earlier .now .clock; len = len; tag = tag; stamp = st })
   pub never-17 : answer (offer c2 len tag st) (run earlier .now) .verdict ≡ 17 → ⊥
-  pub never-12 : answer (offer c2 len tag st) (run earlier .now) .verdict ≡ 12 → ⊥
-  pub accepted : run earlier .now .clock < clock-end → answer (offer c2 len tag st) (run earlier .now) .verdict ≡ 0
-  pub eligible : run earlier .now .clock < clock-end
-      → answer (offer c2 len tag st) (run earlier .now) .number ≡ d .what .eligibility + upstream ks c delay
-  pub in-time : run earlier .now .clock < clock-end → Left-behind earlier later c2 len tag st (d .what .eligibility + upstream ks c delay)
-  pub not-early : Not-early earlier later c2 len tag st (d .what .eligibility + upstream ks c delay)
-  pub since-arrival : stamped (figures (run ks .now) c) ≡ false → Keeps-its-word c ks
-      → run earlier .now .clock < clock-end → Left-behind earlier later c2 len tag st (d .what .arrival + upstream ks c delay)
+  pub kept : Kept-promise earlier later c2 len tag st (d .what .eligibility + (bound-of (run ks .now) c + delay))
+  pub since-arrival : stamped (figures (run ks .now) c) ≡ false → Keeps-its-word c ks → Kept-promise earlier later c2 len tag st (d .what .arrival + (bound-of (run ks .now) c + delay))
 
 -- any two runs, and an offer to c2 in the second; all that c2 has been offered, this offer with it, are departures of c in the first, in order
 abbrev pub Two-hubs-in-a-row : Type 0
@@ -93,18 +58,3 @@ Two-hubs-in-a-row =
     → heard (run earlier .now) c2 st ≡ true
     → Carries delay (own-departures c ks) (asked-of c2 (earlier ++ offer c2 len tag st ∷ []))
     → (d : Departure) × Passed-on ks earlier later c c2 delay len tag st d
-
--- the same of all offers to c2 in a whole run `ms` of hub 2: none gets 17, none gets 12, and each that comes before the clock's end is accepted, eligible the
--- upstream bound and the delay after its stamp
-pub record Goes-through (extra : ℕ) (x : Exchange) : Type 0 where
-  pub never-17 : x .verdict ≡ 17 → ⊥
-  pub never-12 : x .verdict ≡ 12 → ⊥
-  pub accepted : x .asked .at < clock-end → x .verdict ≡ 0
-  pub eligible : x .asked .at < clock-end → (stamp : ℕ) × (x .asked .stamp ≡ some stamp) × (x .eligibility ≡ stamp + extra)
-
-abbrev pub All-go-through : Type 0
-All-go-through =
-    (ks ms : List Call) (c c2 delay : ℕ)
-    → Follows (run ks .now) (run ms .now) c c2 delay
-    → Carries delay (own-departures c ks) (asked-of c2 ms)
-    → All (Goes-through (upstream ks c delay)) (exchanges c2 ms)

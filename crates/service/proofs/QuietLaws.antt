@@ -11,15 +11,17 @@ use Rattle.rules.specs.Model.{Past, State, tick, Answer, past, closed-at, with-
 use Rattle.rules.specs.Admission.{charge-time}
 use Rattle.rules.specs.SoundState.{Sound-with-link, Sound}
 use Rattle.rules.specs.SoundTest.{sound}
-use Rattle.rules.specs.Service.{stand-by, Wire as Line, wire, tick-answer, charge-over}
+use Rattle.rules.specs.Service.{stand-by, Wire as Line, wire, charge-over}
+use Rattle.rules.proofs.HubTick.{tick-answer}
 use Rattle.rules.specs.Calls.{answer}
-use Rattle.rules.specs.Promises.{Nobody-freed}
+use Rattle.rules.proofs.Quiet.{Nobody-freed}
 use Rattle.rules.proofs.Tests.{never}
 use Rattle.rules.proofs.Standing.{unexpired-charged}
 use Rattle.rules.proofs.SoundExact.{exact}
 use Rattle.rules.proofs.SoundKept.{kept}
 use Rattle.rules.proofs.Quiet.{quiet-passes}
-use Rattle.connections.specs.Members.{last-of, first-closed}
+use Rattle.connections.specs.Members.{first-closed}
+use Rattle.connections.specs.Rows.{last-of}
 use Rattle.connections.proofs.ClosingLaws.{first-before}
 use Rattle.line.specs.Quiet.{quiet-line}
 use Rattle.line.proofs.QuietLaws as L

@@ -7,7 +7,7 @@ use mathlib.Core.Logic.{_⊎_}
 use Rattle.rules.specs.Limits.{clock-end, notice-number}
 use Rattle.rules.specs.Words.{All}
 use Rattle.rules.specs.Service.{early-at}
-use Rattle.rules.specs.SoundState.{Idle, In-service, Notice-in-service}
+use Rattle.rules.proofs.LineWords.{Idle, In-service, Notice-in-service}
 use Rattle.tables.specs.Table.{formed}
 use Rattle.tables.specs.Places.{rows, packet-width, places-length}
 use Rattle.tables.specs.Notices.{notices-formed}

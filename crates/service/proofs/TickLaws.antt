@@ -11,7 +11,8 @@ use Rattle.rules.specs.declared.Packet.{Packet}
 use Rattle.rules.specs.Words.{All}
 use Rattle.rules.specs.Limits.{notice-number}
 use Rattle.rules.specs.Model.{State, Answer}
-use Rattle.rules.specs.Service.{goes-first, better, choice, first-early, takes, Wire as Line, begun, sends, Sent as After, sent, wire, started, moves-on, ticked}
+use Rattle.rules.specs.Service.{goes-first, better, choice, first-early, takes, Wire as Line, begun, sends, Sent as After, sent, wire, moves-on, ticked}
+use Rattle.rules.proofs.HubTick.{started-state}
 use Rattle.rules.proofs.Sums.{cond-ind}
 use Rattle.rules.proofs.WireLaws.{told-by}
 use Rattle.tables.specs.Places.{rows}
@@ -92,17 +93,17 @@ ready-then h cs t q r v e =
 -- ---- a whole tick
 
 -- what the line gives, with the clock moved on
-gives : (h : Hub) (cs t q : List ℕ) (o : Option Packet) (l : Line) (x : Sent) (s n : List ℕ) → Leaves (sent o l) x s n → Gives (moves-on (started (view h (tables cs t q))) o l) (passed-on h x) s n
+gives : (h : Hub) (cs t q : List ℕ) (o : Option Packet) (l : Line) (x : Sent) (s n : List ℕ) → Leaves (sent o l) x s n → Gives (moves-on (started-state (view h (tables cs t q))) o l) (passed-on h x) s n
 gives h cs t q o l x s n k = (ap (passed-on h) (k .0) ∙ go o, k .1, k .2)
   where
-    go : (p : Option Packet) → passed-on h (sent-of p l) ≡ told-of (moves-on (started (view h (tables cs t q))) p l)
+    go : (p : Option Packet) → passed-on h (sent-of p l) ≡ told-of (moves-on (started-state (view h (tables cs t q))) p l)
     go none = refl
     go (some p) = refl
 
 pub ticks : (h : Hub) (cs t q : List ℕ) (v : Wire) (x : Sent) (r : Told) (s n : List ℕ) → v ≡ begun-wire (view h (tables cs t q))
     → Leaves (sends (h .link .silence) sent (line-in v t q) (v .«to_go»)) x s n → r ≡ passed-on h x → Gives (ticked (view h (tables cs t q))) r s n
 ticks h cs t q v x r s n e k i =
-    let g = started (view h (tables cs t q)) in
+    let g = started-state (view h (tables cs t q)) in
     let a = sends (h .link .silence) sent (wire g) (g .to-go) in
     let l : Leaves a x s n = subst (λ (w : Wire). Leaves (sends (h .link .silence) sent (line-in w t q) (w .«to_go»)) x s n) e k in
     subst (λ (d : Told). Gives (ticked (view h (tables cs t q))) d s n) (sym i)

@@ -39,8 +39,10 @@ abbrev pub charged-for : ℕ → ℕ → ℕ → ℕ
 charged-for zero time clock = clock-end
 charged-for (suc last) time clock = suc last + time - 2 - clock
 
+-- the ticks in which nothing starts, nothing departs and no charge ends
+abbrev pub quiet-levels : State → ℕ
+quiet-levels s = min (quiet-line (s .clock) (stand-by s) (wire s)) (charged-for (first-closed (s .pasts) (s .closed)) (charge-time (s .link)) (s .clock))
+
 -- of `left` ticks those that are passed over at once: none without a link, and none beyond the clock's end
 unfoldable pub quiet-ticks : ℕ → State → ℕ
-quiet-ticks left s =
-    if-linked (sound s) (s .link .levels)
-    (min (min (quiet-line (s .clock) (stand-by s) (wire s)) (charged-for (first-closed (s .pasts) (s .closed)) (charge-time (s .link)) (s .clock))) left)
+quiet-ticks left s = if-linked (sound s) (s .link .levels) (min (quiet-levels s) left)

@@ -16,15 +16,23 @@ use Rattle.rules.specs.Limits.{max-connections}
 use Rattle.rules.proofs.Sums.{same, split}
 use Rattle.rules.proofs.Tests.{and-true}
 use Rattle.frames.specs.declared.Share.{Share}
-use Rattle.frames.specs.Model.{nth, no-share}
+use Rattle.frames.specs.Model.{nth}
 use Rattle.frames.specs.Admission.{stands}
 use Rattle.limits.specs.Zeros.{zeros}
 use Rattle.limits.proofs.ZeroLaws.{zero-at}
 use Rattle.tables.specs.Table.{row-in, used, formed}
 use Rattle.tables.proofs.TableLaws.{listed-row, number-in, read-at, used-end, held-stop, formed-length, formed-written, put-last, read-back, formed-back}
-use Rattle.shares.specs.Shares.{share-width, shares-length, share-in, numbers-of, share-at, put, shares-in, written-shares, shares-formed}
+use Rattle.shares.specs.Shares.{share-width, shares-length, share-at, put, shares-in, written-shares, shares-formed}
+use Rattle.frames.proofs.Names.{no-share}
 
 -- ---- a row
+
+-- as it is read, and as it is written
+abbrev share-in : List ℕ → Share
+share-in r = record { units = getD r 0 0; places = getD r 1 0 }
+
+abbrev numbers-of : Share → List ℕ
+numbers-of x = x .units ∷ x .places ∷ []
 
 numbers-back : (r : List ℕ) → length r ≡ share-width → numbers-of (share-in r) ≡ r
 numbers-back r e = listed-row share-width r e

@@ -37,7 +37,8 @@ use Rattle.tables.specs.Table.{row-in}
 use Rattle.tables.specs.Places.{rows, row-at, no-packet}
 use Rattle.tables.proofs.PlacesLaws.{row-is, rows-from}
 use Rattle.connections.specs.declared.Member.{Member}
-use Rattle.connections.specs.Members.{member-width, members-length, connection-of, past-of, connections-in, pasts-in, closed-in, used-in, first-in, written-table, member-formed, rows-formed}
+use Rattle.connections.specs.Members.{member-width, members-length, connections-in, pasts-in, closed-in, used-in, first-in, member-formed, rows-formed}
+use Rattle.connections.specs.Rows.{connection-of, past-of, written-table}
 use Rattle.connections.specs.Within.{Within}
 use Rattle.connections.proofs.FigureLaws.{reservation-free, entry-limits}
 use Rattle.connections.proofs.MemberLaws.{copied-over, closed-is, connections-length, pasts-length, closed-length}

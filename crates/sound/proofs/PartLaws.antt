@@ -31,8 +31,9 @@ use Rattle.tables.specs.Places.{rows, row-at}
 use Rattle.tables.specs.Notices.{notice-of}
 use Rattle.tables.proofs.TableLaws.{numbers-all, length-row, number-in}
 use Rattle.connections.specs.declared.Member.{Member}
-use Rattle.connections.specs.Members.{member-width, member-head, member-of, no-member, member-in, members-in, connection-of, past-of, closed-of, connections-in, pasts-in, closed-in, used-by, used-in, earlier, first-in, member-formed, rows-formed, members-formed}
-use Rattle.connections.specs.Members.{rows-end as rows-stop}
+use Rattle.connections.specs.Members.{member-width, member-of, no-member, member-in, members-in, connections-in, pasts-in, closed-in, used-by, used-in, earlier, first-in, member-formed, rows-formed, members-formed}
+use Rattle.connections.specs.Rows.{member-head, connection-of, past-of, closed-of}
+use Rattle.connections.specs.Rows.{rows-end as rows-stop}
 use Rattle.connections.specs.Within.{Within}
 use Rattle.connections.proofs.MemberLaws.{length-members, member-is, connections-length, pasts-length, closed-length, connection-is, connection-none, past-is, closed-is, closed-none}
 use Rattle.connections.proofs.WrittenLaws.{formed-parts, member-formed-at, rows-length, members-rows, members-long, used-is, first-is}

@@ -15,7 +15,8 @@ use Rattle.rules.specs.Admission.{owned, bound, charge-time}
 use Rattle.rules.specs.Service.{of, remember-all, eligibilities, charge-over}
 use Rattle.rules.specs.SoundTest.{left-sound}
 use Rattle.tables.specs.Places.{rows, row-at}
-use Rattle.connections.specs.Members.{connections-in, pasts-in, closed-in, used-in, first-in, written-table, rows-formed}
+use Rattle.connections.specs.Members.{connections-in, pasts-in, closed-in, used-in, first-in, rows-formed}
+use Rattle.connections.specs.Rows.{written-table}
 use Rattle.state.specs.declared.Hub.{Hub}
 
 -- ---- a table of connections

@@ -1,17 +1,20 @@
 -- The laws of the discipline of levels, as the shared proofs ask for them; how a refusal and a call done meet the contract.
 use mathlib.Core.Path.{refl, ap}
+use mathlib.Core.Bool.{false}
 use Rattle.rules.specs.Model.{State, Call, Answer, Outcome}
 use Rattle.rules.specs.SoundState.{Sound}
 use Rattle.rules.specs.Calls.{verdict, refused-number, refused-short, settle, answer}
 use Rattle.rules.proofs.SoundKept.{kept}
-use Rattle.rules.proofs.Results.{demand-1-refusals, verdict-1-exactly}
+use Rattle.rules.proofs.Results.{refusals-change-nothing, verdict-1-exactly}
+use Rattle.tables.specs.Places.{no-packet}
 use Rattle.tables.proofs.CallLaws.{Ruled}
 use Rattle.faces.proofs.Discipline.{Discipline}
 use Rattle.faces.proofs.CallLaws as C
+use Rattle.faces.proofs.Results.{departed-back}
 use Rattle.state.specs.declared.Hub.{Hub}
 use Rattle.state.specs.declared.Told.{Told}
 use Rattle.state.specs.View.{Tables, view, hub-of, written, sound-hub}
-use Rattle.state.specs.Told.{is-some, told-of, refusal, refusal-short}
+use Rattle.state.specs.Told.{is-some, told-of, refusal}
 use Rattle.state.specs.Does.{tells, leaves}
 use Rattle.state.proofs.WrittenLaws.{writable, read-written, written-sound}
 use Rattle.state.proofs.SoundLaws.{is-sound, tables-kept}
@@ -25,16 +28,16 @@ abbrev pub levels : Discipline
 levels = record {
   State = State;
   Call = Call;
-  Answer = Answer;
   Sound = Sound;
   answer = answer;
-  next = Outcome.next;
   refused-number = refused-number;
   Kept = Hub;
   Told = Told;
   verdict = Told.verdict;
   number = Told.number;
+  short = Told.short;
   gone = Told.gone;
+  packet = Told.packet;
   kept = Told.hub;
   view = view;
   kept-of = hub-of;
@@ -45,8 +48,9 @@ levels = record {
   tells = tells;
   leaves = leaves;
   ruled = ruled;
+  told-back = λ a. (refl, refl, refl, departed-back (a .departed));
   kept-told = λ a. refl;
-  kept-back = λ h t ok. refl;
+  kept-back = λ h t. refl;
   refused-as = λ h v n. (refl, refl, refl, refl);
   is-sound = is-sound;
   tables-kept = tables-kept;
@@ -54,14 +58,14 @@ levels = record {
   written-sound = written-sound;
   next-sound = kept;
   never-1 = λ k s S z. verdict-1-exactly k s .0 z S;
-  refuses = λ k s n. let f = demand-1-refusals k s n in (f .0, f .2, ap is-some (f .1));
+  refuses = refusals-change-nothing;
 }
 
 abbrev pub settled : C.Settled levels
 settled = record {
   rule = verdict;
   settle = settle;
-  refusal-short = refusal-short;
+  refusal-short = λ h verdict number short. record { verdict = verdict; number = number; short = short; gone = false; packet = no-packet; hub = h };
   refused-short = refused-short;
   answer-is = λ k s. refl;
   told-is = λ k h t w. refl;

@@ -95,5 +95,5 @@ module _ (h : Hub) (t : Tables) (ok : sound-hub h t ≡ true) where
         blank c o =
             ⊎-elim
             (λ l. connection-none (t .members) c l)
-            (λ l. linked .free-blank c l o .no-figures)
+            (λ l. linked .free-blank c l o .0)
             (split max-connections c)

@@ -36,7 +36,7 @@ past-few s S c l = go (owned (s .connections) c) refl
   where
     go : (b : Bool) → owned (s .connections) c ≡ b → Few (past s c)
     go true e = S .queue c e .few
-    go false e = omega (arith, ap (λ (h : Past). length h) (S .free-blank c l e .no-memory))
+    go false e = omega (arith, ap (λ (h : Past). length h) (S .free-blank c l e .1))
 
 linked-writable : (s : State) → Sound s → Sound-with-link s → Writable s
 linked-writable s T S = record {
@@ -47,8 +47,8 @@ linked-writable s T S = record {
   rows = record {
     sent = all-map (λ p f. f .some-len) (s .held) (S .orderly .fit);
     fit = rows-fit-places s T;
-    said = all-map (λ n f. f .some-len) (s .notices) (S .orderly .notices-fit);
-    few-said = S .orderly .few-notices;
+    said = all-map (λ n f. f .some-len) (s .notices) (S .orderly .line .notices-fit);
+    few-said = S .orderly .line .few-notices;
   };
 }
 

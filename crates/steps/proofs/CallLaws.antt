@@ -1,6 +1,5 @@
 -- How a call made, and each kind of step of a `TK`, meet the contract of a step.
-use Prim.Native.Nat.{ℕ, _+_, _-_, _%_, _<_, _≤_}
-use native.Mathlib.Omega.{arith}
+use Prim.Native.Nat.{ℕ, _+_, _-_, _%_, _<_}
 use mathlib.Core.Path.{_≡_, refl, sym, ap, _∙_, subst}
 use mathlib.Core.Bool.{Bool, true, false, cond}
 use mathlib.Core.List.{List, []}
@@ -36,7 +35,7 @@ use Rattle.steps.specs.declared.Status.the-variants.{GoOn}
 use Rattle.steps.specs.declared.Stepped.{Stepped}
 use Rattle.steps.specs.declared.asking.Wanted.{Wanted}
 use Rattle.steps.specs.Wants.{asks-as}
-use Rattle.steps.specs.Steps.{point, goes, asked-next, record-next, one-tick, tick-next, weight}
+use Rattle.steps.specs.Steps.{point, goes, asked-next, one-tick, tick-next}
 use Rattle.steps.specs.Tie.{cursor-at, link-answer, admission-answer, close-answer, offer-answer, notice-answer, told-log, Makes}
 
 -- ---- a call whose answer is written
@@ -54,13 +53,11 @@ pub did-asked : (q : Record) (k : Request) → asks q ≡ one-call k → (h : Ke
     → (at used : ℕ) (f : Replied → Reply) (reply : Reply) (a : Stepped) → ((x : Line-reply) → answer-bytes (f (replied-of x)) ≡ call-log k x) → reply ≡ f told
     → a ≡ record { cursor = cursor-at (at + used) Reading (told .kept); used = used; wrote = length (answer-bytes reply); status = GoOn }
     → o′ ≡ over (answer-bytes reply) o
-    → Makes (record-next q used at (view h t)) a u 0 o o′ × (weight (a .cursor .phase) ≤ 65536)
-did-asked q k i h t u o o′ told ok D at used f reply a b e w r = (
-  subst (λ (x : Asked). Makes (asked-next x used at (view h t)) a u 0 o o′) (sym i)
-      (did-call k h t u o o′ told ok D (at + used) used (call-log k (respond k (view h t))) reply a
-      (ap answer-bytes (e ∙ ap f (told-as k h t ok told u D)) ∙ b (respond k (view h t))) w r),
-  rw w (omega arith),
-)
+    → Makes (asked-next (asks q) used at (view h t)) a u 0 o o′
+did-asked q k i h t u o o′ told ok D at used f reply a b e w r =
+    subst (λ (x : Asked). Makes (asked-next x used at (view h t)) a u 0 o o′) (sym i)
+    (did-call k h t u o o′ told ok D (at + used) used (call-log k (respond k (view h t))) reply a
+    (ap answer-bytes (e ∙ ap f (told-as k h t ok told u D)) ∙ b (respond k (view h t))) w r)
 
 -- the answer records of the code are those of the rules' log
 module _ (x : Line-reply) where
@@ -97,7 +94,7 @@ did-kept h t ok at f used bs k a o o′ e r = record {
 -- ---- a step with what a record asks, as the code has it
 
 pub as-asked : (q : Wanted) (w : Record) (k at : ℕ) (s : Line) (a : Stepped) (t : Tables) (o o′ : List ℕ) → asks-as q ≡ asks w
-    → Makes (asked-next (asks-as q) k at s) a t 0 o o′ → Makes (record-next w k at s) a t 0 o o′
+    → Makes (asked-next (asks-as q) k at s) a t 0 o o′ → Makes (asked-next (asks w) k at s) a t 0 o o′
 as-asked q w k at s a t o o′ e d = subst (λ (x : Asked). Makes (asked-next x k at s) a t 0 o o′) e d
 
 -- ---- a tick
@@ -169,7 +166,7 @@ module _ (at asked left : ℕ) (h : Kept) (t : Tables) (ok : sound-kept h t ≡ 
   -- none is quiet: one tick
   pub did-one : (left ≡ 0 → ⊥) → quiet-ticks left (view h t) ≡ 0 → (a : Stepped) (u : Tables) (o o′ : List ℕ)
       → Makes (one-tick at asked left (view h t)) a u 0 o o′ → Makes (tick-next at asked left (view h t)) a u 0 o o′
-  unfolding tick-next
+  unfolding tick-next one-tick
   did-one l e a u o o′ d = rw (ne-eqb left 0 l, eq-eqb (quiet-ticks left (view h t)) 0 e) d
 
 -- ---- the verdict of a `TK` whose ticks are all done

@@ -13,13 +13,14 @@ use Rattle.either.specs.Line.{Line, tick, respond}
 use Rattle.both.specs.Quiet.{quiet-ticks}
 use Rattle.fields.proofs.NumberLaws.{cond-by}
 use Rattle.traces.specs.Trace.{longest-record}
-use Rattle.log.specs.Log.{Asked, one-call, some-ticks, unread, asks, asked-from, read-at}
+use Rattle.log.specs.Log.{Asked, one-call, some-ticks, unread, asks, read-at}
 use Rattle.log.specs.Bad.{first-bad}
 use Rattle.log.proofs.ReadLaws.{read-lies, read-onward}
+use Rattle.log.proofs.LogLaws.{asked-from}
 use Rattle.log.proofs.BadLaws.{bad-from, bad-of-none, bad-of-some}
 use Rattle.steps.specs.declared.Phase.{Phase}
 use Rattle.steps.specs.declared.Phase.the-variants.{Reading, Ticking, Finished}
-use Rattle.steps.specs.Steps.{Point, Next, asked-next, found-next, read-next, one-tick, tick-next, phase-next, next, is-go, onward, steps}
+use Rattle.steps.specs.Steps.{Point, Next, asked-next, read-next, tick-next, phase-next, next, joined, steps}
 
 -- ---- of a point with the window w and u behind it: b is where the trace is malformed
 
@@ -58,7 +59,7 @@ module _ (b : Option ℕ) (s : Line) where
   asked-tells (some-ticks x) k at w u h l e = e ∙ ap (bad-from (at + k)) (drop-append-le k w u l)
   asked-tells unread k at w u h l e = (rw (ne-eqb (length w) 0 (omega arith)) e, λ z. absurd (omega arith))
 
-  found-tells : (at : ℕ) (w u : List ℕ) → 0 < length w → read-at at (w ++ u) ≡ read-at at w → b ≡ bad-from at (w ++ u) → Tells-then b w u (found-next (read-at at w) at s)
+  found-tells : (at : ℕ) (w u : List ℕ) → 0 < length w → read-at at (w ++ u) ≡ read-at at w → b ≡ bad-from at (w ++ u) → Tells-then b w u (asked-next (asks (read-at at w .what)) (read-at at w .taken) at s)
   found-tells at w u h e T =
       asked-tells (asks (read-at at w .what)) (read-at at w .taken) at w u h (read-lies at w .fits)
       (T ∙ bad-of-some at (w ++ u) (simp length-append (omega arith)) ∙ rw e)
@@ -75,7 +76,7 @@ module _ (b : Option ℕ) (s : Line) where
       (λ e. let n : longest-record ≤ length w = ltb-false _ _ e in found-tells at w u (omega arith) (read-onward at w u n) T)
 
   tick-tells : (at asked left : ℕ) (w u : List ℕ) → b ≡ bad-from at (w ++ u) → Tells-then b w u (tick-next at asked left s)
-  unfolding tick-next one-tick
+  unfolding tick-next
   tick-tells at asked left w u T =
       cond-by (Tells-then b w u) (eqb left 0) _ _ (λ _. T)
       (λ _. cond-by (Tells-then b w u) (eqb (quiet-ticks left s) 0) _ _ (λ _. cond-by (Tells-then b w u) (eqb (respond tick s .verdict) 0) _ _ (λ _. T) (λ _. T)) (λ _. T))
@@ -89,14 +90,11 @@ pub step-tells : (b : Option ℕ) (p : Point) (w u : List ℕ) (last : Bool) →
 unfolding next
 step-tells b p w u last g T = phase-tells-then b (p .line) (p .phase) (p .at) w u last g T
 
-onward-tells : (b : Option ℕ) (w u : List ℕ) (last : Bool) (m : Next) → (last ≡ true → u ≡ []) → Tells-then b w u m → Tells-then b w u (onward w last m)
-unfolding onward
-onward-tells b w u last m g T =
-    cond-by (Tells-then b w u) (is-go (m .status)) _ _
-    (λ e. rw (← drop-drop) (step-tells b (m .point) (drop (m .used) w) u last g T))
-    (λ e. T)
+joined-tell : (b : Option ℕ) (w u : List ℕ) (last : Bool) (m : Next) → (last ≡ true → u ≡ []) → Tells-then b w u m
+    → Tells-then b w u (joined m (next (m .point) (drop (m .used) w) last))
+joined-tell b w u last m g T = rw (← drop-drop) (step-tells b (m .point) (drop (m .used) w) u last g T)
 
 pub steps-tell : (b : Option ℕ) (k : ℕ) (p : Point) (w u : List ℕ) (last : Bool) → (last ≡ true → u ≡ []) → Tells b p w u → Tells-then b w u (steps k p w last)
 unfolding steps
 steps-tell b zero p w u last g T = T
-steps-tell b (suc k) p w u last g T = onward-tells b w u last (steps k p w last) g (steps-tell b k p w u last g T)
+steps-tell b (suc k) p w u last g T = joined-tell b w u last (steps k p w last) g (steps-tell b k p w u last g T)

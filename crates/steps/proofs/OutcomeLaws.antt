@@ -1,25 +1,23 @@
 -- What a status says of a step: where it is done nothing is to come, and where it wants bytes the window is short; a step keeps the line sound, and is refused nowhere.
---
 use Prim.Native.Nat.{ℕ, zero, suc, _<_}
 use mathlib.Core.Path.{_≡_, refl}
-use mathlib.Core.Bool.{Bool}
+use mathlib.Core.Bool.{Bool, not, _&&_}
 use mathlib.Core.List.{List}
 use lib.Dec.{ltb, eqb}
 use lib.ListN.{length, drop}
 use lib.Seq.{drop-drop}
 use borrow.Author.Tests.{eqb-false, ltb-true}
-use Rattle.rules.proofs.Tests.{never}
+use Rattle.rules.proofs.Tests.{never, and-true}
 use Rattle.either.specs.Line.{Line, tick, Sound-line, respond}
 use Rattle.either.proofs.Results.{sound-is-kept}
 use Rattle.both.specs.Quiet.{quiet-ticks}
 use Rattle.fields.proofs.NumberLaws.{cond-by}
-use Rattle.traces.specs.declared.Record.{Record}
 use Rattle.traces.specs.Trace.{longest-record}
 use Rattle.log.specs.Log.{Asked, one-call, some-ticks, unread, asks, read-at}
 use Rattle.steps.specs.declared.Phase.{Phase}
 use Rattle.steps.specs.declared.Phase.the-variants.{Reading, Ticking, Finished}
 use Rattle.steps.specs.declared.Status.the-variants.{GoOn, MoreBytes, MoreRoom, NotSound, Done}
-use Rattle.steps.specs.Steps.{Point, point, Next, asked-next, record-next, read-next, one-tick, tick-next, phase-next, next, is-go, onward, steps}
+use Rattle.steps.specs.Steps.{Point, point, Next, asked-next, read-next, one-tick, tick-next, phase-next, next, joined, steps}
 use Rattle.steps.proofs.PassLaws.{quiet-passes}
 
 -- of a step on the window w: where it is done the replay is finished; where it wants bytes fewer than the longest record are left; and the line after it is sound
@@ -46,16 +44,13 @@ module _ (s : Line) (S : Sound-line s) where
   asked-ends w (some-ticks a) k at = goes-well w _ S refl
   asked-ends w unread k at = done-well w _ S refl refl
 
-  record-ends : (w : List ℕ) (r : Record) (k at : ℕ) → Ends-well w (record-next r k at s)
-  record-ends w r k at = asked-ends w (asks r) k at
-
   read-ends-well : (at : ℕ) (w : List ℕ) (last : Bool) → Ends-well w (read-next at s w last)
   unfolding read-next
   read-ends-well at w last =
-      cond-by (Ends-well w) last _ _
-      (λ _. cond-by (Ends-well w) (eqb (length w) 0) _ _ (λ _. done-well w _ S refl refl) (λ _. record-ends w (read-at at w .what) (read-at at w .taken) at))
-      (λ _. cond-by (Ends-well w) (ltb (length w) longest-record) _ _ (λ e. wants-well w _ S refl (ltb-true _ _ e))
-      (λ _. record-ends w (read-at at w .what) (read-at at w .taken) at))
+      cond-by (Ends-well w) (last && eqb (length w) 0) _ _ (λ _. done-well w _ S refl refl)
+      (λ _. cond-by (Ends-well w) (not last && ltb (length w) longest-record) _ _
+      (λ e. wants-well w _ S refl (ltb-true _ _ (and-true (not last) (ltb (length w) longest-record) e .1)))
+      (λ _. asked-ends w (asks (read-at at w .what)) (read-at at w .taken) at))
 
   one-tick-ends-well : (w : List ℕ) (at asked left : ℕ) → Ends-well w (one-tick at asked left s)
   unfolding one-tick
@@ -63,7 +58,7 @@ module _ (s : Line) (S : Sound-line s) where
       cond-by (Ends-well w) (eqb (respond tick s .verdict) 0) _ _ (λ _. goes-well w _ (sound-is-kept tick s S) refl) (λ _. goes-well w _ (sound-is-kept tick s S) refl)
 
   tick-ends-well : (w : List ℕ) (at asked left : ℕ) → Ends-well w (tick-next at asked left s)
-  unfolding tick-next
+  unfolding tick-next one-tick
   tick-ends-well w at asked left =
       cond-by (Ends-well w) (eqb left 0) _ _ (λ _. goes-well w _ S refl)
       (λ _. cond-by (Ends-well w) (eqb (quiet-ticks left s) 0) _ _ (λ _. one-tick-ends-well w at asked left)
@@ -78,15 +73,12 @@ pub step-ends-well : (p : Point) (w : List ℕ) (last : Bool) → Sound-line (p 
 unfolding next
 step-ends-well p w last S = phase-ends-well (p .line) S (p .phase) (p .at) w last
 
-onward-ends-well : (w : List ℕ) (last : Bool) (m : Next) → Ends-well w m → Ends-well w (onward w last m)
-unfolding onward
-onward-ends-well w last m E =
-    cond-by (Ends-well w) (is-go (m .status)) _ _
-    (λ _. let N = step-ends-well (m .point) (drop (m .used) w) last (E .sound) in
-    record { finished = N .finished; short = λ e. rw (← drop-drop (next (m .point) (drop (m .used) w) last .used) (m .used) w) (N .short e); room-enough = N .room-enough; never-unsound = N .never-unsound; sound = N .sound })
-    (λ _. E)
+joined-end-well : (w : List ℕ) (last : Bool) (m : Next) → Ends-well w m → Ends-well w (joined m (next (m .point) (drop (m .used) w) last))
+joined-end-well w last m E =
+    let N = step-ends-well (m .point) (drop (m .used) w) last (E .sound) in
+    record { finished = N .finished; short = λ e. rw (← drop-drop (next (m .point) (drop (m .used) w) last .used) (m .used) w) (N .short e); room-enough = N .room-enough; never-unsound = N .never-unsound; sound = N .sound }
 
 pub steps-end-well : (k : ℕ) (p : Point) (w : List ℕ) (last : Bool) → Sound-line (p .line) → Ends-well w (steps k p w last)
 unfolding steps
 steps-end-well zero p w last S = goes-well w _ S refl
-steps-end-well (suc k) p w last S = onward-ends-well w last (steps k p w last) (steps-end-well k p w last S)
+steps-end-well (suc k) p w last S = joined-end-well w last (steps k p w last) (steps-end-well k p w last S)

@@ -5,20 +5,19 @@ use mathlib.Core.Path.{_≡_, ap, _∙_, subst}
 use Rattle.either.specs.Line.{Line, Reply, Sound-line}
 use Rattle.both.specs.Quiet.{passed, quiet-ticks}
 use Rattle.both.proofs.QuietLaws.{Quiet, one-quiet-tick, quiet-then, pass-none, pass-one-more, quiets}
-use Rattle.log.specs.Log.{ticks-log, ticks-end}
-use Rattle.log.proofs.LogLaws.{done-log, done-end}
+use Rattle.log.proofs.LogLaws.{ticks-log, ticks-end, done-log, done-end}
 
 -- `left` ticks from the line s on are m ticks from the line z on, in what they write and where they end
 pub record Passes (asked left m : ℕ) (s z : Line) : Type 0 where
   pub same-log : ticks-log asked left s ≡ ticks-log asked m z
-  pub same-end : ticks-end left s ≡ ticks-end m z
+  pub same-end : ticks-end asked left s ≡ ticks-end asked m z
   pub sound-then : Sound-line z
 
 one-passes : (asked left k : ℕ) (s : Line) → Quiet s (suc k) → Passes asked (suc left) left s (passed s 1)
 one-passes asked left k s Q =
     let a = one-quiet-tick s k Q in
     let e = ap (λ (x : Reply). x .verdict) a in
-    record { same-log = done-log left s e asked ∙ rw a; same-end = done-end left s e ∙ rw a; sound-then = quiet-then s k Q .sound-state }
+    record { same-log = done-log left s e asked ∙ rw a; same-end = done-end left s e asked ∙ rw a; sound-then = quiet-then s k Q .sound-state }
 
 -- PASSING OVER k TICKS is running them one by one
 pub passes-over : (asked m k : ℕ) (s : Line) → Quiet s k → Passes asked (k + m) m s (passed s k)
@@ -33,7 +32,7 @@ passes-over asked m (suc k) s Q =
     let z = pass-one-more s k in
     record {
       same-log = rw e (f .same-log ∙ r .same-log ∙ ap (ticks-log asked m) z);
-      same-end = rw e (f .same-end ∙ r .same-end ∙ ap (ticks-end m) z);
+      same-end = rw e (f .same-end ∙ r .same-end ∙ ap (ticks-end asked m) z);
       sound-then = subst Sound-line z (r .sound-then);
     }
 

@@ -11,17 +11,25 @@ use borrow.Author.Tests.{ltb-false, eqb-true, eqb-false}
 use Rattle.either.specs.Line.{Line, tick, respond}
 use Rattle.both.specs.Quiet.{quiet-ticks}
 use Rattle.fields.proofs.NumberLaws.{cond-by}
-use Rattle.traces.specs.declared.Record.{Record}
 use Rattle.traces.specs.Trace.{longest-record}
 use Rattle.answers.specs.declared.Reply.the-variants.{Ticked, Broken}
 use Rattle.answers.specs.Answers.{answer-bytes}
-use Rattle.log.specs.Log.{Asked, one-call, some-ticks, unread, asks, asked-from, asked-log, read-at, tick-log, all-done-verdict, ticks-log, ticks-end, log-from}
+use Rattle.log.specs.Log.{Asked, one-call, some-ticks, unread, asks, asked-log, read-at, tick-log, all-done-verdict, ticks-run}
 use Rattle.log.proofs.ReadLaws.{read-lies, read-onward}
-use Rattle.log.proofs.LogLaws.{done-log, done-end, refused-log, refused-end, log-of-none, log-of-some}
+use Rattle.log.proofs.LogLaws.{asked-from, log-from, ticks-log, ticks-end, done-log, done-end, refused-log, refused-end, log-of-none, log-of-some}
 use Rattle.steps.specs.declared.Phase.{Phase}
 use Rattle.steps.specs.declared.Phase.the-variants.{Reading, Ticking, Finished}
-use Rattle.steps.specs.Steps.{Point, point, Next, goes, asked-next, record-next, found-next, read-next, one-tick, tick-next, phase-next, next, is-go, onward, steps, to-come}
+use Rattle.steps.specs.Steps.{Point, point, Next, goes, asked-next, read-next, one-tick, tick-next, phase-next, next, joined, steps}
 use Rattle.steps.proofs.PassLaws.{quiet-passes}
+
+-- what is still to come, where rest is the trace from the point on
+abbrev pub phase-log : Phase → ℕ → Line → List ℕ → List ℕ
+phase-log Reading at s rest = log-from at s rest
+phase-log (Ticking asked left) at s rest = ticks-log asked left s ++ log-from at (ticks-end asked left s) rest
+phase-log Finished at s rest = []
+
+abbrev pub to-come : Point → List ℕ → List ℕ
+to-come p rest = phase-log (p .phase) (p .at) (p .line) rest
 
 -- u is what comes behind the window w
 abbrev pub Keeps : Point → List ℕ → List ℕ → Next → Type 0
@@ -34,17 +42,12 @@ asked-keeps (one-call c) k at s w u e = rw (drop-append-le k w u e)
 asked-keeps (some-ticks a) k at s w u e = rw (drop-append-le k w u e)
 asked-keeps unread k at s w u e = sym (append-nil (answer-bytes (Broken at)))
 
-record-keeps : (r : Record) (k at : ℕ) (s : Line) (w u : List ℕ) → k ≤ length w
-    → asked-log s ((asks r, at) ∷ asked-from (at + k) (drop k (w ++ u)))
-    ≡ record-next r k at s .bytes ++ to-come (record-next r k at s .point) (drop (record-next r k at s .used) w ++ u)
-record-keeps r k at s w u e = asked-keeps (asks r) k at s w u e
-
 -- the record at the start of the window is that at the start of what is left of the trace
 found-keeps : (at : ℕ) (s : Line) (w u : List ℕ) → 0 < length w → read-at at (w ++ u) ≡ read-at at w
-    → Keeps (point at Reading s) w u (found-next (read-at at w) at s)
+    → Keeps (point at Reading s) w u (asked-next (asks (read-at at w .what)) (read-at at w .taken) at s)
 found-keeps at s w u p e =
     log-of-some at s (w ++ u) (simp length-append (omega arith))
-    ∙ rw e (record-keeps (read-at at w .what) (read-at at w .taken) at s w u (read-lies at w .fits))
+    ∙ rw e (asked-keeps (asks (read-at at w .what)) (read-at at w .taken) at s w u (read-lies at w .fits))
 
 read-keeps : (at : ℕ) (s : Line) (w u : List ℕ) (last : Bool) → (last ≡ true → u ≡ []) → Keeps (point at Reading s) w u (read-next at s w last)
 unfolding read-next
@@ -65,17 +68,17 @@ one-tick-keeps at asked zero s w u n = absurd (n refl)
 one-tick-keeps at asked (suc left) s w u n =
     let l : suc left - 1 ≡ left = omega arith in
     cond-by (Keeps (point at (Ticking asked (suc left)) s) w u) (eqb (respond tick s .verdict) 0) _ _
-    (λ b. let e = eqb-true _ _ b in rw (l, done-log left s e asked, done-end left s e) (append-assoc (tick-log (respond tick s)) _ _))
-    (λ b. let e = eqb-false _ _ b in rw (refused-log left s e asked, refused-end left s e))
+    (λ b. let e = eqb-true _ _ b in rw (l, done-log left s e asked, done-end left s e asked) (append-assoc (tick-log (respond tick s)) _ _))
+    (λ b. let e = eqb-false _ _ b in rw (refused-log left s e asked, refused-end left s e asked))
 
 all-done-keeps : (at asked left : ℕ) (s : Line) (w u : List ℕ) → left ≡ 0
     → Keeps (point at (Ticking asked left) s) w u (goes at Reading s 0 (answer-bytes (Ticked (all-done-verdict asked s) asked)))
-unfolding ticks-log ticks-end
+unfolding ticks-run
 all-done-keeps at asked zero s w u e = refl
 all-done-keeps at asked (suc left) s w u e = absurd (omega arith)
 
 tick-keeps : (at asked left : ℕ) (s : Line) (w u : List ℕ) → Keeps (point at (Ticking asked left) s) w u (tick-next at asked left s)
-unfolding tick-next
+unfolding tick-next one-tick
 tick-keeps at asked left s w u =
     cond-by (Keeps (point at (Ticking asked left) s) w u) (eqb left 0) _ _
     (λ e. all-done-keeps at asked left s w u (eqb-true _ _ e))
@@ -94,14 +97,12 @@ step-keeps p w u last g = phase-keeps (p .phase) (p .at) (p .line) w u last g
 
 -- ---- many steps
 
-onward-keeps : (p : Point) (w u : List ℕ) (last : Bool) (m : Next) → (last ≡ true → u ≡ []) → Keeps p w u m → Keeps p w u (onward w last m)
-unfolding onward
-onward-keeps p w u last m g k =
-    cond-by (Keeps p w u) (is-go (m .status)) _ _
-    (λ e. k ∙ (ap (λ l. m .bytes ++ l) (step-keeps (m .point) (drop (m .used) w) u last g) ∙ rw (append-assoc, drop-drop)))
-    (λ e. k)
+joined-keep : (p : Point) (w u : List ℕ) (last : Bool) (m : Next) → (last ≡ true → u ≡ []) → Keeps p w u m
+    → Keeps p w u (joined m (next (m .point) (drop (m .used) w) last))
+joined-keep p w u last m g k =
+    k ∙ (ap (λ l. m .bytes ++ l) (step-keeps (m .point) (drop (m .used) w) u last g) ∙ rw (append-assoc, drop-drop))
 
 pub steps-keep : (k : ℕ) (p : Point) (w u : List ℕ) (last : Bool) → (last ≡ true → u ≡ []) → Keeps p w u (steps k p w last)
 unfolding steps
 steps-keep zero p w u last g = refl
-steps-keep (suc k) p w u last g = onward-keeps p w u last (steps k p w last) g (steps-keep k p w u last g)
+steps-keep (suc k) p w u last g = joined-keep p w u last (steps k p w last) g (steps-keep k p w u last g)

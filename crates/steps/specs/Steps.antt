@@ -1,17 +1,15 @@
 -- One step of a replay and many, by the rules: at most one answer record a step.
 use Prim.Native.Nat.{ℕ, zero, suc, _+_, _*_, _-_}
-use mathlib.Core.Bool.{Bool, true, false, cond}
+use mathlib.Core.Bool.{Bool, true, false, cond, not, _&&_}
 use mathlib.Core.List.{List, [], _++_}
 use lib.Dec.{ltb, eqb}
 use lib.ListN.{length, drop}
-use Rattle.either.specs.Line.{Line, Request, tick, respond, fresh-line}
+use Rattle.either.specs.Line.{Line, tick, respond, fresh-line}
 use Rattle.both.specs.Quiet.{passed, quiet-ticks}
-use Rattle.traces.specs.declared.Record.{Record}
-use Rattle.traces.specs.declared.Found.{Found}
 use Rattle.traces.specs.Trace.{longest-record}
 use Rattle.answers.specs.declared.Reply.the-variants.{Ticked, Broken}
 use Rattle.answers.specs.Answers.{answer-bytes}
-use Rattle.log.specs.Log.{trace-limit, Asked, one-call, some-ticks, unread, asks, call-log, read-at, tick-log, all-done-verdict, ticks-log, ticks-end, log-from}
+use Rattle.log.specs.Log.{trace-limit, Asked, one-call, some-ticks, unread, asks, call-log, read-at, tick-log, all-done-verdict}
 use Rattle.steps.specs.declared.Phase.{Phase}
 use Rattle.steps.specs.declared.Phase.the-variants.{Reading, Ticking, Finished}
 use Rattle.steps.specs.declared.Status.{Status}
@@ -45,45 +43,30 @@ still p k = record { point = p; used = 0; bytes = []; status = k }
 abbrev pub goes : ℕ → Phase → Line → ℕ → List ℕ → Next
 goes at p s used bytes = record { point = point at p s; used = used; bytes = bytes; status = GoOn }
 
--- a step with a record of k bytes that ends at offset `to`: a call is made and answered
-abbrev pub call-next : Request → ℕ → ℕ → Line → Next
-call-next c k to s = goes to Reading (respond c s .next) k (call-log c (respond c s))
-
--- a step with what a record of k bytes at offset `at` asks: a `TK` begins, a malformed record ends the log
+-- a step with what a record of k bytes at offset `at` asks: a call is made and answered, a `TK` begins, a malformed record ends the log
 abbrev pub asked-next : Asked → ℕ → ℕ → Line → Next
-asked-next (one-call c) k at s = call-next c k (at + k) s
+asked-next (one-call c) k at s = goes (at + k) Reading (respond c s .next) k (call-log c (respond c s))
 asked-next (some-ticks n) k at s = goes (at + k) (Ticking n n) s k []
 asked-next unread k at s = record { point = point at Finished s; used = 0; bytes = answer-bytes (Broken at); status = Done }
-
-abbrev pub record-next : Record → ℕ → ℕ → Line → Next
-record-next r k at s = asked-next (asks r) k at s
-
-abbrev pub found-next : Found → ℕ → Line → Next
-found-next f at s = record-next (f .what) (f .taken) at s
 
 -- a step where a record is to be read: the window w must hold the longest one, or be the last
 unfoldable pub read-next : ℕ → Line → List ℕ → Bool → Next
 read-next at s w last =
-    cond last
-    (cond (eqb (length w) 0) (still (point at Finished s) Done) (found-next (read-at at w) at s))
-    (cond (ltb (length w) longest-record) (still (point at Reading s) MoreBytes) (found-next (read-at at w) at s))
+    cond (last && eqb (length w) 0) (still (point at Finished s) Done)
+    (cond (not last && ltb (length w) longest-record) (still (point at Reading s) MoreBytes)
+    (asked-next (asks (read-at at w .what)) (read-at at w .taken) at s))
 
 -- ---- a step of a `TK`
 
--- one tick, where `left` of `asked` are still to run
-unfoldable pub one-tick : ℕ → ℕ → ℕ → Line → Next
-one-tick at asked left s =
-    cond (eqb (respond tick s .verdict) 0)
-    (goes at (Ticking asked (left - 1)) (respond tick s .next) 0 (tick-log (respond tick s)))
-    (goes at Reading (respond tick s .next) 0 (answer-bytes (Ticked (respond tick s .verdict) (asked - left))))
-
--- quiet ticks, or one tick, or the `TA`
+-- quiet ticks, or one tick, or the `TA`, where `left` of `asked` are still to run
 unfoldable pub tick-next : ℕ → ℕ → ℕ → Line → Next
 tick-next at asked left s =
     cond (eqb left 0)
     (goes at Reading s 0 (answer-bytes (Ticked (all-done-verdict asked s) asked)))
     (cond (eqb (quiet-ticks left s) 0)
-    (one-tick at asked left s)
+    (cond (eqb (respond tick s .verdict) 0)
+    (goes at (Ticking asked (left - 1)) (respond tick s .next) 0 (tick-log (respond tick s)))
+    (goes at Reading (respond tick s .next) 0 (answer-bytes (Ticked (respond tick s .verdict) (asked - left)))))
     (goes at (Ticking asked (left - quiet-ticks left s)) (passed s (quiet-ticks left s)) 0 []))
 
 abbrev pub phase-next : Phase → ℕ → Line → List ℕ → Bool → Next
@@ -97,6 +80,17 @@ next p w last = phase-next (p .phase) (p .at) (p .line) w last
 
 -- ---- many steps
 
+-- one, and one behind it
+abbrev pub joined : Next → Next → Next
+joined m n = record { point = n .point; used = m .used + n .used; bytes = m .bytes ++ n .bytes; status = n .status }
+
+-- k steps: behind one that stops, the next does nothing and stops too
+unfoldable pub steps : ℕ → Point → List ℕ → Bool → Next
+steps zero p w last = still p GoOn
+steps (suc k) p w last = joined (steps k p w last) (next (steps k p w last .point) (drop (steps k p w last .used) w) last)
+
+-- ---- what the functions inside a step say of themselves
+
 abbrev pub is-go : Status → Bool
 is-go GoOn = true
 is-go MoreBytes = false
@@ -104,27 +98,12 @@ is-go MoreRoom = false
 is-go NotSound = false
 is-go Done = false
 
--- one more, unless the last one stopped
-abbrev pub joined : Next → Next → Next
-joined m n = record { point = n .point; used = m .used + n .used; bytes = m .bytes ++ n .bytes; status = n .status }
-
-unfoldable pub onward : List ℕ → Bool → Next → Next
-onward w last m = cond (is-go (m .status)) (joined m (next (m .point) (drop (m .used) w) last)) m
-
--- k steps, or fewer where one stops
-unfoldable pub steps : ℕ → Point → List ℕ → Bool → Next
-steps zero p w last = still p GoOn
-steps (suc k) p w last = onward w last (steps k p w last)
-
--- ---- what is still to come, where rest is the trace from the point on
-
-abbrev pub phase-log : Phase → ℕ → Line → List ℕ → List ℕ
-phase-log Reading at s rest = log-from at s rest
-phase-log (Ticking asked left) at s rest = ticks-log asked left s ++ log-from at (ticks-end left s) rest
-phase-log Finished at s rest = []
-
-abbrev pub to-come : Point → List ℕ → List ℕ
-to-come p rest = phase-log (p .phase) (p .at) (p .line) rest
+-- one tick, where `left` of `asked` are still to run
+unfoldable pub one-tick : ℕ → ℕ → ℕ → Line → Next
+one-tick at asked left s =
+    cond (eqb (respond tick s .verdict) 0)
+    (goes at (Ticking asked (left - 1)) (respond tick s .next) 0 (tick-log (respond tick s)))
+    (goes at Reading (respond tick s .next) 0 (answer-bytes (Ticked (respond tick s .verdict) (asked - left))))
 
 -- ---- a bound on the steps that are left
 

@@ -3,7 +3,7 @@ use mathlib.Core.List.{[], _∷_}
 use Rattle.rules.specs.declared.Link.{Link}
 use Rattle.either.specs.Line.{link-levels, link-frames, admit-level, admit-share, offer, notice, close}
 use Rattle.connections.specs.Stamps.{stamp-if}
-use Rattle.named.specs.Named.{windows-named}
+use Rattle.named.specs.Named.{link-named}
 use Rattle.log.specs.Log.{Asked, one-call, some-ticks, unread}
 use Rattle.steps.specs.declared.asking.LinkNumbers.{LinkNumbers}
 use Rattle.steps.specs.declared.asking.Wanted.{Wanted}
@@ -12,7 +12,7 @@ use Rattle.steps.specs.declared.asking.Wanted.the-variants.{ToLink, ToFr
 -- the link that the numbers name
 abbrev pub link-as : LinkNumbers → Link
 link-as l =
-    windows-named
+    link-named
     (l .levels ∷ l .largest ∷ l .silence ∷ l .early
     ∷ l .d1 ∷ l .d2 ∷ l .d3 ∷ l .d4 ∷ l .d5 ∷ l .d6 ∷ l .d7 ∷ l .d8
     ∷ l .w1 ∷ l .w2 ∷ l .w3 ∷ l .w4 ∷ l .w5 ∷ l .w6 ∷ l .w7 ∷ l .w8 ∷ [])

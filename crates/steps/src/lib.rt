@@ -14,7 +14,7 @@ ghost use Rattle.answers.specs.Answers.{answer-bytes, longest-answer};
 ghost use Rattle.steps.specs.declared.Phase.the-variants.{Reading};
 ghost use Rattle.steps.specs.declared.Status.the-variants.{GoOn};
 ghost use Rattle.steps.specs.Steps.{next};
-ghost use Rattle.steps.specs.Tie.{cursor-at, point-of, nothing-done, Makes, Facts};
+ghost use Rattle.steps.specs.Tie.{point-of, Makes, cursor-at, nothing-done};
 use answers::Reply;
 use both::Kept;
 
@@ -96,7 +96,6 @@ pub fn step_tested(
 ) -> Stepped
     requires { ⌜ (sound-kept (c .line) (given members places notices) ≡ true) × (longest-answer ≤ length (now out)) ⌝ }
     ensures { λ r. ⌜ Makes (next (point-of c (before members places notices)) (now (window .entry)) last) r (after members places notices) 0 (now (out .entry)) (now (out .exit)) ⌝ }
-    ensures { λ r. ⌜ Facts c (length (now (window .entry))) last (length (now (out .entry))) r ⌝ }
 {
     let at = c.at;
     let h = c.line;

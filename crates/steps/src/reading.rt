@@ -1,6 +1,6 @@
 // A step where a record is read, and what it asks is done.
 ghost use mathlib.Core.Path.{_≡_};
-ghost use mathlib.Core.Bool.{true, false, cond};
+ghost use mathlib.Core.Bool.{true, not, _&&_};
 ghost use Prim.Native.Nat.{_-_, _≤_, _<_};
 ghost use lib.Dec.{eqb, ltb};
 ghost use lib.ListN.{length};
@@ -11,11 +11,11 @@ ghost use Rattle.fields.specs.Formats.{over};
 ghost use Rattle.traces.specs.Trace.{longest-record};
 ghost use Rattle.answers.specs.declared.Reply.the-variants.{Broken};
 ghost use Rattle.answers.specs.Answers.{answer-bytes, longest-answer};
-ghost use Rattle.log.specs.Log.{trace-limit, read-at};
-ghost use Rattle.steps.specs.declared.Phase.the-variants.{Reading, Ticking, Finished};
+ghost use Rattle.log.specs.Log.{trace-limit, asks, read-at};
+ghost use Rattle.steps.specs.declared.Phase.the-variants.{Ticking, Finished};
 ghost use Rattle.steps.specs.declared.Status.the-variants.{GoOn, Done};
-ghost use Rattle.steps.specs.Steps.{found-next, read-next, weight};
-ghost use Rattle.steps.specs.Tie.{cursor-at, link-answer, admission-answer, close-answer, offer-answer, notice-answer, Makes, Facts};
+ghost use Rattle.steps.specs.Steps.{asked-next, read-next};
+ghost use Rattle.steps.specs.Tie.{cursor-at, link-answer, admission-answer, close-answer, offer-answer, notice-answer, Makes};
 use super::Cursor;
 use super::Phase;
 use super::Status;
@@ -155,8 +155,7 @@ fn record_step(
     out: &mut [u8],
 ) -> Stepped
     requires { ⌜ (sound-kept h (given members places notices) ≡ true) × (longest-answer ≤ length (now out)) × (f .taken ≤ trace-limit - at) ⌝ }
-    ensures { λ r. ⌜ Makes (found-next f at (view h (before members places notices))) r (after members places notices) 0 (now (out .entry)) (now (out .exit)) ⌝ }
-    ensures { λ r. ⌜ weight (r .cursor .phase) ≤ 65536 ⌝ }
+    ensures { λ r. ⌜ Makes (asked-next (asks (f .what)) (f .taken) at (view h (before members places notices))) r (after members places notices) 0 (now (out .entry)) (now (out .exit)) ⌝ }
 {
     let used = f.taken;
     let to = at + used as u32;
@@ -209,7 +208,7 @@ fn record_step(
 
 // Of a window of n bytes: the trace ends where it begins.
 fn ends(n: usize, last: bool) -> bool
-    ensures { λ r. ⌜ r ≡ cond last (eqb n 0) false ⌝ }
+    ensures { λ r. ⌜ r ≡ (last && eqb n 0) ⌝ }
 {
     if last {
         return n == 0;
@@ -219,7 +218,7 @@ fn ends(n: usize, last: bool) -> bool
 
 // Of a window of n bytes: the longest record may not be whole in it, and more is to come.
 fn lacks(n: usize, last: bool) -> bool
-    ensures { λ r. ⌜ r ≡ cond last false (ltb n longest-record) ⌝ }
+    ensures { λ r. ⌜ r ≡ (not last && ltb n longest-record) ⌝ }
 {
     if last {
         return false;
@@ -240,7 +239,6 @@ pub(crate) fn read_step(
 ) -> Stepped
     requires { ⌜ (sound-kept h (given members places notices) ≡ true) × (longest-answer ≤ length (now out)) ⌝ }
     ensures { λ r. ⌜ Makes (read-next at (view h (before members places notices)) (now (window .entry)) last) r (after members places notices) 0 (now (out .entry)) (now (out .exit)) ⌝ }
-    ensures { λ r. ⌜ Facts (cursor-at at Reading h) (length (now (window .entry))) last (length (now (out .entry))) r ⌝ }
 {
     if ends(window.len(), last) {
         return waits(at, Phase::Finished, h, Status::Done);

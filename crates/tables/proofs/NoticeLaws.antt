@@ -15,12 +15,15 @@ use Rattle.rules.specs.Model.{notice-packet}
 use Rattle.rules.proofs.Tests.{and-true, and-intro}
 use Rattle.rules.proofs.Rows.{map-append}
 use Rattle.tables.specs.Table.{formed}
-use Rattle.tables.specs.Places.{packet-width, packet-of, packet-in, numbers-of, rows, table-of, row-at}
+use Rattle.tables.specs.Places.{packet-width, numbers-of, rows, table-of, row-at}
 use Rattle.tables.specs.Notices.{notices-length, notice-of, notices-in, written-notices, marked, notices-formed}
 use Rattle.tables.proofs.TableLaws.{formed-length, formed-written}
-use Rattle.tables.proofs.PlacesLaws.{numbers-back, rows-from, rows-end, rows-again, formed-again}
+use Rattle.tables.proofs.PlacesLaws.{packet-in, numbers-back, rows-from, rows-end, rows-again, formed-again}
 
 -- ---- a marked row is its notice's packet
+
+abbrev packet-of : ℕ → ℕ → ℕ → ℕ → ℕ → Packet
+packet-of a b c d e = record { connection = a; len = b; tag = c; arrival = d; eligibility = e }
 
 bears : (c l t a e : ℕ) → c ≡ notice-number → e ≡ a → notice-packet (notice-of (packet-of c l t a e)) ≡ packet-of c l t a e
 bears c l t a e i j = rw (i, j)

@@ -20,10 +20,14 @@ use Rattle.rules.proofs.Sums.{same}
 use Rattle.limits.specs.Zeros.{zeros}
 use Rattle.limits.proofs.ZeroLaws.{zeros-rep, zero-at, zeros-more}
 use Rattle.tables.specs.Table.{row-in, used, write, padded, formed}
-use Rattle.tables.specs.Places.{packet-width, put, shifted, cut, place, rows, written-places, table-of, places-length, numbers-of, packet-in, no-packet, row-at}
+use Rattle.tables.specs.Places.{packet-width, put, shifted, cut, place, rows, written-places, table-of, places-length, numbers-of, no-packet, row-at}
 use Rattle.tables.proofs.TableLaws.{listed-row, number-in, drop-write, formed-written, read-at, used-end, held-stop, held-more, length-write, write-append, take-rows, drop-rows, length-padded, put-last, read-back, formed-back}
 
 -- ---- a row
+
+-- as it is read
+abbrev pub packet-in : List ℕ → Packet
+packet-in r = record { connection = getD r 0 0; len = getD r 1 0; tag = getD r 2 0; arrival = getD r 3 0; eligibility = getD r 4 0 }
 
 pub numbers-back : (r : List ℕ) → length r ≡ packet-width → numbers-of (packet-in r) ≡ r
 numbers-back r e = listed-row packet-width r e
@@ -92,7 +96,7 @@ cut-table size t held i e n l h =
 
 -- the places table among the tables, by its length
 pub is-places : (t : List ℕ) (ps : List Packet) → length t ≡ places-length → table-of (length t) ps ≡ written-places ps
-unfolding table-of written-places
+unfolding table-of
 is-places t ps e = ap (λ (n : ℕ). padded packet-width numbers-of n ps) e
 
 -- ---- the first row of a connection
@@ -188,7 +192,7 @@ pub rows-formed : (n m : ℕ) (t : List ℕ) → length t ≡ n → m ≡ length
 rows-formed n m t h e = rw (eq-eqb (length t) n h, e ∙ rows-used t)
 
 pub table-back : (t : List ℕ) → formed packet-width places-length t ≡ true → t ≡ written-places (rows t)
-unfolding rows written-places
+unfolding rows table-of
 table-back t h = formed-written packet-width packet-in numbers-of numbers-back places-length t h
 
 pub first-none : (c : ℕ) (ps : List Packet) → length ps ≤ place c ps → first c ps ≡ none
@@ -258,9 +262,9 @@ module _ (ps : List Packet) (sent : All (λ p. 0 < p .len) ps) where
 
   -- of the places table
   pub places-again : rows (written-places ps) ≡ ps
-  unfolding table-of written-places
+  unfolding table-of
   places-again = rows-again places-length
 
   pub places-formed-again : length ps ≤ max-reserved → formed packet-width places-length (written-places ps) ≡ true
-  unfolding table-of written-places
+  unfolding table-of
   places-formed-again fit = formed-again places-length (omega arith)

@@ -18,7 +18,7 @@ use Rattle.rules.proofs.Sums.{split, cond-is}
 use Rattle.limits.specs.Zeros.{zeros}
 use Rattle.limits.proofs.ChainLaws.{and-false}
 use Rattle.limits.proofs.ZeroLaws.{zeros-are, zeros-rep, zero-at, zeros-left, drop-zeros, zeros-parts}
-use Rattle.tables.specs.Table.{row-in, rows-in, numbers, whole, until, used, read, formed, write, padded}
+use Rattle.tables.specs.Table.{row-in, rows-in, numbers, until, used, read, formed, write, padded}
 
 -- ---- a row, number by number
 
@@ -141,6 +141,10 @@ made-at w n make t i h = List·getD-map make (rows-in w n t) i [] ∙ ap make (r
 -- a row that is none of them, and all behind it
 abbrev ends : List (List ℕ) → Bool
 ends rs = eqb (getD (getD rs 0 []) 1 0) 0
+
+-- the whole rows of a table
+abbrev whole : ℕ → List ℕ → List (List ℕ)
+whole w t = rows-in w (length t / w) t
 
 until-first : (rs : List (List ℕ)) → until rs ≡ take (length (until rs)) rs
 until-first [] = refl

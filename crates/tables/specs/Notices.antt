@@ -16,12 +16,9 @@ use Rattle.tables.specs.Places.{packet-width, rows, table-of}
 abbrev pub notices-length : ℕ
 notices-length = packet-width * max-notices
 
--- what a row stands for
-abbrev pub notice-of : Packet → Notice
-notice-of p = record { len = p .len; tag = p .tag; arrival = p .arrival }
-
+-- what its rows stand for
 abbrev pub notices-in : List ℕ → List Notice
-notices-in q = map notice-of (rows q)
+notices-in q = map (λ p. record { len = p .len; tag = p .tag; arrival = p .arrival }) (rows q)
 
 abbrev pub written-notices : List Notice → List ℕ
 written-notices ns = table-of notices-length (map notice-packet ns)
@@ -32,3 +29,7 @@ marked p = eqb (p .connection) notice-number && eqb (p .eligibility) (p .arrival
 
 unfoldable pub notices-formed : List ℕ → Bool
 notices-formed q = formed packet-width notices-length q && each marked (rows q)
+
+-- a row as the notice that it stands for
+abbrev pub notice-of : Packet → Notice
+notice-of p = record { len = p .len; tag = p .tag; arrival = p .arrival }

@@ -3,7 +3,7 @@
 use Prim.Native.Nat.{ℕ, suc, _+_, _*_}
 use mathlib.Core.Bool.{Bool, true, false, cond}
 use mathlib.Core.List.{List, [], _∷_, _++_}
-use mathlib.Core.Option.{Option, none, some}
+use mathlib.Core.Option.{Option, none, some, Option·getD}
 use lib.Dec.{eqb}
 use lib.ListN.{getD, take, drop}
 use lib.Seq.{paste, sets}
@@ -20,17 +20,9 @@ places-length = packet-width * max-reserved
 
 -- ---- a row
 
-abbrev pub packet-of : ℕ → ℕ → ℕ → ℕ → ℕ → Packet
-packet-of a b c d e = record { connection = a; len = b; tag = c; arrival = d; eligibility = e }
-
-abbrev pub packet-in : List ℕ → Packet
-packet-in r = packet-of (getD r 0 0) (getD r 1 0) (getD r 2 0) (getD r 3 0) (getD r 4 0)
-
-abbrev pub numbers-of : Packet → List ℕ
-numbers-of p = p .connection ∷ p .len ∷ p .tag ∷ p .arrival ∷ p .eligibility ∷ []
-
+-- as an unused row is read
 abbrev pub no-packet : Packet
-no-packet = packet-of 0 0 0 0 0
+no-packet = record { connection = 0; len = 0; tag = 0; arrival = 0; eligibility = 0 }
 
 -- a packet or nothing: whether there is one, and it or an unused row
 abbrev pub is-some : Option Packet → Bool
@@ -38,26 +30,35 @@ is-some none = false
 is-some (some p) = true
 
 abbrev pub packet-or-unused : Option Packet → Packet
-packet-or-unused none = no-packet
-packet-or-unused (some p) = p
+packet-or-unused o = Option·getD o no-packet
 
 -- row i of a table, used or not
 abbrev pub row-at : List ℕ → ℕ → Packet
-row-at t i = packet-of (getD t (5 * i) 0) (getD t (5 * i + 1) 0) (getD t (5 * i + 2) 0) (getD t (5 * i + 3) 0) (getD t (5 * i + 4) 0)
+row-at t i = record {
+  connection = getD t (5 * i) 0;
+  len = getD t (5 * i + 1) 0;
+  tag = getD t (5 * i + 2) 0;
+  arrival = getD t (5 * i + 3) 0;
+  eligibility = getD t (5 * i + 4) 0;
+}
 
 -- ---- a table
 
 unfoldable pub rows : List ℕ → List Packet
-rows t = read packet-width packet-in t
+rows t = read packet-width (λ r. record { connection = getD r 0 0; len = getD r 1 0; tag = getD r 2 0; arrival = getD r 3 0; eligibility = getD r 4 0 }) t
 
--- packets as a table of n numbers, and as the places table
+-- packets as a table of n numbers, a row for each
 unfoldable pub table-of : ℕ → List Packet → List ℕ
-table-of n ps = padded packet-width numbers-of n ps
+table-of n ps = padded packet-width (λ p. p .connection ∷ p .len ∷ p .tag ∷ p .arrival ∷ p .eligibility ∷ []) n ps
 
-unfoldable pub written-places : List Packet → List ℕ
-written-places ps = padded packet-width numbers-of places-length ps
+-- .. and as the places table
+abbrev pub written-places : List Packet → List ℕ
+written-places ps = table-of places-length ps
 
--- the table with p as row i
+-- the numbers of a row, and the table with p as row i
+abbrev pub numbers-of : Packet → List ℕ
+numbers-of p = p .connection ∷ p .len ∷ p .tag ∷ p .arrival ∷ p .eligibility ∷ []
+
 abbrev pub put : List ℕ → ℕ → Packet → List ℕ
 put t i p = sets t (5 * i) (numbers-of p)
 

@@ -17,10 +17,6 @@ abbrev pub rows-in : ℕ → ℕ → List ℕ → List (List ℕ)
 rows-in w zero t = []
 rows-in w (suc n) t = take w t ∷ rows-in w n (drop w t)
 
--- the whole rows: a part of a row at the end is none
-abbrev pub whole : ℕ → List ℕ → List (List ℕ)
-whole w t = rows-in w (length t / w) t
-
 -- the first n numbers of a row, zeros where it ends
 abbrev pub numbers : ℕ → List ℕ → List ℕ
 numbers zero l = []
@@ -28,13 +24,13 @@ numbers (suc n) l = getD l 0 0 ∷ numbers n (drop 1 l)
 
 -- ---- reading
 
--- the rows in use come first: those before the first whose second number is 0
+-- the rows in use come first: those before the first whose second number is 0; a part of a row at the end of the table is none
 abbrev pub until : List (List ℕ) → List (List ℕ)
 until [] = []
 until (r ∷ rs) = cond (eqb (getD r 1 0) 0) [] (r ∷ until rs)
 
 abbrev pub used : ℕ → List ℕ → List (List ℕ)
-used w t = until (whole w t)
+used w t = until (rows-in w (length t / w) t)
 
 abbrev pub read : {A : Type 0} → ℕ → (List ℕ → A) → List ℕ → List A
 read w make t = map make (used w t)

@@ -1,119 +1,31 @@
 -- The bytes of an `LK`, of an `LE` and of an `LW`: how many bounds there are, and windows, is one of their numbers.
-use mathlib.Core.Path.{_≡_, refl, sym, ap, _∙_}
-use mathlib.Core.Bool.{Bool, true, false, cond}
+use mathlib.Core.Path.{_≡_, refl, sym, ap, _∙_, subst}
+use mathlib.Core.Bool.{Bool, true, false, cond, _&&_, _||_}
 use mathlib.Core.List.{List, [], _∷_, _++_}
 use mathlib.Core.Option.{some, none}
-use Prim.Native.Nat.{ℕ, zero, suc, _+_, _*_, _<_, _≤_}
+use Prim.Native.Nat.{ℕ, zero, suc, _+_, _*_, _-_, _<_, _≤_}
 use native.Mathlib.Omega.{arith}
-use borrow.Author.Tests.{le-leb, lt-leb, ne-eqb, eq-eqb, leb-true, eqb-true, ltb-true, ltb-false}
-use lib.ListN.{length, getD, take, drop, replicate, length-replicate, drop-of-length-le, List·getD-append, List·getD-eq-default}
-use lib.Seq.{drop-cons}
+use borrow.Author.Tests.{le-leb, lt-leb, ne-eqb, eq-eqb, leb-true, eqb-true}
+use lib.ListN.{length, getD, take, drop, replicate, length-replicate, length-append, drop-of-length-le, List·getD-append}
+use lib.Seq.{drop-cons, getD-append-add, length-take-le}
 use native.Mathlib.Numerals.{add-one}
 use lib.Dec.{leb, ltb, eqb}
-use Rattle.fields.specs.Numbers.{number, get-fields, sum}
-use Rattle.traces.specs.Kinds.{levels-allowed, among, windowed, LK, LE, LW}
+use Rattle.fields.specs.Numbers.{little, number, put-fields, get-fields, sum, none-lost}
+use Rattle.traces.specs.Kinds.{levels, LK, LE, LW}
 use Rattle.traces.specs.declared.Record.{Record}
 use Rattle.fields.specs.Kinds.{Kind}
 use Rattle.fields.specs.declared.Draft.{Draft}
-use Rattle.fields.specs.Drafts.{longest, Holds, Adds-all}
-use Rattle.fields.specs.Formats.{whole, read-kind, laid}
-use Rattle.fields.specs.Laws.{Written}
-use Rattle.traces.specs.Trace.{link-written, link-layout}
-use Rattle.fields.proofs.DraftLaws.{drafted-behind}
+use Rattle.fields.specs.Drafts.{longest, held, Holds, Adds-all}
+use Rattle.fields.specs.Formats.{read-kind, laid}
+use Rattle.traces.specs.Links.{link-written, windowed}
+use Rattle.fields.proofs.Parts.{whole}
+use Rattle.fields.proofs.DraftLaws.{drafted-behind, put-both}
 use Rattle.fields.proofs.MarkLaws.{both}
-use Rattle.fields.proofs.FormatLaws.{made-of}
+use Rattle.fields.proofs.FormatLaws.{laid-is}
 use Rattle.fields.proofs.NumberLaws.{one-byte, length-get, get-both, sum-both, sum-pairs}
 
--- The lengths of an `LK`, of an `LE` and of an `LW`.
-pub sum-link : (n : ℕ) → 2 + sum (LK .widths n) ≡ 6 + 2 * n
-unfolding sum
-sum-link n = omega (arith, sum-pairs n)
-
-pub sum-stand-by : (n : ℕ) → 2 + sum (LE .widths n) ≡ 7 + 2 * n
-unfolding sum
-sum-stand-by n = omega (arith, sum-pairs n)
-
-pub sum-windows : (n : ℕ) → 2 + sum (LW .widths n) ≡ 7 + 4 * n
-unfolding sum
-sum-windows n = omega (arith, sum-both (replicate n 2) (replicate n 2), sum-pairs n)
-
--- The numbers of an `LW`: n, three figures, n bounds and n windows.
-behind-four : (a b c d : ℕ) (l : List ℕ) (k : ℕ) → getD (a ∷ b ∷ c ∷ d ∷ l) (4 + k) 0 ≡ getD l k 0
-behind-four a b c d l k = let e : 4 + k ≡ suc (suc (suc (suc k))) = omega arith in rw e
-
-behind-all : (xs ys : List ℕ) (k : ℕ) → getD (xs ++ ys) (length xs + k) 0 ≡ getD ys k 0
-behind-all [] ys k = let e : 0 + k ≡ k = omega arith in rw e
-behind-all (x ∷ xs) ys k = let e : suc (length xs) + k ≡ suc (length xs + k) = omega arith in rw e (behind-all xs ys k)
-
-pub windowed-same : (n s silence early : ℕ) (d e w v : ℕ → ℕ) → ((k : ℕ) → d k ≡ e k) → ((k : ℕ) → w k ≡ v k)
-    → windowed n s silence early d w ≡ windowed n s silence early e v
-windowed-same n s silence early d e w v f g =
-    rw (f 0, f 1, f 2, f 3, f 4, f 5, f 6, f 7, g 0, g 1, g 2, g 3, g 4, g 5, g 6, g 7)
-
-module _ (s silence early : ℕ) (xs ys : List ℕ) (n : ℕ) (ex : length xs ≡ n) (ey : length ys ≡ n) where
-  abbrev x : ℕ → ℕ
-  x i = getD (n ∷ s ∷ silence ∷ early ∷ xs ++ ys) i 0
-
-  among-bounds : (k : ℕ) → among x 4 n k ≡ getD xs k 0
-  among-bounds k = go (ltb k n) refl
-    where
-      go : (t : Bool) → ltb k n ≡ t → cond t (x (4 + k)) 0 ≡ getD xs k 0
-      go true e = let h = ltb-true k n e in behind-four n s silence early (xs ++ ys) k ∙ List·getD-append xs ys 0 k (omega arith)
-      go false e = let h = ltb-false k n e in sym (List·getD-eq-default xs 0 (omega arith))
-
-  among-windows : (k : ℕ) → among x (4 + n) n k ≡ getD ys k 0
-  among-windows k = go (ltb k n) refl
-    where
-      go : (t : Bool) → ltb k n ≡ t → cond t (x (4 + n + k)) 0 ≡ getD ys k 0
-      go true e =
-          let j : 4 + n + k ≡ 4 + (length xs + k) = omega arith in
-          ap x j ∙ behind-four n s silence early (xs ++ ys) (length xs + k) ∙ behind-all xs ys k
-      go false e = let h = ltb-false k n e in sym (List·getD-eq-default ys 0 (omega arith))
-
-  pub windows-made : made-of LW (n ∷ s ∷ silence ∷ early ∷ xs ++ ys) ≡ windowed n s silence early (λ k. getD xs k 0) (λ k. getD ys k 0)
-  windows-made = windowed-same n s silence early _ _ _ _ among-bounds among-windows
-
--- What is read of each.
-pub link-read : (bs : List ℕ) (n : ℕ) → n ≡ number 1 bs 2
-    → cond (levels-allowed n) (whole (6 + 2 * n) (LK .make (λ i. getD (n ∷ number 2 bs 3 ∷ number 1 bs 5 ∷ get-fields (replicate n 2) bs 6) i 0)) bs) none
-    ≡ read-kind LK (getD bs 2 0) bs
-unfolding read-kind get-fields
-link-read bs n e = rw (← one-byte bs 2, ← e, sum-link n)
-
-pub stand-by-read : (bs : List ℕ) (n : ℕ) → n ≡ number 1 bs 2
-    → cond (levels-allowed n)
-    (whole (7 + 2 * n) (LE .make (λ i. getD (n ∷ number 2 bs 3 ∷ number 1 bs 5 ∷ number 1 bs 6 ∷ get-fields (replicate n 2) bs 7) i 0)) bs) none
-    ≡ read-kind LE (getD bs 2 0) bs
-unfolding read-kind get-fields
-stand-by-read bs n e = rw (← one-byte bs 2, ← e, sum-stand-by n)
-
-pub length-pairs : (n : ℕ) (bs : List ℕ) (at : ℕ) → length (get-fields (replicate n 2) bs at) ≡ n
-length-pairs n bs at = length-get (replicate n 2) bs at ∙ length-replicate n 2
-
-pub both-pairs : (n : ℕ) (bs : List ℕ) (at : ℕ)
-    → get-fields (replicate n 2 ++ replicate n 2) bs at ≡ get-fields (replicate n 2) bs at ++ get-fields (replicate n 2) bs (at + 2 * n)
-both-pairs n bs at =
-    get-both (replicate n 2) (replicate n 2) bs at
-    ∙ ap (λ m. get-fields (replicate n 2) bs at ++ get-fields (replicate n 2) bs (at + m)) (sum-pairs n)
-
-pub windows-read : (bs : List ℕ) (n : ℕ) → n ≡ number 1 bs 2
-    → cond (levels-allowed n)
-    (whole (7 + 2 * n + 2 * n)
-    (windowed n (number 2 bs 3) (number 1 bs 5) (number 1 bs 6) (λ k. getD (get-fields (replicate n 2) bs 7) k 0)
-    (λ k. getD (get-fields (replicate n 2) bs (7 + 2 * n)) k 0)) bs) none
-    ≡ read-kind LW (getD bs 2 0) bs
-unfolding read-kind get-fields
-windows-read bs n e =
-    let four : 7 + 2 * n + 2 * n ≡ 7 + 4 * n = omega arith in
-    rw (
-      ← one-byte bs 2,
-      ← e,
-      sum-windows n,
-      both-pairs n bs 7,
-      four,
-      windows-made (number 2 bs 3) (number 1 bs 5) (number 1 bs 6) (get-fields (replicate n 2) bs 7) (get-fields (replicate n 2) bs (7 + 2 * n)) n
-          (length-pairs n bs 7) (length-pairs n bs (7 + 2 * n)),
-    )
+abbrev pub levels-allowed : ℕ → Bool
+levels-allowed n = leb 1 n && leb n 8
 
 -- Which n are allowed behind the mark.
 pub small-unallowed : (n : ℕ) → n < 1 → levels-allowed n ≡ false
@@ -129,6 +41,180 @@ pub allowed-range : (n : ℕ) → levels-allowed n ≡ true → (1 ≤ n) × (n 
 allowed-range n h =
     let t = both (leb 1 n) (leb n 8) h in
     (leb-true 1 n (t .0), leb-true n 8 (t .1))
+
+-- The lengths of an `LK`, of an `LE` and of an `LW`.
+sum-zeros : (n : ℕ) → sum (replicate n 0) ≡ 0
+unfolding sum
+sum-zeros zero = refl
+sum-zeros (suc n) = omega (arith, sum-zeros n)
+
+sum-levels : (n : ℕ) → sum (levels n) ≡ 2 * n
+sum-levels n = omega (arith, sum-both (replicate n 2) (replicate (8 - n) 0), sum-pairs n, sum-zeros (8 - n))
+
+pub sum-link : (n : ℕ) → 2 + sum (LK .widths n) ≡ 6 + 2 * n
+unfolding sum
+sum-link n = omega (arith, sum-levels n)
+
+pub sum-stand-by : (n : ℕ) → 2 + sum (LE .widths n) ≡ 7 + 2 * n
+unfolding sum
+sum-stand-by n = omega (arith, sum-levels n)
+
+pub sum-windows : (n : ℕ) → 2 + sum (LW .widths n) ≡ 7 + 4 * n
+unfolding sum
+sum-windows n = omega (arith, sum-both (levels n) (levels n), sum-levels n)
+
+-- What is read of the levels: the numbers of the first n, and 0 past them.
+zeros-got : (m : ℕ) (bs : List ℕ) (at : ℕ) → get-fields (replicate m 0) bs at ≡ replicate m 0
+unfolding get-fields number
+zeros-got zero bs at = refl
+zeros-got (suc m) bs at = ap (λ l. 0 ∷ l) (zeros-got m bs (at + 0))
+
+levels-got : (n : ℕ) (bs : List ℕ) (at : ℕ) → get-fields (levels n) bs at ≡ get-fields (replicate n 2) bs at ++ replicate (8 - n) 0
+levels-got n bs at =
+    get-both (replicate n 2) (replicate (8 - n) 0) bs at
+    ∙ ap (λ l. get-fields (replicate n 2) bs at ++ l) (zeros-got (8 - n) bs (at + sum (replicate n 2)))
+
+padded-same : (xs : List ℕ) (m i : ℕ) → getD (xs ++ replicate m 0) i 0 ≡ getD xs i 0
+padded-same [] zero i = refl
+padded-same [] (suc m) zero = refl
+padded-same [] (suc m) (suc i) = padded-same [] m i
+padded-same (x ∷ xs) m zero = refl
+padded-same (x ∷ xs) m (suc i) = padded-same xs m i
+
+level-got : (n : ℕ) (bs : List ℕ) (at i : ℕ) → getD (get-fields (levels n) bs at) i 0 ≡ getD (get-fields (replicate n 2) bs at) i 0
+level-got n bs at i = ap (λ l. getD l i 0) (levels-got n bs at) ∙ padded-same (get-fields (replicate n 2) bs at) (8 - n) i
+
+-- There are eight levels.
+count-levels : (n : ℕ) → n ≤ 8 → length (levels n) ≡ 8
+count-levels n h = omega (arith, length-append {A = ℕ} (replicate n 2) (replicate (8 - n) 0), length-replicate {A = ℕ} n 2, length-replicate {A = ℕ} (8 - n) 0)
+
+pub length-levels : (bs : List ℕ) → levels-allowed (getD bs 2 0) ≡ true → (at : ℕ) → length (get-fields (levels (getD bs 2 0)) bs at) ≡ 8
+length-levels bs a at = length-get (levels (getD bs 2 0)) bs at ∙ count-levels (getD bs 2 0) (allowed-range (getD bs 2 0) a .1)
+
+pub length-both : (bs : List ℕ) → levels-allowed (getD bs 2 0) ≡ true → (at : ℕ)
+    → length (get-fields (levels (getD bs 2 0) ++ levels (getD bs 2 0)) bs at) ≡ 16
+length-both bs a at =
+    let n = getD bs 2 0 in
+    omega (arith, length-get (levels n ++ levels n) bs at, length-append (levels n) (levels n), count-levels n (allowed-range n a .1))
+
+-- A list of so many numbers, number by number.
+unfoldable spread : ℕ → ℕ → List ℕ → List ℕ
+spread zero i xs = []
+spread (suc k) i xs = getD xs i 0 ∷ spread k (i + 1) xs
+
+spread-on : (k i x : ℕ) (xs : List ℕ) → spread k (i + 1) (x ∷ xs) ≡ spread k i xs
+unfolding spread
+spread-on zero i x xs = refl
+spread-on (suc k) i x xs = rw (add-one i) (ap (λ l. getD xs i 0 ∷ l) (rw (add-one i) at (spread-on k (i + 1) x xs)))
+
+spread-all : (xs : List ℕ) → spread (length xs) 0 xs ≡ xs
+unfolding spread
+spread-all [] = refl
+spread-all (x ∷ xs) = ap (λ l. x ∷ l) (spread-on (length xs) 0 x xs ∙ spread-all xs)
+
+pub eight-of : (xs : List ℕ) → length xs ≡ 8
+    → getD xs 0 0 ∷ getD xs 1 0 ∷ getD xs 2 0 ∷ getD xs 3 0 ∷ getD xs 4 0 ∷ getD xs 5 0 ∷ getD xs 6 0 ∷ getD xs 7 0 ∷ [] ≡ xs
+unfolding spread
+eight-of xs e = ap (λ n. spread n 0 xs) (sym e) ∙ spread-all xs
+
+pub sixteen-of : (xs : List ℕ) → length xs ≡ 16
+    → getD xs 0 0 ∷ getD xs 1 0 ∷ getD xs 2 0 ∷ getD xs 3 0 ∷ getD xs 4 0 ∷ getD xs 5 0 ∷ getD xs 6 0 ∷ getD xs 7 0
+    ∷ getD xs 8 0 ∷ getD xs 9 0 ∷ getD xs 10 0 ∷ getD xs 11 0 ∷ getD xs 12 0 ∷ getD xs 13 0 ∷ getD xs 14 0 ∷ getD xs 15 0 ∷ []
+    ≡ xs
+unfolding spread
+sixteen-of xs e = ap (λ n. spread n 0 xs) (sym e) ∙ spread-all xs
+
+-- What is read of each.
+pub link-read : (bs : List ℕ) (n : ℕ) → n ≡ number 1 bs 2
+    → cond (levels-allowed n) (whole (6 + 2 * n) (LK .make (λ i. getD (n ∷ number 2 bs 3 ∷ number 1 bs 5 ∷ get-fields (replicate n 2) bs 6) i 0)) bs) none
+    ≡ read-kind LK (getD bs 2 0) bs
+unfolding read-kind get-fields
+link-read bs n e =
+    let same : (i : ℕ) → getD (get-fields (levels n) bs 6) i 0 ≡ getD (get-fields (replicate n 2) bs 6) i 0 = level-got n bs 6 in
+    rw (← one-byte bs 2, ← e, sum-link n, same 0, same 1, same 2, same 3, same 4, same 5, same 6, same 7)
+
+pub stand-by-read : (bs : List ℕ) (n : ℕ) → n ≡ number 1 bs 2
+    → cond (levels-allowed n)
+    (whole (7 + 2 * n) (LE .make (λ i. getD (n ∷ number 2 bs 3 ∷ number 1 bs 5 ∷ number 1 bs 6 ∷ get-fields (replicate n 2) bs 7) i 0)) bs) none
+    ≡ read-kind LE (getD bs 2 0) bs
+unfolding read-kind get-fields
+stand-by-read bs n e =
+    let same : (i : ℕ) → getD (get-fields (levels n) bs 7) i 0 ≡ getD (get-fields (replicate n 2) bs 7) i 0 = level-got n bs 7 in
+    rw (← one-byte bs 2, ← e, sum-stand-by n, same 0, same 1, same 2, same 3, same 4, same 5, same 6, same 7)
+
+windowed-same : (n s silence early : ℕ) (d e w v : ℕ → ℕ) → ((k : ℕ) → k < 8 → d k ≡ e k) → ((k : ℕ) → w k ≡ v k)
+    → windowed n s silence early d w ≡ windowed n s silence early e v
+windowed-same n s silence early d e w v f g =
+    rw (
+      f 0 (omega arith),
+      f 1 (omega arith),
+      f 2 (omega arith),
+      f 3 (omega arith),
+      f 4 (omega arith),
+      f 5 (omega arith),
+      f 6 (omega arith),
+      f 7 (omega arith),
+      g 0,
+      g 1,
+      g 2,
+      g 3,
+      g 4,
+      g 5,
+      g 6,
+      g 7,
+    )
+
+module _ (bs : List ℕ) (n : ℕ) (few : n ≤ 8) where
+  abbrev xs : List ℕ
+  xs = get-fields (levels n) bs 7
+
+  abbrev ys : List ℕ
+  ys = get-fields (levels n) bs (7 + 2 * n)
+
+  both-got : get-fields (levels n ++ levels n) bs 7 ≡ xs ++ ys
+  both-got = get-both (levels n) (levels n) bs 7 ∙ ap (λ m. xs ++ get-fields (levels n) bs (7 + m)) (sum-levels n)
+
+  eight : length xs ≡ 8
+  eight = length-get (levels n) bs 7 ∙ count-levels n few
+
+  bound-got : (k : ℕ) → k < 8 → getD (get-fields (replicate n 2) bs 7) k 0 ≡ getD (get-fields (levels n ++ levels n) bs 7) k 0
+  bound-got k h = sym (ap (λ l. getD l k 0) both-got ∙ List·getD-append xs ys 0 k (omega (arith, eight)) ∙ level-got n bs 7 k)
+
+  window-got : (k : ℕ) → getD (get-fields (replicate n 2) bs (7 + 2 * n)) k 0 ≡ getD (get-fields (levels n ++ levels n) bs 7) (8 + k) 0
+  window-got k =
+      sym
+      (ap (λ l. getD l (8 + k) 0) both-got
+      ∙ ap (λ m. getD (xs ++ ys) (m + k) 0) (sym eight)
+      ∙ getD-append-add xs ys k 0
+      ∙ level-got n bs (7 + 2 * n) k)
+
+pub windows-read : (bs : List ℕ) (n : ℕ) → n ≡ number 1 bs 2
+    → cond (levels-allowed n)
+    (whole (7 + 2 * n + 2 * n)
+    (windowed n (number 2 bs 3) (number 1 bs 5) (number 1 bs 6) (λ k. getD (get-fields (replicate n 2) bs 7) k 0)
+    (λ k. getD (get-fields (replicate n 2) bs (7 + 2 * n)) k 0)) bs) none
+    ≡ read-kind LW (getD bs 2 0) bs
+unfolding read-kind get-fields
+windows-read bs n e =
+    let four : 7 + 2 * n + 2 * n ≡ 7 + 4 * n = omega arith in
+    rw (← one-byte bs 2, ← e, sum-windows n, four) (go (levels-allowed n) refl)
+  where
+    made : List ℕ → Record
+    made l = LW .make (λ i. getD (n ∷ number 2 bs 3 ∷ number 1 bs 5 ∷ number 1 bs 6 ∷ l) i 0)
+
+    told : Record
+    told =
+        windowed n (number 2 bs 3) (number 1 bs 5) (number 1 bs 6) (λ k. getD (get-fields (replicate n 2) bs 7) k 0)
+        (λ k. getD (get-fields (replicate n 2) bs (7 + 2 * n)) k 0)
+
+    go : (t : Bool) → levels-allowed n ≡ t
+        → cond t (whole (7 + 4 * n) told bs) none ≡ cond t (whole (7 + 4 * n) (made (get-fields (levels n ++ levels n) bs 7)) bs) none
+    go false a = refl
+    go true a =
+        let few = allowed-range n a .1 in
+        ap (λ r. whole (7 + 4 * n) r bs)
+        (windowed-same n (number 2 bs 3) (number 1 bs 5) (number 1 bs 6) _ (λ k. getD (get-fields (levels n ++ levels n) bs 7) k 0) _
+        (λ k. getD (get-fields (levels n ++ levels n) bs 7) (8 + k) 0) (bound-got bs n few) (window-got bs n few))
 
 -- One bound more of a test of all those from a place on: they are 0 where their sum is.
 pub zeros-stop : (ds : List ℕ) (i : ℕ) → i < length ds → (getD ds i 0 ≡ 0 → ⊥) → eqb (sum (drop i ds)) 0 ≡ false
@@ -182,123 +268,110 @@ both-written n ps qs f g =
     let e = sum-both ps qs in
     zeros-decide n (ps ++ qs) (a .0) (a .1) ∙ eq-eqb (sum (ps ++ qs)) 0 (omega arith)
 
-module _ (k : Kind Record) (n : ℕ) (numbers past : List ℕ) where
-  pub unwritten-as : link-written n past ≡ false → link-layout k n numbers past ≡ none
-  unfolding link-layout
-  unwritten-as h = rw h
+-- Of the levels the numbers past n have no byte: they are 0 where their sum is, and nothing is put of them.
+zeros-lost : (ds : List ℕ) → none-lost (replicate (length ds) 0) ds ≡ eqb (sum ds) 0
+unfolding none-lost sum
+zeros-lost [] = refl
+zeros-lost (zero ∷ ds) = let z : 0 + sum ds ≡ sum ds = omega arith in rw z (zeros-lost ds)
+zeros-lost (suc d ∷ ds) = rw (ne-eqb (suc d) 0 (λ e. absurd (omega (arith, e))), ne-eqb (suc d + sum ds) 0 (λ e. absurd (omega (arith, e))))
 
-  pub written-as : link-written n past ≡ true → link-layout k n numbers past ≡ some (k, n ∷ numbers)
-  unfolding link-layout
-  written-as h = rw h
+split-lost : (n m : ℕ) (ds : List ℕ) → length ds ≡ n + m → none-lost (replicate n 2 ++ replicate m 0) ds ≡ eqb (sum (drop n ds)) 0
+unfolding none-lost
+split-lost zero m ds e = let l : m ≡ length ds = omega arith in ap (λ j. none-lost (replicate j 0) ds) l ∙ zeros-lost ds
+split-lost (suc n) m [] e = absurd (omega arith)
+split-lost (suc n) m (d ∷ ds) e = split-lost n m ds (omega arith)
 
-  -- A link that has bytes is one that is written.
-  pub has-bytes : 0 < length (laid (link-layout k n numbers past)) → link-written n past ≡ true
-  unfolding link-layout laid
-  has-bytes = go (link-written n past)
-    where
-      go : (t : Bool) → 0 < length (laid (cond t (some (k, n ∷ numbers)) none)) → t ≡ true
-      go true h = refl
-      go false h = absurd (omega arith)
+pub levels-lost : (n : ℕ) (ds : List ℕ) → length ds ≡ 8 → n ≤ 8 → none-lost (levels n) ds ≡ eqb (sum (drop n ds)) 0
+levels-lost n ds e few = split-lost n (8 - n) ds (omega arith)
 
-  pub laid-out : Written (link-layout k n numbers past) → link-written n past ≡ true
-  unfolding link-layout
-  laid-out = go (link-written n past)
-    where
-      go : (t : Bool) → Written (cond t (some (k, n ∷ numbers)) none) → t ≡ true
-      go true w = refl
-      go false w = absurd w
+and-assoc : (a b c : Bool) → (a && (b && c)) ≡ ((a && b) && c)
+and-assoc true b c = refl
+and-assoc false b c = refl
 
--- The first n of numbers that are 0 from the n-th on are, with 0 past them, all of them.
-pub taken-all : (n : ℕ) (ds : List ℕ) (k : ℕ) → sum (drop n ds) ≡ 0 → getD (take n ds) k 0 ≡ getD ds k 0
-unfolding sum
-taken-all zero [] k z = refl
-taken-all zero (d ∷ ds) zero z = omega arith
-taken-all zero (d ∷ ds) (suc k) z = taken-all zero ds k (omega arith)
-taken-all (suc n) [] k z = refl
-taken-all (suc n) (d ∷ ds) zero z = refl
-taken-all (suc n) (d ∷ ds) (suc k) z = taken-all n ds k z
+lost-both : (ws vs xs ys : List ℕ) → length xs ≡ length ws → none-lost (ws ++ vs) (xs ++ ys) ≡ (none-lost ws xs && none-lost vs ys)
+unfolding none-lost
+lost-both [] vs [] ys e = refl
+lost-both [] vs (x ∷ xs) ys e = absurd (omega arith)
+lost-both (w ∷ ws) vs [] ys e = absurd (omega arith)
+lost-both (w ∷ ws) vs (x ∷ xs) ys e =
+    ap (λ t. (ltb 0 w || eqb x 0) && t) (lost-both ws vs xs ys (omega arith)) ∙ and-assoc (ltb 0 w || eqb x 0) (none-lost ws xs) (none-lost vs ys)
 
--- The numbers of a list from place i on, so many, with 0 past its end.
-unfoldable spread : ℕ → ℕ → List ℕ → List ℕ
-spread zero i xs = []
-spread (suc k) i xs = getD xs i 0 ∷ spread k (i + 1) xs
+zeros-both : (ps qs : List ℕ) → (eqb (sum ps) 0 && eqb (sum qs) 0) ≡ eqb (sum (ps ++ qs)) 0
+zeros-both ps qs = go (sum ps) (sum qs) (sum-both ps qs)
+  where
+    go : (a b : ℕ) → sum (ps ++ qs) ≡ a + b → (eqb a 0 && eqb b 0) ≡ eqb (sum (ps ++ qs)) 0
+    go zero b e = let z : sum (ps ++ qs) ≡ b = omega arith in rw z
+    go (suc a) b e = rw (ne-eqb (suc a) 0 (λ z. absurd (omega (arith, z))), ne-eqb (sum (ps ++ qs)) 0 (λ z. absurd (omega (arith, z, e))))
 
-spread-on : (k i x : ℕ) (xs : List ℕ) → spread k (i + 1) (x ∷ xs) ≡ spread k i xs
-unfolding spread
-spread-on zero i x xs = refl
-spread-on (suc k) i x xs = rw (add-one i) (ap (λ l. getD xs i 0 ∷ l) (rw (add-one i) at (spread-on k (i + 1) x xs)))
+pub both-lost : (n : ℕ) (ds ws : List ℕ) → length ds ≡ 8 → length ws ≡ 8 → n ≤ 8 → none-lost (levels n ++ levels n) (ds ++ ws) ≡ eqb (sum (drop n ds ++ drop n ws)) 0
+both-lost n ds ws ed ew few =
+    lost-both (levels n) (levels n) ds ws (ed ∙ sym (count-levels n few))
+    ∙ rw (levels-lost n ds ed few, levels-lost n ws ew few) (zeros-both (drop n ds) (drop n ws))
 
-take-spread : (k : ℕ) (xs : List ℕ) → length xs ≤ k → take (length xs) (spread k 0 xs) ≡ xs
-unfolding spread
-take-spread k [] h = refl
-take-spread zero (x ∷ xs) h = absurd (omega arith)
-take-spread (suc k) (x ∷ xs) h =
-    ap (λ l. x ∷ take (length xs) l) (spread-on k 0 x xs) ∙ ap (λ l. x ∷ l) (take-spread k xs (omega arith))
+put-zeros : (m : ℕ) (ds : List ℕ) → put-fields (replicate m 0) ds ≡ []
+unfolding put-fields little
+put-zeros zero ds = refl
+put-zeros (suc m) ds = put-zeros m (drop 1 ds)
 
-zeros-spread : (k i : ℕ) → sum (spread k i []) ≡ 0
-unfolding sum spread
-zeros-spread zero i = refl
-zeros-spread (suc k) i = omega (arith, zeros-spread k (i + 1))
+put-split : (n m : ℕ) (ds : List ℕ) → n ≤ length ds → put-fields (replicate n 2 ++ replicate m 0) ds ≡ put-fields (replicate n 2) (take n ds)
+unfolding put-fields
+put-split zero m ds h = put-zeros m ds
+put-split (suc n) m [] h = absurd (omega arith)
+put-split (suc n) m (d ∷ ds) h = ap (λ l. little 2 d ++ l) (put-split n m ds (omega arith))
 
-drop-spread : (k : ℕ) (xs : List ℕ) → length xs ≤ k → sum (drop (length xs) (spread k 0 xs)) ≡ 0
-unfolding spread
-drop-spread k [] h = zeros-spread k 0
-drop-spread zero (x ∷ xs) h = absurd (omega arith)
-drop-spread (suc k) (x ∷ xs) h =
-    ap (λ l. sum (drop (length xs) l)) (spread-on k 0 x xs) ∙ drop-spread k xs (omega arith)
+pub all-levels : {d r : Draft} (n : ℕ) (ds : List ℕ) → length ds ≡ 8 → n ≤ 8 → Adds-all d r (replicate n 2) (take n ds) → Adds-all d r (levels n) ds
+all-levels {d} {r} n ds e few f =
+    record {
+      bytes = f .bytes ∙ ap (λ l. held d ++ l) (sym (put-split n (8 - n) ds (omega arith)));
+      count = omega (arith, f .count, sum-levels n, sum-pairs n);
+    }
 
--- n numbers as eight, with 0 past them: which are the first n, and what the others make.
-all-eight : (n : ℕ) (xs : List ℕ) → length xs ≡ n → n ≤ 8 → (take n (spread 8 0 xs) ≡ xs) × (sum (drop n (spread 8 0 xs)) ≡ 0)
-all-eight n xs e few = (
-  ap (λ m. take m (spread 8 0 xs)) (sym e) ∙ take-spread 8 xs (omega arith),
-  ap (λ m. sum (drop m (spread 8 0 xs))) (sym e) ∙ drop-spread 8 xs (omega arith),
-)
+pub all-both : {d r : Draft} (n : ℕ) (ds ws : List ℕ) → length ds ≡ 8 → length ws ≡ 8 → n ≤ 8
+    → Adds-all d r (replicate n 2 ++ replicate n 2) (take n ds ++ take n ws)
+    → Adds-all d r (levels n ++ levels n) (ds ++ ws)
+all-both {d} {r} n ds ws ed ew few f =
+    record {
+      bytes =
+          f .bytes
+          ∙ ap (λ l. held d ++ l)
+          (put-both (replicate n 2) (take n ds) (replicate n 2) (take n ws) (length-take-le n ds (omega arith) ∙ sym (length-replicate n 2))
+          ∙ sym
+          (put-both (levels n) ds (levels n) ws (ed ∙ sym (count-levels n few))
+          ∙ ap (λ l. l ++ put-fields (levels n) ws) (put-split n (8 - n) ds (omega arith))
+          ∙ ap (λ l. put-fields (replicate n 2) (take n ds) ++ l) (put-split n (8 - n) ws (omega arith))));
+      count =
+          omega (arith, f .count, sum-both (levels n) (levels n), sum-levels n, sum-both (replicate n 2) (replicate n 2), sum-pairs n);
+    }
 
--- The layout of a link whose n bounds stand at a place of the bytes, with 0 past them.
-pub layout-of-link : (k : Kind Record) (n : ℕ) (figures bs : List ℕ) (at : ℕ) → levels-allowed n ≡ true
-    → let xs = get-fields (replicate n 2) bs at in
-    let ds = getD xs 0 0 ∷ getD xs 1 0 ∷ getD xs 2 0 ∷ getD xs 3 0 ∷ getD xs 4 0 ∷ getD xs 5 0 ∷ getD xs 6 0 ∷ getD xs 7 0 ∷ [] in
-    link-layout k n (figures ++ take n ds) (drop n ds) ≡ some (k, n ∷ figures ++ xs)
-unfolding spread
-layout-of-link k n figures bs at a =
-    let r = allowed-range n a in
-    let xs = get-fields (replicate n 2) bs at in
-    let ds = spread 8 0 xs in
-    let all = all-eight n xs (length-pairs n bs at) (r .1) in
-    written-as k n (figures ++ take n ds) (drop n ds) (zeros-decide n (drop n ds) (r .0) (r .1) ∙ eq-eqb (sum (drop n ds)) 0 (all .1))
-    ∙ ap (λ l. some (k, n ∷ figures ++ l)) (all .0)
+unlaid : (k : Kind Record) (xs : List ℕ) → (k .allows (getD xs 0 0) && none-lost (k .widths (getD xs 0 0)) xs) ≡ false → laid (some (k, xs)) ≡ []
+unfolding laid
+unlaid k xs h = rw h
 
--- The same with windows behind the bounds.
-pub layout-of-windows : (k : Kind Record) (n : ℕ) (figures bs : List ℕ) (at : ℕ) → levels-allowed n ≡ true
-    → let xs = get-fields (replicate n 2) bs at in
-    let ys = get-fields (replicate n 2) bs (at + 2 * n) in
-    let ds = getD xs 0 0 ∷ getD xs 1 0 ∷ getD xs 2 0 ∷ getD xs 3 0 ∷ getD xs 4 0 ∷ getD xs 5 0 ∷ getD xs 6 0 ∷ getD xs 7 0 ∷ [] in
-    let ws = getD ys 0 0 ∷ getD ys 1 0 ∷ getD ys 2 0 ∷ getD ys 3 0 ∷ getD ys 4 0 ∷ getD ys 5 0 ∷ getD ys 6 0 ∷ getD ys 7 0 ∷ [] in
-    link-layout k n (figures ++ (take n ds ++ take n ws)) (drop n ds ++ drop n ws) ≡ some (k, n ∷ figures ++ (xs ++ ys))
-unfolding spread
-layout-of-windows k n figures bs at a =
-    let r = allowed-range n a in
-    let xs = get-fields (replicate n 2) bs at in
-    let ys = get-fields (replicate n 2) bs (at + 2 * n) in
-    let ds = spread 8 0 xs in
-    let ws = spread 8 0 ys in
-    let p = all-eight n xs (length-pairs n bs at) (r .1) in
-    let q = all-eight n ys (length-pairs n bs (at + 2 * n)) (r .1) in
-    let e = sum-both (drop n ds) (drop n ws) in
-    let z : sum (drop n ds ++ drop n ws) ≡ 0 = omega (arith, p .1, q .1) in
-    written-as k n (figures ++ (take n ds ++ take n ws)) (drop n ds ++ drop n ws) (zeros-decide n (drop n ds ++ drop n ws) (r .0) (r .1) ∙ eq-eqb (sum (drop n ds ++ drop n ws)) 0 z)
-    ∙ ap (λ l. some (k, n ∷ figures ++ (l ++ take n ws))) (p .0)
-    ∙ ap (λ l. some (k, n ∷ figures ++ (xs ++ l))) (q .0)
+-- The test of a link's numbers is the code's.
+test-is : (n : ℕ) (t : Bool) (past : List ℕ) → (n ≤ 8 → t ≡ eqb (sum past) 0) → (levels-allowed n && t) ≡ link-written n past
+unfolding link-written
+test-is n t past f = go (levels-allowed n) refl
+  where
+    go : (b : Bool) → levels-allowed n ≡ b → (b && t) ≡ (b && eqb (sum past) 0)
+    go true a = f (allowed-range n a .1)
+    go false a = refl
 
 -- The bytes of a link put together: its numbers up to the bounds, and the bounds where it is written.
-pub link-drafted : {d r : Draft} {ws : List ℕ} (k : Kind Record) (n : ℕ) (numbers past : List ℕ) → n < 256 → k .widths n ≡ 1 ∷ ws → Holds d (k .mark ++ n ∷ [])
-    → (link-written n past ≡ true → Adds-all d r ws numbers)
+pub link-drafted : {d r : Draft} {ws : List ℕ} (k : Kind Record) (n : ℕ) (numbers past : List ℕ) → n < 256 → k .widths n ≡ 1 ∷ ws → k .allows n ≡ levels-allowed n
+    → (n ≤ 8 → none-lost (k .widths n) (n ∷ numbers) ≡ eqb (sum past) 0)
+    → Holds d (k .mark ++ n ∷ [])
+    → (n ≤ 8 → link-written n past ≡ true → Adds-all d r ws numbers)
     → (link-written n past ≡ false → Holds r [])
     → (n ≤ 8 → length (k .mark) + (1 + sum ws) ≤ longest)
-    → Holds r (laid (link-layout k n numbers past))
-unfolding laid
-link-drafted {d} {r} {ws} k n numbers past small e h f g l = go (link-written n past) refl
+    → Holds r (laid (some (k, n ∷ numbers)))
+link-drafted {d} {r} {ws} k n numbers past small e a lost h f g l = go (link-written n past) refl
   where
-    go : (t : Bool) → link-written n past ≡ t → Holds r (laid (link-layout k n numbers past))
-    go true w = rw (written-as k n numbers past w) (drafted-behind k n numbers small e h (f w) (l (written-in-range n past w .1)))
-    go false w = rw (unwritten-as k n numbers past w) (g w)
+    test : (k .allows n && none-lost (k .widths n) (n ∷ numbers)) ≡ link-written n past
+    test = ap (λ t. t && none-lost (k .widths n) (n ∷ numbers)) a ∙ test-is n (none-lost (k .widths n) (n ∷ numbers)) past lost
+
+    go : (t : Bool) → link-written n past ≡ t → Holds r (laid (some (k, n ∷ numbers)))
+    go true w =
+        let b = both (k .allows n) (none-lost (k .widths n) (n ∷ numbers)) (test ∙ w) in
+        let few = written-in-range n past w .1 in
+        subst (Holds r) (sym (laid-is k (n ∷ numbers) (b .0) (b .1))) (drafted-behind k n numbers small e h (f few w) (l few))
+    go false w = subst (Holds r) (sym (unlaid k (n ∷ numbers) (test ∙ w))) (g w)

@@ -2,41 +2,23 @@
 -- window and the average gap of a connection; R-8: a sixth, the close; R-9: a seventh and an eighth, the admission of a connection by
 -- stamps and the offer with a stamp; R-11: a ninth, the link with the setting of its stand-by queue; R-12: a tenth,
 -- the link with windows; R-13: an eleventh and a twelfth, the link of frames and the admission with units and places.
-use mathlib.Core.Bool.{Bool, cond, _&&_}
-use mathlib.Core.List.{List, [], _∷_, _++_}
+use mathlib.Core.List.{List, [], _∷_}
 use mathlib.Core.Option.{Option, some, none}
 use Prim.Native.Nat.{ℕ, _+_, _*_}
-use lib.ListN.{take, drop}
-use lib.Dec.{eqb}
-use Rattle.fields.specs.Numbers.{sum}
 use Rattle.fields.specs.Kinds.{Kind}
-use Rattle.fields.specs.Drafts.{longest}
-use Rattle.fields.specs.Formats.{Format, read-kinds, laid}
-use Rattle.traces.specs.Kinds.{levels-allowed, LK, LE, LW, LF, CN, CS, CF, CL, PK, PS, NQ, TK}
+use Rattle.fields.specs.Formats.{read-kinds}
+use Rattle.traces.specs.Kinds.{LK, LE, LW, LF, CN, CS, CF, CL, PK, PS, NQ, TK}
 use Rattle.traces.specs.declared.Record.{Record}
 use Rattle.traces.specs.declared.Record.the-variants.{Link, LinkStandBy, LinkWindows, LinkFrames, Admit, AdmitStamped, AdmitShare, Close, Offer, OfferStamped, Notice, Ticks, Malformed}
 use Rattle.traces.specs.declared.Found.{Found}
 
--- Whether a link is written whose bounds and windows past n are these: "one with n out of range or a bound past n not 0" is not.
-unfoldable pub link-written : ℕ → List ℕ → Bool
-link-written n past = levels-allowed n && eqb (sum past) 0
-
--- A link's kind, its n and its other numbers, where it is written.
-unfoldable pub link-layout : Kind Record → ℕ → List ℕ → List ℕ → Option (Kind Record × List ℕ)
-link-layout k n numbers past = cond (link-written n past) (some (k, n ∷ numbers)) none
-
--- As which kind, with which numbers, a record is written.
+-- As which kind, with which numbers, a record is written: a link with all its bounds and windows, of which those past n have no byte, so that "one with n out of range or a
+-- bound past n not 0" is not.
 abbrev pub trace-layout : Record → Option (Kind Record × List ℕ)
-trace-layout (Link n s silence d1 d2 d3 d4 d5 d6 d7 d8) =
-    let ds = d1 ∷ d2 ∷ d3 ∷ d4 ∷ d5 ∷ d6 ∷ d7 ∷ d8 ∷ [] in
-    link-layout LK n (s ∷ silence ∷ take n ds) (drop n ds)
-trace-layout (LinkStandBy n s silence early d1 d2 d3 d4 d5 d6 d7 d8) =
-    let ds = d1 ∷ d2 ∷ d3 ∷ d4 ∷ d5 ∷ d6 ∷ d7 ∷ d8 ∷ [] in
-    link-layout LE n (s ∷ silence ∷ early ∷ take n ds) (drop n ds)
+trace-layout (Link n s silence d1 d2 d3 d4 d5 d6 d7 d8) = some (LK, n ∷ s ∷ silence ∷ d1 ∷ d2 ∷ d3 ∷ d4 ∷ d5 ∷ d6 ∷ d7 ∷ d8 ∷ [])
+trace-layout (LinkStandBy n s silence early d1 d2 d3 d4 d5 d6 d7 d8) = some (LE, n ∷ s ∷ silence ∷ early ∷ d1 ∷ d2 ∷ d3 ∷ d4 ∷ d5 ∷ d6 ∷ d7 ∷ d8 ∷ [])
 trace-layout (LinkWindows n s silence early d1 d2 d3 d4 d5 d6 d7 d8 w1 w2 w3 w4 w5 w6 w7 w8) =
-    let ds = d1 ∷ d2 ∷ d3 ∷ d4 ∷ d5 ∷ d6 ∷ d7 ∷ d8 ∷ [] in
-    let ws = w1 ∷ w2 ∷ w3 ∷ w4 ∷ w5 ∷ w6 ∷ w7 ∷ w8 ∷ [] in
-    link-layout LW n (s ∷ silence ∷ early ∷ take n ds ++ take n ws) (drop n ds ++ drop n ws)
+    some (LW, n ∷ s ∷ silence ∷ early ∷ d1 ∷ d2 ∷ d3 ∷ d4 ∷ d5 ∷ d6 ∷ d7 ∷ d8 ∷ w1 ∷ w2 ∷ w3 ∷ w4 ∷ w5 ∷ w6 ∷ w7 ∷ w8 ∷ [])
 trace-layout (LinkFrames frame largest silence) = some (LF, frame ∷ largest ∷ silence ∷ [])
 trace-layout (Admit level gap size window average) = some (CN, level ∷ gap ∷ size ∷ window ∷ average ∷ [])
 trace-layout (AdmitStamped level gap size allowance) = some (CS, level ∷ gap ∷ size ∷ allowance ∷ [])
@@ -48,10 +30,10 @@ trace-layout (Notice len tag) = some (NQ, len ∷ tag ∷ [])
 trace-layout (Ticks ticks) = some (TK, ticks ∷ [])
 trace-layout Malformed = none
 
--- The format of traces: "the four trace kinds", the link with its setting, the one with windows and the one of frames behind the link, the admission by stamps, the one with
+-- The kinds of traces: "the four trace kinds", the link with its setting, the one with windows and the one of frames behind the link, the admission by stamps, the one with
 -- units and places and the close behind the admission, the offer with a stamp and the notice behind the offer.
-abbrev pub trace : Format Record
-trace = record { kinds = LK ∷ LE ∷ LW ∷ LF ∷ CN ∷ CS ∷ CF ∷ CL ∷ PK ∷ PS ∷ NQ ∷ TK ∷ []; layout = trace-layout }
+abbrev pub trace-kinds : List (Kind Record)
+trace-kinds = LK ∷ LE ∷ LW ∷ LF ∷ CN ∷ CS ∷ CF ∷ CL ∷ PK ∷ PS ∷ NQ ∷ TK ∷ []
 
 -- What reading answers: nothing found is malformed, and takes no byte.
 abbrev pub found : Option (Record × ℕ) → Found
@@ -60,11 +42,7 @@ found (some (r, n)) = record { what = r; taken = n }
 
 -- Reading a trace record.
 abbrev pub read-trace : List ℕ → Found
-read-trace bs = found (read-kinds (trace .kinds) bs)
-
--- The bytes of a trace record.
-abbrev pub trace-bytes : Record → List ℕ
-trace-bytes r = laid (trace .layout r)
+read-trace bs = found (read-kinds trace-kinds bs)
 
 -- The tables' column "Bytes".
 abbrev pub trace-table : Record → ℕ
@@ -84,4 +62,4 @@ trace-table Malformed = 0
 
 -- .. and the longest of them.
 abbrev pub longest-record : ℕ
-longest-record = longest
+longest-record = 39

@@ -2,13 +2,15 @@
 mod link; // link.rt: links, of which one number says how many follow
 
 ghost use mathlib.Core.Path.{_≡_};
-ghost use mathlib.Core.Option.{none};
+ghost use mathlib.Core.Bool.{cond};
+ghost use mathlib.Core.Option.{some, none};
+ghost use lib.Dec.{ltb};
 ghost use lib.ListN.{length, drop};
 ghost use Rattle.fields.specs.Numbers.{number};
-ghost use Rattle.fields.specs.Formats.{whole, mark-among, fitting, over};
+ghost use Rattle.fields.specs.Formats.{mark-among, laid, fitting, over};
 ghost use Rattle.fields.specs.Drafts.{Holds};
 ghost use Rattle.traces.specs.declared.Record.the-variants.{LinkFrames, AdmitStamped, AdmitShare, OfferStamped};
-ghost use Rattle.traces.specs.Trace.{trace, found, read-trace, trace-bytes};
+ghost use Rattle.traces.specs.Trace.{trace-layout, trace-kinds, found, read-trace};
 use fields::Draft;
 use fields::read::four;
 use fields::read::one;
@@ -157,7 +159,7 @@ pub(crate) fn nothing() -> Found
 
 // A record of so many bytes, where they are all there.
 pub(crate) fn whole_of(s: &[u8], size: usize, what: Record) -> Found
-    ensures { λ r. ⌜ r ≡ found (whole size what (now (s .entry))) ⌝ }
+    ensures { λ r. ⌜ r ≡ found (cond (ltb (length (now (s .entry))) size) none (some (what, size))) ⌝ }
 {
     if s.len() < size {
         return nothing();
@@ -171,7 +173,7 @@ pub(crate) fn whole_of(s: &[u8], size: usize, what: Record) -> Found
 // The mark that the bytes start with, as a number, its first letter low; 0 where it is none of LK, LE, LW, LF, CN, CS, CF, CL, PK, PS,
 // NQ and TK.
 fn mark_of(s: &[u8]) -> u16
-    ensures { λ r. ⌜ r ≡ mark-among (trace .kinds) (now (s .entry)) ⌝ }
+    ensures { λ r. ⌜ r ≡ mark-among trace-kinds (now (s .entry)) ⌝ }
 {
     let mark = two(s, 0);
     match mark {
@@ -294,7 +296,7 @@ pub fn read_at(buf: &[u8], at: usize) -> Found
 
 // The bytes of a record; none where it is not written.
 fn draft(r: Record) -> Draft
-    ensures { λ d. ⌜ Holds d (trace-bytes r) ⌝ }
+    ensures { λ d. ⌜ Holds d (laid (trace-layout r)) ⌝ }
 {
     match r {
         Record::Link {
@@ -402,7 +404,7 @@ fn draft(r: Record) -> Draft
 
 // Writes a record at the start of the room lent, and answers its length: 0, with no byte changed, where it is not written or does not fit.
 pub fn write(r: Record, room: &mut [u8]) -> usize
-    ensures { λ n. ⌜ (n ≡ length (fitting (trace-bytes r) (now (room .entry)))) × (now (room .exit) ≡ over (fitting (trace-bytes r) (now (room .entry))) (now (room .entry))) ⌝ }
+    ensures { λ n. ⌜ (n ≡ length (fitting (laid (trace-layout r)) (now (room .entry)))) × (now (room .exit) ≡ over (fitting (laid (trace-layout r)) (now (room .entry))) (now (room .entry))) ⌝ }
 {
     draft(r).into_room(room)
 }

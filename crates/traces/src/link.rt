@@ -2,14 +2,16 @@
 ghost use mathlib.Core.Path.{_≡_};
 ghost use mathlib.Core.Bool.{true, false, cond};
 ghost use mathlib.Core.List.{[], _∷_, _++_};
-ghost use mathlib.Core.Option.{none};
+ghost use mathlib.Core.Option.{some, none};
 ghost use Prim.Native.Nat.{_+_, _*_, _<_, _≤_};
-ghost use lib.ListN.{getD, take, drop, replicate};
+ghost use lib.Dec.{ltb};
+ghost use lib.ListN.{length, getD, take, drop, replicate};
 ghost use Rattle.fields.specs.Numbers.{number, get-fields};
-ghost use Rattle.fields.specs.Formats.{whole, read-kind, laid};
+ghost use Rattle.fields.specs.Formats.{read-kind, laid};
 ghost use Rattle.fields.specs.Drafts.{Holds, Adds-all};
-ghost use Rattle.traces.specs.Kinds.{levels-allowed, windowed, LK, LE, LW};
-ghost use Rattle.traces.specs.Trace.{found, link-written, link-layout};
+ghost use Rattle.traces.specs.Kinds.{LK, LE, LW};
+ghost use Rattle.traces.specs.Trace.{found};
+ghost use Rattle.traces.specs.Links.{link-written, windowed};
 use super::Found;
 use super::LE;
 use super::LK;
@@ -35,7 +37,7 @@ fn bound(s: &[u8], at: usize, levels: usize, k: usize) -> u16
 // A link's record whose last bounds, or windows, start at a place; nothing where it has no number of levels that is allowed.
 fn levelled(s: &[u8], at: usize, levels: u8, what: Record) -> Found
     requires { ⌜ at ≤ 517 ⌝ }
-    ensures { λ r. ⌜ r ≡ found (cond (levels-allowed levels) (whole (at + 2 * levels) what (now (s .entry))) none) ⌝ }
+    ensures { λ r. ⌜ r ≡ found (cond (LK .allows levels) (cond (ltb (length (now (s .entry))) (at + 2 * levels)) none (some (what, at + 2 * levels))) none) ⌝ }
 {
     match levels {
         1..=8 => whole_of(s, at + 2 * (levels as usize), what),
@@ -191,7 +193,7 @@ fn windows_behind(head: Draft, levels: u8, bounds: [u16; 8], windows: [u16; 8]) 
 
 // The bytes of an `LK`; none where it is not written.
 pub(crate) fn draft(levels: u8, largest: u16, silence: u8, bounds: [u16; 8]) -> Draft
-    ensures { λ r. ⌜ Holds r (laid (link-layout LK levels (largest ∷ silence ∷ take levels bounds) (drop levels bounds))) ⌝ }
+    ensures { λ r. ⌜ Holds r (laid (some (LK, levels ∷ largest ∷ silence ∷ bounds))) ⌝ }
 {
     let head = Draft::headed(LK, levels).two(largest).one(silence);
     bounded(head, levels, bounds)
@@ -205,7 +207,7 @@ pub(crate) fn draft_stand_by(
     early: u8,
     bounds: [u16; 8],
 ) -> Draft
-    ensures { λ r. ⌜ Holds r (laid (link-layout LE levels (largest ∷ silence ∷ early ∷ take levels bounds) (drop levels bounds))) ⌝ }
+    ensures { λ r. ⌜ Holds r (laid (some (LE, levels ∷ largest ∷ silence ∷ early ∷ bounds))) ⌝ }
 {
     let head = Draft::headed(LE, levels)
         .two(largest)
@@ -223,7 +225,7 @@ pub(crate) fn draft_windows(
     bounds: [u16; 8],
     windows: [u16; 8],
 ) -> Draft
-    ensures { λ r. ⌜ Holds r (laid (link-layout LW levels (largest ∷ silence ∷ setting ∷ take levels bounds ++ take levels windows) (drop levels bounds ++ drop levels windows))) ⌝ }
+    ensures { λ r. ⌜ Holds r (laid (some (LW, levels ∷ largest ∷ silence ∷ setting ∷ bounds ++ windows))) ⌝ }
 {
     let head = Draft::headed(LW, levels)
         .two(largest)

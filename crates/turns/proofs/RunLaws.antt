@@ -20,14 +20,14 @@ use Rattle.log.specs.Bad.{bad-at}
 use Rattle.answers.specs.Answers.{longest-answer}
 use Rattle.replay.specs.Sessions.{Session}
 use Rattle.replay.specs.Sessions.Session.{start}
-use Rattle.replay.proofs.Results.{tells-the-malformed}
+use Rattle.replay.proofs.Results.{every-session}
 use Rattle.turns.specs.declared.End.{End}
 use Rattle.turns.specs.declared.End.the-variants.{On, Whole, Malformed, ReadFailed, NotTaken}
 use Rattle.turns.specs.declared.Turn.{Turn}
 use Rattle.turns.specs.Turns.{is-on, Ends-log, given-by, heard, reads, after-steps, first-turn, Turned}
 use Rattle.turns.specs.Runs.{Turns}
 use Rattle.turns.specs.Runs.Turns.{none as no-turn, turn}
-use Rattle.turns.proofs.TurnLaws.{ends-log, ends-status, turn-finishes, turn-keeps}
+use Rattle.turns.proofs.TurnLaws.{where-reads, where-stays, ends-log, ends-status, turn-finishes, turn-keeps}
 
 -- ---- the loop
 
@@ -67,10 +67,10 @@ module _ {c : Cursor} {t : Tables} {w : List ℕ} {last : Bool} {o : List ℕ} {
   ended-then u g e = go (reads (r .taken) (T .answer .status)) refl
     where
       go : (b : Bool) → reads (r .taken) (T .answer .status) ≡ b → T .follows .got ++ u ≡ []
-      go true f = never (sym (T .follows .where-read f .0) ∙ e)
+      go true f = never (sym (where-reads (T .follows) f .0) ∙ e)
       go false f =
-          let n : T .follows .got ≡ [] = nothing (T .follows .got) (T .follows .count ∙ ap given-by (T .follows .where-not f .0)) in
-          let l : r .last ≡ true = T .follows .where-not f .1 ∙ e in
+          let n : T .follows .got ≡ [] = nothing (T .follows .got) (T .follows .count ∙ ap given-by (where-stays (T .follows) f .0)) in
+          let l : r .last ≡ true = where-stays (T .follows) f .1 ∙ e in
           rw (n, g l)
 
 pub going : {given wrote : List ℕ} {v : Turn} {t : Tables} {w : List ℕ} → Turns given wrote v t w
@@ -119,15 +119,15 @@ module _ {c : Cursor} {t : Tables} {w : List ℕ} {last : Bool} {o : List ℕ} {
   fails-written m n e = go (reads (r .taken) (T .answer .status)) refl
     where
       go : (d : Bool) → reads (r .taken) (T .answer .status) ≡ d → r .taken ≡ false
-      go true f = absurd (never-fails (r .read) (sym (T .follows .where-read f .2) ∙ e))
-      go false f = after-written (r .taken) (T .answer .status) emptied m n (sym (T .follows .where-not f .2) ∙ e)
+      go true f = absurd (never-fails (r .read) (sym (where-reads (T .follows) f .2) ∙ e))
+      go false f = after-written (r .taken) (T .answer .status) emptied m n (sym (where-stays (T .follows) f .2) ∙ e)
 
   pub fails-read : r .end ≡ ReadFailed → nonNeg (r .read) ≡ false
   fails-read e = go (reads (r .taken) (T .answer .status)) refl
     where
       go : (d : Bool) → reads (r .taken) (T .answer .status) ≡ d → nonNeg (r .read) ≡ false
-      go true f = fails-heard (r .read) (sym (T .follows .where-read f .2) ∙ e)
-      go false f = absurd (after-read (r .taken) (T .answer .status) emptied (sym (T .follows .where-not f .2) ∙ e))
+      go true f = fails-heard (r .read) (sym (where-reads (T .follows) f .2) ∙ e)
+      go false f = absurd (after-read (r .taken) (T .answer .status) emptied (sym (where-stays (T .follows) f .2) ∙ e))
 
 -- which of the two it says
 whole-emptied : (i : Bool) → cond i Whole Malformed ≡ Whole → i ≡ true
@@ -143,11 +143,11 @@ module _ {c : Cursor} {t : Tables} {w : List ℕ} {last : Bool} {o : List ℕ} {
     (b : r .taken ≡ true) (k : T .answer .status ≡ Done) where
   same-window : w2 ≡ drop (T .answer .used) w
   same-window =
-      let z : r .read ≡ pos 0 = T .follows .where-not (rw (b, k)) .0 in
+      let z : r .read ≡ pos 0 = where-stays (T .follows) (rw (b, k)) .0 in
       T .follows .rest ∙ rw (nothing (T .follows .got) (T .follows .count ∙ ap given-by z)) (append-nil (drop (T .answer .used) w))
 
   says : r .end ≡ cond (eqb (length w2) 0) Whole Malformed
-  says = T .follows .where-not (rw (b, k)) .2 ∙ rw (b, k, same-window)
+  says = where-stays (T .follows) (rw (b, k)) .2 ∙ rw (b, k, same-window)
 
   pub says-whole : r .end ≡ Whole → eqb (length w2) 0 ≡ true
   says-whole e = whole-emptied (eqb (length w2) 0) (sym says ∙ e)
@@ -167,5 +167,5 @@ ended-tells {given} {wrote} {v} {t} {w} S d o l r t2 o2 w2 T then g e =
     let f = turn-finishes (given ++ (T .follows .got ++ then)) wrote (v .cursor) t w (T .follows .got ++ then) Q (v .last) h o r t2 o2 w2 T e in
     let p : r .cursor .phase ≡ Finished = ap (λ (x : Cursor). x .phase) (T .follows .cursor) ∙ f in (
       (says-whole T (k .0) (k .1), says-malformed T (k .0) (k .1)),
-      tells-the-malformed ((given ++ T .follows .got) ++ then) _ (r .cursor) t2 w2 then (going (turn S d o l r t2 o2 w2 T) then g) p,
+      every-session ((given ++ T .follows .got) ++ then) _ (r .cursor) t2 w2 then (going (turn S d o l r t2 o2 w2 T) then g) .tells-the-malformed p,
     )

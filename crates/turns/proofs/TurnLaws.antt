@@ -1,5 +1,5 @@
 -- What one turn of a program's loop needs: the measure, the window, what follows it, and that it goes on with a session.
-use Prim.Native.Nat.{ℕ, zero, suc, _+_, _-_, _^_, _<_, _≤_}
+use Prim.Native.Nat.{ℕ, zero, suc, _+_, _-_, _/_, _^_, _<_, _≤_}
 use native.Mathlib.Omega.{arith}
 use mathlib.Core.Path.{_≡_, refl, sym, ap, _∙_, subst}
 use mathlib.Core.Bool.{Bool, true, false, cond}
@@ -21,19 +21,20 @@ use Rattle.steps.specs.declared.Cursor.{Cursor}
 use Rattle.steps.specs.declared.Stepped.{Stepped}
 use Rattle.steps.specs.declared.Status.{Status}
 use Rattle.steps.specs.declared.Status.the-variants.{GoOn, MoreBytes, MoreRoom, NotSound, Done}
+use Rattle.answers.specs.Answers.{longest-answer}
 use Rattle.log.specs.Log.{trace-limit, log}
 use Rattle.steps.specs.Steps.{work}
-use Rattle.steps.specs.Tie.{Facts}
+use Rattle.replay.proofs.FactLaws.{Facts}
 use Rattle.fields.proofs.PartLaws.{part-back}
 use Rattle.replay.specs.Slides.{slide-length, slid}
-use Rattle.replay.specs.Sessions.{Pumps, Session}
+use Rattle.replay.specs.Sessions.{Steps, Session}
 use Rattle.replay.specs.Sessions.Session.{more, call}
 use Rattle.replay.proofs.SlideLaws.{take-slid}
-use Rattle.replay.proofs.Results.{writes-the-log, done-is-finished}
+use Rattle.replay.proofs.Results.{every-session}
 use Rattle.turns.specs.declared.End.{End}
 use Rattle.turns.specs.declared.End.the-variants.{On, Whole, Malformed, ReadFailed, NotTaken}
 use Rattle.turns.specs.declared.Turn.{Turn}
-use Rattle.turns.specs.Turns.{Ends-log, given-by, heard, reads, after-steps, read-turn, still-turn, Right, Better, window, Refilled, Followed, Onward, Turned}
+use Rattle.turns.specs.Turns.{Ends-log, given-by, is-end, heard, reads, after-steps, read-turn, still-turn, Right, Better, window, Refilled, Followed, Onward, Turned}
 
 pub slide-len : (from to n : ℕ) → from ≤ to → to ≤ n → slide-length from to n ≡ to - from
 slide-len from to n h k = rw (le-ltb to from h, le-ltb n to k)
@@ -81,6 +82,9 @@ reads-only b MoreBytes e = (e, refl)
 reads-only b MoreRoom e = never e
 reads-only b NotSound e = never e
 reads-only b Done e = never e
+
+not-reads : (b : Bool) (k : Status) → reads b k ≡ false → b ≡ true → k ≡ MoreBytes → ⊥
+not-reads b k e f g = never (sym e ∙ rw (f, g))
 
 -- where no read follows the next turn, some step was made
 not-on : (e : Bool) → cond e Whole Malformed ≡ On → ⊥
@@ -174,37 +178,43 @@ module _ (b S ys : List ℕ) (from to n : ℕ) (h : from ≤ to) (k : to ≤ len
 
 module _ (a : Stepped) (w : List ℕ) (last : Bool) (w2 : List ℕ) (b : Bool) where
   pub followed-still : (from to : ℕ) (i : Bool) → reads b (a .status) ≡ false → i ≡ eqb (length (drop (a .used) w)) 0 → w2 ≡ drop (a .used) w
-      → Followed a w last b (still-turn a from to last b i) w2
+      → Followed a w last (still-turn a from to last b i) w2
   followed-still from to i e h f =
       record {
-        took = refl;
         cursor = refl;
         got = [];
         count = refl;
         rest = f ∙ sym (append-nil (drop (a .used) w));
-        where-read = λ g. never (sym e ∙ g);
+        where-read = λ g m. absurd (not-reads b (a .status) e g m);
         where-not = λ _. (refl, refl, ap (after-steps b (a .status)) h);
       }
 
   pub followed-read : (v : Turn) → reads b (a .status) ≡ true → (a .status ≡ MoreBytes → last ≡ false) → Refilled (a .cursor) (drop (a .used) w) v w2
-      → Followed a w last b v w2
+      → Followed a w last v w2
   followed-read v e wants F =
       let k = reads-only b (a .status) e in
       record {
-        took = ap (λ (x : Turn). x .taken) (F .turn) ∙ sym (k .0);
         cursor = ap (λ (x : Turn). x .cursor) (F .turn);
         got = F .got;
         count = F .count;
         rest = F .rest;
-        where-read = λ _. (wants (k .1), ap (λ (x : Turn). x .last) (F .turn), ap (λ (x : Turn). x .end) (F .turn));
-        where-not = λ g. never (sym g ∙ e);
+        where-read = λ _ _. (wants (k .1), ap (λ (x : Turn). x .last) (F .turn), ap (λ (x : Turn). x .end) (F .turn));
+        where-not = λ n. absurd (n (ap (λ (x : Turn). x .taken) (F .turn)) (k .1));
       }
+
+-- .. and the other way
+module _ {a : Stepped} {w : List ℕ} {last : Bool} {v : Turn} {w2 : List ℕ} (F : Followed a w last v w2) where
+  pub where-reads : reads (v .taken) (a .status) ≡ true → (last ≡ false) × (v .last ≡ is-end (v .read)) × (v .end ≡ heard (v .read))
+  where-reads e = let k = reads-only (v .taken) (a .status) e in F .where-read (k .0) (k .1)
+
+  pub where-stays : reads (v .taken) (a .status) ≡ false → (v .read ≡ pos 0) × (v .last ≡ last) × (v .end ≡ after-steps (v .taken) (a .status) (eqb (length (drop (a .used) w)) 0))
+  where-stays e = F .where-not (not-reads (v .taken) (a .status) e)
 
 -- ---- a turn: a call of `pump`, and what follows it
 
-module _ (c : Cursor) (t : Tables) (w : List ℕ) (last : Bool) (o : List ℕ) (a : Stepped) (t2 : Tables) (o2 w2 : List ℕ) (b : Bool) (v : Turn) where
-  unfoldable pub turned : Pumps c t w last o a t2 o2 → Followed a w last b v w2 → Turned c t w last o v t2 o2 w2
-  turned P F = record { answer = a; pumps = P; follows = subst (λ (x : Bool). Followed a w last x v w2) (sym (F .took)) F }
+module _ (c : Cursor) (t : Tables) (w : List ℕ) (last : Bool) (o : List ℕ) (a : Stepped) (t2 : Tables) (o2 w2 : List ℕ) (v : Turn) where
+  unfoldable pub turned : Steps (length o / longest-answer) c t w last o a t2 o2 → Followed a w last v w2 → Turned c t w last o v t2 o2 w2
+  turned P F = record { answer = a; pumps = P; follows = F }
 
 -- .. that is followed by another leaves less to do
 pub turn-better : (N : ℕ) (c : Cursor) (from to : ℕ) → Right N c from to → (last : Bool) (r : ℕ) (a : Stepped) → Facts c (to - from) last r a → (b : Bool) (v : Turn)
@@ -248,7 +258,7 @@ module _ (trace wrote : List ℕ) (c : Cursor) (t : Tables) (w unread : List ℕ
     (o : List ℕ) (v : Turn) (t2 : Tables) (o2 w2 : List ℕ) (T : Turned c t w last o v t2 o2 w2) where
   pub turn-keeps : (then : List ℕ) → unread ≡ T .follows .got ++ then → Session trace (wrote ++ take (T .answer .wrote) o2) (v .cursor) t2 w2 then
   turn-keeps then e =
-      let P = call last g o (T .answer) t2 o2 (inr (T .pumps)) S in
+      let P = call (length o / longest-answer) last g o (T .answer) t2 o2 (T .pumps) S in
       let Q = more (T .follows .got) then (subst (λ l. Session trace (wrote ++ take (T .answer .wrote) o2) (T .answer .cursor) t2 (drop (T .answer .used) w) l) e P) in
       rw (T .follows .cursor, T .follows .rest) Q
 
@@ -256,16 +266,16 @@ module _ (trace wrote : List ℕ) (c : Cursor) (t : Tables) (w unread : List ℕ
   ends-status e = go (reads (v .taken) (T .answer .status)) refl
     where
       go : (d : Bool) → reads (v .taken) (T .answer .status) ≡ d → (v .taken ≡ true) × (T .answer .status ≡ Done)
-      go true f = absurd (heard-ends (v .read) (ap ends-log (sym (T .follows .where-read f .2)) ∙ ends-it (v .end) e))
+      go true f = absurd (heard-ends (v .read) (ap ends-log (sym (where-reads (T .follows) f .2)) ∙ ends-it (v .end) e))
       go false f =
           after-ends (v .taken) (T .answer .status) (eqb (length (drop (T .answer .used) w)) 0)
-          (ap ends-log (sym (T .follows .where-not f .2)) ∙ ends-it (v .end) e)
+          (ap ends-log (sym (where-stays (T .follows) f .2)) ∙ ends-it (v .end) e)
 
   -- the log ended: the cursor is finished
   pub turn-finishes : Ends-log (v .end) → T .answer .cursor .phase ≡ Finished
-  turn-finishes e = done-is-finished trace wrote c t w unread S last g o (T .answer) t2 o2 (inr (T .pumps)) (ends-status e .1)
+  turn-finishes e = every-session trace wrote c t w unread S .answers (length o / longest-answer) last g o (T .answer) t2 o2 (T .pumps) .done-is-finished (ends-status e .1)
 
   pub turn-ends : Ends-log (v .end) → wrote ++ take (T .answer .wrote) o2 ≡ log trace
   turn-ends e =
-      writes-the-log trace _ (T .answer .cursor) t2 (drop (T .answer .used) w) unread (call last g o (T .answer) t2 o2 (inr (T .pumps)) S)
-      (turn-finishes e)
+      every-session trace _ (T .answer .cursor) t2 (drop (T .answer .used) w) unread (call (length o / longest-answer) last g o (T .answer) t2 o2 (T .pumps) S)
+      .writes-the-log (turn-finishes e)

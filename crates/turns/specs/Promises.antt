@@ -12,46 +12,32 @@ use Rattle.tables.specs.Lent.{Tables}
 use Rattle.log.specs.Log.{log}
 use Rattle.log.specs.Bad.{bad-at}
 use Rattle.traces.specs.Trace.{longest-record}
+use Rattle.steps.specs.declared.Status.the-variants.{MoreBytes}
 use Rattle.turns.specs.declared.End.the-variants.{Whole, Malformed, ReadFailed, NotTaken}
 use Rattle.turns.specs.declared.Turn.{Turn}
-use Rattle.turns.specs.Turns.{Ends-log, reads, Turned}
+use Rattle.turns.specs.Turns.{Ends-log, Turned}
 use Rattle.turns.specs.Runs.{Turns}
 
--- ---- all turns from the start: `given` is what the reads gave, `wrote` what the steps wrote, and the program handed on
+-- what holds after any turn: `trace` is what the reads gave and what would come behind it; `wrote` what the steps wrote, and the program handed on; v the turn made last;
+-- t and w the tables and the window after it
+pub record After-any-turn (trace wrote : List ℕ) (v : Turn) (t : Tables) (w : List ℕ) : Type 0 where
+  -- THE PROGRAM: where the log is taken to its end, what was written is the log of the trace
+  pub the-program-writes-the-log : Ends-log (v .end) → wrote ≡ log trace
+  -- it says Whole of a trace whose records are all well formed, and Malformed of one whose first malformed record is where the cursor stands
+  pub it-tells-the-malformed : (v .end ≡ Whole → bad-at trace ≡ none) × (v .end ≡ Malformed → bad-at trace ≡ some (v .cursor .at))
+  -- .. and Whole only once the input has ended
+  pub whole-at-the-end : v .end ≡ Whole → v .last ≡ true
+  -- at any time, so where a read has failed too, or not all was taken, what was written is the beginning of the log
+  pub it-writes-nothing-else : take (length wrote) (log trace) ≡ wrote
+  -- it ends for no other reason: not all that the steps wrote was taken, or `read` answered less than 0
+  pub it-ends-for-no-other-reason : (v .end ≡ NotTaken → v .taken ≡ false) × (v .end ≡ ReadFailed → nonNeg (v .read) ≡ false)
+  -- a read has room: a turn that wants bytes keeps fewer than the longest record has, so a buffer of that length is not full, and a read that gives nothing is the end of
+  -- the input
+  pub a-read-has-room : (o : List ℕ) (r : Turn) (t2 : Tables) (o2 w2 : List ℕ) (T : Turned (v .cursor) t w (v .last) o r t2 o2 w2)
+      → T .answer .status ≡ MoreBytes → length (drop (T .answer .used) w) < longest-record
 
--- of all turns from the start: P of what was given and written, and of the turn made last
-abbrev pub Of-all-turns : (List ℕ → List ℕ → Turn → Type 0) → Type 0
-Of-all-turns P = (given wrote : List ℕ) (v : Turn) (t : Tables) (w : List ℕ) → Turns given wrote v t w → P given wrote v
-
--- the same of the whole trace: `then` is what would come behind what was given, nothing where the input has ended
-abbrev pub Of-the-trace : (List ℕ → List ℕ → Turn → Type 0) → Type 0
-Of-the-trace P = Of-all-turns (λ given wrote v. (then : List ℕ) → (v .last ≡ true → then ≡ []) → P (given ++ then) wrote v)
-
--- THE PROGRAM: where the log is taken to its end, what was written is the log of the trace
-abbrev pub The-program-writes-the-log : Type 0
-The-program-writes-the-log = Of-the-trace (λ trace wrote v. Ends-log (v .end) → wrote ≡ log trace)
-
--- it says Whole of a trace whose records are all well formed, and Malformed of one whose first malformed record is where the cursor stands
-abbrev pub It-tells-the-malformed : Type 0
-It-tells-the-malformed =
-    Of-the-trace (λ trace wrote v. (v .end ≡ Whole → bad-at trace ≡ none) × (v .end ≡ Malformed → bad-at trace ≡ some (v .cursor .at)))
-
--- .. and Whole only once the input has ended
-abbrev pub Whole-at-the-end : Type 0
-Whole-at-the-end = Of-all-turns (λ given wrote v. v .end ≡ Whole → v .last ≡ true)
-
--- at any time, so where a read has failed too, or not all was taken, what was written is the beginning of the log
-abbrev pub It-writes-nothing-else : Type 0
-It-writes-nothing-else = Of-the-trace (λ trace wrote v. take (length wrote) (log trace) ≡ wrote)
-
--- it ends for no other reason: not all that the steps wrote was taken, or `read` answered less than 0
-abbrev pub It-ends-for-no-other-reason : Type 0
-It-ends-for-no-other-reason = Of-all-turns (λ given wrote v. (v .end ≡ NotTaken → v .taken ≡ false) × (v .end ≡ ReadFailed → nonNeg (v .read) ≡ false))
-
--- a read has room: with fewer bytes kept than the longest record has, a buffer of that length is not full, and a read that gives nothing is the end of the input
-abbrev pub A-read-has-room : Type 0
-A-read-has-room =
-    (given wrote : List ℕ) (v : Turn) (t : Tables) (w : List ℕ) → Turns given wrote v t w
-    → (o : List ℕ) (r : Turn) (t2 : Tables) (o2 w2 : List ℕ) (T : Turned (v .cursor) t w (v .last) o r t2 o2 w2)
-    → reads (r .taken) (T .answer .status) ≡ true
-    → length (drop (T .answer .used) w) < longest-record
+-- of all turns from the start: `given` is what the reads gave, `then` what would come behind it, nothing where the input has ended
+abbrev pub All-turns : Type 0
+All-turns =
+    (given wrote then : List ℕ) (v : Turn) (t : Tables) (w : List ℕ) → Turns given wrote v t w → (v .last ≡ true → then ≡ [])
+    → After-any-turn (given ++ then) wrote v t w

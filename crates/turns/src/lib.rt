@@ -141,8 +141,9 @@ fn refill(c: Cursor, buf: &mut [u8], from: usize, to: usize) -> Turn
 // What follows a call of `pump` on the window from `from` to `to`, which answered r, and whose bytes were all taken or not: more input, if that is what is wanted.
 pub fn follow(r: Stepped, buf: &mut [u8], from: usize, to: usize, last: bool, taken: bool) -> Turn
     requires { ⌜ Right (length (now buf)) (r .cursor) (from + r .used) to × (r .status ≡ MoreBytes → last ≡ false) ⌝ }
-    ensures { λ v. ⌜ Followed r (window (now (buf .entry)) from to) last taken v (window (now (buf .exit)) (v .from) (v .to)) ⌝ }
+    ensures { λ v. ⌜ Followed r (window (now (buf .entry)) from to) last v (window (now (buf .exit)) (v .from) (v .to)) ⌝ }
     ensures { λ v. ⌜ Onward (length (now (buf .entry))) r from to last taken v ⌝ }
+    ensures { λ v. ⌜ v .taken ≡ taken ⌝ }
 {
     let then = r.cursor;
     let next = from + r.used;

@@ -2,7 +2,8 @@
 use mathlib.Core.Path.{refl}
 use native.Mathlib.Omega.{arith}
 use Rattle.fields.specs.Formats.{laid}
-use Rattle.fields.specs.Numbers.{sum}
+use Rattle.fields.specs.Numbers.{sum, none-lost}
+use Rattle.fields.proofs.Parts.{bytes}
 use Rattle.fields.proofs.DraftLaws.{done, before, drafted-behind}
 use Rattle.answers.specs.Kinds.{LA, CA, CD, PA, NA, TA, ER}
 use borrow.Author.Needs.{needs}
@@ -85,37 +86,37 @@ empty-requires : tie.Need-empty-requires
 empty-requires c κs = search needs
 
 returns : tie.Need-returns
-unfolding laid sum
+unfolding laid none-lost bytes sum
 returns c = rw (c .before .before .r .given .1) (drafted-behind LA _ _ (search needs) refl (c .headed .ensures) done (omega arith))
 
 returns-2 : tie.Need-returns-2
-unfolding laid sum
+unfolding laid none-lost bytes sum
 returns-2 c =
     rw (c .before .before .before .before .before .r2 .given .1)
     (drafted-behind CA _ _ (search needs) refl (c .before .before .before .headed2 .ensures)
     (before (c .before .before .one .ensures) (before (c .before .one2 .ensures) (before (c .four .ensures) done))) (omega arith))
 
 returns-3 : tie.Need-returns-3
-unfolding laid sum
+unfolding laid none-lost bytes sum
 returns-3 c = rw (c .before .before .r3 .given .1) (drafted-behind CD _ _ (search needs) refl (c .headed3 .ensures) done (omega arith))
 
 returns-4 : tie.Need-returns-4
-unfolding laid sum
+unfolding laid none-lost bytes sum
 returns-4 c = rw (c .before .before .before .r4 .given .1) (drafted-behind PA _ _ (search needs) refl (c .before .headed4 .ensures) (before (c .four2 .ensures) done) (omega arith))
 
 returns-5 : tie.Need-returns-5
-unfolding laid sum
+unfolding laid none-lost bytes sum
 returns-5 c = rw (c .before .before .before .r5 .given .1) (drafted-behind NA _ _ (search needs) refl (c .before .headed5 .ensures) (before (c .four3 .ensures) done) (omega arith))
 
 returns-6 : tie.Need-returns-6
 returns-6 c = rw (c .before .before .r6 .given .1) (c .draft-departed .ensures)
 
 returns-7 : tie.Need-returns-7
-unfolding laid sum
+unfolding laid none-lost bytes sum
 returns-7 c = rw (c .before .before .before .r7 .given .1) (drafted-behind TA _ _ (search needs) refl (c .before .headed6 .ensures) (before (c .two .ensures) done) (omega arith))
 
 returns-8 : tie.Need-returns-8
-unfolding laid sum
+unfolding laid none-lost bytes sum
 returns-8 c = rw (c .before .before .before .r8 .given .1) (drafted-behind ER _ _ (search needs) refl (c .before .headed7 .ensures) (before (c .four4 .ensures) done) (omega arith))
 
 returns-9 : tie.Need-returns-9

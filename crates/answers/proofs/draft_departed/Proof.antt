@@ -2,7 +2,8 @@
 use mathlib.Core.Path.{refl}
 use native.Mathlib.Omega.{arith}
 use Rattle.fields.specs.Formats.{laid}
-use Rattle.fields.specs.Numbers.{sum}
+use Rattle.fields.specs.Numbers.{sum, none-lost}
+use Rattle.fields.proofs.Parts.{bytes}
 use Rattle.fields.proofs.DraftLaws.{done, before, drafted-behind}
 use Rattle.answers.specs.Kinds.{DP}
 use borrow.Author.Needs.{needs}
@@ -25,7 +26,7 @@ four-requires-4 : tie.Need-four-requires-4
 four-requires-4 c κs = search needs
 
 returns : tie.Need-returns
-unfolding laid sum
+unfolding laid none-lost bytes sum
 returns c = drafted-behind DP _ _ (search needs) refl (c .before .before .before .before .headed .ensures) (before (c .before .before .before .four .ensures) (before (c .before .before .four2 .ensures) (before (c .before .four3 .ensures) (before (c .four4 .ensures) done)))) (omega arith)
 
 pub draft-departed-spec : {M : Type 1} → statement M

@@ -4,7 +4,7 @@ use borrow.Author.Tests.{ne-eqb}
 use Rattle.fields.specs.Numbers.{number, get-fields, sum}
 use Rattle.fields.specs.Formats.{read-kind}
 use Rattle.fields.proofs.MarkLaws.{numbered, read-numbered}
-use Rattle.answers.specs.Answers.{answers}
+use Rattle.answers.specs.Answers.{answer-kinds}
 use Rattle.answers.proofs.AnswerLaws.{answer-marks}
 use borrow.Author.Needs.{needs}
 use Rattle.answers.proofs.read.Statement.{statement}
@@ -56,56 +56,56 @@ returns : tie.Need-returns
 unfolding read-numbered number read-kind get-fields sum
 returns c =
     let m = c .before .before .before .mark-of in
-    rw (numbered (answers .kinds) (c .before .before .before .before .before .args .s .now) (m .result) 0x414C answer-marks (m .ensures) (search needs))
+    rw (numbered answer-kinds (c .before .before .before .before .before .args .s .now) (m .result) 0x414C answer-marks (m .ensures) (search needs))
     (rw (c .whole-of .ensures, c .before .before .one .ensures))
 
 returns-2 : tie.Need-returns-2
 unfolding read-numbered number
 returns-2 c =
     let m = c .before .before .before .mark-of in
-    rw (numbered (answers .kinds) (c .before .before .before .before .before .args .s .now) (m .result) 0x4143 answer-marks (m .ensures) (search needs))
+    rw (numbered answer-kinds (c .before .before .before .before .before .args .s .now) (m .result) 0x4143 answer-marks (m .ensures) (search needs))
     (c .read-admitted .ensures)
 
 returns-3 : tie.Need-returns-3
 unfolding read-numbered number read-kind get-fields sum
 returns-3 c =
     let m = c .before .before .before .mark-of in
-    rw (numbered (answers .kinds) (c .before .before .before .before .before .args .s .now) (m .result) 0x4443 answer-marks (m .ensures) (search needs))
+    rw (numbered answer-kinds (c .before .before .before .before .before .args .s .now) (m .result) 0x4443 answer-marks (m .ensures) (search needs))
     (rw (c .whole-of2 .ensures, c .before .before .one .ensures))
 
 returns-4 : tie.Need-returns-4
 unfolding read-numbered number read-kind get-fields sum
 returns-4 c =
     let m = c .before .before .before .before .mark-of in
-    rw (numbered (answers .kinds) (c .before .before .before .before .before .before .args .s .now) (m .result) 0x4150 answer-marks (m .ensures) (search needs))
+    rw (numbered answer-kinds (c .before .before .before .before .before .before .args .s .now) (m .result) 0x4150 answer-marks (m .ensures) (search needs))
     (rw (c .whole-of3 .ensures, c .before .before .before .one .ensures, c .before .four .ensures))
 
 returns-5 : tie.Need-returns-5
 unfolding read-numbered number read-kind get-fields sum
 returns-5 c =
     let m = c .before .before .before .before .mark-of in
-    rw (numbered (answers .kinds) (c .before .before .before .before .before .before .args .s .now) (m .result) 0x414E answer-marks (m .ensures) (search needs))
+    rw (numbered answer-kinds (c .before .before .before .before .before .before .args .s .now) (m .result) 0x414E answer-marks (m .ensures) (search needs))
     (rw (c .whole-of4 .ensures, c .before .before .before .one .ensures, c .before .four2 .ensures))
 
 returns-6 : tie.Need-returns-6
 unfolding read-numbered number
 returns-6 c =
     let m = c .before .before .before .mark-of in
-    rw (numbered (answers .kinds) (c .before .before .before .before .before .args .s .now) (m .result) 0x5044 answer-marks (m .ensures) (search needs))
+    rw (numbered answer-kinds (c .before .before .before .before .before .args .s .now) (m .result) 0x5044 answer-marks (m .ensures) (search needs))
     (c .read-departed .ensures)
 
 returns-7 : tie.Need-returns-7
 unfolding read-numbered number read-kind get-fields sum
 returns-7 c =
     let m = c .before .before .before .before .mark-of in
-    rw (numbered (answers .kinds) (c .before .before .before .before .before .before .args .s .now) (m .result) 0x4154 answer-marks (m .ensures) (search needs))
+    rw (numbered answer-kinds (c .before .before .before .before .before .before .args .s .now) (m .result) 0x4154 answer-marks (m .ensures) (search needs))
     (rw (c .whole-of5 .ensures, c .before .before .before .one .ensures, c .before .two .ensures))
 
 returns-8 : tie.Need-returns-8
 unfolding read-numbered number
 returns-8 c =
     let m = c .before .before .before .mark-of in
-    rw (numbered (answers .kinds) (c .before .before .before .before .before .args .s .now) (m .result) 0x5245 answer-marks (m .ensures) (search needs))
+    rw (numbered answer-kinds (c .before .before .before .before .before .args .s .now) (m .result) 0x5245 answer-marks (m .ensures) (search needs))
     (c .read-broken .ensures)
 
 returns-9 : tie.Need-returns-9
@@ -113,7 +113,7 @@ unfolding read-numbered number
 returns-9 c =
     let m = c .before .before .before .mark-of in
     rw (
-      numbered (answers .kinds) (c .before .before .before .before .before .args .s .now) (m .result) (m .result) answer-marks (m .ensures) refl,
+      numbered answer-kinds (c .before .before .before .before .before .args .s .now) (m .result) (m .result) answer-marks (m .ensures) refl,
       ne-eqb (m .result) 0x414C (search needs),
       ne-eqb (m .result) 0x4143 (search needs),
       ne-eqb (m .result) 0x4443 (search needs),

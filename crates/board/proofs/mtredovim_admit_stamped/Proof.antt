@@ -1,7 +1,6 @@
 use Rattle.tables.specs.Lent.{tables}
 use mathlib.Core.Path.{sym, _∙_}
 use borrow.Author.Tests.{not-true, not-false}
-use Rattle.board.specs.Calls.{admit-stamped}
 use Rattle.board.proofs.DoesLaws.{refuses}
 use borrow.Author.Needs.{needs}
 use Rattle.board.proofs.mtredovim_admit_stamped.Statement.{statement}
@@ -21,7 +20,7 @@ returns c =
     let a = c .before .before .before .before .before .before .before .before .before .args in
     let t = tables (a .members .now) (a .places .now) (a .notices .now) in
     let s = c .before .before .is-sound in
-    refuses (admit-stamped (a .level) (a .gap) (a .size) (a .allowance)) (a .line .now) t (s .result) (s .ensures) (not-true _ (c .before .if1 .taken))
+    refuses _ (a .line .now) t (s .result) (s .ensures) (not-true _ (c .before .if1 .taken))
 
 mtredovim-admit-stamped-tested-requires : tie.Need-mtredovim-admit-stamped-tested-requires
 mtredovim-admit-stamped-tested-requires c κs = sym (c .before .before .before .before .is-sound .ensures) ∙ not-false _ (c .before .before .before .if1 .left)

@@ -1,7 +1,6 @@
 use Rattle.tables.specs.Lent.{tables}
 use mathlib.Core.Path.{sym, _∙_}
 use borrow.Author.Tests.{not-true, not-false}
-use Rattle.board.specs.Calls.{tick}
 use Rattle.board.proofs.DoesLaws.{refuses}
 use borrow.Author.Needs.{needs}
 use Rattle.board.proofs.mtredovim_tick.Statement.{statement}
@@ -27,7 +26,7 @@ returns c =
     let a = c .before .before .before .before .before .before .before .before .before .before .before .args in
     let t = tables (a .members .now) (a .places .now) (a .notices .now) in
     let s = c .before .before .is-sound in
-    refuses tick (a .line .now) t (s .result) (s .ensures) (not-true _ (c .before .if1 .taken))
+    refuses _ (a .line .now) t (s .result) (s .ensures) (not-true _ (c .before .if1 .taken))
 
 mtredovim-tick-tested-requires : tie.Need-mtredovim-tick-tested-requires
 mtredovim-tick-tested-requires c κs = sym (c .before .before .before .before .before .before .is-sound .ensures) ∙ not-false _ (c .before .before .before .before .before .if1 .left)

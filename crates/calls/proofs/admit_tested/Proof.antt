@@ -49,7 +49,7 @@ add-member-requires c κs =
     let k = c .before .before .before .before .before .before .free-number in
     let g = zero-then _ _ (ap (λ (y : Ruling). y .verdict) (c .before .before .before .before .admit-verdict .ensures)) (omega (arith, c .before .if1 .left)) in
     let b = A.admit-blank (z .args .h) t (z .pre) (z .args .x) g (k .result) (k .ensures) in
-    ((S.shapes t (S.formed-tables (z .args .h) t (z .pre)) .members-shape, k .ensures, A.admit-room (z .args .h) t (z .args .x) (k .result) g (k .ensures), A.admit-level (z .args .h) t (z .pre) (z .args .x) g), (b .no-memory, b .not-closed))
+    ((S.shapes t (S.formed-tables (z .args .h) t (z .pre)) .members-shape, k .ensures, A.admit-room (z .args .h) t (z .args .x) (k .result) g (k .ensures), A.admit-level (z .args .h) t (z .pre) (z .args .x) g), (b .1, b .2))
 
 cast-say : tie.Need-cast-say
 cast-say c =

@@ -1,5 +1,6 @@
 use Rattle.turns.proofs.TurnLaws.{length-window, wanted, turn-better}
 use Rattle.checker.proofs.MoveLaws.{steps-on}
+use Rattle.replay.proofs.FactLaws.{stepped-fits, pump-facts}
 use Rattle.turns.specs.Turns.{window}
 use lib.ListN.{length}
 use mathlib.Core.Bool.{true}
@@ -26,7 +27,8 @@ follow-requires c κs =
     let v = a .c .turn in
     let R = c .before .before .before .before .before .before .before .before .before .before .before .before .before .before .before .before .before .before .before .before .before .before .pre in
     let p = c .before .before .before .before .before .before .before .before .before .pump in
-    let F = rw (length-window (a .buf .now) (v .from) (v .to) (R .order) (R .inside)) at (p .ensures .1) in
+    let E = pump-facts (v .cursor) (tables (a .members .now) (a .places .now) (a .notices .now)) (window (a .buf .now) (v .from) (v .to)) (v .last) (a .out .now) (p .result) _ _ (p .ensures) (stepped-fits (p .result) _ (p .ok)) in
+    let F = rw (length-window (a .buf .now) (v .from) (v .to) (R .order) (R .inside)) at E in
     (wanted (length (a .buf .now)) (v .cursor) (v .from) (v .to) R (v .last) (length (a .out .now)) (p .result) F, F .wants)
 
 same-length : tie.Need-same-length
@@ -50,10 +52,11 @@ returns c =
     let v = a .c .turn in
     let R = c .before .before .before .before .before .before .before .before .before .before .before .before .before .before .before .before .before .before .before .before .before .before .before .before .before .pre in
     let p = c .before .before .before .before .before .before .before .before .before .before .before .before .pump in
-    let F = rw (length-window (a .buf .now) (v .from) (v .to) (R .order) (R .inside)) at (p .ensures .1) in
+    let E = pump-facts (v .cursor) (tables (a .members .now) (a .places .now) (a .notices .now)) (window (a .buf .now) (v .from) (v .to)) (v .last) (a .out .now) (p .result) _ _ (p .ensures) (stepped-fits (p .result) _ (p .ok)) in
+    let F = rw (length-window (a .buf .now) (v .from) (v .to) (R .order) (R .inside)) at E in
     let r = c .before .before .follow in (
-      steps-on (a .c) (tables (a .members .now) (a .places .now) (a .notices .now)) (window (a .buf .now) (v .from) (v .to)) (a .out .now) (p .result) (r .result) _ _ _ (p .ensures .0) (r .ensures .0),
-      (F .wrote, λ o. turn-better (length (a .buf .now)) (v .cursor) (v .from) (v .to) R (v .last) (length (a .out .now)) (p .result) F true (r .result) (r .ensures .1) o),
+      steps-on (a .c) (tables (a .members .now) (a .places .now) (a .notices .now)) (window (a .buf .now) (v .from) (v .to)) (a .out .now) (p .result) (r .result) _ _ _ (p .ensures) (r .ensures .0) (r .ensures .1 .1),
+      (F .wrote, λ o. turn-better (length (a .buf .now)) (v .cursor) (v .from) (v .to) R (v .last) (length (a .out .now)) (p .result) F true (r .result) (r .ensures .1 .0) o),
     )
 
 pub steps-spec : {M : Type 1} → statement M

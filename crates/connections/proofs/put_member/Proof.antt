@@ -5,7 +5,8 @@ use mathlib.Core.Path.{_≡_, ap, _∙_}
 use lib.ListN.{length, set, length-set}
 use lib.Seq.{sets}
 use Rattle.rules.specs.Limits.{max-remembered}
-use Rattle.connections.specs.Members.{member-head, member-width}
+use Rattle.connections.specs.Members.{member-width}
+use Rattle.connections.specs.Rows.{member-head}
 use native.Mathlib.Omega.{arith}
 use borrow.Author.Needs.{needs}
 use Rattle.connections.proofs.put_member.Statement.{statement}

@@ -3,7 +3,8 @@ use native.Mathlib.Omega.{arith}
 use mathlib.Core.Path.{_≡_, sym, ap, _∙_}
 use lib.ListN.{set}
 use lib.Seq.{set-getD}
-use Rattle.connections.specs.Members.{rows-end, used-in}
+use Rattle.connections.specs.Members.{used-in}
+use Rattle.connections.specs.Rows.{rows-end}
 use borrow.Author.Needs.{needs}
 use Rattle.connections.proofs.use_up_to.Statement.{statement}
 use Rattle.connections.proofs.use_up_to.Tie as tie

@@ -1,5 +1,5 @@
 use native.Mathlib.Omega.{arith}
-use Rattle.connections.specs.Members.{rows-end}
+use Rattle.connections.specs.Rows.{rows-end}
 use borrow.Author.Needs.{needs}
 use Rattle.connections.proofs.used.Statement.{statement}
 use Rattle.connections.proofs.used.Tie as tie

@@ -1,5 +1,6 @@
 use Rattle.firmware.proofs.AskedLaws.{of-no-link}
 use mathlib.Core.Path.{_∙_}
+use Rattle.fields.specs.Formats.{starts}
 use borrow.Author.Needs.{needs}
 use Rattle.firmware.proofs.link_of.Statement.{statement}
 use Rattle.firmware.proofs.link_of.Tie as tie
@@ -20,9 +21,11 @@ no-link-requires : tie.Need-no-link-requires
 no-link-requires c κs = search needs
 
 returns : tie.Need-returns
+unfolding starts
 returns c = rw (c .before .before .what .given .1) (c .link-named .ensures)
 
 returns-2 : tie.Need-returns-2
+unfolding starts
 returns-2 c = rw (c .before .before .what2 .given .1) (c .windows-named .ensures)
 
 returns-3 : tie.Need-returns-3

@@ -2,7 +2,6 @@ use Rattle.firmware.proofs.AskedLaws as A
 use Prim.Native.Nat.{_*_}
 use mathlib.Core.Path.{_∙_}
 use Rattle.fields.proofs.PartLaws.{part-all}
-use Rattle.firmware.specs.Questions.{row-bytes}
 use borrow.Author.Needs.{needs}
 use Rattle.firmware.proofs.row_asked.Statement.{statement}
 use Rattle.firmware.proofs.row_asked.Tie as tie
@@ -48,7 +47,7 @@ returns c =
       c .before .before .two3 .ensures,
       c .before .two4 .ensures,
     )
-    (A.row-is (a .rows .now) (a .i) _ (part-all (row-bytes * a .i) (a .rows .now)))
+    (A.row-is (a .rows .now) (a .i) _ (part-all (9 * a .i) (a .rows .now)))
 
 pub row-asked-spec : {M : Type 1} → statement M
 row-asked-spec =

@@ -1,6 +1,7 @@
 use Rattle.tables.specs.Lent.{tables}
 use native.Mathlib.Omega.{arith}
 use lib.ListN.{length, length-take}
+use Rattle.replay.proofs.FactLaws.{stepped-fits, pump-facts}
 use Rattle.turns.specs.Turns.{window}
 use Rattle.turns.proofs.TurnLaws.{length-window, wanted, turned, turn-better}
 use borrow.Author.Needs.{needs}
@@ -20,14 +21,20 @@ pump-requires : tie.Need-pump-requires
 pump-requires c κs = search needs
 
 slice-reshare-prefix-write-all : tie.Need-slice-reshare-prefix-write-all
-slice-reshare-prefix-write-all c = search needs
+slice-reshare-prefix-write-all c =
+    let a = c .before .before .before .before .before .before .before .before .before .before .before .before .before .before .before .before .before .before .before .before .args in
+    let R = c .before .before .before .before .before .before .before .before .before .before .before .before .before .before .before .before .before .before .before .before .pre in
+    let p = c .before .before .before .before .before .before .before .before .pump in
+    let E = pump-facts (a .v .cursor) (tables (a .members .now) (a .places .now) (a .notices .now)) (window (a .buf .now) (a .v .from) (a .v .to)) (a .v .last) (a .out .now) (p .result) _ _ (p .ensures) (stepped-fits (p .result) _ (p .ok)) in
+    omega (arith, E .wrote, p .kept .1 .1 .1, p .kept)
 
 slice-aggregate-write-all : tie.Need-slice-aggregate-write-all
 slice-aggregate-write-all c =
     let a = c .before .before .before .before .before .before .before .before .before .before .before .before .before .before .before .before .before .before .before .before .before .args in
     let R = c .before .before .before .before .before .before .before .before .before .before .before .before .before .before .before .before .before .before .before .before .before .pre in
     let p = c .before .before .before .before .before .before .before .before .before .pump in
-    let F = rw (length-window (a .buf .now) (a .v .from) (a .v .to) (R .order) (R .inside)) at (p .ensures .1) in
+    let E = pump-facts (a .v .cursor) (tables (a .members .now) (a .places .now) (a .notices .now)) (window (a .buf .now) (a .v .from) (a .v .to)) (a .v .last) (a .out .now) (p .result) _ _ (p .ensures) (stepped-fits (p .result) _ (p .ok)) in
+    let F = rw (length-window (a .buf .now) (a .v .from) (a .v .to) (R .order) (R .inside)) at E in
     simp length-take (omega (arith, F .wrote, p .kept .1 .1 .1, p .kept))
 
 write-all-requires : tie.Need-write-all-requires
@@ -38,7 +45,8 @@ follow-requires c κs =
     let a = c .before .before .before .before .before .before .before .before .before .before .before .before .before .before .before .before .before .before .before .before .before .before .before .args in
     let R = c .before .before .before .before .before .before .before .before .before .before .before .before .before .before .before .before .before .before .before .before .before .before .before .pre in
     let p = c .before .before .before .before .before .before .before .before .before .before .before .pump in
-    let F = rw (length-window (a .buf .now) (a .v .from) (a .v .to) (R .order) (R .inside)) at (p .ensures .1) in
+    let E = pump-facts (a .v .cursor) (tables (a .members .now) (a .places .now) (a .notices .now)) (window (a .buf .now) (a .v .from) (a .v .to)) (a .v .last) (a .out .now) (p .result) _ _ (p .ensures) (stepped-fits (p .result) _ (p .ok)) in
+    let F = rw (length-window (a .buf .now) (a .v .from) (a .v .to) (R .order) (R .inside)) at E in
     (wanted (length (a .buf .now)) (a .v .cursor) (a .v .from) (a .v .to) R (a .v .last) (length (a .out .now)) (p .result) F, F .wants)
 
 same-length : tie.Need-same-length
@@ -61,12 +69,13 @@ returns c =
     let a = c .before .before .before .before .before .before .before .before .before .before .before .before .before .before .before .before .before .before .before .before .before .before .before .before .before .before .args in
     let R = c .before .before .before .before .before .before .before .before .before .before .before .before .before .before .before .before .before .before .before .before .before .before .before .before .before .before .pre in
     let p = c .before .before .before .before .before .before .before .before .before .before .before .before .before .before .pump in
-    let F = rw (length-window (a .buf .now) (a .v .from) (a .v .to) (R .order) (R .inside)) at (p .ensures .1) in
+    let E = pump-facts (a .v .cursor) (tables (a .members .now) (a .places .now) (a .notices .now)) (window (a .buf .now) (a .v .from) (a .v .to)) (a .v .last) (a .out .now) (p .result) _ _ (p .ensures) (stepped-fits (p .result) _ (p .ok)) in
+    let F = rw (length-window (a .buf .now) (a .v .from) (a .v .to) (R .order) (R .inside)) at E in
     let b = c .before .before .before .before .write-all .result in
     let r = c .before .before .follow in (
-      turned (a .v .cursor) (tables (a .members .now) (a .places .now) (a .notices .now)) (window (a .buf .now) (a .v .from) (a .v .to)) (a .v .last) (a .out .now) (p .result) _ _ _ b
-          (r .result) (p .ensures .0) (r .ensures .0),
-      λ o. turn-better (length (a .buf .now)) (a .v .cursor) (a .v .from) (a .v .to) R (a .v .last) (length (a .out .now)) (p .result) F b (r .result) (r .ensures .1) o,
+      turned (a .v .cursor) (tables (a .members .now) (a .places .now) (a .notices .now)) (window (a .buf .now) (a .v .from) (a .v .to)) (a .v .last) (a .out .now) (p .result) _ _ _
+          (r .result) (p .ensures) (r .ensures .0),
+      λ o. turn-better (length (a .buf .now)) (a .v .cursor) (a .v .from) (a .v .to) R (a .v .last) (length (a .out .now)) (p .result) F b (r .result) (r .ensures .1 .0) o,
     )
 
 pub advance-spec : {M : Type 1} → statement M

@@ -25,7 +25,7 @@ returns c =
     let a = c .before .before .before .before .before .before .before .before .before .before .before .args in
     let r = c .before .before .ready .ensures in
     let g = c .before .goes-on .ensures in
-    does-nothing (a .c) (tables (a .members .now) (a .places .now) (a .notices .now)) (a .out .now) r g (a .window .now) _ (not-true _ (c .if1 .taken))
+    does-nothing (a .c) (tables (a .members .now) (a .places .now) (a .notices .now)) (a .out .now) r g _ (not-true _ (c .if1 .taken))
 
 run-requires : tie.Need-run-requires
 run-requires c κs =
@@ -52,7 +52,7 @@ returns-2 c =
     let r = c .before .before .before .before .before .before .before .before .before .before .before .before .before .before .before .ready .ensures in
     let g = c .before .before .before .before .before .before .before .before .before .before .before .before .before .before .goes-on .ensures in
     let s = c .before .before .before .before .before .before .before .before .run .ensures in
-    (does-all (a .c) (tables (a .members .now) (a .places .now) (a .notices .now)) (a .out .now) r g (not-false _ (c .before .before .before .before .before .before .before .before .before .before .before .before .before .if1 .left)) (s .0), s .1)
+    does-all (a .c) (tables (a .members .now) (a .places .now) (a .notices .now)) (a .out .now) r g (not-false _ (c .before .before .before .before .before .before .before .before .before .before .before .before .before .if1 .left)) s
 
 pub pump-spec : {M : Type 1} → statement M
 pump-spec =

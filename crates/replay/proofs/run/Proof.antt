@@ -9,12 +9,16 @@ use Rattle.tables.specs.Lent.{tables}
 use Rattle.both.specs.View.{sound-kept}
 use Rattle.steps.specs.declared.Status.the-variants.{GoOn}
 use Rattle.steps.specs.Steps.{is-go}
-use Rattle.replay.proofs.RunLaws.{Made, made-none, made-sound, made-more, made-on, run-stopped, run-ended}
+use Rattle.steps.specs.Tie.{point-of}
+use Rattle.replay.proofs.RunLaws.{step-fits, Made, made-none, made-sound, made-more, made-on, run-stopped, run-ended}
 use Rattle.replay.proofs.run.Statement.{statement}
 use Rattle.replay.proofs.run.Tie as tie
 
-wrote-fits : (wrote s lo l i n : ℕ) → wrote ≤ 19 * i → s ≤ l - wrote → l ≡ lo → lo < 18446744073709551616 → i < n → n ≡ lo / 19 → wrote + s < 18446744073709551616
-wrote-fits wrote s lo l i n a b e h j k = omega arith
+used-fits : (used s l : ℕ) → used ≤ l → s ≤ l - used → l < 18446744073709551616 → used + s < 18446744073709551616
+used-fits used s l a b h = omega arith
+
+wrote-fits : (wrote s lo i n : ℕ) → wrote ≤ 19 * i → s ≤ 19 → lo < 18446744073709551616 → i < n → n ≡ lo / 19 → wrote + s < 18446744073709551616
+wrote-fits wrote s lo i n a b h j k = omega arith
 
 i-fits : (i n lo : ℕ) → i < n → n ≡ lo / 19 → lo < 18446744073709551616 → i + 1 < 18446744073709551616
 i-fits i n lo h e l = omega arith
@@ -54,13 +58,16 @@ add-used : tie.Need-add-used Inv-loop μ-loop
 add-used c =
     let l = c .before .before .before .before .before .before .before .before .before .before .before .before .before .before .before .before .loop in
     let s = c .before .before .before .before .before .before .before .before .before .before .step-at in
-    omega (arith, l .inv .3 .in-window, s .ensures .1 .used)
+    let a = c .before .before .before .before .before .before .before .before .before .before .before .before .before .before .before .before .before .before .before .before .before .before .args in
+    let b : length (a .window .now) < 18446744073709551616 = omega (arith, c .before .before .before .before .before .before .before .before .before .before .before .before .before .before .before .before .before .before .before .before .before .before .good .1 .1 .1 .1 .0 .0) in
+    record { fits = used-fits _ _ _ (l .inv .3 .in-window) (step-fits (point-of (l .cur) (tables (l .members) (l .places) (l .notices))) (a .window .now) (a .last) (l .used) (s .result) _ (l .wrote) _ _ (s .ensures) .0) b }
 
 add-wrote : tie.Need-add-wrote Inv-loop μ-loop
 add-wrote c =
     let l = c .before .before .before .before .before .before .before .before .before .before .before .before .before .before .before .before .before .loop in
     let s = c .before .before .before .before .before .before .before .before .before .before .before .step-at in
-    record { fits = wrote-fits _ _ _ _ _ _ (l .inv .3 .in-room) (s .ensures .1 .wrote) (l .inv .3 .same-room) (l .inv .4) (c .before .before .before .before .before .before .before .before .before .before .before .before .before .before .before .before .loop-test .taken) (l .inv .0) }
+    let a = c .before .before .before .before .before .before .before .before .before .before .before .before .before .before .before .before .before .before .before .before .before .before .before .args in
+    record { fits = wrote-fits _ _ _ _ _ (l .inv .3 .in-room) (step-fits (point-of (l .cur) (tables (l .members) (l .places) (l .notices))) (a .window .now) (a .last) (l .used) (s .result) _ (l .wrote) _ _ (s .ensures) .1) (l .inv .4) (c .before .before .before .before .before .before .before .before .before .before .before .before .before .before .before .before .loop-test .taken) (l .inv .0) }
 
 goes-on-requires : tie.Need-goes-on-requires Inv-loop μ-loop
 goes-on-requires c κs = tt
@@ -103,7 +110,7 @@ returns c =
     let l = c .before .before .before .before .before .before .before .before .before .before .before .before .before .before .before .before .before .before .before .loop in
     let s = c .before .before .before .before .before .before .before .before .before .before .before .before .before .step-at in
     let M = made-more (a .c) (tables (a .members .now) (a .places .now) (a .notices .now)) (a .window .now) (a .last) (a .out .now) (l .inv .5) (l .i) (l .cur) (tables (l .members) (l .places) (l .notices)) (l .out) (l .used) (l .wrote) (l .inv .3)
-    (s .result) (tables (s .last .1 .0) (s .last .1 .1 .0) (s .last .1 .1 .1 .0)) (s .last .1 .1 .1 .1 .1 .1 .1 .0) (s .ensures .0) (s .ensures .1) (search needs) (search needs) (search needs) (search needs) in
+    (s .result) (tables (s .last .1 .0) (s .last .1 .1 .0) (s .last .1 .1 .1 .0)) (s .last .1 .1 .1 .1 .1 .1 .1 .0) (s .ensures) (search needs) (search needs) (search needs) (search needs) in
     let g : is-go (s .result .status) ≡ false = sym (c .before .goes-on .ensures) ∙ not-true _ (c .if1 .taken) in
     run-stopped (a .c) (tables (a .members .now) (a .places .now) (a .notices .now)) (a .window .now) (a .last) (a .out .now) (l .inv .5) (l .i + 1) (s .result .status) _ _ _ _ _ M g (next-le _ _ _ (c .before .before .before .before .before .before .before .before .before .before .before .before .before .before .before .before .before .before .loop-test .taken) (l .inv .0))
 
@@ -121,7 +128,7 @@ loop-again c =
     let l = c .before .before .before .before .before .before .before .before .before .before .before .before .before .before .before .before .before .before .before .loop in
     let s = c .before .before .before .before .before .before .before .before .before .before .before .before .before .step-at in
     let M = made-more (a .c) (tables (a .members .now) (a .places .now) (a .notices .now)) (a .window .now) (a .last) (a .out .now) (l .inv .5) (l .i) (l .cur) (tables (l .members) (l .places) (l .notices)) (l .out) (l .used) (l .wrote) (l .inv .3)
-    (s .result) (tables (s .last .1 .0) (s .last .1 .1 .0) (s .last .1 .1 .1 .0)) (s .last .1 .1 .1 .1 .1 .1 .1 .0) (s .ensures .0) (s .ensures .1) (search needs) (search needs) (search needs) (search needs) in
+    (s .result) (tables (s .last .1 .0) (s .last .1 .1 .0) (s .last .1 .1 .1 .0)) (s .last .1 .1 .1 .1 .1 .1 .1 .0) (s .ensures) (search needs) (search needs) (search needs) (search needs) in
     let g : is-go (s .result .status) ≡ true = sym (c .before .goes-on .ensures) ∙ not-false _ (c .if1 .left) in
     (refl, l .inv .1, next-le _ _ _ (c .before .before .before .before .before .before .before .before .before .before .before .before .before .before .before .before .before .before .loop-test .taken) refl, made-on (a .c) (tables (a .members .now) (a .places .now) (a .notices .now)) (a .window .now) (a .last) (a .out .now) (l .inv .5) (l .i + 1) (s .result .status) _ _ _ _ _ M g, l .inv .4, l .inv .5)
 
@@ -142,7 +149,7 @@ returns-2 c =
     let a = c .before .before .before .before .before .before .before .args in
     let l = c .before .loop in
     let e : l .i ≡ length (a .out .now) / 19 = omega arith in
-    run-ended (a .c) (tables (a .members .now) (a .places .now) (a .notices .now)) (a .window .now) (a .last) (a .out .now) (l .inv .5) (l .i) GoOn (l .cur) (tables (l .members) (l .places) (l .notices)) (l .out) (l .used) (l .wrote) (l .inv .3) e (search needs)
+    run-ended (a .c) (tables (a .members .now) (a .places .now) (a .notices .now)) (a .window .now) (a .last) (a .out .now) (l .inv .5) (l .i) GoOn (l .cur) (tables (l .members) (l .places) (l .notices)) (l .out) (l .used) (l .wrote) (l .inv .3) e
 
 pub run-spec : {M : Type 1} → statement M
 run-spec =

@@ -1,5 +1,7 @@
 use Rattle.tables.specs.Lent.{tables}
 use borrow.Author.Tests.{not-true, not-false}
+use Rattle.steps.specs.Tie.{point-of}
+use Rattle.steps.proofs.FactLaws.{one-step}
 use Rattle.replay.proofs.Standing.{may-go, does-nothing, does-all}
 use borrow.Author.Needs.{needs}
 use Rattle.replay.proofs.step.Statement.{statement}
@@ -25,7 +27,7 @@ returns c =
     let a = c .before .before .before .before .before .before .before .before .before .before .before .args in
     let r = c .before .before .ready .ensures in
     let g = c .before .goes-on .ensures in
-    does-nothing (a .c) (tables (a .members .now) (a .places .now) (a .notices .now)) (a .out .now) r g (a .window .now) _ (not-true _ (c .if1 .taken))
+    does-nothing (a .c) (tables (a .members .now) (a .places .now) (a .notices .now)) (a .out .now) r g _ (not-true _ (c .if1 .taken))
 
 step-tested-requires : tie.Need-step-tested-requires
 step-tested-requires c κs =
@@ -52,7 +54,8 @@ returns-2 c =
     let r = c .before .before .before .before .before .before .before .before .before .before .before .before .before .before .before .ready .ensures in
     let g = c .before .before .before .before .before .before .before .before .before .before .before .before .before .before .goes-on .ensures in
     let s = c .before .before .before .before .before .before .before .before .step-tested .ensures in
-    (does-all (a .c) (tables (a .members .now) (a .places .now) (a .notices .now)) (a .out .now) r g (not-false _ (c .before .before .before .before .before .before .before .before .before .before .before .before .before .if1 .left)) (s .0), s .1)
+    does-all (a .c) (tables (a .members .now) (a .places .now) (a .notices .now)) (a .out .now) r g (not-false _ (c .before .before .before .before .before .before .before .before .before .before .before .before .before .if1 .left))
+    (rw (one-step (point-of (a .c) (tables (a .members .now) (a .places .now) (a .notices .now))) (a .window .now) (a .last)) s)
 
 pub step-spec : {M : Type 1} → statement M
 step-spec =

@@ -45,7 +45,7 @@ returns : tie.Need-returns
 returns c =
     let a = c .before .before .before .before .before .before .before .before .before .before .before .before .before .before .before .before .before .before .before .args in
     let k = c .before .before .before .before .before .before .before .before .step-tested in
-    on-parts (λ (w : List ℕ). next (point-of (a .c) (tables (a .members .now) (a .places .now) (a .notices .now))) w (a .last)) (a .window .now) (a .out .now) (a .used) (a .wrote) (a .c) (a .last) (k .result) _ _ (k .ensures .0) (k .ensures .1)
+    on-parts (λ (w : List ℕ). next (point-of (a .c) (tables (a .members .now) (a .places .now) (a .notices .now))) w (a .last)) (a .window .now) (a .out .now) (a .used) (a .wrote) (k .result) _ _ (k .ensures)
 
 pub step-at-spec : {M : Type 1} → statement M
 step-at-spec =

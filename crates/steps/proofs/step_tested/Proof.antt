@@ -1,13 +1,10 @@
 use Rattle.tables.specs.Lent.{tables}
-use Rattle.both.specs.View.{view}
 use Rattle.steps.specs.declared.Phase.the-variants.{Finished}
 use Rattle.steps.specs.declared.Status.the-variants.{Done}
 use Rattle.steps.proofs.CallLaws.{did-kept}
-use Rattle.steps.proofs.FactLaws.{waits-facts, tick-facts, next-phase, facts-phase}
+use Rattle.steps.proofs.FactLaws.{next-phase}
 use mathlib.Core.Path.{refl}
 use mathlib.Core.List.{[]}
-use native.Mathlib.Omega.{arith}
-use lib.ListN.{length}
 use borrow.Author.Needs.{needs}
 use Rattle.steps.proofs.step_tested.Statement.{statement}
 use Rattle.steps.proofs.step_tested.Tie as tie
@@ -46,10 +43,8 @@ returns : tie.Need-returns
 returns c =
     let a = c .before .before .before .before .before .before .before .before .before .before .before .before .before .before .before .before .before .before .before .before .before .args in
     let e = c .before .before .before .before .before .before .before .before .before .before .before .before .before .enum-told .given .1 in
-    let k = c .before .before .before .before .before .before .before .before .read-step in (
-      rw (next-phase (a .c) (tables (a .members .now) (a .places .now) (a .notices .now)) (a .window .now) (a .last) e) (k .ensures .0),
-      facts-phase (a .c) e (length (a .window .now)) (a .last) (length (a .out .now)) (k .result) (k .ensures .1),
-    )
+    let k = c .before .before .before .before .before .before .before .before .read-step in
+    rw (next-phase (a .c) (tables (a .members .now) (a .places .now) (a .notices .now)) (a .window .now) (a .last) e) (k .ensures)
 
 same-length-5 : tie.Need-same-length-5
 same-length-5 c = search needs
@@ -68,23 +63,17 @@ returns-2 c =
     let s = c .before .before .before .before .before .before .before .before .before .before .before .before .before .before .before .before .before .before .before .before .before .before in
     let a = s .args in
     let e = c .before .before .before .before .before .before .before .before .before .before .before .before .before .before .p .given .1 in
-    let k = c .before .before .before .before .before .before .before .before .tick-step in (
-      rw (next-phase (a .c) (tables (a .members .now) (a .places .now) (a .notices .now)) (a .window .now) (a .last) e) (k .ensures),
-      facts-phase (a .c) e (length (a .window .now)) (a .last) (length (a .out .now)) (k .result)
-          (tick-facts _ _ _ (view (a .c .line) (tables (a .members .now) (a .places .now) (a .notices .now))) _ _ _ _ (s .pre .1) _ (k .ensures .answers)),
-    )
+    let k = c .before .before .before .before .before .before .before .before .tick-step in
+    rw (next-phase (a .c) (tables (a .members .now) (a .places .now) (a .notices .now)) (a .window .now) (a .last) e) (k .ensures)
 
 returns-3 : tie.Need-returns-3
 returns-3 c =
     let s = c .before .before .before .before .before .before .before .before .before in
     let a = s .args in
     let e = c .before .enum-told2 .given .1 in
-    let w = c .waits in (
-      rw (next-phase (a .c) (tables (a .members .now) (a .places .now) (a .notices .now)) (a .window .now) (a .last) e)
-          (did-kept (a .c .line) (tables (a .members .now) (a .places .now) (a .notices .now)) (s .pre .0) (a .c .at) Finished 0 [] Done (w .result) _ _ (w .ensures) refl),
-      facts-phase (a .c) e (length (a .window .now)) (a .last) (length (a .out .now)) (w .result)
-          (rw (w .ensures) (waits-facts (a .c .at) Finished Finished (a .c .line) (length (a .window .now)) (a .last) (length (a .out .now)) Done (omega arith) refl (λ z. cc))),
-    )
+    let w = c .waits in
+    rw (next-phase (a .c) (tables (a .members .now) (a .places .now) (a .notices .now)) (a .window .now) (a .last) e)
+    (did-kept (a .c .line) (tables (a .members .now) (a .places .now) (a .notices .now)) (s .pre .0) (a .c .at) Finished 0 [] Done (w .result) _ _ (w .ensures) refl)
 
 pub step-tested-spec : {M : Type 1} → statement M
 step-tested-spec =

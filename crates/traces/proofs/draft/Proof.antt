@@ -2,7 +2,8 @@
 use mathlib.Core.Path.{refl}
 use native.Mathlib.Omega.{arith}
 use Rattle.fields.specs.Formats.{laid}
-use Rattle.fields.specs.Numbers.{sum}
+use Rattle.fields.specs.Numbers.{none-lost, sum}
+use Rattle.fields.proofs.Parts.{bytes}
 use Rattle.fields.proofs.DraftLaws.{done, before, drafted, drafted-behind}
 use Rattle.traces.specs.Kinds.{LF, CN, CS, CF, CL, PK, PS, NQ, TK}
 use borrow.Author.Needs.{needs}
@@ -157,42 +158,42 @@ returns-3 : tie.Need-returns-3
 returns-3 c = rw (c .before .before .r3 .given .1) (c .draft-windows .ensures)
 
 returns-4 : tie.Need-returns-4
-unfolding laid sum
+unfolding laid none-lost bytes sum
 returns-4 c = rw (c .before .before .before .before .before .r4 .given .1) (drafted LF _ (c .before .before .before .marked .ensures) (before (c .before .before .two .ensures) (before (c .before .two2 .ensures) (before (c .one .ensures) done))) (omega arith))
 
 returns-5 : tie.Need-returns-5
-unfolding laid sum
+unfolding laid none-lost bytes sum
 returns-5 c =
     rw (c .before .before .before .before .before .before .r5 .given .1)
     (drafted-behind CN _ _ (search needs) refl (c .before .before .before .before .headed .ensures)
     (before (c .before .before .before .two3 .ensures) (before (c .before .before .two4 .ensures) (before (c .before .two5 .ensures) (before (c .two6 .ensures) done)))) (omega arith))
 
 returns-6 : tie.Need-returns-6
-unfolding laid sum
+unfolding laid none-lost bytes sum
 returns-6 c = rw (c .before .before .before .before .before .r6 .given .1) (drafted-behind CS _ _ (search needs) refl (c .before .before .before .headed2 .ensures) (before (c .before .before .two7 .ensures) (before (c .before .two8 .ensures) (before (c .two9 .ensures) done))) (omega arith))
 
 returns-7 : tie.Need-returns-7
-unfolding laid sum
+unfolding laid none-lost bytes sum
 returns-7 c = rw (c .before .before .before .before .r7 .given .1) (drafted CF _ (c .before .before .marked2 .ensures) (before (c .before .two10 .ensures) (before (c .two11 .ensures) done)) (omega arith))
 
 returns-8 : tie.Need-returns-8
-unfolding laid sum
+unfolding laid none-lost bytes sum
 returns-8 c = rw (c .before .before .r8 .given .1) (drafted-behind CL _ _ (search needs) refl (c .headed3 .ensures) done (omega arith))
 
 returns-9 : tie.Need-returns-9
-unfolding laid sum
+unfolding laid none-lost bytes sum
 returns-9 c = rw (c .before .before .before .before .r9 .given .1) (drafted-behind PK _ _ (search needs) refl (c .before .before .headed4 .ensures) (before (c .before .two12 .ensures) (before (c .four .ensures) done)) (omega arith))
 
 returns-10 : tie.Need-returns-10
-unfolding laid sum
+unfolding laid none-lost bytes sum
 returns-10 c = rw (c .before .before .before .before .before .r10 .given .1) (drafted-behind PS _ _ (search needs) refl (c .before .before .before .headed5 .ensures) (before (c .before .before .two13 .ensures) (before (c .before .four2 .ensures) (before (c .four3 .ensures) done))) (omega arith))
 
 returns-11 : tie.Need-returns-11
-unfolding laid sum
+unfolding laid none-lost bytes sum
 returns-11 c = rw (c .before .before .before .before .r11 .given .1) (drafted NQ _ (c .before .before .marked3 .ensures) (before (c .before .two14 .ensures) (before (c .four4 .ensures) done)) (omega arith))
 
 returns-12 : tie.Need-returns-12
-unfolding laid sum
+unfolding laid none-lost bytes sum
 returns-12 c = rw (c .before .before .before .r12 .given .1) (drafted TK _ (c .before .marked4 .ensures) (before (c .two15 .ensures) done) (omega arith))
 
 returns-13 : tie.Need-returns-13

@@ -5,7 +5,7 @@ use Prim.Native.Nat.{ℕ}
 use native.Mathlib.Omega.{arith}
 use Rattle.fields.specs.Numbers.{number}
 use Rattle.fields.proofs.MarkLaws.{absent}
-use Rattle.traces.specs.Trace.{trace}
+use Rattle.traces.specs.Trace.{trace-kinds}
 use Rattle.traces.proofs.MarkNumbers.{lettered, one-of, all-known, all-listed, by-two, known, unknown}
 use borrow.Author.Needs.{needs}
 use Rattle.traces.proofs.mark_of.Statement.{statement}
@@ -23,14 +23,14 @@ unfolding lettered all-known absent number
 returns c =
     let s = c .before .before .before .args .s .now in
     let g = c .before .before .shared-slice-known .given in
-    rw (by-two (trace .kinds) s refl (omega (arith, g 0)) (omega (arith, g 1)), ← c .before .two .ensures, known numbers (trace .kinds) (c .before .two .result) refl (c .match .keys1))
+    rw (by-two trace-kinds s refl (omega (arith, g 0)) (omega (arith, g 1)), ← c .before .two .ensures, known numbers trace-kinds (c .before .two .result) refl (c .match .keys1))
 
 returns-2 : tie.Need-returns-2
 unfolding lettered all-listed one-of absent number
 returns-2 c =
     let s = c .before .before .before .args .s .now in
     let g = c .before .before .shared-slice-known .given in
-    rw (by-two (trace .kinds) s refl (omega (arith, g 0)) (omega (arith, g 1)), ← c .before .two .ensures, unknown numbers (trace .kinds) (c .before .two .result) refl (c .match .rest .1))
+    rw (by-two trace-kinds s refl (omega (arith, g 0)) (omega (arith, g 1)), ← c .before .two .ensures, unknown numbers trace-kinds (c .before .two .result) refl (c .match .rest .1))
 
 pub mark-of-spec : {M : Type 1} → statement M
 mark-of-spec = tie.close (tie.spec two-requires returns returns-2)

@@ -4,7 +4,7 @@ use borrow.Author.Tests.{ne-eqb}
 use Rattle.fields.specs.Numbers.{number, get-fields, sum}
 use Rattle.fields.specs.Formats.{read-kind}
 use Rattle.fields.proofs.MarkLaws.{numbered, read-numbered}
-use Rattle.traces.specs.Trace.{trace}
+use Rattle.traces.specs.Trace.{trace-kinds}
 use Rattle.traces.proofs.TraceLaws.{trace-marks}
 use borrow.Author.Needs.{needs}
 use Rattle.traces.proofs.read.Statement.{statement}
@@ -98,35 +98,35 @@ returns : tie.Need-returns
 unfolding read-numbered number
 returns c =
     let m = c .before .before .before .mark-of in
-    rw (numbered (trace .kinds) (c .before .before .before .before .before .args .s .now) (m .result) 0x4B4C trace-marks (m .ensures) (search needs))
+    rw (numbered trace-kinds (c .before .before .before .before .before .args .s .now) (m .result) 0x4B4C trace-marks (m .ensures) (search needs))
     (c .read .ensures)
 
 returns-2 : tie.Need-returns-2
 unfolding read-numbered number
 returns-2 c =
     let m = c .before .before .before .mark-of in
-    rw (numbered (trace .kinds) (c .before .before .before .before .before .args .s .now) (m .result) 0x454C trace-marks (m .ensures) (search needs))
+    rw (numbered trace-kinds (c .before .before .before .before .before .args .s .now) (m .result) 0x454C trace-marks (m .ensures) (search needs))
     (c .read-stand-by .ensures)
 
 returns-3 : tie.Need-returns-3
 unfolding read-numbered number
 returns-3 c =
     let m = c .before .before .before .mark-of in
-    rw (numbered (trace .kinds) (c .before .before .before .before .before .args .s .now) (m .result) 0x574C trace-marks (m .ensures) (search needs))
+    rw (numbered trace-kinds (c .before .before .before .before .before .args .s .now) (m .result) 0x574C trace-marks (m .ensures) (search needs))
     (c .read-windows .ensures)
 
 returns-4 : tie.Need-returns-4
 unfolding read-numbered number read-kind get-fields sum
 returns-4 c =
     let m = c .before .before .before .before .mark-of in
-    rw (numbered (trace .kinds) (c .before .before .before .before .before .before .args .s .now) (m .result) 0x464C trace-marks (m .ensures) (search needs))
+    rw (numbered trace-kinds (c .before .before .before .before .before .before .args .s .now) (m .result) 0x464C trace-marks (m .ensures) (search needs))
     (rw (c .whole-of .ensures, c .before .link-frames .ensures))
 
 returns-5 : tie.Need-returns-5
 unfolding read-numbered number read-kind get-fields sum
 returns-5 c =
     let m = c .before .before .before .before .before .before .before .mark-of in
-    rw (numbered (trace .kinds) (c .before .before .before .before .before .before .before .before .before .args .s .now) (m .result) 0x4E43 trace-marks (m .ensures) (search needs))
+    rw (numbered trace-kinds (c .before .before .before .before .before .before .before .before .before .args .s .now) (m .result) 0x4E43 trace-marks (m .ensures) (search needs))
     (rw (
       c .whole-of2 .ensures,
       c .before .before .before .before .before .before .one .ensures,
@@ -140,49 +140,49 @@ returns-6 : tie.Need-returns-6
 unfolding read-numbered number read-kind get-fields sum
 returns-6 c =
     let m = c .before .before .before .before .mark-of in
-    rw (numbered (trace .kinds) (c .before .before .before .before .before .before .args .s .now) (m .result) 0x5343 trace-marks (m .ensures) (search needs))
+    rw (numbered trace-kinds (c .before .before .before .before .before .before .args .s .now) (m .result) 0x5343 trace-marks (m .ensures) (search needs))
     (rw (c .whole-of3 .ensures, c .before .admit-stamped .ensures))
 
 returns-7 : tie.Need-returns-7
 unfolding read-numbered number read-kind get-fields sum
 returns-7 c =
     let m = c .before .before .before .before .mark-of in
-    rw (numbered (trace .kinds) (c .before .before .before .before .before .before .args .s .now) (m .result) 0x4643 trace-marks (m .ensures) (search needs))
+    rw (numbered trace-kinds (c .before .before .before .before .before .before .args .s .now) (m .result) 0x4643 trace-marks (m .ensures) (search needs))
     (rw (c .whole-of4 .ensures, c .before .admit-share .ensures))
 
 returns-8 : tie.Need-returns-8
 unfolding read-numbered number read-kind get-fields sum
 returns-8 c =
     let m = c .before .before .before .mark-of in
-    rw (numbered (trace .kinds) (c .before .before .before .before .before .args .s .now) (m .result) 0x4C43 trace-marks (m .ensures) (search needs))
+    rw (numbered trace-kinds (c .before .before .before .before .before .args .s .now) (m .result) 0x4C43 trace-marks (m .ensures) (search needs))
     (rw (c .whole-of5 .ensures, c .before .before .one .ensures))
 
 returns-9 : tie.Need-returns-9
 unfolding read-numbered number read-kind get-fields sum
 returns-9 c =
     let m = c .before .before .before .before .before .mark-of in
-    rw (numbered (trace .kinds) (c .before .before .before .before .before .before .before .args .s .now) (m .result) 0x4B50 trace-marks (m .ensures) (search needs))
+    rw (numbered trace-kinds (c .before .before .before .before .before .before .before .args .s .now) (m .result) 0x4B50 trace-marks (m .ensures) (search needs))
     (rw (c .whole-of6 .ensures, c .before .before .before .before .one .ensures, c .before .before .two5 .ensures, c .before .four .ensures))
 
 returns-10 : tie.Need-returns-10
 unfolding read-numbered number read-kind get-fields sum
 returns-10 c =
     let m = c .before .before .before .before .mark-of in
-    rw (numbered (trace .kinds) (c .before .before .before .before .before .before .args .s .now) (m .result) 0x5350 trace-marks (m .ensures) (search needs))
+    rw (numbered trace-kinds (c .before .before .before .before .before .before .args .s .now) (m .result) 0x5350 trace-marks (m .ensures) (search needs))
     (rw (c .whole-of7 .ensures, c .before .offer-stamped .ensures))
 
 returns-11 : tie.Need-returns-11
 unfolding read-numbered number read-kind get-fields sum
 returns-11 c =
     let m = c .before .before .before .before .before .mark-of in
-    rw (numbered (trace .kinds) (c .before .before .before .before .before .before .before .args .s .now) (m .result) 0x514E trace-marks (m .ensures) (search needs))
+    rw (numbered trace-kinds (c .before .before .before .before .before .before .before .args .s .now) (m .result) 0x514E trace-marks (m .ensures) (search needs))
     (rw (c .whole-of8 .ensures, c .before .before .two6 .ensures, c .before .four2 .ensures))
 
 returns-12 : tie.Need-returns-12
 unfolding read-numbered number read-kind get-fields sum
 returns-12 c =
     let m = c .before .before .before .before .mark-of in
-    rw (numbered (trace .kinds) (c .before .before .before .before .before .before .args .s .now) (m .result) 0x4B54 trace-marks (m .ensures) (search needs))
+    rw (numbered trace-kinds (c .before .before .before .before .before .before .args .s .now) (m .result) 0x4B54 trace-marks (m .ensures) (search needs))
     (rw (c .whole-of9 .ensures, c .before .two7 .ensures))
 
 returns-13 : tie.Need-returns-13
@@ -190,7 +190,7 @@ unfolding read-numbered number
 returns-13 c =
     let m = c .before .before .before .mark-of in
     rw (
-      numbered (trace .kinds) (c .before .before .before .before .before .args .s .now) (m .result) (m .result) trace-marks (m .ensures) refl,
+      numbered trace-kinds (c .before .before .before .before .before .args .s .now) (m .result) (m .result) trace-marks (m .ensures) refl,
       ne-eqb (m .result) 0x4B4C (search needs),
       ne-eqb (m .result) 0x454C (search needs),
       ne-eqb (m .result) 0x574C (search needs),

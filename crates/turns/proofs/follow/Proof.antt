@@ -1,9 +1,10 @@
 use native.Mathlib.Omega.{arith}
-use mathlib.Core.Path.{refl, sym, _∙_}
+use mathlib.Core.Path.{refl, sym, ap, _∙_}
 use Prim.Native.Nat.{_≤_}
 use Rattle.rules.proofs.Tests.{never}
+use Rattle.turns.specs.declared.Turn.{Turn}
 use Rattle.turns.specs.Turns.{window}
-use Rattle.turns.proofs.TurnLaws.{window-drop, used-up, followed-still, followed-read}
+use Rattle.turns.proofs.TurnLaws.{reads-only, window-drop, used-up, followed-still, followed-read}
 use borrow.Author.Needs.{needs}
 use Rattle.turns.proofs.follow.Statement.{statement}
 use Rattle.turns.proofs.follow.Tie as tie
@@ -29,7 +30,10 @@ returns c =
     let h : a .from ≤ a .to = omega (arith, P .0 .order) in (
       followed-read (a .r) (window (a .buf .now) (a .from) (a .to)) (a .last) _ (a .taken) (v .result) d (P .1)
           (rw (← window-drop (a .buf .now) (a .from) (a .to) (a .r .used) h) (v .ensures .0)),
-      record { where-read = λ _ o. v .ensures .1 o; where-not = λ e. never (sym e ∙ d) },
+      (
+        record { where-read = λ _ o. v .ensures .1 o; where-not = λ e. never (sym e ∙ d) },
+        ap (λ (x : Turn). x .taken) (v .ensures .0 .turn) ∙ sym (reads-only (a .taken) (a .r .status) d .0),
+      ),
     )
 
 after-steps-requires : tie.Need-after-steps-requires
@@ -45,7 +49,7 @@ returns-2 c =
       followed-still (a .r) (window (a .buf .now) (a .from) (a .to)) (a .last) _ (a .taken) (a .from) (a .to) _ d
           (used-up (a .buf .now) (a .from) (a .to) (a .r .used) h (P .0 .inside) (omega (arith, P .0 .order)))
           (window-drop (a .buf .now) (a .from) (a .to) (a .r .used) h),
-      record { where-read = λ e _. never (sym d ∙ e); where-not = λ _. refl },
+      (record { where-read = λ e _. never (sym d ∙ e); where-not = λ _. refl }, refl),
     )
 
 pub follow-spec : {M : Type 1} → statement M

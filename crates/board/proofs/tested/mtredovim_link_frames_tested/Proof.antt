@@ -1,7 +1,6 @@
 use Rattle.tables.specs.Lent.{tables}
 use Rattle.board.proofs.NumberLaws.{sound-long}
 use Rattle.board.proofs.DoesLaws.{kept-sound, does}
-use Rattle.board.specs.Calls.{link-frames}
 use mathlib.Core.Path.{refl}
 use borrow.Author.Needs.{needs}
 use Rattle.board.proofs.tested.mtredovim_link_frames_tested.Statement.{statement}
@@ -38,7 +37,7 @@ returns c =
     let t = tables (a .members .now) (a .places .now) (a .notices .now) in
     let h = c .before .before .before .before .before .read-kept in
     let w = c .before .before .before .before .link-frames in
-    does (link-frames (a .frame) (a .largest) (a .silence)) (a .line .now) t (z .pre) _ refl _ (h .ensures) (w .result) _ (w .ensures) _ _ refl (c .before .before .put-kept .ensures)
+    does _ (a .line .now) t (z .pre) _ refl _ (h .ensures) (w .result) _ (w .ensures) _ _ _ refl refl (c .before .before .put-kept .ensures)
 
 pub mtredovim-link-frames-tested-spec : {M : Type 1} → statement M
 mtredovim-link-frames-tested-spec =

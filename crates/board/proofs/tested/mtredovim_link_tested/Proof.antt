@@ -3,7 +3,6 @@ use mathlib.Core.Path.{refl, sym, ap}
 use mathlib.Core.Logic.{inl}
 use Rattle.rules.specs.declared.Link.{Link}
 use Rattle.either.specs.Line.{link-levels}
-use Rattle.board.specs.Calls.{link}
 use Rattle.board.proofs.NumberLaws.{sound-long}
 use Rattle.board.proofs.DoesLaws.{kept-sound, does}
 use borrow.Author.Needs.{needs}
@@ -45,7 +44,7 @@ returns c =
     let g = c .before .before .before .before .before .before .before .link-of in
     let h = c .before .before .before .before .before .read-kept in
     let w = c .before .before .before .before .link-levels in
-    does (link (a .levels) (a .largest) (a .silence) (a .early) (a .bounds .now) (a .windows .now)) (a .line .now) t (z .pre) (link-levels (g .result)) (ap (λ (x : Link). inl (link-levels x)) (sym (g .ensures))) _ (h .ensures) (w .result) _ (w .ensures) _ _ refl (c .before .before .put-kept .ensures)
+    does _ (a .line .now) t (z .pre) (link-levels (g .result)) (ap (λ (x : Link). inl (link-levels x)) (sym (g .ensures))) _ (h .ensures) (w .result) _ (w .ensures) _ _ _ refl refl (c .before .before .put-kept .ensures)
 
 pub mtredovim-link-tested-spec : {M : Type 1} → statement M
 mtredovim-link-tested-spec =

@@ -1,10 +1,6 @@
 use Rattle.tables.specs.Lent.{tables}
 use Rattle.board.proofs.NumberLaws.{sound-long}
-use mathlib.Core.Path.{ap}
-use mathlib.Core.List.{List, _∷_}
-use Prim.Native.Nat.{ℕ}
 use Rattle.board.proofs.DoesLaws.{kept-sound, does-ticks}
-use Rattle.board.specs.Calls.{ticks}
 use mathlib.Core.Path.{refl}
 use borrow.Author.Needs.{needs}
 use Rattle.board.proofs.tested.mtredovim_ticks_tested.Statement.{statement}
@@ -53,7 +49,7 @@ returns c =
     let t = tables (a .members .now) (a .places .now) (a .notices .now) in
     let h = c .before .before .before .before .before .before .before .before .before .before .before .before .before .before .before .read-kept in
     let w = c .before .before .before .before .before .before .before .before .before .before .before .run-ticks in
-    does-ticks (ticks (a .n)) (a .line .now) t (z .pre) (a .n) refl _ (h .ensures) (w .result) _ (w .ensures) _ _ (ap (λ (x : List ℕ). w .result .number ∷ x) (c .departure-of .ensures)) (c .before .before .before .put-kept .ensures)
+    does-ticks _ (a .line .now) t (z .pre) (a .n) refl _ (h .ensures) (w .result) _ (w .ensures) _ _ _ refl (c .departure-of .ensures) (c .before .before .before .put-kept .ensures)
 
 pub mtredovim-ticks-tested-spec : {M : Type 1} → statement M
 mtredovim-ticks-tested-spec =

@@ -4,7 +4,8 @@ use native.Mathlib.Omega.{arith}
 use mathlib.Core.Bool.{true}
 use mathlib.Core.Path.{_≡_, sym, ap, subst, _∙_}
 use Rattle.rules.specs.Service.{charge-over}
-use Rattle.connections.specs.Members.{put-member, past-of, member-formed}
+use Rattle.connections.specs.Members.{put-member, member-formed}
+use Rattle.connections.specs.Rows.{past-of}
 use Rattle.connections.specs.declared.Member.{Member}
 use borrow.Author.Needs.{needs}
 use Rattle.connections.proofs.closing.clear_ended.Statement.{statement}

@@ -5,7 +5,7 @@ use Rattle.connections.proofs.closing.earlier.Statement.{statement}
 use Rattle.connections.proofs.closing.earlier.Tie as tie
 
 returns : tie.Need-returns
-returns c = search needs
+returns c = let a = c .before .args in omega (arith, L.earlier-none (a .a) (a .b) (search needs))
 
 returns-2 : tie.Need-returns-2
 returns-2 c = let a = c .before .before .args in omega (arith, L.earlier-some (a .a) (a .b) (search needs))

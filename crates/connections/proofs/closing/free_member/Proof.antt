@@ -7,7 +7,8 @@ use mathlib.Core.List.{List}
 use mathlib.Core.Path.{sym, ap, subst, _∙_}
 use Prim.Native.Nat.{ℕ, _≤_}
 use lib.ListN.{set}
-use Rattle.connections.specs.Members.{rows-end, connections-in, used-by, put-member}
+use Rattle.connections.specs.Members.{connections-in, used-by, put-member}
+use Rattle.connections.specs.Rows.{rows-end}
 use borrow.Author.Needs.{needs}
 use Rattle.connections.proofs.closing.free_member.Statement.{statement}
 use Rattle.connections.proofs.closing.free_member.Tie as tie

@@ -2,7 +2,7 @@ use Rattle.connections.proofs.RegulatorLaws as R
 use Rattle.connections.proofs.FigureLaws as L
 use native.Mathlib.Omega.{arith}
 use mathlib.Core.Path.{_∙_}
-use Rattle.connections.specs.Members.{connection-of}
+use Rattle.connections.specs.Rows.{connection-of}
 use borrow.Author.Needs.{needs}
 use Rattle.connections.proofs.regulator.earliest_behind.Statement.{statement}
 use Rattle.connections.proofs.regulator.earliest_behind.Tie as tie

@@ -1,5 +1,5 @@
 use Rattle.connections.proofs.StampLaws as S
-use Rattle.connections.specs.Members.{connection-of, past-of}
+use Rattle.connections.specs.Rows.{connection-of, past-of}
 use borrow.Author.Needs.{needs}
 use Rattle.connections.proofs.stamps.untimely.Statement.{statement}
 use Rattle.connections.proofs.stamps.untimely.Tie as tie

@@ -3,7 +3,8 @@ use Rattle.connections.proofs.WrittenLaws as W
 use Rattle.connections.proofs.MemberLaws as M
 use native.Mathlib.Omega.{arith}
 use mathlib.Core.Path.{sym, ap, _∙_}
-use Rattle.connections.specs.Members.{past-of, member-formed}
+use Rattle.connections.specs.Members.{member-formed}
+use Rattle.connections.specs.Rows.{past-of}
 use borrow.Author.Needs.{needs}
 use Rattle.sound.proofs.pace.closed_ok.Statement.{statement}
 use Rattle.sound.proofs.pace.closed_ok.Tie as tie

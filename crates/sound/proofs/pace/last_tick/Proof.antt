@@ -1,6 +1,6 @@
 use Rattle.sound.proofs.PaceLaws as L
 use mathlib.Core.Path.{sym, _∙_}
-use Rattle.connections.specs.Members.{connection-of, past-of}
+use Rattle.connections.specs.Rows.{connection-of, past-of}
 use borrow.Author.Needs.{needs}
 use Rattle.sound.proofs.pace.last_tick.Statement.{statement}
 use Rattle.sound.proofs.pace.last_tick.Tie as tie

@@ -5,7 +5,7 @@ use mathlib.Core.Path.{_≡_, sym, _∙_}
 use lib.ListN.{length}
 use Rattle.rules.specs.Limits.{max-remembered}
 use Rattle.rules.specs.Admission.{burst}
-use Rattle.connections.specs.Members.{connection-of, past-of}
+use Rattle.connections.specs.Rows.{connection-of, past-of}
 use borrow.Author.Needs.{needs}
 use Rattle.sound.proofs.pace.latest_by_gap.Statement.{statement}
 use Rattle.sound.proofs.pace.latest_by_gap.Tie as tie

@@ -5,7 +5,7 @@ use mathlib.Core.Path.{sym, _∙_}
 use borrow.Author.Tests.{not-true, not-false}
 use Rattle.rules.specs.Limits.{beyond-32-bits}
 use Rattle.rules.specs.Admission.{distance}
-use Rattle.connections.specs.Members.{connection-of, past-of}
+use Rattle.connections.specs.Rows.{connection-of, past-of}
 use borrow.Author.Needs.{needs}
 use Rattle.sound.proofs.pace.latest_early.Statement.{statement}
 use Rattle.sound.proofs.pace.latest_early.Tie as tie

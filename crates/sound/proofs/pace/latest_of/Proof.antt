@@ -1,5 +1,5 @@
 use Rattle.sound.proofs.PaceLaws as L
-use Rattle.connections.specs.Members.{connection-of, past-of}
+use Rattle.connections.specs.Rows.{connection-of, past-of}
 use mathlib.Core.Path.{_≡_, sym, _∙_}
 use borrow.Author.Needs.{needs}
 use Rattle.sound.proofs.pace.latest_of.Statement.{statement}

@@ -4,7 +4,7 @@ use mathlib.Core.Path.{_≡_, refl, _∙_}
 use Prim.Native.Nat.{_≤_, _-_}
 use lib.ListN.{drop}
 use Rattle.rules.specs.SoundTest.{left-in-time as in-time}
-use Rattle.connections.specs.Members.{connection-of, past-of}
+use Rattle.connections.specs.Rows.{connection-of, past-of}
 use Rattle.connections.proofs.WrittenLaws as W
 use borrow.Author.Needs.{needs}
 use Rattle.sound.proofs.pace.left_in_time.Statement.{statement}

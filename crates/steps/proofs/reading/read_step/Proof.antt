@@ -1,16 +1,11 @@
 use Rattle.tables.specs.Lent.{tables}
 use Rattle.both.specs.View.{view}
-use Rattle.traces.specs.declared.Record.the-variants.{Malformed}
-use Rattle.log.specs.Log.{asks}
-use Rattle.log.proofs.ReadLaws.{read-lies}
 use Rattle.steps.specs.declared.Phase.the-variants.{Reading, Finished}
 use Rattle.steps.specs.declared.Status.the-variants.{MoreBytes, Done}
 use Rattle.steps.proofs.CallLaws.{did-kept}
-use Rattle.steps.proofs.FactLaws.{waits-facts, asked-facts, next-end, next-more, more-mid, next-found}
-use mathlib.Core.Path.{_≡_, refl, sym, ap, _∙_}
+use Rattle.steps.proofs.FactLaws.{next-end, next-more, next-found}
+use mathlib.Core.Path.{refl, sym, _∙_}
 use mathlib.Core.List.{[]}
-use native.Mathlib.Omega.{arith}
-use lib.ListN.{length}
 use borrow.Author.Needs.{needs}
 use Rattle.steps.proofs.reading.read_step.Statement.{statement}
 use Rattle.steps.proofs.reading.read_step.Tie as tie
@@ -26,11 +21,9 @@ returns c =
     let s = c .before .before .before .before .before .before .before .before in
     let a = s .args in
     let w = c .waits in
-    let e = sym (c .before .before .ends .ensures) ∙ c .before .if1 .taken in (
-      rw (next-end (a .at) (view (a .h) (tables (a .members .now) (a .places .now) (a .notices .now))) (a .window .now) (a .last) e)
-          (did-kept (a .h) (tables (a .members .now) (a .places .now) (a .notices .now)) (s .pre .0) (a .at) Finished 0 [] Done (w .result) _ _ (w .ensures) refl),
-      rw (w .ensures) (waits-facts (a .at) Reading Finished (a .h) (length (a .window .now)) (a .last) (length (a .out .now)) Done (omega arith) refl (λ z. cc)),
-    )
+    let e = sym (c .before .before .ends .ensures) ∙ c .before .if1 .taken in
+    rw (next-end (a .at) (view (a .h) (tables (a .members .now) (a .places .now) (a .notices .now))) (a .window .now) (a .last) e)
+    (did-kept (a .h) (tables (a .members .now) (a .places .now) (a .notices .now)) (s .pre .0) (a .at) Finished 0 [] Done (w .result) _ _ (w .ensures) refl)
 
 lacks-requires : tie.Need-lacks-requires
 lacks-requires c κs = search needs
@@ -44,11 +37,9 @@ returns-2 c =
     let a = s .args in
     let w = c .waits2 in
     let v = view (a .h) (tables (a .members .now) (a .places .now) (a .notices .now)) in
-    let e = sym (c .before .before .lacks .ensures) ∙ c .before .if2 .taken in (
-      rw (next-more (a .at) v (a .window .now) (a .last) e)
-          (did-kept (a .h) (tables (a .members .now) (a .places .now) (a .notices .now)) (s .pre .0) (a .at) Reading 0 [] MoreBytes (w .result) _ _ (w .ensures) refl),
-      rw (w .ensures) (waits-facts (a .at) Reading Reading (a .h) (length (a .window .now)) (a .last) (length (a .out .now)) MoreBytes (omega arith) refl (λ z. more-mid (a .at) v (a .window .now) (a .last) e)),
-    )
+    let e = sym (c .before .before .lacks .ensures) ∙ c .before .if2 .taken in
+    rw (next-more (a .at) v (a .window .now) (a .last) e)
+    (did-kept (a .h) (tables (a .members .now) (a .places .now) (a .notices .now)) (s .pre .0) (a .at) Reading 0 [] MoreBytes (w .result) _ _ (w .ensures) refl)
 
 read-at-requires : tie.Need-read-at-requires
 read-at-requires c κs = search needs
@@ -75,13 +66,8 @@ returns-3 c =
     let s = view (a .h) (tables (a .members .now) (a .places .now) (a .notices .now)) in
     let k = c .before .before .before .before .before .before .before .before .record-step in
     let f = c .before .before .before .before .before .before .before .before .before .before .before .before .before .read-at in
-    let lies = read-lies (a .at) (a .window .now) in
     let e = f .ensures .0 in
-    let y : f .result .taken ≡ 0 → f .result .what ≡ Malformed = rw e (lies .no-byte) in (
-      rw (next-found (a .at) s (a .window .now) (a .last) (sym (c .before .before .before .before .before .before .before .before .before .before .before .before .before .before .before .before .before .ends .ensures) ∙ c .before .before .before .before .before .before .before .before .before .before .before .before .before .before .before .before .if1 .left) (sym (c .before .before .before .before .before .before .before .before .before .before .before .before .before .before .before .lacks .ensures) ∙ c .before .before .before .before .before .before .before .before .before .before .before .before .before .before .if2 .left), ← e) (k .ensures .0),
-      asked-facts (asks (f .result .what)) (f .result .taken) (a .at) s (a .h) (length (a .window .now)) (a .last) (length (a .out .now)) (k .result) (k .ensures .0 .answers)
-          (λ i. ap asks (y i)) (rw e (lies .fits)) (f .ensures .1) (z .pre .1) (k .ensures .1),
-    )
+    rw (next-found (a .at) s (a .window .now) (a .last) (sym (c .before .before .before .before .before .before .before .before .before .before .before .before .before .before .before .before .before .ends .ensures) ∙ c .before .before .before .before .before .before .before .before .before .before .before .before .before .before .before .before .if1 .left) (sym (c .before .before .before .before .before .before .before .before .before .before .before .before .before .before .before .lacks .ensures) ∙ c .before .before .before .before .before .before .before .before .before .before .before .before .before .before .if2 .left), ← e) (k .ensures)
 
 pub read-step-spec : {M : Type 1} → statement M
 read-step-spec =

@@ -1,4 +1,3 @@
-use native.Mathlib.Omega.{arith}
 use mathlib.Core.Path.{refl, sym, ap, _∙_}
 use mathlib.Core.List.{[]}
 use Rattle.rules.specs.declared.Link.{Link}
@@ -291,7 +290,7 @@ returns-8 c =
     let a = z .args in
     let q = c .before .before .before .before .asked-by in
     let k = c .begin-ticks in
-    (as-asked (q .result) (a .f .what) (a .f .taken) (a .at) (view (a .h) (tables (a .members .now) (a .places .now) (a .notices .now))) _ _ _ _ (q .ensures) (rw (c .before .before .wanted8 .given .1) (did-kept (a .h) (tables (a .members .now) (a .places .now) (a .notices .now)) (z .pre .0) _ _ _ [] GoOn _ _ _ (k .ensures) refl)), rw (k .ensures) (search needs))
+    as-asked (q .result) (a .f .what) (a .f .taken) (a .at) (view (a .h) (tables (a .members .now) (a .places .now) (a .notices .now))) _ _ _ _ (q .ensures) (rw (c .before .before .wanted8 .given .1) (did-kept (a .h) (tables (a .members .now) (a .places .now) (a .notices .now)) (z .pre .0) _ _ _ [] GoOn _ _ _ (k .ensures) refl))
 
 same-length-29 : tie.Need-same-length-29
 same-length-29 c = search needs
@@ -302,7 +301,7 @@ returns-9 c =
     let a = z .args in
     let k = c .before .before .broken-step in
     let q = c .before .before .before .before .before .before .asked-by in
-    (as-asked (q .result) (a .f .what) (a .f .taken) (a .at) (view (a .h) (tables (a .members .now) (a .places .now) (a .notices .now))) _ _ _ _ (q .ensures) (rw (c .before .before .before .before .enum-told .given .1) (did-kept (a .h) (tables (a .members .now) (a .places .now) (a .notices .now)) (z .pre .0) _ _ _ _ Done _ _ _ (k .ensures .0) (k .ensures .1))), rw (k .ensures .0) (omega arith))
+    as-asked (q .result) (a .f .what) (a .f .taken) (a .at) (view (a .h) (tables (a .members .now) (a .places .now) (a .notices .now))) _ _ _ _ (q .ensures) (rw (c .before .before .before .before .enum-told .given .1) (did-kept (a .h) (tables (a .members .now) (a .places .now) (a .notices .now)) (z .pre .0) _ _ _ _ Done _ _ _ (k .ensures .0) (k .ensures .1)))
 
 pub record-step-spec : {M : Type 1} → statement M
 record-step-spec =

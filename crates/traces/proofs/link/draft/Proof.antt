@@ -1,12 +1,12 @@
 -- `traces::link::draft` meets its contract: the numbers of an `LK` behind its mark, in their order.
 use mathlib.Core.Path.{refl}
 use mathlib.Core.List.{_∷_}
-use lib.ListN.{take, drop}
+use lib.ListN.{drop}
 use native.Mathlib.Omega.{arith}
-use Rattle.fields.specs.Numbers.{sum}
+use Rattle.fields.specs.Numbers.{sum, none-lost}
 use Rattle.fields.proofs.DraftLaws.{before}
 use Rattle.traces.specs.Kinds.{LK}
-use Rattle.traces.proofs.LinkLaws.{sum-link, link-drafted}
+use Rattle.traces.proofs.LinkLaws.{sum-link, levels-lost, all-levels, link-drafted}
 use borrow.Author.Needs.{needs}
 use Rattle.traces.proofs.link.draft.Statement.{statement}
 use Rattle.traces.proofs.link.draft.Tie as tie
@@ -24,12 +24,14 @@ bounded-requires : tie.Need-bounded-requires
 bounded-requires c κs = search needs
 
 returns : tie.Need-returns
-unfolding sum
+unfolding sum none-lost
 returns c =
     let a = c .before .before .before .before .args in
     let n = a .levels in
-    link-drafted LK n (a .largest ∷ a .silence ∷ take n (a .bounds)) (drop n (a .bounds)) (search needs) refl (c .before .before .before .headed .ensures)
-    (λ w. before (c .before .before .two .ensures) (before (c .before .one .ensures) (c .bounded .ensures .0 w))) (c .bounded .ensures .1) (λ few. omega (arith, sum-link n))
+    link-drafted LK n (a .largest ∷ a .silence ∷ a .bounds) (drop n (a .bounds)) (search needs) refl refl
+    (levels-lost n (a .bounds) (search needs)) (c .before .before .before .headed .ensures)
+    (λ few w. before (c .before .before .two .ensures) (before (c .before .one .ensures) (all-levels n (a .bounds) (search needs) few (c .bounded .ensures .0 w))))
+    (c .bounded .ensures .1) (λ few. omega (arith, sum-link n))
 
 pub draft-spec : {M : Type 1} → statement M
 draft-spec = tie.close (tie.spec headed-requires two-requires one-requires bounded-requires returns)

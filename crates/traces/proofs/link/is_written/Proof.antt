@@ -4,7 +4,7 @@ use Prim.Native.Nat.{_≤_, _-_}
 use lib.ListN.{length, drop}
 use lib.Dec.{eqb}
 use Rattle.fields.specs.Numbers.{sum}
-use Rattle.traces.specs.Trace.{link-written}
+use Rattle.traces.specs.Links.{link-written}
 use Rattle.traces.proofs.LinkLaws.{zeros-stop, zeros-on, zeros-end, zero-unwritten, large-unwritten, zeros-decide}
 use borrow.Author.Needs.{needs}
 use Rattle.traces.proofs.link.is_written.Statement.{statement}
