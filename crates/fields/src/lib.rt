@@ -1,5 +1,7 @@
 // What records of every format are made of. This file: a record's bytes, put together before any is written, so that the room lent is tested once and
 // changed only if all of them fit.
+#![tactic(auto)]
+
 pub mod read; // read.rt: the marks and the numbers of a record, read from bytes
 
 ghost use Rattle.std.specs.Prelude.{◌≡◌, ◌∷◌, [], ◌+◌, ◌*◌, ◌<◌, ◌≤◌, length, get_or, take, replicate};

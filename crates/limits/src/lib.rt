@@ -1,5 +1,7 @@
 // The limits of the code and the lengths of its tables, each once, and the tests of a link and of a connection against them, of both disciplines. The limits of the rules stand in
 // `crates/rules/specs/Limits.antt` and `crates/frames/specs/Limits.antt`; the contracts of the code tie these to those.
+#![tactic(auto)]
+
 pub mod numbers; // numbers.rt: the smaller of two, and a difference
 
 ghost use Rattle.std.specs.Prelude.{◌≡◌, ◌+◌, ◌≤◌, length, take, drop};

@@ -64,11 +64,15 @@ module _ {A : Type 0} where
   sub_more zs (skip y s) = skip y (sub_more zs s)
   sub_more zs (keep x s) = keep x (sub_more zs s)
 
+  -- the same, with the longer one first: it is the one that the recursion goes over
+  sub_after : {ys zs : List A} → Sub ys zs → {xs : List A} → Sub xs ys → Sub xs zs
+  sub_after nil s = s
+  sub_after (skip z t) s = skip z (sub_after t s)
+  sub_after (keep x t) (skip y s) = skip x (sub_after t s)
+  sub_after (keep x t) (keep y s) = keep x (sub_after t s)
+
   pub sub_trans : {xs ys zs : List A} → Sub xs ys → Sub ys zs → Sub xs zs
-  sub_trans s nil = s
-  sub_trans s (skip z t) = skip z (sub_trans s t)
-  sub_trans (skip y s) (keep x t) = skip x (sub_trans s t)
-  sub_trans (keep y s) (keep x t) = keep x (sub_trans s t)
+  sub_trans s t = sub_after t s
 
   pub sub_refl : (xs : List A) → Sub xs xs
   sub_refl [] = nil

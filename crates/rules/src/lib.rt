@@ -1,4 +1,5 @@
 // The five records that the rules and the code share, declared once so that a contract needs no conversion. The rules themselves stand in specs/.
+#![tactic(auto)]
 
 // Document 01, "Link, connections, places": n levels, the largest packet S, a delay bound for each level, level 1 first. Document 02, R-4: the silence
 // that the line needs after each packet, in ticks. R-11: the stand-by queue, 1 where it is on, 0 where it is off: with nothing else to send, a line whose queue is
