@@ -1,10 +1,12 @@
 // The answer records of document 01, "Trace and answer records", and of document 02, R-1, R-2 and R-8: their kinds as values, read and written.
+#![tactic(auto)]
+
 ghost use Rattle.std.specs.Prelude.{◌≡◌, cond, ◌%◌, ltb, length, get_or};
 ghost use Rattle.std.proofs.Math.Option.{some, none};
 ghost use Rattle.fields.specs.Drafts.{Holds};
 ghost use Rattle.fields.specs.Formats.{read_kind, mark_among, fitting, over};
 ghost use Rattle.answers.specs.declared.Reply.TheVariants.{Departed};
-ghost use Rattle.answers.specs.Kinds.{CA, DP, ER};
+ghost use Rattle.answers.specs.Kinds.{CA as CA_kind, DP as DP_kind, ER as ER_kind};
 ghost use Rattle.answers.specs.Answers.{answer_kinds, found_reply, read_answer, answer_bytes};
 
 use fields::Draft;
@@ -31,7 +33,7 @@ const ER: [u8; 2] = *b"ER";
 pub const LONGEST_ANSWER: usize = 19;
 
 // An answer record with its numbers, or malformed. `Broken` is the answer to a malformed trace record, and its verdict is always 14.
-#[derive(Drop)]
+#[derive(Clone, Copy)]
 pub enum Reply {
     Linked {
         verdict: u8,
@@ -71,7 +73,7 @@ pub enum Reply {
 }
 
 // What reading found, and how many bytes it took: none where it is malformed.
-#[derive(Drop)]
+#[derive(Clone, Copy)]
 pub struct FoundReply {
     pub what: Reply,
     pub taken: usize,
@@ -116,7 +118,7 @@ fn mark_of(s: &[u8]) -> u16
 
 // The answer to a malformed record: the verdict before its offset is 14.
 fn read_broken(s: &[u8]) -> FoundReply
-    ensures { result ≡ found_reply (read_kind ER (get_or s.now 2 0) s.now) }
+    ensures { result ≡ found_reply (read_kind ER_kind (get_or s.now 2 0) s.now) }
 {
     let verdict = one(s, 2);
     match verdict {
@@ -127,7 +129,7 @@ fn read_broken(s: &[u8]) -> FoundReply
 
 // The answer to an admission: the level that was short and its units stand behind the connection.
 fn read_admitted(s: &[u8]) -> FoundReply
-    ensures { result ≡ found_reply (read_kind CA (get_or s.now 2 0) s.now) }
+    ensures { result ≡ found_reply (read_kind CA_kind (get_or s.now 2 0) s.now) }
 {
     let admitted = Reply::Admitted {
         verdict: one(s, 2),
@@ -140,7 +142,7 @@ fn read_admitted(s: &[u8]) -> FoundReply
 
 // A packet's departure.
 fn read_departed(s: &[u8]) -> FoundReply
-    ensures { result ≡ found_reply (read_kind DP (get_or s.now 2 0) s.now) }
+    ensures { result ≡ found_reply (read_kind DP_kind (get_or s.now 2 0) s.now) }
 {
     let departed = Reply::Departed {
         connection: one(s, 2),

@@ -35,7 +35,7 @@ use Rattle.state.specs.View.{zero_tables, view as level_view, written as level_w
 use Rattle.state.specs.Told.{told_of}
 use Rattle.state.specs.Does.{Does as LevelDoes}
 use Rattle.state.proofs.SoundLaws.{is_sound as level_is_sound, tables_kept as level_kept}
-use Rattle.state.proofs.DoesLaws.{told_as as level-told-as, left_as as level_left_as}
+use Rattle.state.proofs.DoesLaws.{told_as as level_told_as, left_as as level_left_as}
 use Rattle.framed_state.specs.declared.Frames.{Frames}
 use Rattle.framed_state.specs.declared.Said.{Said}
 use Rattle.framed_state.specs.View.{frames_of, sound_frames, view as frame_view, written as frame_written}
@@ -77,7 +77,7 @@ module _ (k : Request) (h : Kept) (t : Tables) (ok : sound_kept h t ≡ true) wh
         answers_as (by_levels (of_levels h t) A) r u
         (ap (respond k) (seen_level h t n) ∙ levels_told (of_levels h t) ((test_is_exact (of_levels h t)).1 (level_line h t ok n)) refl k j c)
         (e
-        ∙ ap (of_told h) (level-told-as j h.hub t (hub_sound h t ok n) a u D)
+        ∙ ap (of_told h) (level_told_as j h.hub t (hub_sound h t ok n) a u D)
         ∙ ap (λ (x : Frames). of_told (record { hub = h.hub; frames = x }) (told_of A)) (frames_fresh h t ok n))
         (level_left_as j h.hub t (hub_sound h t ok n) a u D)
 

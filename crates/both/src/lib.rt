@@ -18,7 +18,7 @@ use state::Hub;
 
 // What a caller keeps beside the tables: the hub of levels and the frames. The one that is not set is fresh; the tables are those of the other. A line with frames has
 // its table of shares in the first numbers of the table of connections.
-#[derive(Drop)]
+#[derive(Clone, Copy)]
 pub struct Kept {
     pub hub: Hub,
     pub frames: Frames,
@@ -26,7 +26,7 @@ pub struct Kept {
 
 // The reply to a request, and what is kept after it. `short` is what an admission refused with 8 was told, else zeros. `packet` is the departed one where `gone` says
 // so, else an unused row.
-#[derive(Drop)]
+#[derive(Clone, Copy)]
 pub struct Replied {
     pub verdict: u32,
     pub number: u32,

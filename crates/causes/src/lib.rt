@@ -11,14 +11,14 @@ use limits::{CLOCK_END, MAX_NOTICES, NOTICE_NUMBER};
 use rules::{Packet, Short};
 
 // The verdict of an admission, and by how much it is over where that is 8.
-#[derive(Drop)]
+#[derive(Clone, Copy)]
 pub struct Ruling {
     pub verdict: u32,
     pub short: Short,
 }
 
 // What a notice is told: its verdict, and its eligibility where that is 0, else 0.
-#[derive(Drop)]
+#[derive(Clone, Copy)]
 pub struct Noted {
     pub verdict: u32,
     pub number: u32,

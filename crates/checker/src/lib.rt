@@ -17,7 +17,7 @@ use turns::{End, Turn};
 
 // What is found. On: nothing yet, another move follows. The rest is told: the log is the one that the rules give; it differs, is too long or ends early, at the offset;
 // the trace or the log could not be read.
-#[derive(Drop)]
+#[derive(Clone, Copy)]
 pub enum Finding {
     On,
     Accepted,
@@ -29,7 +29,7 @@ pub enum Finding {
 }
 
 // A window of the log's buffer, whether a read was made, and what it answered: 0 where none was.
-#[derive(Drop)]
+#[derive(Clone, Copy)]
 pub struct Part {
     pub from: usize,
     pub to: usize,
@@ -39,7 +39,7 @@ pub struct Part {
 
 // Where the checker stands after a move: the last turn of the replay; of what it wrote, the bytes from `met` to `wrote` are yet to be met by the log; the window of
 // the log's buffer; whether the move read the log, and what the read answered, 0 where there was none; how many bytes of the log were met; and what is found.
-#[derive(Drop)]
+#[derive(Clone, Copy)]
 pub struct Check {
     pub turn: Turn,
     pub met: usize,

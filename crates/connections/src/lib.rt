@@ -22,7 +22,7 @@ use limits::{MAX_CONNECTIONS, MAX_LEVELS, MAX_REMEMBERED, MEMBER_HEAD, MEMBER_RO
 use rules::{Connection, Link, Short};
 
 // A row of the table: a connection's figures, a mark where it is closed, how many eligibilities of its accepted packets are remembered, and these, newest first.
-#[derive(Drop)]
+#[derive(Clone, Copy)]
 pub struct Member {
     pub figures: Connection,
     pub mark: u32,

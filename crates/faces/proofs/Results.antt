@@ -41,7 +41,7 @@ pub record Runs (D : Discipline) : Type 1 where
   pub zeros_written : zero_tables ≡ D.written (now start)
 
 module _ (D : Discipline) (R : Runs D) where
-  open D use {State, Call, Sound, answer, refused_number, Kept, Told, verdict, number, short, gone, packet, kept, view, kept_of, written, sound, told_of, refusal, tells, leaves, ruled, Told-back, kept_told, Kept-back, IsRefused-as, is_sound, tables_kept, read_written, written_sound, next_sound, never_1, refuses}
+  open D use {State, Call, Sound, answer, refused_number, Kept, Told, verdict, number, short, gone, packet, kept, view, kept_of, written, sound, told_of, refusal, tells, leaves, ruled, told_back, kept_told, kept_back, refused_as, is_sound, tables_kept, read_written, written_sound, next_sound, never_1, refuses}
   open R use {History, logged, now, run_from, start, run, zero_tables, run_none, run_more, run_is, now_logged, start_sound, zeros_written}
 
   abbrev fresh : Kept
@@ -86,10 +86,10 @@ module _ (D : Discipline) (R : Runs D) where
   -- what is told and written of an answer that leaves a sound state is read as this answer
   read_back : (a : Outcome State) → Sound a.next → answer_read (told_of a) (written a.next) ≡ a
   read_back a S i = record {
-    verdict = (Told-back a).0 i;
-    number = (Told-back a).1 i;
-    short = (Told-back a).2 i;
-    departed = (Told-back a).3 i;
+    verdict = (told_back a).0 i;
+    number = (told_back a).1 i;
+    short = (told_back a).2 i;
+    departed = (told_back a).3 i;
     next = (ap (λ (x : Kept). view x (written a.next)) (kept_told a) ∙ read_written a.next S) i;
   }
 
@@ -154,19 +154,19 @@ module _ (D : Discipline) (R : Runs D) where
     one_outcome = λ k h before told told' after after' D E. same_outcome tells leaves k h before told told' after after' D E;
     test_is_exact = λ h t. (
       λ e. (is_sound h t e, tables_kept h t e),
-      λ f. ap (λ (x : Kept). sound x t) (Kept-back h t) ∙ ap (sound (kept_of (view h t))) f.1 ∙ written_sound (view h t) f.0,
+      λ f. ap (λ (x : Kept). sound x t) (kept_back h t) ∙ ap (sound (kept_of (view h t))) f.1 ∙ written_sound (view h t) f.0,
     );
     written_reads_back = λ s S. read_written s S;
     refusals_change_nothing = λ k h t n.
         by_test (sound h t)
         (λ e.
         let a = refused_told k h t e in
-        let f = IsRefused-as h 1 (refused_number k) in
+        let f = refused_as h 1 (refused_number k) in
         (ap kept a ∙ f.1, refused_left k h t e, ap number a ∙ f.2, cond_is _ _ (ap gone a ∙ f.3)))
         (λ e.
         let a = says_as k h t e in
         let f = refuses k (view h t) (λ z. n (ap (λ (x : Outcome State). x.verdict) a ∙ z)) in (
-          kept_as k h t e ∙ ap kept_of f.0 ∙ sym (Kept-back h t),
+          kept_as k h t e ∙ ap kept_of f.0 ∙ sym (kept_back h t),
           left_as k h t e ∙ ap written f.0 ∙ sym (tables_kept h t e),
           ap (λ (x : Outcome State). x.number) a ∙ f.2,
           ap (λ (x : Outcome State). x.departed) a ∙ f.1,
@@ -175,7 +175,7 @@ module _ (D : Discipline) (R : Runs D) where
       λ z.
           by_test (sound h t) (λ e. e)
           (λ e. absurd (never_1 k (view h t) (is_sound h t e) (sym (ap (λ (x : Outcome State). x.verdict) (says_as k h t e)) ∙ z))),
-      λ e. ap verdict (refused_told k h t e) ∙ (IsRefused-as h 1 (refused_number k)).0,
+      λ e. ap verdict (refused_told k h t e) ∙ (refused_as h 1 (refused_number k)).0,
     );
     sound_is_kept = λ k h t e.
         ap (λ (x : Kept). sound x (leaves k h t)) (kept_as k h t e)

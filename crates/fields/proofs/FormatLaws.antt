@@ -167,7 +167,7 @@ module _ {R : Type 0} (layout : R → Option (Kind R × List ℕ)) where
       → read_kind k (get_or bs 2 0) bs ≡ some (r, n)
       → laid (layout r) ≡ take n bs
   unfolding bytes
-  kind_written k fair bs r n bytes-only begins h =
+  kind_written k fair bs r n bytes_only begins h =
       let a = of_kind k bs r n h in
       let ws = k.widths (get_or bs 2 0) in
       let xs = get_fields ws bs 2 in
@@ -177,7 +177,7 @@ module _ {R : Type 0} (layout : R → Option (Kind R × List ℕ)) where
       ∙ laid_is k xs (fair.same_allowed bs a.allowed) (ap (λ vs. none_lost vs xs) (fair.same_widths bs a.allowed) ∙ got_none_lost ws bs 2)
       ∙ ap (λ vs. k.mark ++ put_fields vs (get_fields ws bs 2)) (fair.same_widths bs a.allowed)
       ∙ ap (λ xs. k.mark ++ put_fields ws xs) (fields_on ws 2 bs 0)
-      ∙ ap (λ l. k.mark ++ l) (put_back ws (drop 2 bs) (bytes_left 2 bs (each_byte bs bytes-only)) there)
+      ∙ ap (λ l. k.mark ++ l) (put_back ws (drop 2 bs) (bytes_left 2 bs (each_byte bs bytes_only)) there)
       ∙ ap (λ l. l ++ take (sum ws) (drop 2 bs)) (sym (starts_take k.mark bs fair.letters begins))
       ∙ sym (take-add 2 (sum ws) bs)
       ∙ ap (λ m. take m bs) a.count

@@ -12,7 +12,7 @@ ghost use Rattle.fields.specs.Drafts.{longest, held, Holds, Adds, AddsAll};
 pub const LONGEST: usize = 39;
 
 // The first `len` of `bytes`.
-#[derive(Drop)]
+#[derive(Clone, Copy)]
 pub struct Draft {
     pub bytes: [u8; LONGEST],
     pub len: usize,

@@ -105,7 +105,7 @@ module _ (rows : List ℕ) (n : ℕ) (few : n ≤ max_connections) where
             (split n c)
 
     -- row n is put behind the others
-    module _ (more : n < max_connections) (owned-so-far : (i : ℕ) → i < n → 1 ≤ (row_asked rows i).level) where
+    module _ (more : n < max_connections) (owned_so_far : (i : ℕ) → i < n → 1 ≤ (row_asked rows i).level) where
       rest : max_connections - n ≡ suc (max_connections - suc n)
       rest = omega arith
 
@@ -117,7 +117,7 @@ module _ (rows : List ℕ) (n : ℕ) (few : n ≤ max_connections) where
           all_from (λ x. 1 ≤ x.level) (tabulate n (row_asked rows)) no_connection
           (λ i h.
           let k : i < n = omega (arith, length_first rows n) in
-          subst (λ (x : Connection). 1 ≤ x.level) (sym (nth_first rows n i k)) (owned-so-far i k))
+          subst (λ (x : Connection). 1 ≤ x.level) (sym (nth_first rows n i k)) (owned_so_far i k))
 
       pub next_free : n ≡ free_number (connections_in t)
       next_free =

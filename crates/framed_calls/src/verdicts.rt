@@ -21,7 +21,7 @@ use limits::{MAX_CONNECTIONS, MAX_RESERVED};
 use rules::{Packet, Short};
 
 // What a connection has taken: the packets that it holds, and the units that it has used in this frame.
-#[derive(Drop)]
+#[derive(Clone, Copy)]
 pub struct Taken {
     pub held: u64,
     pub units: u64,

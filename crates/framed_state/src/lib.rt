@@ -7,7 +7,7 @@ use frames::Framing;
 use rules::{Packet, Short};
 
 // The part of the state that no table holds. While `to_go` is 0 nothing is in service, and `serving` is 0 too. `silent` is the silence still to run.
-#[derive(Drop)]
+#[derive(Clone, Copy)]
 pub struct Frames {
     pub link: Framing,
     pub clock: u32,
@@ -18,7 +18,7 @@ pub struct Frames {
 
 // The answer of a call, and the rest of the state after it. `short` is by how much an admission refused with 8 is over, else zeros. `packet` is the departed one
 // where `gone` says so, else an unused row.
-#[derive(Drop)]
+#[derive(Clone, Copy)]
 pub struct Said {
     pub verdict: u32,
     pub number: u32,

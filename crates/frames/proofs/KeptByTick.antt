@@ -90,9 +90,9 @@ module _ (h : History) (I : Invariant h) (S : SoundWithLink h.now) where
 
   -- ---- nothing was eligible: the rest of the frame is the notices'
 
-  module _ (none-was : All (λ p. t < p.eligibility) s.held) where
+  module _ (none_was : All (λ p. t < p.eligibility) s.held) where
     all_at_end : All (λ p. p.eligibility ≡ next_frame T t) w'.held
-    all_at_end = all_sub (λ p. p.eligibility ≡ next_frame T t) part (all_zip (λ p f l. f l) s.held at_end none-was)
+    all_at_end = all_sub (λ p. p.eligibility ≡ next_frame T t) part (all_zip (λ p f l. f l) s.held at_end none_was)
 
     quiet_in_frame : InFrame → RecentLater × WorkLater
     quiet_in_frame k = (
@@ -106,7 +106,7 @@ module _ (h : History) (I : Invariant h) (S : SoundWithLink h.now) where
         omega (
           arith,
           total_sub d' part,
-          total_le d' (newly s.link t) s.held (all_map (λ p l. omega (arith, newly_yes s.link t p l, upto_le p.eligibility (t + 1) (p.len + q))) s.held none-was),
+          total_le d' (newly s.link t) s.held (all_map (λ p l. omega (arith, newly_yes s.link t p l, upto_le p.eligibility (t + 1) (p.len + q))) s.held none_was),
           total_sorted (newly s.link t) (length s.connections) s.held (below s S),
           sum_le (length s.connections) {f = λ c. used s.link t c s.held} {g = λ c. (figures s c).units} (λ c l. S.use_le c l),
         )
@@ -128,7 +128,7 @@ module _ (h : History) (I : Invariant h) (S : SoundWithLink h.now) where
 
   -- ---- something is eligible: the tick lemma
 
-  module _ (some-due : 0 < demand s) where
+  module _ (some_due : 0 < demand s) where
     full : (p : Packet) → chosen s ≡ some p → d p ≡ p.len + q
     full p e = due_yes s.link t p (subst (Picks t s.held) e (picks s S)).0
 
@@ -143,7 +143,7 @@ module _ (h : History) (I : Invariant h) (S : SoundWithLink h.now) where
     one_less : total d w'.held + wire_left q w' + (t + 1) + 1 ≤ frame_end s + carried d w'
     one_less =
         let a = begun_work (λ _. false) s.link.largest q t d (wire s) (chosen s) none full picked sized in
-        omega (arith, a.1, sent_work (λ _. false) s.link.largest q t d (ready s S) (ready_sound s S) (rows_sized s S) a.0, I.work some-due)
+        omega (arith, a.1, sent_work (λ _. false) s.link.largest q t d (ready s S) (ready_sound s S) (rows_sized s S) a.0, I.work some_due)
 
     -- so there is a tick to spare: the frame does not end
     busy_in_frame : InFrame

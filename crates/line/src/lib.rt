@@ -14,7 +14,7 @@ use limits::numbers::without;
 use rules::Packet;
 
 // What is on the line: the number in service, its units to go, and the silence still to run. While `to_go` is 0 nothing is in service.
-#[derive(Drop)]
+#[derive(Clone, Copy)]
 pub struct Wire {
     pub serving: u32,
     pub to_go: u32,
@@ -22,14 +22,14 @@ pub struct Wire {
 }
 
 // A packet, where one is found; else an unused row.
-#[derive(Drop)]
+#[derive(Clone, Copy)]
 pub struct Best {
     pub found: bool,
     pub packet: Packet,
 }
 
 // What a unit leaves: the departed packet where `gone` says so, else an unused row, and the line then.
-#[derive(Drop)]
+#[derive(Clone, Copy)]
 pub struct Sent {
     pub gone: bool,
     pub packet: Packet,

@@ -14,7 +14,7 @@ use limits::{NOTICE_NUMBER, PACKET_WIDTH, zero_from};
 use rules::Packet;
 
 // What the line does at a tick of the clock: the number that it serves, the units to go, and the silence still to run.
-#[derive(Drop)]
+#[derive(Clone, Copy)]
 pub struct Service {
     pub clock: u32,
     pub serving: u32,

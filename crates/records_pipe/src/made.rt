@@ -4,7 +4,7 @@ use fields::read::{four, one, two};
 use traces::Record;
 
 // A mark as a number, its first letter low, and the fields behind it: those of one byte, those of two and those of four, each in the record's order.
-#[derive(Drop)]
+#[derive(Clone, Copy)]
 pub struct Fields {
     mark: u16,
     b1: u8,

@@ -37,7 +37,7 @@ served_carried s m e t = ap (upto 1 s.to_go) (due_weighs s.link s.connections m 
 abbrev pub wired : State → Wire → State
 wired s w = later s w.held w.notices w.serving w.to_go w.silent
 
-module _ (s : State) (S : Orderly s) (m e : ℕ) (some-due : 0 < demand s m e s.clock) where
+module _ (s : State) (S : Orderly s) (m e : ℕ) (some_due : 0 < demand s m e s.clock) where
   abbrev d : Packet → ℕ
   d = due s.link s.connections m e s.clock
 

@@ -110,7 +110,7 @@ module _ (s : State) (S : Orderly s) (acc : List Packet) (R : Regular s acc) whe
       ∙ sym (served_is s m x s.clock r)
 
   -- those of the freed numbers weigh nothing in a stretch that is no longer than a window
-  module _ (m x b : ℕ) (low : 1 ≤ m) (high : m ≤ s.link.levels) (fresh-enough : s.clock + 1 ≤ b + window s.link m) where
+  module _ (m x b : ℕ) (low : 1 ≤ m) (high : m ≤ s.link.levels) (fresh_enough : s.clock + 1 ≤ b + window s.link m) where
     gone_weight : (p : Packet) → p.eligibility + charge_time s.link ≤ s.clock → weight s.link s.connections m x b s.clock p ≡ 0
     gone_weight p old =
         omega (

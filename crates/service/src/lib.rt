@@ -19,7 +19,7 @@ use rules::{Link, Packet};
 use state::{Hub, Told};
 
 // The best row of those walked so far, once one is found: its place, its connection's level and its eligibility, so that no row is read twice.
-#[derive(Drop)]
+#[derive(Clone, Copy)]
 pub struct Lead {
     pub found: bool,
     pub place: usize,

@@ -477,16 +477,16 @@ module _ (h : Hub) (t : Tables) (names : Names t.members t.places) (seen : List 
           (λ e. ap (same_numbers t.members) (sym (kept_back (every_true max_connections (behind_pass (view h t)) e))) ∙ same_intro t.members)
 
     -- the test ends where what has left fails, where the pass does, or with what is remembered
-    module _ (a : Bool) (is-left : a ≡ every max_connections (λ c. left_with h u (get_or seen c 0) c)) where
+    module _ (a : Bool) (is_left : a ≡ every max_connections (λ c. left_with h u (get_or seen c 0) c)) where
       pub left_ends : not a ≡ true → false ≡ queues_sound (view h t)
-      left_ends n = stops _ (is-left ∙ before_all) n
+      left_ends n = stops _ (is_left ∙ before_all) n
 
-      module _ (n : not a ≡ false) (b : Bool) (is-paced : b ≡ paced h.link (connections_in u) h.clock (past_in u) [] held) where
+      module _ (n : not a ≡ false) (b : Bool) (is_paced : b ≡ paced h.link (connections_in u) h.clock (past_in u) [] held) where
         pub pass_ends : not b ≡ true → false ≡ queues_sound (view h t)
-        pass_ends m = passes_on (is-left ∙ before_all) n (stops _ (is-paced ∙ paced_all) m)
+        pass_ends m = passes_on (is_left ∙ before_all) n (stops _ (is_paced ∙ paced_all) m)
 
         pub memory_ends : not b ≡ false → (v : List ℕ) → Remembers u v (past_with u held) → (r : Bool) → r ≡ same_numbers t.members v → r ≡ queues_sound (view h t)
-        memory_ends m v W r e = passes_on (is-left ∙ before_all) n (passes_on (is-paced ∙ paced_all) m (e ∙ behind_all v W))
+        memory_ends m v W r e = passes_on (is_left ∙ before_all) n (passes_on (is_paced ∙ paced_all) m (e ∙ behind_all v W))
 
 -- ---- those that are closed
 

@@ -6,7 +6,7 @@ ghost use Rattle.state.specs.Told.{refusal};
 use rules::{Link, Packet, Short};
 
 // The part of the state that no table holds. While `to_go` is 0 nothing is in service, and `serving` is 0 too. `silent` is the silence still to run.
-#[derive(Drop)]
+#[derive(Clone, Copy)]
 pub struct Hub {
     pub link: Link,
     pub clock: u32,
@@ -17,7 +17,7 @@ pub struct Hub {
 
 // The answer of a call, and the hub after it. `short` is what the level test said of an admission refused for it, else zeros. `packet` is the departed one
 // where `gone` says so, else an unused row.
-#[derive(Drop)]
+#[derive(Clone, Copy)]
 pub struct Told {
     pub verdict: u32,
     pub number: u32,

@@ -8,7 +8,7 @@ use rules::{Connection, Link};
 use traces::Record;
 
 // The numbers of a link of levels, as its record has them. A window that it does not name is 0.
-#[derive(Drop)]
+#[derive(Clone, Copy)]
 pub(crate) struct LinkNumbers {
     levels: u8,
     largest: u16,
@@ -33,7 +33,7 @@ pub(crate) struct LinkNumbers {
 }
 
 // What is offered: a stamp, where it brings one.
-#[derive(Drop)]
+#[derive(Clone, Copy)]
 pub(crate) struct Offering {
     pub(crate) connection: u32,
     pub(crate) len: u32,
@@ -43,7 +43,7 @@ pub(crate) struct Offering {
 }
 
 // What a record asks: a call, with what it is made with; ticks; or the end, where it is malformed.
-#[derive(Drop)]
+#[derive(Clone, Copy)]
 pub(crate) enum Wanted {
     ToLink(LinkNumbers),
     ToFrame(Framing),

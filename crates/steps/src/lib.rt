@@ -17,7 +17,7 @@ use answers::Reply;
 use both::Kept;
 
 // What comes next: a record is read; a tick of a `TK` is run, of which `left` of `asked` are still to run; or nothing.
-#[derive(Drop)]
+#[derive(Clone, Copy)]
 pub enum Phase {
     Reading,
     Ticking { asked: u16, left: u16 },
@@ -25,7 +25,7 @@ pub enum Phase {
 }
 
 // A place in the trace: its offset, what comes next, and the line there.
-#[derive(Drop)]
+#[derive(Clone, Copy)]
 pub struct Cursor {
     pub at: u32,
     pub phase: Phase,
@@ -34,7 +34,7 @@ pub struct Cursor {
 
 // GoOn: a step was made. MoreBytes: the window is too short and not the last. MoreRoom: the room lent is too short for an answer.
 // NotSound: the line and its tables are not sound. Done: the log is whole.
-#[derive(Drop)]
+#[derive(Clone, Copy)]
 pub enum Status {
     GoOn,
     MoreBytes,
@@ -44,7 +44,7 @@ pub enum Status {
 }
 
 // A step: the place after it, the bytes taken from the window, the bytes written to the room.
-#[derive(Drop)]
+#[derive(Clone, Copy)]
 pub struct Stepped {
     pub cursor: Cursor,
     pub used: usize,

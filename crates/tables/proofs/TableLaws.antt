@@ -327,9 +327,9 @@ module _ {A : Type 0} (w : ℕ) (parts : A → List ℕ) (wide : (x : A) → len
       ∙ ap (λ (rs : List (List ℕ)). parts x ∷ rs) (first_written xs n r)
 
   whole_written : 0 < w → (xs : List A) (r : List ℕ) → whole w (write parts xs ++ r) ≡ map parts xs ++ whole w r
-  whole_written some-width xs r =
+  whole_written some_width xs r =
       ap (λ (k : ℕ). rows_in w (k / w) (write parts xs ++ r)) (length-append (write parts xs) r ∙ ap (λ (k : ℕ). k + length r) (length_write xs))
-      ∙ ap (λ (k : ℕ). rows_in w k (write parts xs ++ r)) (mul-add-div some-width (length xs) (length r))
+      ∙ ap (λ (k : ℕ). rows_in w k (write parts xs ++ r)) (mul-add-div some_width (length xs) (length r))
       ∙ first_written xs (length r / w) r
 
   module _ (make : List ℕ → A) where
@@ -343,11 +343,11 @@ module _ {A : Type 0} (w : ℕ) (parts : A → List ℕ) (wide : (x : A) → len
         let k : n ≡ length xs + 0 = omega arith in
         ap (map make) (ap (λ (j : ℕ). rows_in w j (write parts xs ++ r)) k ∙ first_written xs 0 r ∙ append-nil (map parts xs)) ∙ made_again xs again
 
-  module _ (some-width : 0 < w) (make : List ℕ → A) (again : (x : A) → make (parts x) ≡ x) where
+  module _ (some_width : 0 < w) (make : List ℕ → A) (again : (x : A) → make (parts x) ≡ x) where
     pub read_back : (xs : List A) (n : ℕ) → All (λ x. 0 < get_or (parts x) 1 0) xs → read w make (write parts xs ++ replicate n 0) ≡ xs
     read_back xs n h =
         ap (map make)
-        (ap until (whole_written some-width xs (replicate n 0))
+        (ap until (whole_written some_width xs (replicate n 0))
         ∙ until_all (map parts xs) (whole w (replicate n 0)) (all_parts parts xs h) (zero_rows w (length (replicate {A = ℕ} n 0) / w) (replicate n 0) (zeros_rep n)))
         ∙ made_again make xs (all_every again xs)
 

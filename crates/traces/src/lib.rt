@@ -41,7 +41,7 @@ const TK: [u8; 2] = *b"TK";
 pub const LONGEST_RECORD: usize = fields::LONGEST;
 
 // A trace record with its numbers, or malformed. Bounds and windows past `levels` are 0.
-#[derive(Drop)]
+#[derive(Clone, Copy)]
 pub enum Record {
     Link {
         levels: u8,
@@ -139,7 +139,7 @@ pub enum Record {
 }
 
 // What reading found, and how many bytes it took: none where it is malformed.
-#[derive(Drop)]
+#[derive(Clone, Copy)]
 pub struct Found {
     pub what: Record,
     pub taken: usize,

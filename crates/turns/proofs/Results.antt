@@ -5,7 +5,7 @@ use mathlib.Core.Path.{◌≡◌, refl, sym, ◌∙◌}
 use mathlib.Core.Bool.{Bool, true, false}
 use mathlib.Core.List.{List, [], ◌∷◌, ◌++◌, append_assoc}
 use mathlib.Core.Logic.{inl, inr, ⊎_elim}
-use mathlib.Core.Option.{none as no-offset, some}
+use mathlib.Core.Option.{none as no_offset, some}
 use lib.ListN.{length}
 use lib.Signed.{non_neg}
 use borrow.Author.Tests.{eqb-true}
@@ -38,7 +38,7 @@ writes_it (turn {given} {wrote} {v} {t} {w} S d o l r t2 o2 w2 T) then g e =
     rw append_assoc (turn_ends (given ++ (T.follows.got ++ then)) wrote v.cursor t w (T.follows.got ++ then) (going S (T.follows.got ++ then) h) v.last h o r t2 o2 w2 T e)
 
 tells_it : {given wrote : List ℕ} {v : Turn} {t : Tables} {w : List ℕ} → Turns given wrote v t w → (then : List ℕ) → (v.last ≡ true → then ≡ [])
-    → (v.end ≡ Whole → bad_at (given ++ then) ≡ no-offset) × (v.end ≡ Malformed → bad_at (given ++ then) ≡ some v.cursor.at)
+    → (v.end ≡ Whole → bad_at (given ++ then) ≡ no_offset) × (v.end ≡ Malformed → bad_at (given ++ then) ≡ some v.cursor.at)
 tells_it none then g = (λ e. never cc, λ e. never cc)
 tells_it (turn S d o l r t2 o2 w2 T) then g =
     let k = ended_tells S d o l r t2 o2 w2 T then g in (

@@ -10,7 +10,7 @@ use steps::{Cursor, Status, Stepped};
 
 // What follows a turn. On: the next turn. The turns end after any other. Whole: the log is taken to its end, and every record was well formed. Malformed: it is
 // taken to its end, with the `ER` of the cursor's offset. ReadFailed: `read` refused. NotTaken: what the steps wrote was not all taken.
-#[derive(Drop)]
+#[derive(Clone, Copy)]
 pub enum End {
     On,
     Whole,
@@ -21,7 +21,7 @@ pub enum End {
 
 // A turn: the cursor and the window of the buffer after it, whether that window is the last, whether all that the steps wrote was
 // taken, what `read` answered (0 where nothing was read), and what follows.
-#[derive(Drop)]
+#[derive(Clone, Copy)]
 pub struct Turn {
     pub cursor: Cursor,
     pub from: usize,

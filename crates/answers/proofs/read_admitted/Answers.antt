@@ -1,0 +1,15 @@
+-- `answers::read_admitted` meets its contract: each field stands where the widths before it end.
+use Rattle.fields.specs.Formats.{read_kind}
+use Rattle.fields.specs.Numbers.{get_fields, sum}
+use Rattle.answers.proofs.read_admitted.Goals as goal
+
+pub returns : goal.returns
+unfolding read_kind get_fields sum
+returns c =
+    rw (
+      c.whole_of.ensures,
+      c.one.ensures,
+      c.one-2.ensures,
+      c.one-3.ensures,
+      c.four.ensures,
+    )
