@@ -1,5 +1,7 @@
 // What the tables of verdicts of both disciplines ask alike, over plain numbers, and the decision: the first number of which the test holds; a notice, taken or refused.
 // Document 01, "Verdict numbers"; document 02, R-1 and R-13.
+#![tactic(auto)]
+
 ghost use Rattle.std.specs.Prelude.{◌≡◌, true, cond, not, leb, eqb};
 ghost use Rattle.rules.specs.Limits.{clock_end};
 ghost use Rattle.rules.specs.Words.{within, first_number};

@@ -1,5 +1,7 @@
 // The line that both disciplines share: what an idle line takes, and a unit of what is in service. Document 01, "One tick", steps 1 and 2; document 02, R-1, R-4,
 // R-11 and R-13.
+#![tactic(auto)]
+
 pub mod quiet; // quiet.rt: how long nothing starts and nothing departs
 
 ghost use Rattle.std.specs.Prelude.{◌≡◌, true, List, [], ℕ};

@@ -1,5 +1,7 @@
 // The parts of the soundness test that are the same for both disciplines: the shape of the places table and of the table of notices, the rows of each connection counted, the
 // notices by themselves, and the line.
+#![tactic(auto)]
+
 ghost use Rattle.std.specs.Prelude.{◌≡◌, [], ℕ, ◌+◌, ◌<◌, length, get_or};
 ghost use Rattle.rules.specs.Limits.{beyond_32_bits};
 ghost use Rattle.rules.specs.Words.{each};

@@ -1,4 +1,6 @@
 // The lent table of connections of the second discipline: r and p to a row.
+#![tactic(auto)]
+
 ghost use Rattle.std.specs.Prelude.{◌≡◌, true, [], ◌∷◌, ◌++◌, ◌+◌, ◌*◌, ◌<◌, ◌≤◌, length};
 ghost use Rattle.rules.specs.Limits.{max_connections};
 ghost use Rattle.frames.specs.Model.{nth};
