@@ -1,4 +1,6 @@
 // The table of connections, and what is asked of its figures: reservations and the level test.
+#![tactic(auto)]
+
 pub mod closing; // closing.rt: connections that are closed, and numbers that are freed
 pub mod regulator; // regulator.rt: the next eligibility of a connection, and what it remembers
 pub mod stand_by; // stand_by.rt: packets that may go before they are eligible, and how far past the clock that may lie

@@ -1,5 +1,7 @@
 // What a caller keeps between the calls, and what a call answers: a hub by value, three lent tables, an answer. Its specs read them as a state of the rules,
 // and have the contract of every call.
+#![tactic(auto)]
+
 ghost use Rattle.std.specs.Prelude.{◌≡◌};
 ghost use Rattle.state.specs.Told.{refusal};
 
