@@ -1,7 +1,7 @@
 // The line's table, read as what `both` keeps of a line and written back; whether the four tables are sound; a link that a caller names; the numbers of an answer.
 ghost use Rattle.std.specs.Prelude.{◌≡◌, cond, ◌∷◌, ◌++◌, ◌<◌, length};
 ghost use Rattle.rules.specs.Limits.{beyond_32_bits};
-ghost use Rattle.tables.specs.Lent.{before};
+ghost use Rattle.tables.specs.Lent.{tables};
 ghost use Rattle.named.specs.Named.{eight_from, link_named};
 ghost use Rattle.both.specs.View.{kept_clock};
 ghost use Rattle.board.specs.Numbers.{line_length, hub_in, frames_in, kept_in, numbers_of, sound_lent};
@@ -135,7 +135,7 @@ pub(crate) fn put_kept(line: &mut [u32], h: Kept)
 
 // Whether the four tables are sound: exactly, for any numbers and any lengths.
 pub(crate) fn is_sound(line: &[u32], members: &[u32], places: &[u32], notices: &[u32]) -> bool
-    ensures { result ≡ sound_lent line.now (before members places notices) }
+    ensures { result ≡ sound_lent line.now (tables members.now places.now notices.now) }
 {
     if line.len() != LINE {
         return false;

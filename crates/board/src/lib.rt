@@ -8,7 +8,7 @@ ghost use Rattle.std.specs.Prelude.{◌≡◌, cond, [], ◌∷◌, ◌++◌};
 ghost use Rattle.std.proofs.Common.{inl, inr};
 ghost use Rattle.std.proofs.Math.Option.{none, some};
 ghost use Rattle.either_line.specs.Line.{link_levels, link_frames, admit_level, admit_share, offer, notice, close, tick};
-ghost use Rattle.tables.specs.Lent.{before, after};
+ghost use Rattle.tables.specs.Lent.{tables};
 ghost use Rattle.named.specs.Named.{eight_from, link_named, framing_named, connection_named, stamped_named, share_named};
 ghost use Rattle.board.specs.Numbers.{sound_lent};
 ghost use Rattle.board.specs.Calls.{spoken};
@@ -31,7 +31,7 @@ pub extern "C" fn mtredovim_link(
     bounds: &[u32; MAX_LEVELS as usize],
     windows: &[u32; MAX_LEVELS as usize],
 ) -> u32
-    ensures { Does (inl (link_levels (link_named (levels ∷ largest ∷ silence ∷ early ∷ (eight_from 0 bounds.now ++ eight_from 0 windows.now))))) line.old (before members places notices) (spoken result [] [] line.new) (after members places notices) }
+    ensures { Does (inl (link_levels (link_named (levels ∷ largest ∷ silence ∷ early ∷ (eight_from 0 bounds.now ++ eight_from 0 windows.now))))) line.old (tables members.now places.now notices.now) (spoken result [] [] line.new) (tables members.now places.now notices.now) }
 {
     if !is_sound(line, members, places, notices) {
         return 1;
@@ -52,7 +52,7 @@ pub extern "C" fn mtredovim_link_frames(
     largest: u32,
     silence: u32,
 ) -> u32
-    ensures { Does (inl (link_frames (framing_named (frame ∷ largest ∷ silence ∷ [])))) line.old (before members places notices) (spoken result [] [] line.new) (after members places notices) }
+    ensures { Does (inl (link_frames (framing_named (frame ∷ largest ∷ silence ∷ [])))) line.old (tables members.now places.now notices.now) (spoken result [] [] line.new) (tables members.now places.now notices.now) }
 {
     if !is_sound(line, members, places, notices) {
         return 1;
@@ -74,7 +74,7 @@ pub extern "C" fn mtredovim_admit(
     average: u32,
     admission: &mut [u32; ADMISSION],
 ) -> u32
-    ensures { Does (inl (admit_level (connection_named (level ∷ gap ∷ size ∷ window ∷ average ∷ [])))) line.old (before members places notices) (spoken result admission.new [] line.new) (after members places notices) }
+    ensures { Does (inl (admit_level (connection_named (level ∷ gap ∷ size ∷ window ∷ average ∷ [])))) line.old (tables members.old places.now notices.now) (spoken result admission.new [] line.new) (tables members.new places.now notices.now) }
 {
     if !is_sound(line, members, places, notices) {
         *admission = [NO_CONNECTION, 0, 0];
@@ -98,7 +98,7 @@ pub extern "C" fn mtredovim_admit_stamped(
     allowance: u32,
     admission: &mut [u32; ADMISSION],
 ) -> u32
-    ensures { Does (inl (admit_level (stamped_named (level ∷ gap ∷ size ∷ allowance ∷ [])))) line.old (before members places notices) (spoken result admission.new [] line.new) (after members places notices) }
+    ensures { Does (inl (admit_level (stamped_named (level ∷ gap ∷ size ∷ allowance ∷ [])))) line.old (tables members.old places.now notices.now) (spoken result admission.new [] line.new) (tables members.new places.now notices.now) }
 {
     if !is_sound(line, members, places, notices) {
         *admission = [NO_CONNECTION, 0, 0];
@@ -120,7 +120,7 @@ pub extern "C" fn mtredovim_admit_share(
     room: u32,
     admission: &mut [u32; ADMISSION],
 ) -> u32
-    ensures { Does (inl (admit_share (share_named (units ∷ room ∷ [])))) line.old (before members places notices) (spoken result admission.new [] line.new) (after members places notices) }
+    ensures { Does (inl (admit_share (share_named (units ∷ room ∷ [])))) line.old (tables members.old places.now notices.now) (spoken result admission.new [] line.new) (tables members.new places.now notices.now) }
 {
     if !is_sound(line, members, places, notices) {
         *admission = [NO_CONNECTION, 0, 0];
@@ -141,7 +141,7 @@ pub extern "C" fn mtredovim_offer(
     tag: u32,
     eligibility: &mut u32,
 ) -> u32
-    ensures { Does (inl (offer c len tag none)) line.old (before members places notices) (spoken result (eligibility.new ∷ []) [] line.new) (after members places notices) }
+    ensures { Does (inl (offer c len tag none)) line.old (tables members.old places.old notices.now) (spoken result (eligibility.new ∷ []) [] line.new) (tables members.new places.new notices.now) }
 {
     if !is_sound(line, members, places, notices) {
         *eligibility = 0;
@@ -163,7 +163,7 @@ pub extern "C" fn mtredovim_offer_stamped(
     stamp: u32,
     eligibility: &mut u32,
 ) -> u32
-    ensures { Does (inl (offer c len tag (some stamp))) line.old (before members places notices) (spoken result (eligibility.new ∷ []) [] line.new) (after members places notices) }
+    ensures { Does (inl (offer c len tag (some stamp))) line.old (tables members.old places.old notices.now) (spoken result (eligibility.new ∷ []) [] line.new) (tables members.new places.new notices.now) }
 {
     if !is_sound(line, members, places, notices) {
         *eligibility = 0;
@@ -193,7 +193,7 @@ pub extern "C" fn mtredovim_notice(
     tag: u32,
     eligibility: &mut u32,
 ) -> u32
-    ensures { Does (inl (notice len tag)) line.old (before members places notices) (spoken result (eligibility.new ∷ []) [] line.new) (after members places notices) }
+    ensures { Does (inl (notice len tag)) line.old (tables members.now places.now notices.old) (spoken result (eligibility.new ∷ []) [] line.new) (tables members.now places.now notices.new) }
 {
     if !is_sound(line, members, places, notices) {
         *eligibility = 0;
@@ -211,7 +211,7 @@ pub extern "C" fn mtredovim_close(
     notices: &[u32],
     c: u32,
 ) -> u32
-    ensures { Does (inl (close c)) line.old (before members places notices) (spoken result [] [] line.new) (after members places notices) }
+    ensures { Does (inl (close c)) line.old (tables members.old places.now notices.now) (spoken result [] [] line.new) (tables members.new places.now notices.now) }
 {
     if !is_sound(line, members, places, notices) {
         return 1;
@@ -228,7 +228,7 @@ pub extern "C" fn mtredovim_tick(
     notices: &mut [u32],
     departure: &mut [u32; DEPARTURE],
 ) -> u32
-    ensures { Does (inl tick) line.old (before members places notices) (spoken result [] departure.new line.new) (after members places notices) }
+    ensures { Does (inl tick) line.old (tables members.old places.old notices.old) (spoken result [] departure.new line.new) (tables members.new places.new notices.new) }
 {
     if !is_sound(line, members, places, notices) {
         *departure = [0; DEPARTURE];
@@ -248,7 +248,7 @@ pub extern "C" fn mtredovim_ticks(
     done: &mut u32,
     departure: &mut [u32; DEPARTURE],
 ) -> u32
-    ensures { Does (inr n) line.old (before members places notices) (spoken result (done.new ∷ []) departure.new line.new) (after members places notices) }
+    ensures { Does (inr n) line.old (tables members.old places.old notices.old) (spoken result (done.new ∷ []) departure.new line.new) (tables members.new places.new notices.new) }
 {
     if !is_sound(line, members, places, notices) {
         *done = 0;
@@ -266,7 +266,7 @@ pub extern "C" fn mtredovim_test(
     places: &[u32],
     notices: &[u32],
 ) -> u32
-    ensures { result ≡ cond (sound_lent line.now (before members places notices)) 0 1 }
+    ensures { result ≡ cond (sound_lent line.now (tables members.now places.now notices.now)) 0 1 }
 {
     if is_sound(line, members, places, notices) {
         return 0;

@@ -3,7 +3,7 @@ ghost use Rattle.std.specs.Prelude.{◌≡◌, true, [], ◌∷◌, ◌++◌};
 ghost use Rattle.std.proofs.Common.{inl, inr};
 ghost use Rattle.std.proofs.Math.Option.{none, some};
 ghost use Rattle.either_line.specs.Line.{link_levels, link_frames, admit_level, admit_share, offer, notice, close, tick};
-ghost use Rattle.tables.specs.Lent.{given, before, after};
+ghost use Rattle.tables.specs.Lent.{tables};
 ghost use Rattle.named.specs.Named.{eight_from, link_named, framing_named, connection_named, stamped_named, share_named};
 ghost use Rattle.board.specs.Numbers.{sound_lent};
 ghost use Rattle.board.specs.Calls.{spoken};
@@ -30,8 +30,8 @@ pub extern "C" fn mtredovim_link_tested(
     bounds: &[u32; MAX_LEVELS as usize],
     windows: &[u32; MAX_LEVELS as usize],
 ) -> u32
-    requires { sound_lent line.old (given members places notices) ≡ true }
-    ensures { Does (inl (link_levels (link_named (levels ∷ largest ∷ silence ∷ early ∷ (eight_from 0 bounds.now ++ eight_from 0 windows.now))))) line.old (before members places notices) (spoken result [] [] line.new) (after members places notices) }
+    requires { sound_lent line.old (tables members.now places.now notices.now) ≡ true }
+    ensures { Does (inl (link_levels (link_named (levels ∷ largest ∷ silence ∷ early ∷ (eight_from 0 bounds.now ++ eight_from 0 windows.now))))) line.old (tables members.now places.now notices.now) (spoken result [] [] line.new) (tables members.now places.now notices.now) }
 {
     let l = link_of(levels, largest, silence, early, bounds, windows);
     let told = both::link_levels(read_kept(line), members, places, notices, l);
@@ -50,8 +50,8 @@ pub extern "C" fn mtredovim_link_frames_tested(
     largest: u32,
     silence: u32,
 ) -> u32
-    requires { sound_lent line.old (given members places notices) ≡ true }
-    ensures { Does (inl (link_frames (framing_named (frame ∷ largest ∷ silence ∷ [])))) line.old (before members places notices) (spoken result [] [] line.new) (after members places notices) }
+    requires { sound_lent line.old (tables members.now places.now notices.now) ≡ true }
+    ensures { Does (inl (link_frames (framing_named (frame ∷ largest ∷ silence ∷ [])))) line.old (tables members.now places.now notices.now) (spoken result [] [] line.new) (tables members.now places.now notices.now) }
 {
     let l = Framing {
         frame: frame,
@@ -77,8 +77,8 @@ pub extern "C" fn mtredovim_admit_tested(
     average: u32,
     admission: &mut [u32; ADMISSION],
 ) -> u32
-    requires { sound_lent line.old (given members places notices) ≡ true }
-    ensures { Does (inl (admit_level (connection_named (level ∷ gap ∷ size ∷ window ∷ average ∷ [])))) line.old (before members places notices) (spoken result admission.new [] line.new) (after members places notices) }
+    requires { sound_lent line.old (tables members.old places.now notices.now) ≡ true }
+    ensures { Does (inl (admit_level (connection_named (level ∷ gap ∷ size ∷ window ∷ average ∷ [])))) line.old (tables members.old places.now notices.now) (spoken result admission.new [] line.new) (tables members.new places.now notices.now) }
 {
     let x = Connection {
         level: level,
@@ -108,8 +108,8 @@ pub extern "C" fn mtredovim_admit_stamped_tested(
     allowance: u32,
     admission: &mut [u32; ADMISSION],
 ) -> u32
-    requires { sound_lent line.old (given members places notices) ≡ true }
-    ensures { Does (inl (admit_level (stamped_named (level ∷ gap ∷ size ∷ allowance ∷ [])))) line.old (before members places notices) (spoken result admission.new [] line.new) (after members places notices) }
+    requires { sound_lent line.old (tables members.old places.now notices.now) ≡ true }
+    ensures { Does (inl (admit_level (stamped_named (level ∷ gap ∷ size ∷ allowance ∷ [])))) line.old (tables members.old places.now notices.now) (spoken result admission.new [] line.new) (tables members.new places.now notices.now) }
 {
     let x = Connection {
         level: level,
@@ -137,8 +137,8 @@ pub extern "C" fn mtredovim_admit_share_tested(
     room: u32,
     admission: &mut [u32; ADMISSION],
 ) -> u32
-    requires { sound_lent line.old (given members places notices) ≡ true }
-    ensures { Does (inl (admit_share (share_named (units ∷ room ∷ [])))) line.old (before members places notices) (spoken result admission.new [] line.new) (after members places notices) }
+    requires { sound_lent line.old (tables members.old places.now notices.now) ≡ true }
+    ensures { Does (inl (admit_share (share_named (units ∷ room ∷ [])))) line.old (tables members.old places.now notices.now) (spoken result admission.new [] line.new) (tables members.new places.now notices.now) }
 {
     let x = Share {
         units: units,
@@ -162,8 +162,8 @@ pub extern "C" fn mtredovim_offer_tested(
     tag: u32,
     eligibility: &mut u32,
 ) -> u32
-    requires { sound_lent line.old (given members places notices) ≡ true }
-    ensures { Does (inl (offer c len tag none)) line.old (before members places notices) (spoken result (eligibility.new ∷ []) [] line.new) (after members places notices) }
+    requires { sound_lent line.old (tables members.old places.old notices.now) ≡ true }
+    ensures { Does (inl (offer c len tag none)) line.old (tables members.old places.old notices.now) (spoken result (eligibility.new ∷ []) [] line.new) (tables members.new places.new notices.now) }
 {
     let told = both::offer(
         read_kept(line),
@@ -194,8 +194,8 @@ pub extern "C" fn mtredovim_offer_stamped_tested(
     stamp: u32,
     eligibility: &mut u32,
 ) -> u32
-    requires { sound_lent line.old (given members places notices) ≡ true }
-    ensures { Does (inl (offer c len tag (some stamp))) line.old (before members places notices) (spoken result (eligibility.new ∷ []) [] line.new) (after members places notices) }
+    requires { sound_lent line.old (tables members.old places.old notices.now) ≡ true }
+    ensures { Does (inl (offer c len tag (some stamp))) line.old (tables members.old places.old notices.now) (spoken result (eligibility.new ∷ []) [] line.new) (tables members.new places.new notices.now) }
 {
     let told = both::offer(
         read_kept(line),
@@ -224,8 +224,8 @@ pub extern "C" fn mtredovim_notice_tested(
     tag: u32,
     eligibility: &mut u32,
 ) -> u32
-    requires { sound_lent line.old (given members places notices) ≡ true }
-    ensures { Does (inl (notice len tag)) line.old (before members places notices) (spoken result (eligibility.new ∷ []) [] line.new) (after members places notices) }
+    requires { sound_lent line.old (tables members.now places.now notices.old) ≡ true }
+    ensures { Does (inl (notice len tag)) line.old (tables members.now places.now notices.old) (spoken result (eligibility.new ∷ []) [] line.new) (tables members.now places.now notices.new) }
 {
     let told = both::notice(read_kept(line), members, places, notices, len, tag);
     put_kept(line, told.kept);
@@ -242,8 +242,8 @@ pub extern "C" fn mtredovim_close_tested(
     notices: &[u32],
     c: u32,
 ) -> u32
-    requires { sound_lent line.old (given members places notices) ≡ true }
-    ensures { Does (inl (close c)) line.old (before members places notices) (spoken result [] [] line.new) (after members places notices) }
+    requires { sound_lent line.old (tables members.old places.now notices.now) ≡ true }
+    ensures { Does (inl (close c)) line.old (tables members.old places.now notices.now) (spoken result [] [] line.new) (tables members.new places.now notices.now) }
 {
     let told = both::close(read_kept(line), members, places, notices, c);
     put_kept(line, told.kept);
@@ -259,8 +259,8 @@ pub extern "C" fn mtredovim_tick_tested(
     notices: &mut [u32],
     departure: &mut [u32; DEPARTURE],
 ) -> u32
-    requires { sound_lent line.old (given members places notices) ≡ true }
-    ensures { Does (inl tick) line.old (before members places notices) (spoken result [] departure.new line.new) (after members places notices) }
+    requires { sound_lent line.old (tables members.old places.old notices.old) ≡ true }
+    ensures { Does (inl tick) line.old (tables members.old places.old notices.old) (spoken result [] departure.new line.new) (tables members.new places.new notices.new) }
 {
     let told = both::tick(read_kept(line), members, places, notices);
     put_kept(line, told.kept);
@@ -279,8 +279,8 @@ pub extern "C" fn mtredovim_ticks_tested(
     done: &mut u32,
     departure: &mut [u32; DEPARTURE],
 ) -> u32
-    requires { sound_lent line.old (given members places notices) ≡ true }
-    ensures { Does (inr n) line.old (before members places notices) (spoken result (done.new ∷ []) departure.new line.new) (after members places notices) }
+    requires { sound_lent line.old (tables members.old places.old notices.old) ≡ true }
+    ensures { Does (inr n) line.old (tables members.old places.old notices.old) (spoken result (done.new ∷ []) departure.new line.new) (tables members.new places.new notices.new) }
 {
     let told = run_ticks(read_kept(line), members, places, notices, n);
     put_kept(line, told.kept);

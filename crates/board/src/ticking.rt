@@ -2,7 +2,7 @@
 // refused, or as many as are asked. Document 01, "One tick".
 ghost use Rattle.std.specs.Prelude.{◌≡◌, true, cond, ◌+◌, ◌≤◌, ◌<◌, eqb};
 ghost use Rattle.rules.specs.Limits.{clock_end, beyond_32_bits};
-ghost use Rattle.tables.specs.Lent.{Tables, given, before, after};
+ghost use Rattle.tables.specs.Lent.{Tables, tables};
 ghost use Rattle.both.specs.View.{view, kept_of, kept_clock, sound_kept, has_link};
 ghost use Rattle.both.specs.Quiet.{passed};
 ghost use Rattle.board.specs.Ticks.{run_ticks};
@@ -62,8 +62,8 @@ fn stretch(
     notices: &mut [u32],
     left: u32,
 ) -> Replied
-    requires { sound_kept h (given members places notices) ≡ true }
-    ensures { Gives (stretch left (view h (before members places notices))) result (after members places notices) }
+    requires { sound_kept h (tables members.old places.old notices.old) ≡ true }
+    ensures { Gives (stretch left (view h (tables members.old places.old notices.old))) result (tables members.new places.new notices.new) }
 {
     let k = both::quiet::quiet_ticks(h, members, places, notices, least_short(left, AT_ONCE));
     if k != 0 {
@@ -117,8 +117,8 @@ pub(crate) fn run_ticks(
     notices: &mut [u32],
     n: u32,
 ) -> Replied
-    requires { sound_kept h (given members places notices) ≡ true }
-    ensures { Gives (run_ticks n (view h (before members places notices))) result (after members places notices) }
+    requires { sound_kept h (tables members.old places.old notices.old) ≡ true }
+    ensures { Gives (run_ticks n (view h (tables members.old places.old notices.old))) result (tables members.new places.new notices.new) }
 {
     if n == 0 {
         return undeparted(resting(h), 0, h);

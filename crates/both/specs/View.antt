@@ -6,7 +6,7 @@ use Rattle.rules.specs.SoundTest.{all_zero}
 use Rattle.frames.specs.Model.{fresh as FrameFresh}
 use Rattle.either_line.specs.Line.{Line, frames_set}
 use Rattle.limits.specs.Zeros.{zeros}
-pub use Rattle.tables.specs.Lent.{Tables, tables, given, before, after}
+pub use Rattle.tables.specs.Lent.{Tables, tables}
 use Rattle.connections.specs.Members.{members_length}
 use Rattle.shares.specs.Shares.{shares_length}
 use Rattle.state.specs.declared.Hub.{Hub}

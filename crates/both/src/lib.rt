@@ -6,7 +6,7 @@ pub mod quiet; // quiet.rt: ticks in which nothing starts and nothing departs
 ghost use Rattle.std.specs.Prelude.{◌≡◌, true};
 ghost use Rattle.either_line.specs.Line.{fresh_line, link_levels, link_frames, admit_level, admit_share, offer, notice, close, tick};
 ghost use Rattle.connections.specs.Stamps.{stamp_if};
-ghost use Rattle.tables.specs.Lent.{given, before, after};
+ghost use Rattle.tables.specs.Lent.{tables};
 ghost use Rattle.both.specs.View.{kept_of, kept_clock, has_link, sound_kept};
 ghost use Rattle.both.specs.Does.{Does};
 
@@ -65,7 +65,7 @@ pub fn clock_of(h: Kept) -> u32
 
 // Whether a line is sound: exactly, for any numbers and tables of any length.
 pub fn is_sound(h: Kept, members: &[u32], places: &[u32], notices: &[u32]) -> bool
-    ensures { result ≡ sound_kept h (before members places notices) }
+    ensures { result ≡ sound_kept h (tables members.now places.now notices.now) }
 {
     if h.frames.link.frame != 0 {
         if !parts::unused_hub(h.hub) {
@@ -84,8 +84,8 @@ pub fn is_sound(h: Kept, members: &[u32], places: &[u32], notices: &[u32]) -> bo
 
 // A link of levels.
 pub fn link_levels(h: Kept, members: &[u32], places: &[u32], notices: &[u32], l: Link) -> Replied
-    requires { sound_kept h (given members places notices) ≡ true }
-    ensures { Does (link_levels l) h (before members places notices) result (after members places notices) }
+    requires { sound_kept h (tables members.now places.now notices.now) ≡ true }
+    ensures { Does (link_levels l) h (tables members.now places.now notices.now) result (tables members.now places.now notices.now) }
 {
     if h.frames.link.frame == 0 {
         let told = calls::link_tested(h.hub, members, places, notices, l);
@@ -96,8 +96,8 @@ pub fn link_levels(h: Kept, members: &[u32], places: &[u32], notices: &[u32], l:
 
 // A link of frames.
 pub fn link_frames(h: Kept, members: &[u32], places: &[u32], notices: &[u32], l: Framing) -> Replied
-    requires { sound_kept h (given members places notices) ≡ true }
-    ensures { Does (link_frames l) h (before members places notices) result (after members places notices) }
+    requires { sound_kept h (tables members.now places.now notices.now) ≡ true }
+    ensures { Does (link_frames l) h (tables members.now places.now notices.now) result (tables members.now places.now notices.now) }
 {
     if h.hub.link.levels != 0 {
         return parts::refuse(h, 3, 0);
@@ -114,8 +114,8 @@ pub fn admit_level(
     notices: &[u32],
     x: Connection,
 ) -> Replied
-    requires { sound_kept h (given members places notices) ≡ true }
-    ensures { Does (admit_level x) h (before members places notices) result (after members places notices) }
+    requires { sound_kept h (tables members.old places.now notices.now) ≡ true }
+    ensures { Does (admit_level x) h (tables members.old places.now notices.now) result (tables members.new places.now notices.now) }
 {
     if h.frames.link.frame == 0 {
         let told = calls::admit_tested(h.hub, members, places, notices, x);
@@ -132,8 +132,8 @@ pub fn admit_share(
     notices: &[u32],
     x: Share,
 ) -> Replied
-    requires { sound_kept h (given members places notices) ≡ true }
-    ensures { Does (admit_share x) h (before members places notices) result (after members places notices) }
+    requires { sound_kept h (tables members.old places.now notices.now) ≡ true }
+    ensures { Does (admit_share x) h (tables members.old places.now notices.now) result (tables members.new places.now notices.now) }
 {
     if h.frames.link.frame == 0 {
         return parts::refuse(h, 2, NO_CONNECTION);
@@ -154,8 +154,8 @@ pub fn offer(
     brings: bool,
     stamp: u32,
 ) -> Replied
-    requires { sound_kept h (given members places notices) ≡ true }
-    ensures { Does (offer c len tag (stamp_if brings stamp)) h (before members places notices) result (after members places notices) }
+    requires { sound_kept h (tables members.old places.old notices.now) ≡ true }
+    ensures { Does (offer c len tag (stamp_if brings stamp)) h (tables members.old places.old notices.now) result (tables members.new places.new notices.now) }
 {
     if h.frames.link.frame == 0 {
         let told = calls::offer_tested(h.hub, members, places, notices, c, len, tag, brings, stamp);
@@ -185,8 +185,8 @@ pub fn notice(
     len: u32,
     tag: u32,
 ) -> Replied
-    requires { sound_kept h (given members places notices) ≡ true }
-    ensures { Does (notice len tag) h (before members places notices) result (after members places notices) }
+    requires { sound_kept h (tables members.now places.now notices.old) ≡ true }
+    ensures { Does (notice len tag) h (tables members.now places.now notices.old) result (tables members.now places.now notices.new) }
 {
     if h.frames.link.frame == 0 {
         let told = calls::notice_tested(h.hub, members, places, notices, len, tag);
@@ -198,8 +198,8 @@ pub fn notice(
 
 // A connection is closed.
 pub fn close(h: Kept, members: &mut [u32], places: &[u32], notices: &[u32], c: u32) -> Replied
-    requires { sound_kept h (given members places notices) ≡ true }
-    ensures { Does (close c) h (before members places notices) result (after members places notices) }
+    requires { sound_kept h (tables members.old places.now notices.now) ≡ true }
+    ensures { Does (close c) h (tables members.old places.now notices.now) result (tables members.new places.now notices.now) }
 {
     if h.frames.link.frame == 0 {
         let told = calls::close_tested(h.hub, members, places, notices, c);
@@ -210,8 +210,8 @@ pub fn close(h: Kept, members: &mut [u32], places: &[u32], notices: &[u32], c: u
 
 // One tick.
 pub fn tick(h: Kept, members: &mut [u32], places: &mut [u32], notices: &mut [u32]) -> Replied
-    requires { sound_kept h (given members places notices) ≡ true }
-    ensures { Does tick h (before members places notices) result (after members places notices) }
+    requires { sound_kept h (tables members.old places.old notices.old) ≡ true }
+    ensures { Does tick h (tables members.old places.old notices.old) result (tables members.new places.new notices.new) }
 {
     if h.frames.link.frame == 0 {
         let told = calls::tick_tested(h.hub, members, places, notices);

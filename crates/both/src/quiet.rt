@@ -1,7 +1,7 @@
 // Quiet ticks of the discipline that is set: how many of those asked for can be passed over at once, and what is kept after them.
 ghost use Rattle.std.specs.Prelude.{◌≡◌, true, ◌+◌, ◌≤◌};
 ghost use Rattle.rules.specs.Limits.{clock_end};
-ghost use Rattle.tables.specs.Lent.{Tables, given, before};
+ghost use Rattle.tables.specs.Lent.{Tables, tables};
 ghost use Rattle.both.specs.View.{view, kept_of, kept_clock, sound_kept};
 ghost use Rattle.both.specs.Quiet.{passed, quiet_ticks};
 
@@ -10,8 +10,8 @@ use limits::SHARES;
 
 // Of `left` ticks those that can be passed over at once.
 pub fn quiet_ticks(h: Kept, members: &[u32], places: &[u32], notices: &[u32], left: u16) -> u16
-    requires { sound_kept h (given members places notices) ≡ true }
-    ensures { result ≡ quiet_ticks left (view h (before members places notices)) }
+    requires { sound_kept h (tables members.now places.now notices.now) ≡ true }
+    ensures { result ≡ quiet_ticks left (view h (tables members.now places.now notices.now)) }
 {
     if h.frames.link.frame != 0 {
         return framed_service::quiet::quiet_ticks(

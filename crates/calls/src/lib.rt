@@ -5,7 +5,7 @@ ghost use Rattle.std.specs.Prelude.{◌≡◌, true};
 ghost use Rattle.rules.specs.Model.{link, admit, offer, notice, close, tick};
 ghost use Rattle.rules.specs.Calls.{verdict};
 ghost use Rattle.connections.specs.Stamps.{stamp_if};
-ghost use Rattle.state.specs.View.{given, before, after, view, sound_hub};
+ghost use Rattle.state.specs.View.{tables, view, sound_hub};
 ghost use Rattle.state.specs.Does.{Does};
 
 use limits::NO_CONNECTION;
@@ -14,8 +14,8 @@ use state::{Hub, Told, say};
 
 // A link is set, once.
 pub fn link_tested(h: Hub, members: &[u32], places: &[u32], notices: &[u32], l: Link) -> Told
-    requires { sound_hub h (given members places notices) ≡ true }
-    ensures { Does (link l) h (before members places notices) result (after members places notices) }
+    requires { sound_hub h (tables members.now places.now notices.now) ≡ true }
+    ensures { Does (link l) h (tables members.now places.now notices.now) result (tables members.now places.now notices.now) }
 {
     let v = verdicts::link_verdict(h, members, places, notices, l);
     if v != 0 {
@@ -28,8 +28,8 @@ pub fn link_tested(h: Hub, members: &[u32], places: &[u32], notices: &[u32], l: 
 
 // A tick that is done: its three steps, and then every number whose charge is over is freed.
 fn run_on(h: Hub, members: &mut [u32], places: &mut [u32], notices: &mut [u32]) -> Told
-    requires { (sound_hub h (given members places notices) ≡ true) × (verdict tick (view h (given members places notices)) ≡ 0) }
-    ensures { Does tick h (before members places notices) result (after members places notices) }
+    requires { (sound_hub h (tables members.old places.old notices.old) ≡ true) × (verdict tick (view h (tables members.old places.old notices.old)) ≡ 0) }
+    ensures { Does tick h (tables members.old places.old notices.old) result (tables members.new places.new notices.new) }
 {
     let told = service::run_tick(h, members, places, notices);
     // nobody is closed: the time of a charge is not asked for
@@ -44,8 +44,8 @@ fn run_on(h: Hub, members: &mut [u32], places: &mut [u32], notices: &mut [u32]) 
 
 // One tick.
 pub fn tick_tested(h: Hub, members: &mut [u32], places: &mut [u32], notices: &mut [u32]) -> Told
-    requires { sound_hub h (given members places notices) ≡ true }
-    ensures { Does tick h (before members places notices) result (after members places notices) }
+    requires { sound_hub h (tables members.old places.old notices.old) ≡ true }
+    ensures { Does tick h (tables members.old places.old notices.old) result (tables members.new places.new notices.new) }
 {
     let v = verdicts::tick_verdict(h, members, places, notices);
     if v != 0 {
@@ -62,8 +62,8 @@ pub fn admit_tested(
     notices: &[u32],
     x: Connection,
 ) -> Told
-    requires { sound_hub h (given members places notices) ≡ true }
-    ensures { Does (admit x) h (before members places notices) result (after members places notices) }
+    requires { sound_hub h (tables members.old places.now notices.now) ≡ true }
+    ensures { Does (admit x) h (tables members.old places.now notices.now) result (tables members.new places.now notices.now) }
 {
     let n = connections::used(members);
     let c = connections::free_number(members, n);
@@ -95,8 +95,8 @@ fn accept(
     brings: bool,
     stamp: u32,
 ) -> Told
-    requires { (sound_hub h (given members places notices) ≡ true) × (verdict (offer c len tag (stamp_if brings stamp)) (view h (given members places notices)) ≡ 0) }
-    ensures { Does (offer c len tag (stamp_if brings stamp)) h (before members places notices) result (after members places notices) }
+    requires { (sound_hub h (tables members.old places.old notices.now) ≡ true) × (verdict (offer c len tag (stamp_if brings stamp)) (view h (tables members.old places.old notices.now)) ≡ 0) }
+    ensures { Does (offer c len tag (stamp_if brings stamp)) h (tables members.old places.old notices.now) result (tables members.new places.new notices.now) }
 {
     let k = c as usize;
     let m = connections::member_at(members, k);
@@ -129,8 +129,8 @@ pub fn offer_tested(
     brings: bool,
     stamp: u32,
 ) -> Told
-    requires { sound_hub h (given members places notices) ≡ true }
-    ensures { Does (offer c len tag (stamp_if brings stamp)) h (before members places notices) result (after members places notices) }
+    requires { sound_hub h (tables members.old places.old notices.now) ≡ true }
+    ensures { Does (offer c len tag (stamp_if brings stamp)) h (tables members.old places.old notices.now) result (tables members.new places.new notices.now) }
 {
     let v = verdicts::offer_verdict(h, members, places, notices, c, len, brings, stamp);
     if v != 0 {
@@ -148,8 +148,8 @@ pub fn notice_tested(
     len: u32,
     tag: u32,
 ) -> Told
-    requires { sound_hub h (given members places notices) ≡ true }
-    ensures { Does (notice len tag) h (before members places notices) result (after members places notices) }
+    requires { sound_hub h (tables members.now places.now notices.old) ≡ true }
+    ensures { Does (notice len tag) h (tables members.now places.now notices.old) result (tables members.now places.now notices.new) }
 {
     let unset = verdicts::unset(h);
     let x = causes::take_notice(unset, h.link.largest, h.clock, notices, len, tag);
@@ -158,8 +158,8 @@ pub fn notice_tested(
 
 // A close that is done: the number is freed at once where its charge is over, else its owner is charged.
 fn close_now(h: Hub, members: &mut [u32], places: &[u32], notices: &[u32], c: u32) -> Told
-    requires { (sound_hub h (given members places notices) ≡ true) × (verdict (close c) (view h (given members places notices)) ≡ 0) }
-    ensures { Does (close c) h (before members places notices) result (after members places notices) }
+    requires { (sound_hub h (tables members.old places.now notices.now) ≡ true) × (verdict (close c) (view h (tables members.old places.now notices.now)) ≡ 0) }
+    ensures { Does (close c) h (tables members.old places.now notices.now) result (tables members.new places.now notices.now) }
 {
     let k = c as usize;
     let m = connections::member_at(members, k);
@@ -173,8 +173,8 @@ fn close_now(h: Hub, members: &mut [u32], places: &[u32], notices: &[u32], c: u3
 
 // A connection is closed.
 pub fn close_tested(h: Hub, members: &mut [u32], places: &[u32], notices: &[u32], c: u32) -> Told
-    requires { sound_hub h (given members places notices) ≡ true }
-    ensures { Does (close c) h (before members places notices) result (after members places notices) }
+    requires { sound_hub h (tables members.old places.now notices.now) ≡ true }
+    ensures { Does (close c) h (tables members.old places.now notices.now) result (tables members.new places.now notices.now) }
 {
     let v = verdicts::close_verdict(h, members, places, notices, c);
     if v != 0 {

@@ -12,7 +12,7 @@ ghost use Rattle.connections.specs.Members.{connections_in, pasts_in, used_in, r
 ghost use Rattle.connections.specs.Rows.{connection_of};
 ghost use Rattle.connections.specs.Stamps.{stamp_if};
 ghost use Rattle.connections.specs.Within.{Within};
-ghost use Rattle.state.specs.View.{given, before, view, sound_hub};
+ghost use Rattle.state.specs.View.{tables, view, sound_hub};
 ghost use Rattle.calls.specs.Rulings.{ruling_of, early_admit, early_close, too_far_in};
 
 use causes::{Ruling, first_of, one_if_same};
@@ -57,8 +57,8 @@ fn full(l: Link, x: Connection, places: &[u32], c: u32) -> bool
 // ---- the calls
 
 pub(crate) fn link_verdict(h: Hub, members: &[u32], places: &[u32], notices: &[u32], l: Link) -> u32
-    requires { sound_hub h (given members places notices) ≡ true }
-    ensures { result ≡ verdict (link l) (view h (before members places notices)) }
+    requires { sound_hub h (tables members.now places.now notices.now) ≡ true }
+    ensures { result ≡ verdict (link l) (view h (tables members.now places.now notices.now)) }
 {
     // a link that is set already is not looked at further
     if !unset(h) {
@@ -68,8 +68,8 @@ pub(crate) fn link_verdict(h: Hub, members: &[u32], places: &[u32], notices: &[u
 }
 
 pub(crate) fn tick_verdict(h: Hub, members: &[u32], places: &[u32], notices: &[u32]) -> u32
-    requires { sound_hub h (given members places notices) ≡ true }
-    ensures { result ≡ verdict tick (view h (before members places notices)) }
+    requires { sound_hub h (tables members.now places.now notices.now) ≡ true }
+    ensures { result ≡ verdict tick (view h (tables members.now places.now notices.now)) }
 {
     causes::of_tick(unset(h), h.clock)
 }
@@ -97,8 +97,8 @@ pub(crate) fn admit_verdict(
     c: usize,
     x: Connection,
 ) -> Ruling
-    requires { (sound_hub h (given members places notices) ≡ true) × (n ≡ used_in members.now) × (c ≡ free_number (connections_in members.now)) }
-    ensures { result ≡ ruling_of (admit x) (view h (before members places notices)) }
+    requires { (sound_hub h (tables members.now places.now notices.now) ≡ true) × (n ≡ used_in members.now) × (c ≡ free_number (connections_in members.now)) }
+    ensures { result ≡ ruling_of (admit x) (view h (tables members.now places.now notices.now)) }
 {
     let l = h.link;
     let early = admit_refusal(h, c, x);
@@ -164,8 +164,8 @@ pub(crate) fn offer_verdict(
     brings: bool,
     stamp: u32,
 ) -> u32
-    requires { sound_hub h (given members places notices) ≡ true }
-    ensures { (tag : ℕ) → result ≡ verdict (offer c len tag (stamp_if brings stamp)) (view h (before members places notices)) }
+    requires { sound_hub h (tables members.now places.now notices.now) ≡ true }
+    ensures { (tag : ℕ) → result ≡ verdict (offer c len tag (stamp_if brings stamp)) (view h (tables members.now places.now notices.now)) }
 {
     let l = h.link;
     let x = connections::figures_of(members, c);
@@ -192,8 +192,8 @@ fn close_refusal(h: Hub, stands: bool) -> u32
 }
 
 pub(crate) fn close_verdict(h: Hub, members: &[u32], places: &[u32], notices: &[u32], c: u32) -> u32
-    requires { sound_hub h (given members places notices) ≡ true }
-    ensures { result ≡ verdict (close c) (view h (before members places notices)) }
+    requires { sound_hub h (tables members.now places.now notices.now) ≡ true }
+    ensures { result ≡ verdict (close c) (view h (tables members.now places.now notices.now)) }
 {
     let early = close_refusal(h, connections::stands(members, c));
     if early != 0 {

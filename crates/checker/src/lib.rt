@@ -6,7 +6,7 @@ ghost use Rattle.std.specs.Prelude.{◌≡◌, ◌+◌, ◌-◌, ◌^◌, ◌<�
 ghost use Rattle.traces.specs.Trace.{longest_record};
 ghost use Rattle.answers.specs.Answers.{longest_answer};
 ghost use Rattle.state.specs.View.{zero_tables};
-ghost use Rattle.tables.specs.Lent.{given, before, after};
+ghost use Rattle.tables.specs.Lent.{tables};
 ghost use Rattle.turns.specs.declared.End.TheVariants.{On as Goes_on};
 ghost use Rattle.turns.specs.Turns.{window, Right, Better};
 ghost use Rattle.checker.specs.declared.Finding.TheVariants.{On};
@@ -172,7 +172,7 @@ fn steps(
     out: &mut [u8],
 ) -> Check
     requires { Right (length buf.old) c.turn.cursor c.turn.from c.turn.to }
-    ensures steps_on { StepsOn c (before members places notices) (window buf.old c.turn.from c.turn.to) out.old result (after members places notices) (window buf.new result.turn.from result.turn.to) out.new }
+    ensures steps_on { StepsOn c (tables members.old places.old notices.old) (window buf.old c.turn.from c.turn.to) out.old result (tables members.new places.new notices.new) (window buf.new result.turn.from result.turn.to) out.new }
     ensures wrote_in_bounds { (result.wrote ≤ length out.old) × (result.turn.end ≡ Goes_on → Better (length buf.old) c.turn.cursor c.turn.from c.turn.to c.turn.last result.turn) }
 {
     let v = c.turn;
@@ -251,7 +251,7 @@ fn advance(
     log: &mut [u8],
 ) -> Check
     requires { Fit (length buf.old) (length out.old) (length log.old) c }
-    ensures advances { Advances c (before members places notices) (window buf.old c.turn.from c.turn.to) (window out.old c.met c.wrote) (window log.old c.from c.to) result (after members places notices) (window buf.new result.turn.from result.turn.to) (window out.new result.met result.wrote) (window log.new result.from result.to) }
+    ensures advances { Advances c (tables members.old places.old notices.old) (window buf.old c.turn.from c.turn.to) (window out.old c.met c.wrote) (window log.old c.from c.to) result (tables members.new places.new notices.new) (window buf.new result.turn.from result.turn.to) (window out.new result.met result.wrote) (window log.new result.from result.to) }
     ensures nearer { result.finding ≡ On → Nearer (length buf.old) (length out.old) (length log.old) c result }
 {
     if c.met < c.wrote {
@@ -310,7 +310,7 @@ pub fn check_all(
     out: &mut [u8],
     log: &mut [u8],
 ) -> Check
-    requires notices_value { given members places notices ≡ zero_tables }
+    requires notices_value { tables members.old places.old notices.old ≡ zero_tables }
     requires longest_record_in_bounds { (longest_record ≤ length buf.old) × (length buf.old ≤ 65536) }
     requires longest_answer_in_bounds { (longest_answer ≤ length out.old) × (length out.old ≤ 65536) }
     requires log_nonzero { 0 < length log.old }

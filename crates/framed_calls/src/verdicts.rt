@@ -9,7 +9,7 @@ ghost use Rattle.frames.specs.Service.{newly};
 ghost use Rattle.frames.specs.Calls.{verdict};
 ghost use Rattle.tables.specs.Places.{rows, written_places, places_length};
 ghost use Rattle.shares.specs.Shares.{shares_in, shares_formed};
-ghost use Rattle.framed_state.specs.View.{given, before, view, sound_frames};
+ghost use Rattle.framed_state.specs.View.{tables, view, sound_frames};
 ghost use Rattle.framed_sound.specs.Parts.{Measured};
 ghost use Rattle.framed_calls.specs.Rulings.{ruling_of, early_admit, taken_of};
 
@@ -86,8 +86,8 @@ pub(crate) fn link_verdict(
     notices: &[u32],
     l: Framing,
 ) -> u32
-    requires { sound_frames h (given shares places notices) ≡ true }
-    ensures { result ≡ verdict (link l) (view h (before shares places notices)) }
+    requires { sound_frames h (tables shares.now places.now notices.now) ≡ true }
+    ensures { result ≡ verdict (link l) (view h (tables shares.now places.now notices.now)) }
 {
     // a link that is set already is not looked at further
     if !unset(h) {
@@ -97,8 +97,8 @@ pub(crate) fn link_verdict(
 }
 
 pub(crate) fn tick_verdict(h: Frames, shares: &[u32], places: &[u32], notices: &[u32]) -> u32
-    requires { sound_frames h (given shares places notices) ≡ true }
-    ensures { result ≡ verdict tick (view h (before shares places notices)) }
+    requires { sound_frames h (tables shares.now places.now notices.now) ≡ true }
+    ensures { result ≡ verdict tick (view h (tables shares.now places.now notices.now)) }
 {
     causes::of_tick(unset(h), h.clock)
 }
@@ -119,8 +119,8 @@ pub(crate) fn admit_verdict(
     standing: usize,
     x: Share,
 ) -> Ruling
-    requires { (sound_frames h (given shares places notices) ≡ true) × (standing ≡ length (shares_in shares.now)) }
-    ensures { result ≡ ruling_of (admit x) (view h (before shares places notices)) }
+    requires { (sound_frames h (tables shares.now places.now notices.now) ≡ true) × (standing ≡ length (shares_in shares.now)) }
+    ensures { result ≡ ruling_of (admit x) (view h (tables shares.now places.now notices.now)) }
 {
     let early = admit_refusal(h, standing, x);
     if early != 0 {
@@ -150,8 +150,8 @@ pub(crate) fn offer_verdict(
     c: u32,
     len: u32,
 ) -> u32
-    requires { sound_frames h (given shares places notices) ≡ true }
-    ensures { (tag : ℕ) → result ≡ verdict (offer c len tag) (view h (before shares places notices)) }
+    requires { sound_frames h (tables shares.now places.now notices.now) ≡ true }
+    ensures { (tag : ℕ) → result ≡ verdict (offer c len tag) (view h (tables shares.now places.now notices.now)) }
 {
     let l = h.link;
     let stands = shares::stands(shares, c);

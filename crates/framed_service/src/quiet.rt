@@ -6,7 +6,7 @@ ghost use Rattle.rules.specs.Words.{Pairs};
 ghost use Rattle.tables.specs.Places.{rows};
 ghost use Rattle.tables.specs.Notices.{notices_in};
 ghost use Rattle.line.specs.Quiet.{eligible_from, quiet_for};
-ghost use Rattle.framed_state.specs.View.{Tables, given, before, view, frames_of, sound_frames};
+ghost use Rattle.framed_state.specs.View.{Tables, tables, view, frames_of, sound_frames};
 ghost use Rattle.framed_service.specs.Ready.{NotAfter};
 ghost use Rattle.framed_service.specs.Quiet.{passed, quiet_ticks};
 
@@ -40,8 +40,8 @@ fn quiet_for(h: Frames, places: &[u32], notices: &[u32]) -> u32
 
 // Of `left` ticks those that can be passed over at once.
 pub fn quiet_ticks(h: Frames, shares: &[u32], places: &[u32], notices: &[u32], left: u16) -> u16
-    requires { sound_frames h (given shares places notices) ≡ true }
-    ensures { result ≡ quiet_ticks left (view h (before shares places notices)) }
+    requires { sound_frames h (tables shares.now places.now notices.now) ≡ true }
+    ensures { result ≡ quiet_ticks left (view h (tables shares.now places.now notices.now)) }
 {
     if h.link.frame == 0 {
         return 0;

@@ -11,7 +11,7 @@ ghost use Rattle.frames.specs.SoundTest.{admissions_sound, row_sound, never_fall
 ghost use Rattle.tables.specs.Places.{rows};
 ghost use Rattle.shares.specs.Shares.{shares_in, shares_formed};
 ghost use Rattle.line_tests.specs.Lines.{Held, Waiting};
-ghost use Rattle.framed_state.specs.View.{tables, before, view, tables_formed, sound_frames};
+ghost use Rattle.framed_state.specs.View.{tables, view, tables_formed, sound_frames};
 ghost use Rattle.framed_sound.specs.Parts.{unused, linked_sound};
 
 use framed_state::Frames;
@@ -42,7 +42,7 @@ fn tables_formed(
     waiting: usize,
 ) -> bool
     requires { (standing ≡ length (shares_in shares.now)) × (held ≡ length (rows places.now)) × (waiting ≡ length (rows notices.now)) }
-    ensures { result ≡ tables_formed (before shares places notices) }
+    ensures { result ≡ tables_formed (tables shares.now places.now notices.now) }
 {
     if !line_tests::places_formed(places, held) {
         return false;
@@ -205,7 +205,7 @@ fn linked_ok(
     waiting: usize,
 ) -> bool
     requires { Held places.now held × Waiting notices.now waiting × (shares_formed shares.now ≡ true) × (standing ≡ length (shares_in shares.now)) }
-    ensures { result ≡ linked_sound (view h (before shares places notices)) }
+    ensures { result ≡ linked_sound (view h (tables shares.now places.now notices.now)) }
 {
     if !admissions_ok(h, shares, standing) {
         return false;
@@ -236,7 +236,7 @@ fn linked_ok(
 
 // Whether a `Frames` with its tables of shares, of places and of notices is sound.
 pub fn is_sound(h: Frames, shares: &[u32], places: &[u32], notices: &[u32]) -> bool
-    ensures { result ≡ sound_frames h (before shares places notices) }
+    ensures { result ≡ sound_frames h (tables shares.now places.now notices.now) }
 {
     let standing = shares::standing(shares);
     let held = tables::held(places);

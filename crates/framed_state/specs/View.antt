@@ -5,7 +5,7 @@ use Rattle.frames.specs.SoundTest.{sound}
 use Rattle.tables.specs.Places.{places_length, rows, table_of}
 use Rattle.tables.specs.Notices.{notices_length, notices_in, written_notices}
 use Rattle.tables.specs.Lent.{formed_with}
-pub use Rattle.tables.specs.Lent.{Tables, tables, given, before, after}
+pub use Rattle.tables.specs.Lent.{Tables, tables}
 use Rattle.shares.specs.Shares.{shares_length, shares_in, written_shares, shares_formed}
 use Rattle.framed_state.specs.declared.Frames.{Frames}
 

@@ -4,7 +4,7 @@
 ghost use Rattle.std.specs.Prelude.{◌≡◌};
 ghost use Rattle.std.proofs.Math.Option.{none, some};
 ghost use Rattle.rules.specs.Model.{fresh, link, admit, offer, notice, close, tick};
-ghost use Rattle.state.specs.View.{before, after, hub_of};
+ghost use Rattle.state.specs.View.{tables, hub_of};
 ghost use Rattle.state.specs.Does.{Does};
 
 use limits::{MAX_LEVELS, NO_CONNECTION};
@@ -40,7 +40,7 @@ pub fn fresh_hub() -> Hub
 
 // Set the link: levels, the largest packet, the silence after each packet, whether packets may go early (0 or 1), a delay bound for each level, and for the finer test a window for each level or none (all 0). Verdicts 0, 1, 3, 4.
 pub fn link(h: Hub, members: &[u32], places: &[u32], notices: &[u32], l: Link) -> Told
-    ensures { Does (link l) h (before members places notices) result (after members places notices) }
+    ensures { Does (link l) h (tables members.now places.now notices.now) result (tables members.now places.now notices.now) }
 {
     if !sound::is_sound(h, members, places, notices) {
         return say(h, 1, 0);
@@ -50,7 +50,7 @@ pub fn link(h: Hub, members: &[u32], places: &[u32], notices: &[u32], l: Link) -
 
 // Admit a connection: its number, or 255. Verdicts 0, 1, 2, 5 to 9.
 pub fn admit(h: Hub, members: &mut [u32], places: &[u32], notices: &[u32], x: Connection) -> Told
-    ensures { Does (admit x) h (before members places notices) result (after members places notices) }
+    ensures { Does (admit x) h (tables members.old places.now notices.now) result (tables members.new places.now notices.now) }
 {
     if !sound::is_sound(h, members, places, notices) {
         return say(h, 1, NO_CONNECTION);
@@ -68,7 +68,7 @@ pub fn offer(
     len: u32,
     tag: u32,
 ) -> Told
-    ensures { Does (offer c len tag none) h (before members places notices) result (after members places notices) }
+    ensures { Does (offer c len tag none) h (tables members.old places.old notices.now) result (tables members.new places.new notices.now) }
 {
     if !sound::is_sound(h, members, places, notices) {
         return say(h, 1, 0);
@@ -87,7 +87,7 @@ pub fn offer_stamped(
     tag: u32,
     stamp: u32,
 ) -> Told
-    ensures { Does (offer c len tag (some stamp)) h (before members places notices) result (after members places notices) }
+    ensures { Does (offer c len tag (some stamp)) h (tables members.old places.old notices.now) result (tables members.new places.new notices.now) }
 {
     if !sound::is_sound(h, members, places, notices) {
         return say(h, 1, 0);
@@ -104,7 +104,7 @@ pub fn notice(
     len: u32,
     tag: u32,
 ) -> Told
-    ensures { Does (notice len tag) h (before members places notices) result (after members places notices) }
+    ensures { Does (notice len tag) h (tables members.now places.now notices.old) result (tables members.now places.now notices.new) }
 {
     if !sound::is_sound(h, members, places, notices) {
         return say(h, 1, 0);
@@ -114,7 +114,7 @@ pub fn notice(
 
 // Close a connection: its number is freed, at once or by the tick with which its charge is over. Verdicts 0, 1, 2, 10, 16.
 pub fn close(h: Hub, members: &mut [u32], places: &[u32], notices: &[u32], c: u32) -> Told
-    ensures { Does (close c) h (before members places notices) result (after members places notices) }
+    ensures { Does (close c) h (tables members.old places.now notices.now) result (tables members.new places.now notices.now) }
 {
     if !sound::is_sound(h, members, places, notices) {
         return say(h, 1, 0);
@@ -124,7 +124,7 @@ pub fn close(h: Hub, members: &mut [u32], places: &[u32], notices: &[u32], c: u3
 
 // One tick: the packet that departed, with finish at the hub's clock then, or none. Verdicts 0, 1, 2, 13.
 pub fn tick(h: Hub, members: &mut [u32], places: &mut [u32], notices: &mut [u32]) -> Told
-    ensures { Does tick h (before members places notices) result (after members places notices) }
+    ensures { Does tick h (tables members.old places.old notices.old) result (tables members.new places.new notices.new) }
 {
     if !sound::is_sound(h, members, places, notices) {
         return say(h, 1, 0);

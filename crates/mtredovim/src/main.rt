@@ -1,6 +1,6 @@
 // Replays the trace on standard input and writes its answer log to standard output. It tells on standard error what went wrong.
 ghost use Rattle.std.specs.Prelude.{◌≡◌, ◌≤◌, length};
-ghost use Rattle.tables.specs.Lent.{given, before, after};
+ghost use Rattle.tables.specs.Lent.{tables};
 ghost use Rattle.state.specs.View.{zero_tables};
 ghost use Rattle.traces.specs.Trace.{longest_record};
 ghost use Rattle.answers.specs.Answers.{longest_answer};
@@ -23,7 +23,7 @@ fn advance(
     out: &mut [u8],
 ) -> Turn
     requires { Right (length buf.old) v.cursor v.from v.to }
-    ensures turned { Turned v.cursor (before members places notices) (window buf.old v.from v.to) v.last out.old result (after members places notices) out.new (window buf.new result.from result.to) }
+    ensures turned { Turned v.cursor (tables members.old places.old notices.old) (window buf.old v.from v.to) v.last out.old result (tables members.new places.new notices.new) out.new (window buf.new result.from result.to) }
     ensures better { result.end ≡ On → Better (length buf.old) v.cursor v.from v.to v.last result }
 {
     let from = v.from;
@@ -50,10 +50,10 @@ fn replay_all(
     buf: &mut [u8],
     out: &mut [u8],
 ) -> Turn
-    requires notices_value { given members places notices ≡ zero_tables }
+    requires notices_value { tables members.old places.old notices.old ≡ zero_tables }
     requires longest_record_in_bounds { longest_record ≤ length buf.old }
     requires longest_answer_in_bounds { longest_answer ≤ length out.old }
-    ensures { Ran result (after members places notices) }
+    ensures { Ran result (tables members.new places.new notices.new) }
 {
     let mut v = first();
     loop {

@@ -3,7 +3,7 @@
 ghost use Rattle.std.specs.Prelude.{◌≡◌, true, ◌+◌, ◌/◌, ◌≤◌, length, drop};
 ghost use Rattle.answers.specs.Answers.{longest_answer};
 ghost use Rattle.steps.specs.Steps.{beginning, next, steps, is_go};
-ghost use Rattle.tables.specs.Lent.{given, before, after};
+ghost use Rattle.tables.specs.Lent.{tables};
 ghost use Rattle.both.specs.View.{sound_kept};
 ghost use Rattle.steps.specs.Tie.{point_of, cursor_of, Makes};
 ghost use Rattle.replay.specs.Slides.{slide_length, slid};
@@ -48,8 +48,8 @@ fn step_at(
     out: &mut [u8],
     wrote: usize,
 ) -> Stepped
-    requires { (sound_kept c.line (given members places notices) ≡ true) × (used ≤ length window.now) × (wrote + longest_answer ≤ length out.old) }
-    ensures { Makes (next (point_of c (before members places notices)) (drop used window.now) last) result (after members places notices) wrote out.old out.new }
+    requires { (sound_kept c.line (tables members.old places.old notices.old) ≡ true) × (used ≤ length window.now) × (wrote + longest_answer ≤ length out.old) }
+    ensures { Makes (next (point_of c (tables members.old places.old notices.old)) (drop used window.now) last) result (tables members.new places.new notices.new) wrote out.old out.new }
 {
     steps::step_tested(
         c,
@@ -72,8 +72,8 @@ fn run(
     last: bool,
     out: &mut [u8],
 ) -> Stepped
-    requires { (sound_kept c.line (given members places notices) ≡ true) × (longest_answer ≤ length out.old) }
-    ensures { Makes (steps (length out.old / longest_answer) (point_of c (before members places notices)) window.now last) result (after members places notices) 0 out.old out.new }
+    requires { (sound_kept c.line (tables members.old places.old notices.old) ≡ true) × (longest_answer ≤ length out.old) }
+    ensures { Makes (steps (length out.old / longest_answer) (point_of c (tables members.old places.old notices.old)) window.now last) result (tables members.new places.new notices.new) 0 out.old out.new }
 {
     let n = out.len() / LONGEST_ANSWER;
     let mut cur = c;
@@ -109,7 +109,7 @@ fn run(
 
 // Whether a step can be made at all: GoOn where the line and its tables are sound and the room holds an answer.
 fn ready(c: Cursor, members: &[u32], places: &[u32], notices: &[u32], room: usize) -> Status
-    ensures { result ≡ readiness c (before members places notices) room }
+    ensures { result ≡ readiness c (tables members.now places.now notices.now) room }
 {
     let h = c.line;
     if !both::is_sound(h, members, places, notices) {
@@ -131,7 +131,7 @@ pub fn step(
     last: bool,
     out: &mut [u8],
 ) -> Stepped
-    ensures { Steps 1 c (before members places notices) window.now last out.old result (after members places notices) out.new }
+    ensures { Steps 1 c (tables members.old places.old notices.old) window.now last out.old result (tables members.new places.new notices.new) out.new }
 {
     let k = ready(c, members, places, notices, out.len());
     if !goes_on(k) {
@@ -155,7 +155,7 @@ pub fn pump(
     last: bool,
     out: &mut [u8],
 ) -> Stepped
-    ensures { Steps (length out.old / longest_answer) c (before members places notices) window.now last out.old result (after members places notices) out.new }
+    ensures { Steps (length out.old / longest_answer) c (tables members.old places.old notices.old) window.now last out.old result (tables members.new places.new notices.new) out.new }
 {
     let k = ready(c, members, places, notices, out.len());
     if !goes_on(k) {

@@ -1,5 +1,7 @@
 // One tick of the line: the choice of the next packet in one pass over the rows, the packet that stands by, and the three steps. Document 01, "One tick";
 // document 02, R-1, R-4 and R-11.
+#![tactic(auto)]
+
 pub mod quiet; // quiet.rt: ticks in which nothing starts, nothing departs and no charge ends
 
 ghost use Rattle.std.specs.Prelude.{◌≡◌, true, ℕ, ◌+◌, ◌*◌, ◌<◌, ◌≤◌, length};
@@ -8,7 +10,7 @@ ghost use Rattle.rules.specs.Service.{choice, first_early, ticked};
 ghost use Rattle.tables.specs.Places.{rows, written_places, places_length};
 ghost use Rattle.connections.specs.Members.{members_length};
 ghost use Rattle.service.specs.Candidates.{best_of, level_in, early_in, StandsIn, Leads, LeadsWith, NotEligible};
-ghost use Rattle.state.specs.View.{before, view};
+ghost use Rattle.state.specs.View.{tables, view};
 ghost use Rattle.service.specs.Gives.{begun_wire, passed_on, Gives};
 ghost use Rattle.service.specs.Ready.{Ready};
 ghost use Rattle.tables.specs.Notices.{notices_formed};
@@ -159,7 +161,7 @@ fn early_next(chosen: Best, l: Link, members: &[u32], places: &[u32], notices: &
 // row is looked at.
 fn start(h: Hub, members: &[u32], places: &[u32], notices: &[u32]) -> Wire
     requires { (places.now ≡ written_places (rows places.now)) × (length places.now ≡ places_length) × (notices_formed notices.now ≡ true) × (length members.now ≡ members_length) }
-    ensures { result ≡ begun_wire (view h (before members places notices)) }
+    ensures { result ≡ begun_wire (view h (tables members.now places.now notices.now)) }
 {
     let w = line::on_wire(h.serving, h.to_go, h.silent);
     if !line::is_idle(w) {
@@ -195,7 +197,7 @@ fn pass(h: Hub, x: Sent) -> Told
 // The three steps of a tick, on a hub that is ready for them.
 pub fn run_tick(h: Hub, members: &[u32], places: &mut [u32], notices: &mut [u32]) -> Told
     requires { Ready h places.old notices.old × (length members.now ≡ members_length) }
-    ensures { Gives (ticked (view h (before members places notices))) result places.new notices.new }
+    ensures { Gives (ticked (view h (tables members.now places.old notices.old))) result places.new notices.new }
 {
     let w = start(h, members, places, notices);
     let x = line::send(w, h.link.silence, places, notices);

@@ -7,7 +7,7 @@ ghost use Rattle.rules.specs.SoundTest.{sound};
 ghost use Rattle.tables.specs.Places.{rows, written_places, places_length};
 ghost use Rattle.tables.specs.Notices.{notices_in};
 ghost use Rattle.connections.specs.Members.{members_length, first_in, members_formed};
-ghost use Rattle.state.specs.View.{Tables, given, before, view, hub_of};
+ghost use Rattle.state.specs.View.{Tables, tables, view, hub_of};
 ghost use Rattle.service.specs.Candidates.{early_in};
 ghost use Rattle.line.specs.Quiet.{eligible_from, quiet_for};
 ghost use Rattle.service.specs.Quiet.{passed, least_of_four, Waits, first_starts, charged_for, quiet_ticks};
@@ -123,8 +123,8 @@ fn charged_for(h: Hub, members: &[u32]) -> u64
 
 // Of `left` ticks those that can be passed over at once.
 pub fn quiet_ticks(h: Hub, members: &[u32], places: &[u32], notices: &[u32], left: u16) -> u16
-    requires { (sound (view h (given members places notices)) ≡ true) × (places.now ≡ written_places (rows places.now)) × (length places.now ≡ places_length) × (members_formed members.now ≡ true) }
-    ensures { result ≡ quiet_ticks left (view h (before members places notices)) }
+    requires { (sound (view h (tables members.now places.now notices.now)) ≡ true) × (places.now ≡ written_places (rows places.now)) × (length places.now ≡ places_length) × (members_formed members.now ≡ true) }
+    ensures { result ≡ quiet_ticks left (view h (tables members.now places.now notices.now)) }
 {
     if h.link.levels == 0 {
         return 0;

@@ -1,4 +1,6 @@
 // Whether a hub and three lent tables are sound: exactly, for any numbers and tables of any length.
+#![tactic(auto)]
+
 mod pace; // pace.rt: the rows of each connection, compared with each other
 mod sums; // sums.rt: the two numbers behind the rows of the table of connections
 
@@ -11,7 +13,7 @@ ghost use Rattle.tables.specs.Places.{rows};
 ghost use Rattle.line_tests.specs.Lines.{Held, Waiting};
 ghost use Rattle.connections.specs.Members.{members_length, members_in, connections_in, member_formed, rows_formed, members_formed};
 ghost use Rattle.connections.specs.Within.{Within};
-ghost use Rattle.state.specs.View.{tables, before, view, tables_formed, sound_hub};
+ghost use Rattle.state.specs.View.{tables, view, tables_formed, sound_hub};
 ghost use Rattle.sound.specs.Parts.{unused, linked_sound};
 
 use connections::Member;
@@ -78,7 +80,7 @@ fn tables_formed(
     waiting: usize,
 ) -> bool
     requires { (held ≡ length (rows places.now)) × (waiting ≡ length (rows notices.now)) }
-    ensures { result ≡ tables_formed (before members places notices) }
+    ensures { result ≡ tables_formed (tables members.now places.now notices.now) }
 {
     if !line_tests::places_formed(places, held) {
         return false;
@@ -221,7 +223,7 @@ fn linked_ok(
     waiting: usize,
 ) -> bool
     requires { Held places.now held × Waiting notices.now waiting × (members_formed members.now ≡ true) }
-    ensures { result ≡ linked_sound (view h (before members places notices)) }
+    ensures { result ≡ linked_sound (view h (tables members.now places.now notices.now)) }
 {
     if !admissions_ok(h, members) {
         return false;
@@ -250,7 +252,7 @@ fn linked_ok(
 
 // Whether a hub with its tables of connections, of places and of notices is sound.
 pub fn is_sound(h: Hub, members: &[u32], places: &[u32], notices: &[u32]) -> bool
-    ensures { result ≡ sound_hub h (before members places notices) }
+    ensures { result ≡ sound_hub h (tables members.now places.now notices.now) }
 {
     let held = tables::held(places);
     let waiting = tables::held(notices);

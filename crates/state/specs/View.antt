@@ -5,7 +5,7 @@ use Rattle.rules.specs.SoundTest.{sound}
 use Rattle.tables.specs.Places.{places_length, rows, table_of}
 use Rattle.tables.specs.Notices.{notices_length, notices_in, written_notices}
 use Rattle.tables.specs.Lent.{formed_with}
-pub use Rattle.tables.specs.Lent.{Tables, tables, given, before, after}
+pub use Rattle.tables.specs.Lent.{Tables, tables}
 use Rattle.connections.specs.Members.{members_length, connections_in, pasts_in, closed_in, written_members, members_formed}
 use Rattle.state.specs.declared.Hub.{Hub}
 

@@ -4,7 +4,7 @@ mod reading; // reading.rt: a record is read, and its call is made or its ticks 
 mod ticking; // ticking.rt: the ticks of a `TK`
 
 ghost use Rattle.std.specs.Prelude.{◌≡◌, true, ◌≤◌, length};
-ghost use Rattle.tables.specs.Lent.{given, before, after};
+ghost use Rattle.tables.specs.Lent.{tables};
 ghost use Rattle.both.specs.View.{sound_kept};
 ghost use Rattle.fields.specs.Formats.{over};
 ghost use Rattle.answers.specs.Answers.{answer_bytes, longest_answer};
@@ -96,8 +96,8 @@ pub fn step_tested(
     last: bool,
     out: &mut [u8],
 ) -> Stepped
-    requires { (sound_kept c.line (given members places notices) ≡ true) × (longest_answer ≤ length out.old) }
-    ensures { Makes (next (point_of c (before members places notices)) window.now last) result (after members places notices) 0 out.old out.new }
+    requires { (sound_kept c.line (tables members.old places.old notices.old) ≡ true) × (longest_answer ≤ length out.old) }
+    ensures { Makes (next (point_of c (tables members.old places.old notices.old)) window.now last) result (tables members.new places.new notices.new) 0 out.old out.new }
 {
     let at = c.at;
     let h = c.line;

@@ -1,7 +1,7 @@
 // A step where a record is read, and what it asks is done.
 ghost use Rattle.std.specs.Prelude.{◌≡◌, true, not, ◌&&◌, ◌-◌, ◌≤◌, ◌<◌, eqb, ltb, length};
 ghost use Rattle.rules.specs.Limits.{beyond_32_bits};
-ghost use Rattle.tables.specs.Lent.{given, before, after};
+ghost use Rattle.tables.specs.Lent.{tables};
 ghost use Rattle.both.specs.View.{view, sound_kept};
 ghost use Rattle.fields.specs.Formats.{over};
 ghost use Rattle.traces.specs.Trace.{longest_record};
@@ -140,8 +140,8 @@ fn record_step(
     notices: &mut [u32],
     out: &mut [u8],
 ) -> Stepped
-    requires { (sound_kept h (given members places notices) ≡ true) × (longest_answer ≤ length out.old) × (f.taken ≤ trace_limit - at) }
-    ensures { Makes (asked_next (asks f.what) f.taken at (view h (before members places notices))) result (after members places notices) 0 out.old out.new }
+    requires { (sound_kept h (tables members.old places.old notices.old) ≡ true) × (longest_answer ≤ length out.old) × (f.taken ≤ trace_limit - at) }
+    ensures { Makes (asked_next (asks f.what) f.taken at (view h (tables members.old places.old notices.old))) result (tables members.new places.new notices.new) 0 out.old out.new }
 {
     let used = f.taken;
     let to = at + used as u32;
@@ -223,8 +223,8 @@ pub(crate) fn read_step(
     last: bool,
     out: &mut [u8],
 ) -> Stepped
-    requires { (sound_kept h (given members places notices) ≡ true) × (longest_answer ≤ length out.old) }
-    ensures { Makes (read_next at (view h (before members places notices)) window.now last) result (after members places notices) 0 out.old out.new }
+    requires { (sound_kept h (tables members.old places.old notices.old) ≡ true) × (longest_answer ≤ length out.old) }
+    ensures { Makes (read_next at (view h (tables members.old places.old notices.old)) window.now last) result (tables members.new places.new notices.new) 0 out.old out.new }
 {
     if ends(window.len(), last) {
         return waits(at, Phase::Finished, h, Status::Done);

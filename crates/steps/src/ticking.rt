@@ -1,7 +1,7 @@
 // A step of a `TK`: quiet ticks at once, or one tick with its departure, or the `TA`.
 ghost use Rattle.std.specs.Prelude.{◌≡◌, true, ◌+◌, ◌-◌, ◌≤◌, length};
 ghost use Rattle.rules.specs.Limits.{clock_end};
-ghost use Rattle.tables.specs.Lent.{Tables, given, before, after};
+ghost use Rattle.tables.specs.Lent.{Tables, tables};
 ghost use Rattle.both.specs.View.{view, kept_of, sound_kept, kept_clock};
 ghost use Rattle.both.specs.Quiet.{passed};
 ghost use Rattle.fields.specs.Formats.{over};
@@ -18,8 +18,8 @@ use both::{Kept, Replied};
 
 // The verdict of a `TK` whose ticks are all done: 2 if none was asked and no link is set.
 fn all_done_verdict(h: Kept, members: &[u32], places: &[u32], notices: &[u32], asked: u16) -> u8
-    requires { sound_kept h (given members places notices) ≡ true }
-    ensures { result ≡ all_done_verdict asked (view h (before members places notices)) }
+    requires { sound_kept h (tables members.now places.now notices.now) ≡ true }
+    ensures { result ≡ all_done_verdict asked (view h (tables members.now places.now notices.now)) }
 {
     if asked != 0 {
         return 0;
@@ -82,8 +82,8 @@ fn one_tick(
     notices: &mut [u32],
     out: &mut [u8],
 ) -> Stepped
-    requires { (sound_kept h (given members places notices) ≡ true) × (longest_answer ≤ length out.old) × (left ≡ 0 → ⊥) }
-    ensures { Makes (one_tick at asked left (view h (before members places notices))) result (after members places notices) 0 out.old out.new }
+    requires { (sound_kept h (tables members.old places.old notices.old) ≡ true) × (longest_answer ≤ length out.old) × (left ≡ 0 → ⊥) }
+    ensures { Makes (one_tick at asked left (view h (tables members.old places.old notices.old))) result (tables members.new places.new notices.new) 0 out.old out.new }
 {
     let told = both::tick(h, members, places, notices);
     let then = told.kept;
@@ -123,8 +123,8 @@ pub(crate) fn tick_step(
     notices: &mut [u32],
     out: &mut [u8],
 ) -> Stepped
-    requires { (sound_kept h (given members places notices) ≡ true) × (longest_answer ≤ length out.old) }
-    ensures { Makes (tick_next at asked left (view h (before members places notices))) result (after members places notices) 0 out.old out.new }
+    requires { (sound_kept h (tables members.old places.old notices.old) ≡ true) × (longest_answer ≤ length out.old) }
+    ensures { Makes (tick_next at asked left (view h (tables members.old places.old notices.old))) result (tables members.new places.new notices.new) 0 out.old out.new }
 {
     if left == 0 {
         let reply = Reply::Ticked {
