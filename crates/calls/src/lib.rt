@@ -1,4 +1,6 @@
 // The six calls on a state that has been tested: same rules, no second test. A run that has tested once uses these.
+#![tactic(auto)]
+
 mod verdicts; // verdicts.rt: the verdict of each call
 
 ghost use Rattle.std.specs.Prelude.{◌≡◌, true};

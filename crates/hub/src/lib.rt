@@ -1,6 +1,8 @@
 // The hub of one output line: link, admit, offer, offer with a stamp, notice, close, tick. Any hub value and any tables: an answer or a numbered refusal; a refused call changes nothing.
 // The caller keeps a `Hub`, a table of connections of 5,002 numbers, a places table of 10,240 and a table of notices of 320, all zero at first, and hands them
 // to every call.
+#![tactic(auto)]
+
 ghost use Rattle.std.specs.Prelude.{◌≡◌};
 ghost use Rattle.std.proofs.Math.Option.{none, some};
 ghost use Rattle.rules.specs.Model.{fresh, link, admit, offer, notice, close, tick};
