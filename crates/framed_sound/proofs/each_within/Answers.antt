@@ -1,7 +1,6 @@
-use Prim.Native.Nat.{ℕ, ◌-◌}
+use Prim.Native.Nat.{ℕ}
 use native.Mathlib.Omega.{arith}
 use mathlib.Core.Path.{refl, ap}
-use mathlib.Core.Bool.{true}
 use lib.ListN.{length}
 use Rattle.frames.specs.Model.{nth}
 use Rattle.frames.specs.Admission.{share_within}

@@ -1,7 +1,5 @@
-use Prim.Native.Nat.{◌-◌}
 use native.Mathlib.Omega.{arith}
 use mathlib.Core.Path.{refl}
-use mathlib.Core.Bool.{true}
 use Rattle.framed_sound.proofs.PartLaws as L
 use Rattle.tables.proofs.PlacesLaws as P
 use borrow.Author.Rules.{rules}

@@ -1,7 +1,5 @@
-use Prim.Native.Nat.{◌-◌}
 use native.Mathlib.Omega.{arith}
 use mathlib.Core.Path.{refl, ap}
-use mathlib.Core.Bool.{true}
 use Rattle.frames.specs.SoundTest.{row_sound}
 use Rattle.shares.specs.Shares.{shares_in}
 use Rattle.line_tests.proofs.LineLaws as S

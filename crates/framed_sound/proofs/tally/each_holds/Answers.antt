@@ -1,7 +1,6 @@
-use Prim.Native.Nat.{ℕ, ◌-◌}
+use Prim.Native.Nat.{ℕ}
 use native.Mathlib.Omega.{arith}
 use mathlib.Core.Path.{refl, ap}
-use mathlib.Core.Bool.{true}
 use lib.ListN.{length, get_or}
 use Rattle.shares.specs.Shares.{shares_in}
 use Rattle.framed_sound.specs.Parts.{share_with}
