@@ -1,4 +1,6 @@
 // One tick of the second discipline's line: the choice, which looks at the first row only, the steps of the line that both share, and the clock. Document 02, R-13.
+#![tactic(auto)]
+
 pub mod quiet; // quiet.rt: ticks in which nothing starts and nothing departs
 
 ghost use Rattle.std.specs.Prelude.{◌≡◌, true, ◌<◌};
@@ -12,7 +14,7 @@ ghost use Rattle.frames.specs.Calls.{verdict};
 ghost use Rattle.tables.specs.Places.{rows};
 ghost use Rattle.tables.specs.Notices.{notices_formed};
 ghost use Rattle.line.specs.Wires.{line_in, wire_of, option, Leaves};
-ghost use Rattle.framed_state.specs.View.{given, before, after, view, sound_frames};
+ghost use Rattle.framed_state.specs.View.{tables, view, sound_frames};
 ghost use Rattle.framed_state.specs.Does.{Does};
 ghost use Rattle.framed_service.specs.Ready.{NotAfter, Ready};
 ghost use Rattle.framed_service.specs.Gives.{passed_on};
@@ -88,8 +90,8 @@ fn pass(h: Frames, x: Sent) -> Said
 
 // A tick that is done: the three steps.
 pub fn run_on(h: Frames, shares: &[u32], places: &mut [u32], notices: &mut [u32]) -> Said
-    requires { (sound_frames h (given shares places notices) ≡ true) × (verdict tick (view h (given shares places notices)) ≡ 0) }
-    ensures { Does tick h (before shares places notices) result (after shares places notices) }
+    requires { (sound_frames h (tables shares.now places.old notices.old) ≡ true) × (verdict tick (view h (tables shares.now places.old notices.old)) ≡ 0) }
+    ensures { Does tick h (tables shares.now places.old notices.old) result (tables shares.now places.new notices.new) }
 {
     let w = line::on_wire(h.serving, h.to_go, h.silent);
     let x = run_tick(w, h.clock, h.link.silence, places, notices);
