@@ -1,11 +1,13 @@
 // The five calls of a line of the second discipline on a state that has been tested: same rules, no second test. A run that has tested once uses these.
 // Document 02, R-13.
+#![tactic(auto)]
+
 mod verdicts; // verdicts.rt: the verdict of each call
 
 ghost use Rattle.std.specs.Prelude.{◌≡◌, true};
 ghost use Rattle.frames.specs.Model.{link, admit, offer, notice, tick};
 ghost use Rattle.frames.specs.Calls.{verdict};
-ghost use Rattle.framed_state.specs.View.{given, before, after, view, sound_frames};
+ghost use Rattle.framed_state.specs.View.{tables, given, before, after, view, sound_frames};
 ghost use Rattle.framed_state.specs.Does.{Does};
 
 use framed_state::{Frames, Said, say};
@@ -35,8 +37,8 @@ pub fn admit_tested(
     notices: &[u32],
     x: Share,
 ) -> Said
-    requires { sound_frames h (given shares places notices) ≡ true }
-    ensures { Does (admit x) h (before shares places notices) result (after shares places notices) }
+    requires { sound_frames h (tables shares.old places.now notices.now) ≡ true }
+    ensures { Does (admit x) h (tables shares.old places.now notices.now) result (tables shares.new places.now notices.now) }
 {
     let standing = shares::standing(shares);
     let v = verdicts::admit_verdict(h, shares, places, notices, standing, x);
@@ -65,8 +67,8 @@ fn accept(
     len: u32,
     tag: u32,
 ) -> Said
-    requires { (sound_frames h (given shares places notices) ≡ true) × (verdict (offer c len tag) (view h (given shares places notices)) ≡ 0) }
-    ensures { Does (offer c len tag) h (before shares places notices) result (after shares places notices) }
+    requires { (sound_frames h (tables shares.now places.old notices.now) ≡ true) × (verdict (offer c len tag) (view h (tables shares.now places.old notices.now)) ≡ 0) }
+    ensures { Does (offer c len tag) h (tables shares.now places.old notices.now) result (tables shares.now places.new notices.now) }
 {
     let e = framed_sound::next_start(h.link.frame, h.clock) as u32;
     let held = tables::count(places);
@@ -94,8 +96,8 @@ pub fn offer_tested(
     len: u32,
     tag: u32,
 ) -> Said
-    requires { sound_frames h (given shares places notices) ≡ true }
-    ensures { Does (offer c len tag) h (before shares places notices) result (after shares places notices) }
+    requires { sound_frames h (tables shares.now places.old notices.now) ≡ true }
+    ensures { Does (offer c len tag) h (tables shares.now places.old notices.now) result (tables shares.now places.new notices.now) }
 {
     let v = verdicts::offer_verdict(h, shares, places, notices, c, len);
     if v != 0 {
@@ -113,8 +115,8 @@ pub fn notice_tested(
     len: u32,
     tag: u32,
 ) -> Said
-    requires { sound_frames h (given shares places notices) ≡ true }
-    ensures { Does (notice len tag) h (before shares places notices) result (after shares places notices) }
+    requires { sound_frames h (tables shares.now places.now notices.old) ≡ true }
+    ensures { Does (notice len tag) h (tables shares.now places.now notices.old) result (tables shares.now places.now notices.new) }
 {
     let unset = verdicts::unset(h);
     let x = causes::take_notice(unset, h.link.largest, h.clock, notices, len, tag);
@@ -123,8 +125,8 @@ pub fn notice_tested(
 
 // One tick.
 pub fn tick_tested(h: Frames, shares: &[u32], places: &mut [u32], notices: &mut [u32]) -> Said
-    requires { sound_frames h (given shares places notices) ≡ true }
-    ensures { Does tick h (before shares places notices) result (after shares places notices) }
+    requires { sound_frames h (tables shares.now places.old notices.old) ≡ true }
+    ensures { Does tick h (tables shares.now places.old notices.old) result (tables shares.now places.new notices.new) }
 {
     let v = verdicts::tick_verdict(h, shares, places, notices);
     if v != 0 {
