@@ -1,9 +1,11 @@
 // A line of the second discipline, with frames: link, admit, offer, notice, tick. Any `Frames` value and any tables: an answer or a numbered refusal; a refused call changes
 // nothing. The caller keeps a `Frames`, a table of connections of 400 numbers, a places table of 10,240 and a table of notices of 320, all zero at first, and hands them to
 // every call. Document 02, R-13.
+#![tactic(auto)]
+
 ghost use Rattle.std.specs.Prelude.{◌≡◌};
 ghost use Rattle.frames.specs.Model.{fresh, link, admit, offer, notice, tick};
-ghost use Rattle.framed_state.specs.View.{before, after, frames_of};
+ghost use Rattle.framed_state.specs.View.{tables, before, after, frames_of};
 ghost use Rattle.framed_state.specs.Does.{Does};
 
 use framed_state::{Frames, Said, say};
@@ -46,7 +48,7 @@ pub fn link(h: Frames, shares: &[u32], places: &[u32], notices: &[u32], l: Frami
 
 // Admit a connection with r units per frame and p places: its number, or 255. Verdicts 0, 1, 2, 6 to 9.
 pub fn admit(h: Frames, shares: &mut [u32], places: &[u32], notices: &[u32], x: Share) -> Said
-    ensures { Does (admit x) h (before shares places notices) result (after shares places notices) }
+    ensures { Does (admit x) h (tables shares.old places.now notices.now) result (tables shares.new places.now notices.now) }
 {
     if !framed_sound::is_sound(h, shares, places, notices) {
         return say(h, 1, NO_CONNECTION);
@@ -64,7 +66,7 @@ pub fn offer(
     len: u32,
     tag: u32,
 ) -> Said
-    ensures { Does (offer c len tag) h (before shares places notices) result (after shares places notices) }
+    ensures { Does (offer c len tag) h (tables shares.now places.old notices.now) result (tables shares.now places.new notices.now) }
 {
     if !framed_sound::is_sound(h, shares, places, notices) {
         return say(h, 1, 0);
@@ -81,7 +83,7 @@ pub fn notice(
     len: u32,
     tag: u32,
 ) -> Said
-    ensures { Does (notice len tag) h (before shares places notices) result (after shares places notices) }
+    ensures { Does (notice len tag) h (tables shares.now places.now notices.old) result (tables shares.now places.now notices.new) }
 {
     if !framed_sound::is_sound(h, shares, places, notices) {
         return say(h, 1, 0);
@@ -91,7 +93,7 @@ pub fn notice(
 
 // One tick: the packet that departed, with finish at the clock then, or none. Verdicts 0, 1, 2, 13.
 pub fn tick(h: Frames, shares: &[u32], places: &mut [u32], notices: &mut [u32]) -> Said
-    ensures { Does tick h (before shares places notices) result (after shares places notices) }
+    ensures { Does tick h (tables shares.now places.old notices.old) result (tables shares.now places.new notices.new) }
 {
     if !framed_sound::is_sound(h, shares, places, notices) {
         return say(h, 1, 0);
