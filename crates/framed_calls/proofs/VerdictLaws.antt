@@ -7,7 +7,7 @@ use mathlib.Core.List.{List, [], ◌∷◌, ◌++◌}
 use lib.Dec.{leb, ltb, eqb}
 use lib.ListN.{length}
 use borrow.Author.Tests.{eq-eqb, lt-ltb, le-ltb, not-false}
-use Rattle.rules.specs.Words.{All, within, first_number, total}
+use Rattle.rules.specs.Words.{All, within, first_number}
 use Rattle.rules.specs.Limits.{max_reserved}
 use Rattle.rules.proofs.Tests.{passed, never, never_number}
 use Rattle.rules.proofs.Sums.{cond_is}

@@ -4,7 +4,7 @@ use Rattle.frames.specs.Model.{fresh}
 use Rattle.frames.specs.Runs.{run}
 use Rattle.frames.proofs.Names.{History, logged, run_from, nothing_yet}
 use Rattle.frames.proofs.Every.{fresh_invariant}
-use Rattle.tables.specs.Places.{written_places, table_of}
+use Rattle.tables.specs.Places.{table_of}
 use Rattle.shares.specs.Shares.{written_shares}
 use Rattle.faces.proofs.Results as F
 use Rattle.framed_state.specs.View.{zero_tables, written}

@@ -1,4 +1,6 @@
 // One tick of the second discipline's line: the choice, which looks at the first row only, the steps of the line that both share, and the clock. Document 02, R-13.
+#![tactic(auto)]
+
 pub mod quiet; // quiet.rt: ticks in which nothing starts and nothing departs
 
 ghost use Rattle.std.specs.Prelude.{◌≡◌, true, ◌<◌};

@@ -12,7 +12,7 @@ use Rattle.rules.specs.Words.{every, total}
 use Rattle.rules.specs.Service.{of}
 use Rattle.rules.proofs.Sums.{same, split}
 use Rattle.frames.specs.declared.Framing.{Framing}
-use Rattle.frames.specs.Service.{newly, used}
+use Rattle.frames.specs.Service.{newly}
 use Rattle.frames.specs.SoundTest.{share_sound}
 use Rattle.frames.proofs.Figures.{newly_yes, newly_no}
 use Rattle.limits.proofs.EveryLaws.{every_same}

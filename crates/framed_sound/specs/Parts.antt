@@ -1,11 +1,9 @@
 -- Parts of the test for which the rules have no name of their own. docs/RULES.md, R-13.
-use Rattle.std.specs.Prelude.{ℕ, ◌≤◌, ◌<◌, Bool, false, ◌&&◌, List, leb, eqb, length, set}
+use Rattle.std.specs.Prelude.{ℕ, ◌≤◌, ◌<◌, Bool, false, ◌&&◌, List, leb, eqb, length}
 use Rattle.rules.specs.Limits.{max_largest, max_silence}
-use Rattle.rules.specs.Service.{of}
 use Rattle.rules.specs.SoundLine.{wire_sound}
 use Rattle.frames.specs.declared.Framing.{Framing}
 use Rattle.frames.specs.Model.{State, nth, wire}
-use Rattle.frames.specs.Service.{used}
 use Rattle.frames.specs.SoundTest.{admissions_sound, rows_sound, in_turn_sound}
 use Rattle.tables.specs.Places.{rows, row_at}
 use Rattle.shares.specs.Shares.{shares_in}

@@ -1,4 +1,6 @@
 // Whether a `Frames` and three lent tables are sound: exactly, for any numbers and tables of any length.
+#![tactic(auto)]
+
 pub mod tally; // tally.rt: the rows of each connection and the units that it has used, counted
 
 ghost use Rattle.std.specs.Prelude.{◌≡◌, true, List, ℕ, ◌≤◌, length};

@@ -1,5 +1,7 @@
 // What a caller keeps between the calls of a line of the second discipline, and what a call answers: a `Frames` by value, three lent tables, an answer. Its specs read
 // them as a state of crate `frames`, and have the contract of every call.
+#![tactic(auto)]
+
 ghost use Rattle.std.specs.Prelude.{◌≡◌};
 ghost use Rattle.framed_state.specs.Said.{refusal};
 

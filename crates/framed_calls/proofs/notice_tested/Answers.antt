@@ -1,0 +1,24 @@
+-- `framed_calls::notice_tested` meets its contract: what the table of notices and the link decide is told.
+use mathlib.Core.Path.{◌∙◌, ap}
+use mathlib.Core.Bool.{Bool}
+use Rattle.frames.specs.Model.{notice}
+use Rattle.tables.specs.Notices.{notices_in}
+use Rattle.causes.specs.Notices.{notice_verdict}
+use Rattle.framed_state.specs.View.{tables, view}
+use Rattle.framed_state.proofs.SoundLaws as S
+use Rattle.framed_calls.proofs.ActLaws as A
+use Rattle.framed_calls.proofs.VerdictLaws as W
+use Rattle.framed_calls.proofs.notice_tested.Goals as goal
+
+pub take_notice-x-requires : goal.take_notice-x-requires
+take_notice-x-requires c =
+    let t = tables c.args.shares.now c.args.places.now c.args.notices.now in
+    (S.shapes t (S.formed_tables c.args.h t c.requires)).notices_shape
+
+pub returns : goal.returns
+returns c =
+    let a = c.args in
+    let t = tables a.shares.now a.places.now a.notices.now in
+    let v = ap (λ (b : Bool). notice_verdict b a.h.link.largest a.h.clock (notices_in a.notices.now) a.len) c.unset-unset.ensures in
+    A.notice_does a.h t c.requires a.len a.tag _ (v ∙ W.by_causes (notice a.len a.tag) (view a.h t) (S.sound_view a.h t c.requires))
+    _ _ _ c.take_notice-x.ensures c.say.ensures
