@@ -3,11 +3,10 @@ use Prim.Native.Nat.{ℕ, zero, suc, ◌+◌, ◌*◌, ◌/◌, ◌≤◌, ◌<�
 use native.Mathlib.Omega.{arith}
 use mathlib.Core.Path.{◌≡◌, refl, sym, ap, ◌∙◌}
 use mathlib.Core.Bool.{Bool, true, false, ◌&&◌}
-use mathlib.Core.Logic.{◌⊎◌, inl, inr, ⊎_elim}
+use mathlib.Core.Logic.{⊎_elim}
 use mathlib.Core.List.{List, [], ◌∷◌, ◌++◌}
 use lib.Dec.{eqb, leb}
-use lib.ListN.{length, drop, length-append, get_or-append}
-use lib.Seq.{get_or-append_seam}
+use lib.ListN.{length, drop}
 use borrow.Author.Tests.{leb-true, le-leb, lt-leb, eq-eqb, ne_eqb}
 use Rattle.rules.specs.declared.Link.{Link}
 use Rattle.rules.specs.declared.Connection.{Connection}
@@ -26,9 +25,6 @@ use Rattle.rules.proofs.LevelTest.{names_lowest}
 use Rattle.fields.specs.Numbers.{number, get_fields}
 use Rattle.fields.specs.Formats.{starts}
 use Rattle.fields.proofs.FieldLaws.{fields_on}
-use types.Run.{OneOf, miss}
-use denote.Enum.Declared.{tag_of}
-use Rattle.traces.specs.contracts.Record.{the_type}
 use Rattle.traces.specs.declared.Record.{Record}
 use Rattle.traces.specs.declared.Record.TheVariants.{Link as LinkRecord, LinkStandBy, LinkWindows, LinkFrames, Admit, AdmitStamped, AdmitShare, Close, Offer, OfferStamped, Notice, Ticks, Malformed}
 use Rattle.traces.specs.declared.Found.{Found}
@@ -47,25 +43,24 @@ next_is flag last gap now = refl
 
 -- ---- the link
 
--- a record of another kind names none, as the code tells it apart: by the number of its variant
-abbrev others : List ℕ
-others = 1 ∷ 3 ∷ 4 ∷ 5 ∷ 6 ∷ 7 ∷ 8 ∷ 9 ∷ 10 ∷ 11 ∷ 12 ∷ []
-
-pub of_no_link : (r : Record) → OneOf others (tag_of the_type r) → no_link ≡ link_of (trace_layout r)
+-- a record of another kind names none, as the code tells it apart: it is no `LK` and no `LW`
+pub of_no_link : (r : Record) → ((n s silence d1 d2 d3 d4 d5 d6 d7 d8 : ℕ) → r ≡ LinkRecord n s silence d1 d2 d3 d4 d5 d6 d7 d8 → ⊥)
+    → ((n s silence early d1 d2 d3 d4 d5 d6 d7 d8 w1 w2 w3 w4 w5 w6 w7 w8 : ℕ) → r ≡ LinkWindows n s silence early d1 d2 d3 d4 d5 d6 d7 d8 w1 w2 w3 w4 w5 w6 w7 w8 → ⊥)
+    → no_link ≡ link_of (trace_layout r)
 unfolding starts
-of_no_link (LinkRecord n s silence d1 d2 d3 d4 d5 d6 d7 d8) h = absurd (miss others 0 tt h)
-of_no_link (LinkStandBy n s silence early d1 d2 d3 d4 d5 d6 d7 d8) h = refl
-of_no_link (LinkWindows n s silence early d1 d2 d3 d4 d5 d6 d7 d8 w1 w2 w3 w4 w5 w6 w7 w8) h = absurd (miss others 2 tt h)
-of_no_link (LinkFrames frame largest silence) h = refl
-of_no_link (Admit level gap size window average) h = refl
-of_no_link (AdmitStamped level gap size allowance) h = refl
-of_no_link (AdmitShare units places) h = refl
-of_no_link (Close c) h = refl
-of_no_link (Offer c len tag) h = refl
-of_no_link (OfferStamped c len tag stamp) h = refl
-of_no_link (Notice len tag) h = refl
-of_no_link (Ticks n) h = refl
-of_no_link Malformed h = refl
+of_no_link (LinkRecord n s silence d1 d2 d3 d4 d5 d6 d7 d8) a b = absurd (a n s silence d1 d2 d3 d4 d5 d6 d7 d8 refl)
+of_no_link (LinkStandBy n s silence early d1 d2 d3 d4 d5 d6 d7 d8) a b = refl
+of_no_link (LinkWindows n s silence early d1 d2 d3 d4 d5 d6 d7 d8 w1 w2 w3 w4 w5 w6 w7 w8) a b = absurd (b n s silence early d1 d2 d3 d4 d5 d6 d7 d8 w1 w2 w3 w4 w5 w6 w7 w8 refl)
+of_no_link (LinkFrames frame largest silence) a b = refl
+of_no_link (Admit level gap size window average) a b = refl
+of_no_link (AdmitStamped level gap size allowance) a b = refl
+of_no_link (AdmitShare units places) a b = refl
+of_no_link (Close c) a b = refl
+of_no_link (Offer c len tag) a b = refl
+of_no_link (OfferStamped c len tag stamp) a b = refl
+of_no_link (Notice len tag) a b = refl
+of_no_link (Ticks n) a b = refl
+of_no_link Malformed a b = refl
 
 module _ (lk : List ℕ) (f : Found) (e : f ≡ read_trace lk) where
   taken_is : (read_trace lk).taken ≡ f.taken

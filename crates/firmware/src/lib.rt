@@ -1,5 +1,7 @@
 // The questions that the hub's firmware asks across the C boundary. Document 01, "Two questions from C firmware", and document 02, R-2, R-6, R-9 and R-12; for C:
 // include/mtredovim.h.
+#![tactic(auto)]
+
 ghost use Rattle.std.specs.Prelude.{◌≡◌, true, ℕ, ◌+◌, ◌*◌, ◌<◌, ◌≤◌, length};
 ghost use Rattle.rules.specs.Words.{every, tabulate};
 ghost use Rattle.rules.specs.Limits.{max_connections};

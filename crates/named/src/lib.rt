@@ -1,5 +1,7 @@
 // What the numbers of a trace record name: the link of an `LK`, of an `LE` and of an `LW`, the connection of a `CN` and of a `CS`; the framing of an `LF`, the share of a `CF`. The replay and the firmware
 // get them through these.
+#![tactic(auto)]
+
 ghost use Rattle.std.specs.Prelude.{◌≡◌, [], ◌∷◌};
 ghost use Rattle.rules.specs.Model.{no_link};
 ghost use Rattle.named.specs.Named.{link_named, framing_named, connection_named, stamped_named, share_named};

@@ -1,4 +1,6 @@
 // The trace records of document 01, "Trace and answer records", and of document 02, R-1, R-4, R-6, R-8, R-9, R-11, R-12 and R-13: their kinds as values, read and written.
+#![tactic(auto)]
+
 mod link; // link.rt: links, of which one number says how many follow
 
 ghost use Rattle.std.specs.Prelude.{◌≡◌, cond, ltb, length, drop};

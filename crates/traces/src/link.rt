@@ -4,7 +4,7 @@ ghost use Rattle.std.proofs.Math.Option.{some, none};
 ghost use Rattle.fields.specs.Numbers.{number, get_fields};
 ghost use Rattle.fields.specs.Formats.{read_kind, laid};
 ghost use Rattle.fields.specs.Drafts.{Holds, AddsAll};
-ghost use Rattle.traces.specs.Kinds.{LK, LE, LW};
+ghost use Rattle.traces.specs.Kinds.{LK as LK_kind, LE as LE_kind, LW as LW_kind};
 ghost use Rattle.traces.specs.Trace.{found};
 ghost use Rattle.traces.specs.Links.{link_written, windowed};
 
@@ -26,7 +26,7 @@ fn bound(s: &[u8], at: usize, levels: usize, k: usize) -> u16
 // A link's record whose last bounds, or windows, start at a place; nothing where it has no number of levels that is allowed.
 fn levelled(s: &[u8], at: usize, levels: u8, what: Record) -> Found
     requires { at ≤ 517 }
-    ensures { result ≡ found (cond (LK.allows levels) (cond (ltb (length s.now) (at + 2 * levels)) none (some (what, at + 2 * levels))) none) }
+    ensures { result ≡ found (cond (LK_kind.allows levels) (cond (ltb (length s.now) (at + 2 * levels)) none (some (what, at + 2 * levels))) none) }
 {
     match levels {
         1..=8 => whole_of(s, at + 2 * (levels as usize), what),
@@ -36,7 +36,7 @@ fn levelled(s: &[u8], at: usize, levels: u8, what: Record) -> Found
 
 // The numbers of an `LK` with so many levels.
 fn link_of(s: &[u8], levels: u8) -> Record
-    ensures { result ≡ LK.make (λ i. get_or (levels ∷ number 2 s.now 3 ∷ number 1 s.now 5 ∷ get_fields (replicate levels 2) s.now 6) i 0) }
+    ensures { result ≡ LK_kind.make (λ i. get_or (levels ∷ number 2 s.now 3 ∷ number 1 s.now 5 ∷ get_fields (replicate levels 2) s.now 6) i 0) }
 {
     let n = levels as usize;
     Record::Link {
@@ -56,7 +56,7 @@ fn link_of(s: &[u8], levels: u8) -> Record
 
 // An `LK`.
 pub(crate) fn read(s: &[u8]) -> Found
-    ensures { result ≡ found (read_kind LK (get_or s.now 2 0) s.now) }
+    ensures { result ≡ found (read_kind LK_kind (get_or s.now 2 0) s.now) }
 {
     let levels = one(s, 2);
     levelled(s, 6, levels, link_of(s, levels))
@@ -64,7 +64,7 @@ pub(crate) fn read(s: &[u8]) -> Found
 
 // The numbers of an `LE` with so many levels.
 fn stand_by_of(s: &[u8], levels: u8) -> Record
-    ensures { result ≡ LE.make (λ i. get_or (levels ∷ number 2 s.now 3 ∷ number 1 s.now 5 ∷ number 1 s.now 6 ∷ get_fields (replicate levels 2) s.now 7) i 0) }
+    ensures { result ≡ LE_kind.make (λ i. get_or (levels ∷ number 2 s.now 3 ∷ number 1 s.now 5 ∷ number 1 s.now 6 ∷ get_fields (replicate levels 2) s.now 7) i 0) }
 {
     let n = levels as usize;
     Record::LinkStandBy {
@@ -85,7 +85,7 @@ fn stand_by_of(s: &[u8], levels: u8) -> Record
 
 // An `LE`.
 pub(crate) fn read_stand_by(s: &[u8]) -> Found
-    ensures { result ≡ found (read_kind LE (get_or s.now 2 0) s.now) }
+    ensures { result ≡ found (read_kind LE_kind (get_or s.now 2 0) s.now) }
 {
     let levels = one(s, 2);
     levelled(s, 7, levels, stand_by_of(s, levels))
@@ -125,7 +125,7 @@ fn windows_of(s: &[u8], levels: u8) -> Record
 
 // An `LW`.
 pub(crate) fn read_windows(s: &[u8]) -> Found
-    ensures { result ≡ found (read_kind LW (get_or s.now 2 0) s.now) }
+    ensures { result ≡ found (read_kind LW_kind (get_or s.now 2 0) s.now) }
 {
     let levels = one(s, 2);
     levelled(s, 7 + 2 * (levels as usize), levels, windows_of(s, levels))
@@ -182,7 +182,7 @@ fn windows_behind(head: Draft, levels: u8, bounds: [u16; 8], windows: [u16; 8]) 
 
 // The bytes of an `LK`; none where it is not written.
 pub(crate) fn draft(levels: u8, largest: u16, silence: u8, bounds: [u16; 8]) -> Draft
-    ensures { Holds result (laid (some (LK, levels ∷ largest ∷ silence ∷ bounds))) }
+    ensures { Holds result (laid (some (LK_kind, levels ∷ largest ∷ silence ∷ bounds))) }
 {
     let head = Draft::headed(LK, levels).two(largest).one(silence);
     bounded(head, levels, bounds)
@@ -196,7 +196,7 @@ pub(crate) fn draft_stand_by(
     early: u8,
     bounds: [u16; 8],
 ) -> Draft
-    ensures { Holds result (laid (some (LE, levels ∷ largest ∷ silence ∷ early ∷ bounds))) }
+    ensures { Holds result (laid (some (LE_kind, levels ∷ largest ∷ silence ∷ early ∷ bounds))) }
 {
     let head = Draft::headed(LE, levels)
         .two(largest)
@@ -214,7 +214,7 @@ pub(crate) fn draft_windows(
     bounds: [u16; 8],
     windows: [u16; 8],
 ) -> Draft
-    ensures { Holds result (laid (some (LW, levels ∷ largest ∷ silence ∷ setting ∷ bounds ++ windows))) }
+    ensures { Holds result (laid (some (LW_kind, levels ∷ largest ∷ silence ∷ setting ∷ bounds ++ windows))) }
 {
     let head = Draft::headed(LW, levels)
         .two(largest)
