@@ -1,5 +1,7 @@
 // The five calls of a line of the second discipline on a state that has been tested: same rules, no second test. A run that has tested once uses these.
 // Document 02, R-13.
+#![tactic(auto)]
+
 mod verdicts; // verdicts.rt: the verdict of each call
 
 ghost use Rattle.std.specs.Prelude.{◌≡◌, true};

@@ -1,6 +1,8 @@
 // A line of the second discipline, with frames: link, admit, offer, notice, tick. Any `Frames` value and any tables: an answer or a numbered refusal; a refused call changes
 // nothing. The caller keeps a `Frames`, a table of connections of 400 numbers, a places table of 10,240 and a table of notices of 320, all zero at first, and hands them to
 // every call. Document 02, R-13.
+#![tactic(auto)]
+
 ghost use Rattle.std.specs.Prelude.{◌≡◌};
 ghost use Rattle.frames.specs.Model.{fresh, link, admit, offer, notice, tick};
 ghost use Rattle.framed_state.specs.View.{tables, frames_of};
