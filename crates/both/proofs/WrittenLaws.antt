@@ -31,7 +31,7 @@ module _ (s : Line) (S : SoundLine s) where
     w = frame_written s.frames
 
     levels_fresh : s.levels ≡ level_fresh
-    levels_fresh = S.levels_Sound.with_no_link (eqb-true _ 0 (not-false _ (not_true_false (levels_set s) (λ l. S.never_both l f))))
+    levels_fresh = S.levels_sound.with_no_link (eqb-true _ 0 (not-false _ (not_true_false (levels_set s) (λ l. S.never_both l f))))
 
     there : sound_frames (frames_of s.frames) w ≡ true
     there = frame.written_sound s.frames S.frames_sound
@@ -72,7 +72,7 @@ module _ (s : Line) (S : SoundLine s) where
     level_again =
         cond_is (of_frames (kept_of s) (written s)) (of_levels (kept_of s) (written s)) n
         ∙ same_line s (level_view (hub_of s.levels) (written s)) FrameFresh
-        (ap (level_view (hub_of s.levels)) are_levels ∙ level.read_written s.levels (level.writable s.levels S.levels_Sound))
+        (ap (level_view (hub_of s.levels)) are_levels ∙ level.read_written s.levels (level.writable s.levels S.levels_sound))
         (sym frames_fresh)
 
     level_sound : sound_kept (kept_of s) (written s) ≡ true
@@ -80,7 +80,7 @@ module _ (s : Line) (S : SoundLine s) where
     level_sound =
         cond_is (unused_hub (hub_of s.levels) && (members_framed (written s).members && sound_frames (frames_of s.frames) (framed (written s)))) _ n
         ∙ and_intro (unused_frames (frames_of s.frames)) _ (frames_unused (frames_of s.frames) (ap frames_of frames_fresh))
-        (ap (sound_hub (hub_of s.levels)) are_levels ∙ level.written_sound s.levels S.levels_Sound)
+        (ap (sound_hub (hub_of s.levels)) are_levels ∙ level.written_sound s.levels S.levels_sound)
 
 -- READING WHAT IS WRITTEN gives the line back, and what is written is sound
 pub written_reads_back : (s : Line) → SoundLine s → (view (kept_of s) (written s) ≡ s) × (sound_kept (kept_of s) (written s) ≡ true)

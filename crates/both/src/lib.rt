@@ -1,5 +1,7 @@
 // The line of either discipline: what a caller keeps of it, and its eight requests on a line that has been tested. Each is answered by the discipline that is set; a
 // request that only the other one knows is refused. Document 02, R-13.
+#![tactic(auto)]
+
 mod parts; // parts.rt: the parts of the soundness test, and answers of the two disciplines as replies
 pub mod quiet; // quiet.rt: ticks in which nothing starts and nothing departs
 
