@@ -1,4 +1,6 @@
 // One step of a replay on a line that has been tested: at most one answer record. Document 01, "Trace and answer records" and "One tick"; document 02, R-1, R-8, R-9 and R-13.
+#![tactic(auto)]
+
 mod asking; // asking.rt: what a record asks
 mod reading; // reading.rt: a record is read, and its call is made or its ticks begin
 mod ticking; // ticking.rt: the ticks of a `TK`

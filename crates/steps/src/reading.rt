@@ -15,9 +15,9 @@ ghost use Rattle.steps.specs.Tie.{cursor_at, link_answer, admission_answer, clos
 
 use super::asking::{Wanted, asked_by, link_of};
 use super::{Cursor, Phase, Status, Stepped, answered, waits};
+use answer_log::TRACE_LIMIT;
 use answers::{Reply, low};
 use both::{Kept, Replied};
-use answer_log::TRACE_LIMIT;
 use traces::{Found, LONGEST_RECORD, Record};
 
 // The record that the bytes start with, at offset `at` of the trace: malformed where it would end beyond the limit.
