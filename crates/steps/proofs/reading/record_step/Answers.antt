@@ -6,6 +6,7 @@ use Rattle.tables.specs.Lent.{tables}
 use Rattle.both.specs.View.{view}
 use Rattle.answer_log.specs.Log.{one_call}
 use Rattle.steps.specs.declared.Status.TheVariants.{GoOn, Done}
+use Rattle.steps.specs.Tie.{link_answer, admission_answer, close_answer, offer_answer, notice_answer}
 use Rattle.steps.specs.Wants.{asks_as}
 use Rattle.steps.proofs.CallLaws.{did_asked, link_logged, admission_logged, close_logged, offer_logged, notice_logged, units_fit, did_kept, as_asked}
 use Rattle.steps.proofs.reading.record_step.Goals as goal
