@@ -1,5 +1,7 @@
 // THE REPLAY: a trace in, its answer log out, one answer record a step, in a window of any size. The line's soundness is tested once a call of `step` or
 // `pump`, not once a tick: each tick is still what the public call would answer, since a request on a sound line leaves a sound one.
+#![tactic(auto)]
+
 ghost use Rattle.std.specs.Prelude.{◌≡◌, true, ◌+◌, ◌/◌, ◌≤◌, length, drop};
 ghost use Rattle.answers.specs.Answers.{longest_answer};
 ghost use Rattle.steps.specs.Steps.{beginning, next, steps, is_go};
