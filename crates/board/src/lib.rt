@@ -1,5 +1,7 @@
 // The hub from C: link, admit, offer, notice, close, tick, many ticks, of either discipline, for any tables: an answer or a numbered refusal; a refused call changes
 // nothing. The caller lends the line's table, of 31 numbers, and the tables of connections, places and notices, all zero at first. For C: include/mtredovim.h.
+#![tactic(auto)]
+
 mod kept; // kept.rt: the line's table, and the numbers of an answer
 pub mod tested; // tested.rt: the same calls on tables that have been tested
 mod ticking; // ticking.rt: many ticks
