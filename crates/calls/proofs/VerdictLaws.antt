@@ -13,7 +13,7 @@ use Rattle.rules.specs.declared.Connection.{Connection}
 use Rattle.rules.specs.declared.Short.{Short}
 use Rattle.rules.specs.Words.{All, within, first_number}
 use Rattle.rules.specs.Limits.{max_largest, max_connections, max_reserved, beyond_32_bits}
-use Rattle.rules.specs.Model.{Past, State, Call, admit, offer, close, no_short, no_connection, no_past, nth, figures, past}
+use Rattle.rules.specs.Model.{Past, State, Call, admit, offer, close, no_connection, no_past, nth, figures, past}
 use Rattle.rules.specs.Admission.{level_within, owned, stands, free_number, joining, bound, reservation, reserved, level_test, passes, stand_by_on, distance}
 use Rattle.rules.specs.Service.{suits, untimely, untimely_by, eligibility_by, of}
 use Rattle.rules.specs.SoundTest.{sound}

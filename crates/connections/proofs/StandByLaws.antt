@@ -4,15 +4,14 @@ use native.Mathlib.Omega.{arith}
 use native.Mathlib.Nat.{mul-le-mul_right, mul-le-mul_left}
 use mathlib.Core.Path.{◌≡◌, refl, sym, ap, ◌∙◌}
 use mathlib.Core.Bool.{Bool, true, false, not, ◌&&◌}
-use mathlib.Core.List.{[], ◌∷◌}
 use mathlib.Core.Option.{Option, none, some}
 use lib.Dec.{eqb, leb, ltb}
 use lib.ListN.{length, length-take}
 use borrow.Author.Tests.{leb-true, leb-false, le-ltb}
 use Rattle.rules.specs.declared.Link.{Link}
 use Rattle.rules.specs.declared.Connection.{Connection}
-use Rattle.rules.specs.Limits.{max_remembered, beyond_32_bits}
-use Rattle.rules.specs.Admission.{stamped, burst, stand_by_on, goes_early}
+use Rattle.rules.specs.Limits.{beyond_32_bits}
+use Rattle.rules.specs.Admission.{stamped, stand_by_on, goes_early}
 use Rattle.rules.specs.Service.{nth_before, ticks_after}
 use Rattle.rules.specs.SoundState.{is_known, lies_beyond, settled_by, settles}
 use Rattle.connections.specs.declared.Member.{Member}

@@ -14,7 +14,7 @@ use Rattle.rules.specs.Words.{push}
 use Rattle.rules.specs.Limits.{notice_number, no_connection_number}
 use Rattle.rules.specs.Model.{State as LevelState, Call as LevelCall, link as level_link, admit as level_admit, offer as level_offer, notice as level_notice, close as level_close, tick as level_tick, Answer as LevelAnswer, fresh as level_fresh}
 use Rattle.rules.specs.SoundTest.{sound as level_sound}
-use Rattle.rules.specs.Calls.{verdict as level_verdict, done as level_done, answer as level_answer}
+use Rattle.rules.specs.Calls.{verdict as level_verdict, answer as level_answer}
 use Rattle.rules.specs.Runs.{if_done, History as LevelHistory, logged as level_logged, after as level_after, run_from as level_run_from, nothing_yet as level_nothing_yet}
 use Rattle.rules.proofs.RunWords.{leaving as level_leaving}
 use Rattle.rules.proofs.Sums.{cond_is}
@@ -28,7 +28,7 @@ use Rattle.frames.specs.declared.Framing.{Framing}
 use Rattle.frames.specs.declared.Share.{Share}
 use Rattle.frames.specs.Model.{State as FrameState, Call as FrameCall, link as frame_link, admit as frame_admit, offer as frame_offer, notice as frame_notice, tick as frame_tick, Answer as FrameAnswer, fresh as FrameFresh}
 use Rattle.frames.specs.SoundTest.{sound as frame_sound}
-use Rattle.frames.specs.Calls.{verdict as frame_verdict, done as frame_done, answer as frame_answer}
+use Rattle.frames.specs.Calls.{verdict as frame_verdict, answer as frame_answer}
 use Rattle.frames.proofs.Figures.{framing_facts}
 use Rattle.frames.proofs.Verdicts.{settled as frame_settled, link_done as frame_link_done}
 use Rattle.frames.proofs.SoundExact.{exact as frame_exact}

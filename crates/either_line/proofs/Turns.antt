@@ -1,21 +1,15 @@
 -- One request on any line: what can answer it, that a discipline without a link says 2, and that a link stays.
-use Prim.Native.Nat.{ℕ}
-use native.Mathlib.Omega.{arith}
-use mathlib.Core.Path.{◌≡◌, refl, sym, ap, ◌∙◌}
+use mathlib.Core.Path.{◌≡◌, refl, sym, ap}
 use mathlib.Core.Bool.{Bool, true, false, cond, not, true≢false}
-use mathlib.Core.Option.{Option, none, some}
-use lib.Dec.{eqb}
-use Rattle.rules.specs.declared.Link.{Link}
-use Rattle.rules.specs.Model.{State as LevelState, Call as LevelCall, link as level_link, admit as level_admit, offer as level_offer, notice as level_notice, close as level_close, tick as level_tick, Answer as LevelAnswer, fresh as level_fresh}
+use mathlib.Core.Option.{none, some}
+use Rattle.rules.specs.Model.{State as LevelState, Call as LevelCall, link as level_link, admit as level_admit, offer as level_offer, notice as level_notice, close as level_close, tick as level_tick, fresh as level_fresh}
 use Rattle.rules.specs.SoundTest.{sound as level_sound}
 use Rattle.rules.specs.Calls.{verdicts as level_verdicts, verdict as level_verdict, done as level_done, refused_number as level_refused_number, settle as level_settle, answer as level_answer}
 use Rattle.rules.proofs.Doings.{refused as level_refused}
-use Rattle.rules.proofs.Sums.{cond_is}
 use Rattle.rules.proofs.Verdicts.{settled as level_settled}
 use Rattle.rules.proofs.Line.{tick_leaves}
 use Rattle.rules.proofs.SoundExact.{exact as level_exact}
 use Rattle.rules.proofs.Every.{fresh_invariant as level_fresh_invariant}
-use Rattle.frames.specs.declared.Framing.{Framing}
 use Rattle.frames.specs.Model.{State as FrameState, Call as FrameCall, link as frame_link, admit as frame_admit, offer as frame_offer, notice as frame_notice, tick as frame_tick, Answer as FrameAnswer, fresh as FrameFresh}
 use Rattle.frames.specs.SoundTest.{sound as frame_sound}
 use Rattle.frames.specs.Calls.{verdicts as frame_verdicts, verdict as frame_verdict, done as frame_done, refused_number as frame_refused_number, settle as frame_settle, answer as frame_answer}
@@ -23,7 +17,6 @@ use Rattle.frames.proofs.Verdicts.{settled as frame_settled}
 use Rattle.frames.proofs.SoundExact.{exact as frame_exact}
 use Rattle.frames.proofs.Every.{fresh_invariant as frame_fresh_invariant}
 use Rattle.either_line.specs.Line.{Line, Request, link_levels, link_frames, admit_level, admit_share, offer, notice, close, tick, Reply, by_levels, by_frames, refuse, levels_set, frames_set, turn, refused_number}
-use Rattle.either_line.proofs.Names.{level_call, frame_call}
 use Rattle.frames.proofs.Names.{refused as FrameRefused, ticked_is as frame_ticked_is}
 
 -- ---- links among the calls

@@ -1,7 +1,7 @@
 -- How a refusal and a call done meet the contract, and what an answer is that meets it, for any discipline.
 use Prim.Native.Nat.{ℕ, suc}
 use mathlib.Core.Path.{◌≡◌, sym, ap, ◌∙◌}
-use mathlib.Core.Bool.{Bool, true, false, not}
+use mathlib.Core.Bool.{Bool, true, not}
 use borrow.Author.Tests.{not-true}
 use Rattle.rules.specs.declared.Short.{Short}
 use Rattle.rules.specs.Model.{Outcome}

@@ -1,7 +1,7 @@
 -- Every call keeps the invariant, so every run from fresh has it.
 use Prim.Native.Nat.{ℕ, suc}
 use native.Mathlib.Omega.{arith}
-use mathlib.Core.Path.{◌≡◌, refl, subst, sym, ap}
+use mathlib.Core.Path.{◌≡◌, refl, subst, sym}
 use mathlib.Core.List.{List, [], ◌∷◌}
 use Rattle.frames.specs.Model.{Call, link, admit, offer, notice, tick, fresh, Answer}
 use Rattle.frames.specs.SoundState.{Sound}

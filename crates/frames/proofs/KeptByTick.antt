@@ -24,7 +24,7 @@ use Rattle.rules.proofs.Rows.{first_all, first_of, first_append, moved, map_appe
 use Rattle.rules.proofs.Notices.{first_none, without_append, first_behind, without_behind}
 use Rattle.rules.proofs.Invariant.{whats}
 use Rattle.frames.specs.Model.{wire, figures, with_wire}
-use Rattle.frames.specs.Service.{next_frame, newly, used, ticked}
+use Rattle.frames.specs.Service.{next_frame, newly, used}
 use Rattle.frames.specs.SoundState.{Dated, SoundWithLink, Sound}
 use Rattle.frames.proofs.FrameLaws.{leaves_by_is, next_after, ends_this_frame, step}
 use Rattle.frames.proofs.RowLaws.{filter_snoc_on, total_sorted}

@@ -3,7 +3,7 @@ use mathlib.Core.Path.{◌≡◌, refl}
 use Rattle.rules.specs.Model.{fresh}
 use Rattle.rules.specs.Runs.{History, logged, run_from, run, nothing_yet}
 use Rattle.rules.proofs.Every.{fresh_invariant}
-use Rattle.tables.specs.Places.{written_places, table_of}
+use Rattle.tables.specs.Places.{table_of}
 use Rattle.connections.specs.Members.{written_rows}
 use Rattle.faces.proofs.Results as F
 use Rattle.state.specs.View.{zero_tables, written}

@@ -7,10 +7,10 @@ use mathlib.Core.Bool.{Bool, true, false, cond}
 use mathlib.Core.Logic.{◌⊎◌, inl, inr}
 use mathlib.Core.List.{List, [], ◌∷◌, ◌++◌}
 use lib.Dec.{eqb}
-use lib.ListN.{length, get_or, set, take, replicate, length-set, length-take, get_or-replicate}
+use lib.ListN.{length, get_or, take, replicate, length-set, length-take, get_or-replicate}
 use lib.Seq.{get_or-set_same, get_or-set_other, take-suc, take-length}
 use Rattle.rules.specs.declared.Packet.{Packet}
-use Rattle.rules.specs.Limits.{max_connections, max_reserved, beyond_32_bits}
+use Rattle.rules.specs.Limits.{max_connections, beyond_32_bits}
 use Rattle.rules.specs.Service.{of}
 use Rattle.rules.proofs.Rows.{of_snoc_same, of_snoc_other}
 use Rattle.rules.proofs.Sums.{same}

@@ -11,9 +11,9 @@ use borrow.Author.Tests.{ltb-true}
 use Rattle.rules.proofs.Tests.{never}
 use Rattle.either_line.specs.Line.{SoundLine, fresh_line}
 use Rattle.either_line.proofs.Results.{fresh_is_sound}
-use Rattle.tables.specs.Places.{written_places, table_of}
+use Rattle.tables.specs.Places.{table_of}
 use Rattle.connections.specs.Members.{written_rows}
-use Rattle.tables.specs.Lent.{Tables, tables}
+use Rattle.tables.specs.Lent.{Tables}
 use Rattle.state.specs.View.{zero_tables}
 use Rattle.both.specs.View.{written, sound_kept}
 use Rattle.steps.specs.declared.Phase.{Phase}

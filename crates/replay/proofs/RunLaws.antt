@@ -7,7 +7,7 @@ use mathlib.Core.Bool.{Bool, true, false}
 use mathlib.Core.List.{List, ◌++◌, append_assoc}
 use lib.ListN.{length, take, drop, length-append, length-drop}
 use lib.Seq.{take-append_seam, drop-append_seam, drop-drop}
-use Rattle.tables.specs.Lent.{Tables, tables}
+use Rattle.tables.specs.Lent.{Tables}
 use Rattle.both.specs.View.{written, sound_kept}
 use Rattle.steps.specs.declared.Cursor.{Cursor}
 use Rattle.steps.specs.declared.Status.{Status}

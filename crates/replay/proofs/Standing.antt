@@ -8,7 +8,7 @@ use lib.ListN.{length}
 use borrow.Author.Tests.{lt-ltb, le-ltb, ltb-false}
 use Rattle.rules.proofs.Tests.{never}
 use Rattle.either_line.specs.Line.{Line, SoundLine}
-use Rattle.tables.specs.Lent.{Tables, tables}
+use Rattle.tables.specs.Lent.{Tables}
 use Rattle.both.specs.declared.Kept.{Kept}
 use Rattle.both.specs.View.{written, sound_kept}
 use Rattle.both.proofs.SoundLaws.{is_sound, tables_kept, kept_back}

@@ -1,5 +1,5 @@
 -- The line: what a tick leaves alone, and the laws of what is still on the line. Nothing else opens `line_left`.
-use Prim.Native.Nat.{ℕ, zero, suc, ◌+◌, ◌-◌, ◌≤◌, ◌<◌}
+use Prim.Native.Nat.{ℕ, zero, suc, ◌+◌, ◌-◌, ◌≤◌}
 use native.Mathlib.Omega.{arith}
 use mathlib.Core.Path.{◌≡◌, refl, sym, ap, ◌∙◌, subst}
 use mathlib.Core.Bool.{Bool, true, false, cond, true≢false}
@@ -8,10 +8,10 @@ use mathlib.Core.Option.{none, some}
 use lib.Dec.{eqb}
 use borrow.Author.Tests.{eq-eqb, ne_eqb}
 use Rattle.rules.specs.Limits.{notice_number}
-use Rattle.rules.specs.Model.{Link, Packet, Notice, State, Answer, notice_packet, with_line}
+use Rattle.rules.specs.Model.{Link, Packet, Notice, State, Answer, notice_packet}
 use Rattle.rules.specs.Admission.{cost}
-use Rattle.rules.specs.Service.{first, first_early, early_at, chosen, stand_by, wire, takes, ticked}
-use Rattle.rules.proofs.HubTick.{later, line_after_start, started_state, tick_answer, packet_departs, notice_departs, after_unit, line_left}
+use Rattle.rules.specs.Service.{first, first_early, early_at, stand_by, wire, ticked}
+use Rattle.rules.proofs.HubTick.{later, started_state, tick_answer, packet_departs, notice_departs, after_unit, line_left}
 use Rattle.rules.proofs.LineWords.{InService, NoticeInService}
 use Rattle.rules.specs.SoundLine.{wire_left}
 use Rattle.rules.proofs.Sums.{cond_is}

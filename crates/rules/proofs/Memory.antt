@@ -1,5 +1,5 @@
 -- What is remembered of a connection: the laws of `remember`, and of a memory from which the oldest are forgotten. Nothing else opens `remember`.
-use Prim.Native.Nat.{ℕ, zero, suc, ◌+◌, ◌-◌, ◌≤◌, ◌<◌, min}
+use Prim.Native.Nat.{ℕ, zero, suc, ◌+◌, ◌-◌, ◌≤◌, ◌<◌}
 use native.Mathlib.Omega.{arith}
 use mathlib.Core.Path.{◌≡◌, refl, sym, ap, ◌∙◌}
 use mathlib.Core.Logic.{◌⊎◌, inl, inr}
@@ -10,7 +10,7 @@ use lib.Seq.{take_all, take-take, drop-drop}
 use Rattle.rules.specs.Limits.{max_remembered}
 use Rattle.rules.specs.Model.{Past, no_past}
 use Rattle.rules.specs.Service.{remember, remember_all}
-use Rattle.rules.proofs.Lists.{All, all_map}
+use Rattle.rules.proofs.Lists.{All}
 use Rattle.rules.proofs.Sums.{split}
 
 -- what is remembered of a connection whose packets were accepted with these eligibilities, in order

@@ -12,8 +12,8 @@ use borrow.Author.Tests.{ne_eqb, eq-eqb, ltb-true, lt-ltb}
 use Rattle.rules.specs.Limits.{max_remembered}
 use Rattle.rules.specs.Model.{Link, Connection, Past, no_past}
 use Rattle.rules.specs.Admission.{burst, stamped}
-use Rattle.rules.specs.Service.{nth_before, ticks_after, earliest, next_eligibility, remember, remember_all, SpacedBehind, Spaced}
-use Rattle.rules.specs.SoundState.{in_order, departed_of, NearBy, is_known, lies_beyond, settled_by, settles, Near, Beyond, margin, Queue}
+use Rattle.rules.specs.Service.{nth_before, ticks_after, earliest, next_eligibility, remember, remember_all, SpacedBehind}
+use Rattle.rules.specs.SoundState.{departed_of, NearBy, is_known, lies_beyond, settled_by, settles, Near, Beyond, margin, Queue}
 use Rattle.rules.specs.SoundTest.{reach}
 use Rattle.rules.specs.SoundTest.{far_as, latest_by_gap, latest, latest_early, last_tick}
 use Rattle.rules.proofs.Lists.{All, Pairs, all_map, all_every}

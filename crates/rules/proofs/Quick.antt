@@ -16,7 +16,7 @@ use Rattle.rules.specs.Service.{ticked, charge_over, expired, swept, cleared}
 use Rattle.rules.proofs.Doings.{swept_pasts, swept_marks}
 use Rattle.rules.specs.SoundState.{Sound}
 use Rattle.rules.specs.SoundTest.{sound}
-use Rattle.rules.specs.Calls.{causes, heard, verdicts, verdict, done, refused_number, settle, answer}
+use Rattle.rules.specs.Calls.{causes, heard, verdicts, done, refused_number, settle, answer}
 use Rattle.rules.proofs.Doings.{accepted}
 use Rattle.rules.proofs.Doings.{marked, refused}
 use Rattle.rules.specs.Runs.{Departure, History, departure_of, own_departures, logged, after, run_from, nothing_yet, run, Exchange, exchange, exchanges}

@@ -2,9 +2,9 @@
 use Prim.Native.Nat.{ℕ, suc, ◌+◌, ◌-◌, ◌≤◌, ◌<◌}
 use native.Mathlib.Omega.{arith}
 use mathlib.Core.Path.{◌≡◌, refl, sym, ap, ◌∙◌, subst}
-use mathlib.Core.Bool.{Bool, true, false, true≢false}
+use mathlib.Core.Bool.{Bool, true, false}
 use mathlib.Core.Logic.{◌⊎◌, inl, inr, ⊎_elim}
-use mathlib.Core.List.{List, [], ◌∷◌, map}
+use mathlib.Core.List.{List, ◌∷◌, map}
 use mathlib.Core.Option.{Option, none, some}
 use lib.ListN.{length}
 use Rattle.rules.specs.Limits.{clock_end, max_notices, notice_number}
@@ -14,7 +14,7 @@ use Rattle.rules.specs.Service.{of, eligibilities, first, without, chosen, early
 use Rattle.rules.proofs.Doings.{level_of}
 use Rattle.rules.proofs.HubTick.{later}
 use Rattle.rules.specs.SoundState.{Fits, Dated, Queue, Waits, InServiceOf, Orderly}
-use Rattle.rules.proofs.LineWords.{Idle, InService, NoticeInService, Serves}
+use Rattle.rules.proofs.LineWords.{Idle, InService, Serves}
 use Rattle.rules.specs.SoundLine.{PacketOn, NoticeOn, WireSound}
 use Rattle.rules.proofs.Lists.{All, all_map, all_sub, Pairs, Sub, sub_refl}
 use Rattle.rules.proofs.Sums.{same}

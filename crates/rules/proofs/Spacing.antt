@@ -1,11 +1,11 @@
 -- The laws of the spacing rule and of the next eligibility; nothing else opens `Spaced`, `next_eligibility`, `earliest`.
 use Prim.Native.Nat.{ℕ, zero, suc, ◌+◌, ◌≤◌, ◌<◌, max}
 use native.Mathlib.Omega.{arith}
-use mathlib.Core.Path.{◌≡◌, refl, sym, ap, ◌∙◌, subst}
+use mathlib.Core.Path.{◌≡◌, refl, ap, ◌∙◌}
 use mathlib.Core.Logic.{◌⊎◌, inl, inr, ◌↔◌}
 use mathlib.Core.List.{List, [], ◌∷◌, ◌++◌, reverse_aux}
 use mathlib.Core.Option.{Option, none, some}
-use lib.ListN.{length, drop, get_elem?}
+use lib.ListN.{drop, get_elem?}
 use Rattle.rules.specs.Limits.{max_remembered}
 use Rattle.rules.specs.Model.{Connection, Past}
 use Rattle.rules.specs.Admission.{burst}

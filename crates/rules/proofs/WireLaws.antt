@@ -12,7 +12,7 @@ use borrow.Author.Tests.{eq-eqb, ne_eqb}
 use Rattle.rules.specs.Words.{upto}
 use Rattle.rules.specs.Limits.{max_notices, notice_number}
 use Rattle.rules.specs.Model.{Packet, Notice, notice_packet, first_notice}
-use Rattle.rules.specs.Service.{first, without, Wire, on_line, free_line, takes, begins, begun, packet_leaves, notice_leaves, sends, wire_tick, QuietWire, passed_wire, Sent, sent}
+use Rattle.rules.specs.Service.{first, without, Wire, on_line, free_line, takes, begins, begun, packet_leaves, notice_leaves, sends, wire_tick, QuietWire, passed_wire, sent}
 use Rattle.rules.specs.SoundLine.{wire_left, Waits, WireIdle, PacketOn, NoticeOn, WireSound}
 use Rattle.rules.proofs.Lists.{All, all_map, Sub, sub_refl, total}
 use Rattle.rules.proofs.Sums.{cond_is, upto_yes, upto_no, upto_le}

@@ -4,28 +4,25 @@ use native.Mathlib.Omega.{arith}
 use mathlib.Core.Path.{◌≡◌, refl, sym, ap, ◌∙◌, subst}
 use mathlib.Core.Bool.{Bool, true, false, ◌&&◌}
 use mathlib.Core.Logic.{◌⊎◌, inl, inr, ◌↔◌}
-use mathlib.Core.List.{List, [], ◌∷◌, ◌++◌}
+use mathlib.Core.List.{List, [], ◌∷◌}
 use mathlib.Core.Option.{Option, none, some}
-use lib.Dec.{eqb}
-use lib.ListN.{length, drop, get_elem?}
+use lib.ListN.{drop, get_elem?}
 use borrow.Author.Tests.{ne_eqb, eq-eqb}
 use Rattle.rules.specs.Words.{within}
 use Rattle.rules.specs.Limits.{max_gap, max_remembered}
 use Rattle.rules.specs.Model.{Link, Connection, Past}
-use Rattle.rules.specs.Admission.{burst, stamped, average_within, figures_within, count}
+use Rattle.rules.specs.Admission.{burst, stamped, figures_within, count}
 use Rattle.rules.specs.Service.{nth_before, ticks_after, earliest, next_eligibility, remember, remember_all, SpacedBehind, Spaced}
 use Rattle.rules.specs.SoundState.{departed_of, NearBy, Beyond, Queue}
-use Rattle.rules.specs.SoundTest.{reach}
 use Rattle.rules.specs.SoundTest.{latest}
 use Rattle.rules.specs.WithoutAverage.{Plain, Apart, in_ticks, base_figures_within, base_count, base_eligibility, BaseSpaced, last_of, EndsAt, FirstNear, InSteps, LaterExact, BaseQueue, MemoryKept}
 use Rattle.rules.proofs.Lists.{All, Pairs, all_map, all_sub, all_every, Sub, nil, skip, keep}
 use Rattle.rules.proofs.Sums.{split, cond_is}
-use Rattle.rules.proofs.Tests.{and_intro}
 use Rattle.rules.proofs.Memory.{all_remember}
 use Rattle.rules.proofs.Spacing.{earliest_is, next_is, Windows, spaced_pairs, spaced_windows, spaced_in_order, spaced_of_behind, spaced_made}
 use Rattle.rules.proofs.Count.{hits, count_plain}
 use Rattle.rules.proofs.Figures.{burst_none}
-use Rattle.rules.proofs.Queue.{Chain, latest_unknown, queue_chain, queue_kept}
+use Rattle.rules.proofs.Queue.{Chain, latest_unknown, queue_chain}
 
 -- ---- the spacing of any two
 

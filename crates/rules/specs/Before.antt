@@ -4,7 +4,7 @@ use Rattle.std.specs.Prelude.{ℕ, zero, suc, ◌+◌, ◌*◌, ◌-◌, ◌≤�
 use Rattle.std.proofs.Math.Option.{Option, none, some}
 use Rattle.rules.specs.Words.{within, upto, sum, first_number, All}
 use Rattle.rules.specs.Limits.{max_levels, max_largest, max_allowance}
-use Rattle.rules.specs.Model.{Link, Connection, Past, State, Call, link, offer, Short, no_short, no_windows, nth, figures}
+use Rattle.rules.specs.Model.{Link, Connection, Past, State, Call, offer, Short, no_short, no_windows, nth, figures}
 use Rattle.rules.specs.Admission.{rising, cost, link_within, average_within, figures_within, stands, windowed, windows_within, bound, largest_bound, charge_time, count, reservation, stand_by_on, ahead, conditions, limit_at, level_sum, level_test, rounded_up}
 use Rattle.rules.specs.Service.{next_eligibility, Spaced, chosen, early_at, stand_by, begins, wire, ticked}
 use Rattle.rules.specs.SoundState.{Queue, Sound}

@@ -4,7 +4,7 @@ use Rattle.std.proofs.Math.Option.{Option, none, some}
 use Rattle.std.proofs.Math.ListN.{get_elem?}
 use Rattle.rules.specs.Words.{sum, All}
 use Rattle.rules.specs.Limits.{max_largest, max_silence, max_bound, max_level_window, max_allowance, max_connections, max_reserved, clock_end, beyond_32_bits, max_notices, notice_number}
-use Rattle.rules.specs.Model.{Link, Connection, Packet, State, Call, link, admit, offer, notice, close, Short, no_short, fresh, no_past, nth, past, figures, closed_at, Outcome, no_windows}
+use Rattle.rules.specs.Model.{Link, Connection, Packet, State, Call, admit, offer, notice, close, Short, no_short, fresh, no_past, nth, past, figures, closed_at, Outcome, no_windows}
 use Rattle.rules.specs.Admission.{cost, link_within, level_within, burst, stamped, figures_within, owned, stands, joining, windowed, window, bound, charge_time, count, reservation, reserved, stand_by_on, distance, conditions, limit_at, level_sum, LevelHolds, level_test}
 use Rattle.rules.specs.QuickTest.{quick_test}
 use Rattle.rules.specs.Service.{nth_before, suits, untimely_by, Spaced, of, eligibilities, first, stand_by, started, charge_over}

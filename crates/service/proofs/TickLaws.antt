@@ -10,8 +10,8 @@ use lib.ListN.{length}
 use Rattle.rules.specs.declared.Packet.{Packet}
 use Rattle.rules.specs.Words.{All}
 use Rattle.rules.specs.Limits.{notice_number}
-use Rattle.rules.specs.Model.{State, Answer}
-use Rattle.rules.specs.Service.{goes_first, better, choice, first_early, takes, Wire as Line, begun, sends, Sent as After, sent, wire, moves_on, ticked}
+use Rattle.rules.specs.Model.{Answer}
+use Rattle.rules.specs.Service.{goes_first, better, choice, first_early, takes, Wire as Line, begun, sends, sent, wire, moves_on, ticked}
 use Rattle.rules.proofs.HubTick.{started_state}
 use Rattle.rules.proofs.Sums.{cond_ind}
 use Rattle.rules.proofs.WireLaws.{told_by}

@@ -1,26 +1,25 @@
 -- Laws of the table of shares: rows read and put behind the others, its shape, reading what is written and writing what is read.
 use mathlib.Core.Path.{◌≡◌, refl, sym, ap, ◌∙◌}
-use mathlib.Core.Bool.{Bool, true, false}
+use mathlib.Core.Bool.{true, false}
 use mathlib.Core.Logic.{◌⊎◌, inl, inr}
 use mathlib.Core.List.{List, [], ◌∷◌, ◌++◌}
 use Prim.Native.Nat.{ℕ, zero, suc, ◌+◌, ◌*◌, ◌-◌, ◌≤◌, ◌<◌}
 use native.Mathlib.Nat.{add-zero}
 use native.Mathlib.Omega.{arith}
 use native.Mathlib.Numerals.{add-one}
-use lib.Dec.{ltb, eqb}
+use lib.Dec.{ltb}
 use borrow.Author.Tests.{lt-ltb, le-ltb, eq-eqb, ne_eqb}
 use lib.ListN.{length, get_or, drop, length-map, get_or-eq_default}
 use lib.Seq.{get_or-drop}
 use Rattle.rules.specs.Words.{All, sum}
 use Rattle.rules.specs.Limits.{max_connections}
 use Rattle.rules.proofs.Sums.{same, split}
-use Rattle.rules.proofs.Tests.{and_true}
 use Rattle.frames.specs.declared.Share.{Share}
 use Rattle.frames.specs.Model.{nth}
 use Rattle.frames.specs.Admission.{stands}
 use Rattle.limits.specs.Zeros.{zeros}
 use Rattle.limits.proofs.ZeroLaws.{zero_at}
-use Rattle.tables.specs.Table.{row_in, used, formed}
+use Rattle.tables.specs.Table.{row_in, used}
 use Rattle.tables.proofs.TableLaws.{listed_row, number_in, read_at, used_end, held_stop, formed_length, formed_written, put_last, read_back, formed_back}
 use Rattle.shares.specs.Shares.{share_width, shares_length, share_at, put, shares_in, written_shares, shares_formed}
 use Rattle.frames.proofs.Names.{no_share}

@@ -7,7 +7,7 @@ use Rattle.rules.specs.declared.Packet.{Packet}
 use Rattle.rules.specs.Limits.{max_connections, beyond_32_bits}
 use Rattle.rules.specs.Model.{Past, nth, no_connection, no_past}
 use Rattle.rules.specs.Admission.{owned, bound, charge_time}
-use Rattle.rules.specs.Service.{of, remember_all, eligibilities, charge_over}
+use Rattle.rules.specs.Service.{remember_all, eligibilities, charge_over}
 use Rattle.rules.specs.SoundTest.{left_sound}
 use Rattle.tables.specs.Places.{rows, row_at}
 use Rattle.connections.specs.Members.{connections_in, pasts_in, closed_in, used_in, first_in, rows_formed}

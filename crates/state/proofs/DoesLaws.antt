@@ -1,7 +1,7 @@
 -- The laws of the discipline of levels, as the shared proofs ask for them; how a refusal and a call done meet the contract.
-use mathlib.Core.Path.{refl, ap}
+use mathlib.Core.Path.{refl}
 use mathlib.Core.Bool.{false}
-use Rattle.rules.specs.Model.{State, Call, Answer, Outcome}
+use Rattle.rules.specs.Model.{State, Call}
 use Rattle.rules.specs.SoundState.{Sound}
 use Rattle.rules.specs.Calls.{verdict, refused_number, refused_short, settle, answer}
 use Rattle.rules.proofs.SoundKept.{kept}
@@ -14,7 +14,7 @@ use Rattle.faces.proofs.Results.{departed_back}
 use Rattle.state.specs.declared.Hub.{Hub}
 use Rattle.state.specs.declared.Told.{Told}
 use Rattle.state.specs.View.{Tables, view, hub_of, written, sound_hub}
-use Rattle.state.specs.Told.{is_some, told_of, refusal}
+use Rattle.state.specs.Told.{told_of, refusal}
 use Rattle.state.specs.Does.{tells, leaves}
 use Rattle.state.proofs.WrittenLaws.{writable, read_written, written_sound}
 use Rattle.state.proofs.SoundLaws.{is_sound, tables_kept}

@@ -14,7 +14,7 @@ use Rattle.tables.specs.Places.{is_some, packet_or_unused}
 use Rattle.tables.specs.Lent.{Tables}
 use Rattle.both.specs.declared.Kept.{Kept}
 use Rattle.both.specs.declared.Replied.{Replied}
-use Rattle.both.specs.View.{view, kept_of, written, sound_kept, kept_clock, has_link}
+use Rattle.both.specs.View.{view, kept_of, sound_kept, kept_clock, has_link}
 use Rattle.both.specs.Quiet.{passed, quiet_ticks}
 use Rattle.both.specs.Replied.{replied_of}
 use Rattle.both.specs.Does.{Does}

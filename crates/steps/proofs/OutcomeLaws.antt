@@ -17,7 +17,7 @@ use Rattle.answer_log.specs.Log.{Asked, one_call, some_ticks, unread, asks, read
 use Rattle.steps.specs.declared.Phase.{Phase}
 use Rattle.steps.specs.declared.Phase.TheVariants.{Reading, Ticking, Finished}
 use Rattle.steps.specs.declared.Status.TheVariants.{GoOn, MoreBytes, MoreRoom, NotSound, Done}
-use Rattle.steps.specs.Steps.{Point, point, Next, asked_next, read_next, one_tick, tick_next, phase_next, next, joined, steps}
+use Rattle.steps.specs.Steps.{Point, Next, asked_next, read_next, one_tick, tick_next, phase_next, next, joined, steps}
 use Rattle.steps.proofs.PassLaws.{quiet_passes}
 
 -- of a step on the window w: where it is done the replay is finished; where it wants bytes fewer than the longest record are left; and the line after it is sound

@@ -2,7 +2,6 @@ use Rattle.connections.proofs.FigureLaws as L
 use Rattle.connections.proofs.SumLaws as S
 use Rattle.connections.proofs.MemberLaws as M
 use native.Mathlib.Omega.{arith}
-use Prim.Native.Nat.{◌-◌}
 use mathlib.Core.Path.{sym, ◌∙◌}
 use Rattle.rules.specs.Limits.{max_levels}
 use Rattle.connections.specs.Members.{connections_in}

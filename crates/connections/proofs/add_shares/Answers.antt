@@ -1,7 +1,7 @@
 use Rattle.connections.proofs.FigureLaws as L
 use Rattle.connections.proofs.SumLaws as S
 use native.Mathlib.Omega.{arith}
-use Prim.Native.Nat.{◌*◌, ◌-◌}
+use Prim.Native.Nat.{◌*◌}
 use lib.ListN.{length-set}
 use Rattle.connections.proofs.add_shares.Goals as goal
 

@@ -1,6 +1,6 @@
 use Rattle.connections.proofs.MemberLaws as M
 use Rattle.connections.proofs.OwnerLaws as O
-use Prim.Native.Nat.{◌-◌, ◌<◌}
+use Prim.Native.Nat.{◌<◌}
 use native.Mathlib.Omega.{arith}
 use mathlib.Core.Path.{sym, ◌∙◌}
 use Rattle.rules.specs.Limits.{max_connections}

@@ -3,7 +3,7 @@ use Rattle.connections.proofs.MemberLaws as M
 use Rattle.connections.proofs.OwnerLaws as O
 use Rattle.connections.proofs.FigureLaws as L
 use borrow.Author.Rules.{rules}
-use Prim.Native.Nat.{ℕ, ◌-◌}
+use Prim.Native.Nat.{ℕ}
 use native.Mathlib.Omega.{arith}
 use mathlib.Core.Path.{◌≡◌, refl, ap, ◌∙◌}
 use Rattle.rules.specs.Model.{nth}

@@ -1,6 +1,5 @@
 use borrow.Author.Rules.{rules}
 use Rattle.limits.proofs.LimitLaws as L
-use Prim.Native.Nat.{◌-◌}
 use native.Mathlib.Omega.{arith}
 use mathlib.Core.Path.{◌∙◌}
 use Rattle.limits.proofs.bounds_ok.Goals as goal

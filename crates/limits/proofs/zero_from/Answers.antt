@@ -1,5 +1,4 @@
 use Rattle.limits.proofs.ZeroLaws as L
-use Prim.Native.Nat.{◌-◌}
 use mathlib.Core.Path.{sym, ◌∙◌}
 use native.Mathlib.Omega.{arith}
 use Rattle.limits.proofs.zero_from.Goals as goal

@@ -1,7 +1,6 @@
 use Rattle.line_tests.proofs.CountLaws as L
 use native.Mathlib.Omega.{arith}
 use mathlib.Core.Path.{refl}
-use Prim.Native.Nat.{◌-◌}
 use mathlib.Core.List.{[], ◌∷◌}
 use lib.ListN.{length, length-append}
 use Rattle.tables.proofs.PlacesLaws as P

@@ -1,7 +1,7 @@
 -- `service::choose` meets its contract. The loop's invariant: the best of the rows before i, against the choice of the rows from i on, is the
 -- choice of all rows. The measure is the rows that are left.
 use Rattle.tables.proofs.PlacesLaws as P
-use Prim.Native.Nat.{◌+◌, ◌-◌}
+use Prim.Native.Nat.{◌+◌}
 use native.Mathlib.Omega.{arith}
 use mathlib.Core.Path.{refl, sym, ap, ◌∙◌}
 use mathlib.Core.Bool.{true, false}

@@ -1,5 +1,4 @@
 use Rattle.service.proofs.LeadLaws.{none_passed, one_passed, two_passed, three_passed, four_passed}
-use Prim.Native.Nat.{◌-◌}
 use borrow.Author.Rules.{rules}
 use Rattle.service.proofs.passed_over.Goals as goal
 

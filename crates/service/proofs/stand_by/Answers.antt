@@ -1,6 +1,5 @@
 -- `service::stand_by` meets its contract. The loop's invariant: the first of the rows from i on that may go is the first of all rows that may. The measure
 -- is the rows that are left.
-use Prim.Native.Nat.{◌-◌}
 use native.Mathlib.Omega.{arith}
 use mathlib.Core.Path.{refl, sym, ap, ◌∙◌}
 use borrow.Author.Rules.{rules}

@@ -1,5 +1,4 @@
 use Rattle.shares.proofs.ShareLaws as L
-use Prim.Native.Nat.{◌-◌}
 use native.Mathlib.Omega.{arith}
 use mathlib.Core.Path.{refl}
 use Rattle.frames.specs.declared.Share.{Share}

@@ -1,7 +1,6 @@
-use Prim.Native.Nat.{ℕ, ◌-◌}
+use Prim.Native.Nat.{ℕ}
 use native.Mathlib.Omega.{arith}
 use mathlib.Core.Path.{◌≡◌, refl, sym, ap, ◌∙◌}
-use mathlib.Core.Bool.{true}
 use Rattle.rules.specs.Limits.{max_connections}
 use Rattle.rules.specs.Words.{every}
 use Rattle.rules.specs.SoundTest.{number_sound}

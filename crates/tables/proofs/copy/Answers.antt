@@ -1,7 +1,6 @@
 use Rattle.tables.proofs.TableLaws as L
 use lib.ListN.{length, length-set}
 use lib.Seq.{paste-zero, paste-suc}
-use Prim.Native.Nat.{◌-◌}
 use native.Mathlib.Omega.{arith}
 use native.Mathlib.Numerals.{add-one}
 use mathlib.Core.Path.{◌≡◌, ◌∙◌}

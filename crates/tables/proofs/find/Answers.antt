@@ -1,7 +1,7 @@
 use Rattle.tables.proofs.PlacesLaws as L
 use Rattle.tables.specs.Places.{rows, place}
 use lib.ListN.{length, drop}
-use Prim.Native.Nat.{ℕ, ◌-◌}
+use Prim.Native.Nat.{ℕ}
 use mathlib.Core.Path.{◌≡◌, ap}
 use native.Mathlib.Omega.{arith}
 use borrow.Author.Rules.{rules}

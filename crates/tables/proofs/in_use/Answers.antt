@@ -1,7 +1,6 @@
 -- `tables::in_use` meets its contract: up to the first row whose second number is 0.
 use Rattle.tables.proofs.TableLaws as L
 use lib.ListN.{length}
-use Prim.Native.Nat.{◌-◌}
 use native.Mathlib.Nat.{div-le_self}
 use native.Mathlib.Omega.{arith}
 use mathlib.Core.Path.{sym}

@@ -1,4 +1,3 @@
-use Prim.Native.Nat.{◌-◌}
 use native.Mathlib.Omega.{arith}
 use Rattle.tables.proofs.PlacesLaws.{rows_end, used_below}
 use Rattle.tables.proofs.reach.Goals as goal

@@ -1,5 +1,4 @@
 use Rattle.tables.proofs.TableLaws as L
-use Prim.Native.Nat.{◌-◌}
 use native.Mathlib.Omega.{arith}
 use native.Mathlib.Numerals.{add-one}
 use mathlib.Core.Path.{refl, ◌∙◌}

@@ -1,7 +1,7 @@
 use borrow.Author.Rules.{rules}
 use Rattle.causes.proofs.CauseLaws as A
 use Rattle.tables.proofs.PlacesLaws as P
-use Prim.Native.Nat.{suc, ◌-◌}
+use Prim.Native.Nat.{suc}
 use native.Mathlib.Omega.{arith}
 use native.Mathlib.Numerals.{add-one}
 use mathlib.Core.Path.{◌≡◌, ap, ◌∙◌}

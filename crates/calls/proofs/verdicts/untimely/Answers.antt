@@ -5,7 +5,6 @@ use Rattle.connections.specs.declared.Member.{Member}
 use Rattle.connections.specs.Members.{member_formed}
 use Rattle.connections.proofs.WrittenLaws.{rows_length, member_formed_at, formed_parts}
 use Rattle.calls.proofs.VerdictLaws as W
-use borrow.Author.Tests.{not-true, not-false}
 use Rattle.calls.proofs.verdicts.untimely.Goals as goal
 
 pub returns-then-not-brings : goal.returns-then-not-brings

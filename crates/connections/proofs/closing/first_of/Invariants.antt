@@ -1,6 +1,6 @@
 use Rattle.connections.proofs.ClosingLaws.{first_among}
 use mathlib.Core.Path.{◌≡◌}
-use Prim.Native.Nat.{◌-◌, ◌≤◌}
+use Prim.Native.Nat.{◌≤◌}
 use lib.ListN.{drop}
 use Rattle.rules.specs.Limits.{max_connections}
 use Rattle.connections.specs.Members.{members_in}

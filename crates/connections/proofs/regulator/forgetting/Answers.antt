@@ -1,9 +1,6 @@
 use Rattle.connections.proofs.RegulatorLaws as R
 use Rattle.connections.proofs.WrittenLaws as W
 use native.Mathlib.Omega.{arith}
-use mathlib.Core.Path.{◌≡◌}
-use lib.ListN.{length}
-use Rattle.rules.specs.Limits.{max_remembered}
 use borrow.Author.Rules.{rules}
 use Rattle.connections.proofs.regulator.forgetting.Goals as goal
 

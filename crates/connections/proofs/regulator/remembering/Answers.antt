@@ -3,7 +3,6 @@ use mathlib.Core.Path.{◌≡◌}
 use lib.ListN.{length}
 use Rattle.rules.specs.Limits.{max_remembered}
 use Rattle.connections.proofs.WrittenLaws as W
-use native.Mathlib.Omega.{arith}
 use mathlib.Core.Path.{◌∙◌}
 use borrow.Author.Rules.{rules}
 use Rattle.connections.proofs.regulator.remembering.Goals as goal

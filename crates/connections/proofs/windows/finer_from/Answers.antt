@@ -1,5 +1,4 @@
 use Rattle.connections.proofs.FigureLaws as L
-use Prim.Native.Nat.{◌-◌}
 use native.Mathlib.Omega.{arith}
 use mathlib.Core.Path.{refl, sym, ◌∙◌}
 use Rattle.connections.proofs.windows.finer_from.Goals as goal

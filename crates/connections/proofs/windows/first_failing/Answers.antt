@@ -2,7 +2,6 @@ use Rattle.connections.proofs.WindowLaws as W
 use Prim.Native.Nat.{ℕ, ◌-◌}
 use native.Mathlib.Omega.{arith}
 use mathlib.Core.Path.{◌≡◌, refl, sym, ap, ◌∙◌}
-use mathlib.Core.Bool.{true, false}
 use Rattle.rules.specs.QuickTest.{descend}
 use Rattle.connections.proofs.windows.first_failing.Goals as goal
 

@@ -2,7 +2,7 @@ use Rattle.rules.specs.Words.{sum as sigma}
 use Rattle.connections.proofs.MemberLaws as M
 use Rattle.connections.proofs.OwnerLaws as O
 use Rattle.connections.proofs.FigureLaws as L
-use Prim.Native.Nat.{ℕ, ◌-◌}
+use Prim.Native.Nat.{ℕ}
 use native.Mathlib.Omega.{arith}
 use mathlib.Core.Path.{◌≡◌, refl, ap, ◌∙◌}
 use Rattle.rules.specs.declared.Connection.{Connection}

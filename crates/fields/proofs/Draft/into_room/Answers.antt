@@ -1,5 +1,5 @@
 -- `fields::Draft::into_room` meets its contract: the room holds the bytes copied so far, and is as it was behind them.
-use Prim.Native.Nat.{◌<◌, ◌+◌, ◌-◌}
+use Prim.Native.Nat.{◌<◌}
 use Rattle.fields.proofs.DraftLaws.{copied, count_held, no_room, room_enough}
 use lib.ListN.{length, take, drop, length-set}
 use native.Mathlib.Numerals.{add-one}

@@ -1,6 +1,6 @@
 -- `fields::Draft::pairs` meets its contract: the draft holds the numbers passed so far.
 use Rattle.fields.proofs.NumberLaws.{sum_pairs}
-use Prim.Native.Nat.{◌<◌, ◌-◌}
+use Prim.Native.Nat.{◌<◌}
 use lib.ListN.{length, take, replicate, get_or}
 use native.Mathlib.Numerals.{add-one}
 use mathlib.Core.List.{append-nil, append_assoc}

@@ -1,7 +1,7 @@
 use Rattle.service.proofs.QuietCases.{waits_none, waits_fours, waits_now}
 use Rattle.tables.proofs.PlacesLaws.{rows_end}
 use native.Mathlib.Omega.{arith}
-use Prim.Native.Nat.{◌+◌, ◌*◌, ◌-◌}
+use Prim.Native.Nat.{◌+◌, ◌*◌}
 use mathlib.Core.Path.{◌≡◌}
 use borrow.Author.Rules.{rules}
 use Rattle.service.proofs.quiet.first_of_fours.Goals as goal

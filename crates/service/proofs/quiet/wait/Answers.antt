@@ -1,5 +1,4 @@
 use Rattle.tables.proofs.PlacesLaws as P
-use Prim.Native.Nat.{◌-◌}
 use native.Mathlib.Omega.{arith}
 use Rattle.tables.proofs.PlacesLaws.{rows_end}
 use Rattle.service.proofs.QuietCases.{waits_more, waits_all}

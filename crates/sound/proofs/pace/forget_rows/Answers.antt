@@ -1,7 +1,6 @@
 use Rattle.sound.proofs.PaceLaws as L
 use native.Mathlib.Omega.{arith}
 use mathlib.Core.Path.{refl}
-use Prim.Native.Nat.{◌-◌}
 use borrow.Author.Rules.{rules}
 use Rattle.sound.proofs.pace.forget_rows.Goals as goal
 

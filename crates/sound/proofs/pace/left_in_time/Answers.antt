@@ -1,7 +1,6 @@
 use Rattle.sound.proofs.PaceLaws as L
 use native.Mathlib.Omega.{arith}
 use mathlib.Core.Path.{refl, ◌∙◌}
-use Prim.Native.Nat.{◌-◌}
 use Rattle.connections.specs.Rows.{connection_of, past_of}
 use Rattle.connections.proofs.WrittenLaws as W
 use borrow.Author.Rules.{rules}

@@ -1,7 +1,6 @@
 use Rattle.sound.proofs.PaceLaws as L
 use native.Mathlib.Omega.{arith}
 use mathlib.Core.Path.{◌≡◌, refl, ◌∙◌}
-use Prim.Native.Nat.{◌-◌}
 use mathlib.Core.Bool.{true}
 use lib.ListN.{length}
 use Rattle.rules.proofs.Tests.{never}
