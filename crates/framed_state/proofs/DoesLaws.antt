@@ -1,8 +1,7 @@
 -- The laws of the discipline of frames, as the shared proofs ask for them; how a refusal and a call done meet the contract.
-use mathlib.Core.Path.{refl, ap}
+use mathlib.Core.Path.{refl}
 use mathlib.Core.Bool.{false}
-use Rattle.rules.specs.Model.{Outcome}
-use Rattle.frames.specs.Model.{State, Call, Answer}
+use Rattle.frames.specs.Model.{State, Call}
 use Rattle.frames.specs.SoundState.{Sound}
 use Rattle.frames.specs.Calls.{verdict, refused_number, refused_short, settle, answer}
 use Rattle.frames.proofs.SoundKept.{kept}
@@ -15,7 +14,7 @@ use Rattle.faces.proofs.Results.{departed_back}
 use Rattle.framed_state.specs.declared.Frames.{Frames}
 use Rattle.framed_state.specs.declared.Said.{Said}
 use Rattle.framed_state.specs.View.{Tables, view, frames_of, written, sound_frames}
-use Rattle.framed_state.specs.Said.{is_some, said_of, refusal}
+use Rattle.framed_state.specs.Said.{said_of, refusal}
 use Rattle.framed_state.specs.Does.{tells, leaves}
 use Rattle.framed_state.proofs.WrittenLaws.{writable, read_written, written_sound}
 use Rattle.framed_state.proofs.SoundLaws.{is_sound, tables_kept}
