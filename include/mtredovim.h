@@ -2,7 +2,7 @@
    it does; the archive's functions are proved to do that and nothing else.
 
    Link with libmtredovim.a, for x86-64 and its System V calling convention: `make -C examples/firmware` leaves it in target/staticlib. It is two archives put together, each
-   of which can be linked alone: libboard.a, the hub, which `rt staticlib board` writes, and libfirmware.a, the questions, which `rt staticlib firmware` writes. They need
+   of which can be linked alone: libboard.a, the hub, which `rt lib` makes of the crate board, and libfirmware.a, the questions, which it makes of firmware (tests/archive). They need
    `memcpy`, `memmove` and `memset`, the C library's or your own, and nothing else. They have no data of their own and take no memory but stack: a call of the hub some 25,000
    bytes, one that is tested once (below) some 2,300, a question some 21,000 (measured; docs/BENCHMARKS.md, "From C"). Every call returns.
 
