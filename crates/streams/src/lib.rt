@@ -1,12 +1,13 @@
 // Reading and writing over std's readers and writers, by numbers and answers that a program without `?` goes on with, and a number in digits.
 #![tactic(auto)]
 
-pub mod number; // number.rt: a number in decimal digits
+mod number; // number.rt: a number in decimal digits
 
 ghost use Rattle.std.specs.Prelude.{◌≡◌, ◌≤◌, length, take};
 ghost use Rattle.std.specs.Io.KnownBytes.{Consumes};
 ghost use Rattle.streams.specs.Moves.{IsPrefixLen, Moved, Reads, Writes};
 
+pub use number::{decimal, print_decimal};
 use std::io::{Read, Write};
 
 // 65,536 zeros, for a loop that moves much data.
