@@ -3,6 +3,8 @@
 //
 // A request: what is asked (`t`, `a`, `T` or `A`); the record's place among the bytes; how many of the bytes are read; where the part of the room that is lent starts, and where
 // it ends; from 5 on the numbers of `made`; from 64 on the bytes. A room: 64 bytes, and behind them what is told: how many bytes reading took, and how many were written.
+#![tactic(auto)]
+
 mod made; // made.rt: records and answers of any numbers
 
 ghost use Rattle.std.specs.Prelude.{◌≡◌, length};
