@@ -1,5 +1,7 @@
 // A caller of the hub, to read and to copy: a link, four lines, ten offers and a notice, a close, 72 ticks. It prints each answer and each departure; its
 // README.md works out by hand what they must be. docs/CALLERS.md has every type and every call.
+#![tactic(auto)]
+
 use rules::{Connection, Link, Packet};
 use state::{Hub, Told};
 use std::io::Write;
