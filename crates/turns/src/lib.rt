@@ -1,5 +1,7 @@
 // The turns of a program that replays a trace as it comes: a call of `pump` on the window of a buffer, whose bytes are handed on to be taken (written out, or
 // held against a log), and then more input, if that is wanted.
+#![tactic(auto)]
+
 ghost use Rattle.std.specs.Prelude.{◌≡◌, true, false, ◌+◌, ◌^◌, ◌<◌, length};
 ghost use Rattle.steps.specs.declared.Status.TheVariants.{MoreBytes};
 ghost use Rattle.turns.specs.declared.End.TheVariants.{On};
