@@ -1,5 +1,7 @@
 // THE CHECKER: a trace and a log come in pieces, each from a reader of its own; the log is held against the one that the rules give for the trace, byte for byte,
 // in constant memory. Document 02, R-14.
+#![tactic(auto)]
+
 mod alike; // alike.rt: how many bytes two slices have in common
 
 ghost use Rattle.std.specs.Prelude.{◌≡◌, ◌+◌, ◌-◌, ◌^◌, ◌<◌, ◌≤◌, pos, length};
