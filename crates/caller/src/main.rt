@@ -1,8 +1,10 @@
 // A caller of the hub, to read and to copy: a link, four lines, ten offers and a notice, a close, 72 ticks. It prints each answer and each departure; its
 // README.md works out by hand what they must be. docs/CALLERS.md has every type and every call.
-use libc::STDOUT_FILENO;
+#![tactic(auto)]
+
 use rules::{Connection, Link, Packet};
 use state::{Hub, Told};
+use std::io::Write;
 
 // What the caller keeps beside a hub: three tables, zeros at first. Only the hub's calls write to them: each call is handed the hub and gives one back, and is
 // lent the tables, `&mut` where it may change them.
@@ -12,38 +14,39 @@ type Places = [u32; hub::PLACES];
 
 type Notices = [u32; hub::NOTICES];
 
-fn write(text: &[u8], n: u64) {
-    io::write_all(STDOUT_FILENO, text);
-    io::print_decimal(STDOUT_FILENO, n);
+fn write<W: Write>(out: &mut W, text: &[u8], n: u64) {
+    streams::write_all(out, text);
+    streams::print_decimal(out, n);
 }
 
 // A packet that has left. Its finish is the clock after the tick.
-fn show_departure(p: Packet, finish: u32) {
-    write(b"left: connection ", p.connection as u64);
-    write(b", tag ", p.tag as u64);
-    write(b", arrival ", p.arrival as u64);
-    write(b", eligibility ", p.eligibility as u64);
-    write(b", finish ", finish as u64);
-    io::write_all(STDOUT_FILENO, b"\n");
+fn show_departure<W: Write>(out: &mut W, p: Packet, finish: u32) {
+    write(out, b"left: connection ", p.connection as u64);
+    write(out, b", tag ", p.tag as u64);
+    write(out, b", arrival ", p.arrival as u64);
+    write(out, b", eligibility ", p.eligibility as u64);
+    write(out, b", finish ", finish as u64);
+    streams::write_all(out, b"\n");
 }
 
 // What a call answered. Verdict 0: it is done, and `number` is the connection's number after an admission, the eligibility after an offer or a notice. Any other
 // verdict: nothing has changed, and with an 8 `short` names the level that is short and by how many units. The hub that comes with it goes to the next call.
-fn show(call: &[u8], r: Told) -> Hub {
+fn show<W: Write>(out: &mut W, call: &[u8], r: Told) -> Hub {
     let short = r.short;
-    io::write_all(STDOUT_FILENO, call);
-    write(b": verdict ", r.verdict as u64);
-    write(b", number ", r.number as u64);
+    streams::write_all(out, call);
+    write(out, b": verdict ", r.verdict as u64);
+    write(out, b", number ", r.number as u64);
     if short.level != 0 {
-        write(b", short at level ", short.level as u64);
-        write(b" by ", short.units);
+        write(out, b", short at level ", short.level as u64);
+        write(out, b" by ", short.units);
     }
-    io::write_all(STDOUT_FILENO, b"\n");
+    streams::write_all(out, b"\n");
     r.hub
 }
 
 // So many ticks, one call each. A tick answers with at most one packet, and is refused only where no link is set or the clock has ended.
-fn ticks(
+fn ticks<W: Write>(
+    out: &mut W,
     before: Hub,
     members: &mut Connections,
     places: &mut Places,
@@ -56,7 +59,7 @@ fn ticks(
         let r = hub::tick(h, members, places, notices);
         h = r.hub;
         if r.gone {
-            show_departure(r.packet, h.clock);
+            show_departure(out, r.packet, h.clock);
         }
         i += 1;
     }
@@ -64,7 +67,8 @@ fn ticks(
 }
 
 // An offer, and its answer shown: a connection, a length, a tag. What is in a packet stays with the caller, who finds it again by the tag.
-fn offer(
+fn offer<W: Write>(
+    out: &mut W,
     h: Hub,
     members: &mut Connections,
     places: &mut Places,
@@ -74,26 +78,29 @@ fn offer(
     tag: u32,
 ) -> Hub {
     show(
+        out,
         b"offer",
         hub::offer(h, members, places, notices, c, len, tag),
     )
 }
 
 // An admission, and its answer shown.
-fn admit(
+fn admit<W: Write>(
+    out: &mut W,
     h: Hub,
     members: &mut Connections,
     places: &Places,
     notices: &Notices,
     line: Connection,
 ) -> Hub {
-    show(b"admit", hub::admit(h, members, places, notices, line))
+    show(out, b"admit", hub::admit(h, members, places, notices, line))
 }
 
 // A link, and lines that ask to be admitted. A line says its level, the gap that it keeps between packets and their largest size; one that sends in bursts also
 // an averaging window and an average gap, and no window has more packets than that gap goes into it; for the others both are 0. Kind and allowance are 0 but for
 // lines from another hub, below. The number that a line is given names it in its offers.
-fn open(
+fn open<W: Write>(
+    out: &mut W,
     fresh: Hub,
     members: &mut Connections,
     places: &Places,
@@ -120,46 +127,62 @@ fn open(
         kind: 0,
         allowance: 0,
     };
-    let mut h = show(b"link", hub::link(fresh, members, places, notices, line));
-    h = admit(h, members, places, notices, urgent);
-    h = admit(h, members, places, notices, camera);
-    admit(h, members, places, notices, urgent)
+    let mut h = show(
+        out,
+        b"link",
+        hub::link(fresh, members, places, notices, line),
+    );
+    h = admit(out, h, members, places, notices, urgent);
+    h = admit(out, h, members, places, notices, camera);
+    admit(out, h, members, places, notices, urgent)
 }
 
 // Packets of both lines, and a notice, which has no connection.
-fn send(opened: Hub, members: &mut Connections, places: &mut Places, notices: &mut Notices) -> Hub {
-    let mut h = offer(opened, members, places, notices, 1, 2, 100);
-    h = offer(h, members, places, notices, 1, 2, 101);
-    h = offer(h, members, places, notices, 1, 2, 102);
-    h = ticks(h, members, places, notices, 1);
-    h = offer(h, members, places, notices, 0, 3, 90);
-    h = offer(h, members, places, notices, 0, 3, 91);
-    h = show(b"notice", hub::notice(h, members, places, notices, 2, 7));
-    h = ticks(h, members, places, notices, 7);
-    h = offer(h, members, places, notices, 0, 4, 92);
-    ticks(h, members, places, notices, 14)
+fn send<W: Write>(
+    out: &mut W,
+    opened: Hub,
+    members: &mut Connections,
+    places: &mut Places,
+    notices: &mut Notices,
+) -> Hub {
+    let mut h = offer(out, opened, members, places, notices, 1, 2, 100);
+    h = offer(out, h, members, places, notices, 1, 2, 101);
+    h = offer(out, h, members, places, notices, 1, 2, 102);
+    h = ticks(out, h, members, places, notices, 1);
+    h = offer(out, h, members, places, notices, 0, 3, 90);
+    h = offer(out, h, members, places, notices, 0, 3, 91);
+    h = show(
+        out,
+        b"notice",
+        hub::notice(h, members, places, notices, 2, 7),
+    );
+    h = ticks(out, h, members, places, notices, 7);
+    h = offer(out, h, members, places, notices, 0, 4, 92);
+    ticks(out, h, members, places, notices, 14)
 }
 
 // A bed is emptied, and its line is closed. What it has sent counts on until the clock reaches its last eligibility plus the largest bound; the tick that
 // reaches it frees the number, and the next line that is admitted gets the lowest free one and starts fresh.
-fn reopen(
+fn reopen<W: Write>(
+    out: &mut W,
     sent: Hub,
     members: &mut Connections,
     places: &mut Places,
     notices: &mut Notices,
     urgent: Connection,
 ) -> Hub {
-    let mut h = show(b"close", hub::close(sent, members, places, notices, 0));
-    h = admit(h, members, places, notices, urgent);
-    h = ticks(h, members, places, notices, 29);
-    h = admit(h, members, places, notices, urgent);
-    h = offer(h, members, places, notices, 0, 4, 93);
-    ticks(h, members, places, notices, 4)
+    let mut h = show(out, b"close", hub::close(sent, members, places, notices, 0));
+    h = admit(out, h, members, places, notices, urgent);
+    h = ticks(out, h, members, places, notices, 29);
+    h = admit(out, h, members, places, notices, urgent);
+    h = offer(out, h, members, places, notices, 0, 4, 93);
+    ticks(out, h, members, places, notices, 4)
 }
 
 // A line that comes from another hub: each of its offers brings the packet's eligibility there, its stamp, and it is eligible here the line's allowance later,
 // which is the other hub's bound and the delay of the wire between them. An offer without a stamp is not this line's, and a stamp lies not in the future.
-fn onward(
+fn onward<W: Write>(
+    out: &mut W,
     reopened: Hub,
     members: &mut Connections,
     places: &mut Places,
@@ -174,16 +197,17 @@ fn onward(
         kind: 1,
         allowance: 30,
     };
-    let mut h = admit(reopened, members, places, notices, floor);
+    let mut h = admit(out, reopened, members, places, notices, floor);
     let r = hub::offer_stamped(h, members, places, notices, 2, 2, 200, 40);
-    h = show(b"offer with stamp 40", r);
-    h = offer(h, members, places, notices, 2, 2, 201);
+    h = show(out, b"offer with stamp 40", r);
+    h = offer(out, h, members, places, notices, 2, 2, 201);
     let r = hub::offer_stamped(h, members, places, notices, 2, 2, 202, 56);
-    h = show(b"offer with stamp 56", r);
-    ticks(h, members, places, notices, 17)
+    h = show(out, b"offer with stamp 56", r);
+    ticks(out, h, members, places, notices, 17)
 }
 
-fn main() {
+fn main(rt: HostRuntime) {
+    let mut out = rt.stdout();
     let mut members: Connections = [0; hub::CONNECTIONS];
     let mut places: Places = [0; hub::PLACES];
     let mut notices: Notices = [0; hub::NOTICES];
@@ -196,10 +220,17 @@ fn main() {
         kind: 0,
         allowance: 0,
     };
-    let mut h = open(hub::fresh_hub(), &mut members, &places, &notices, urgent);
-    h = send(h, &mut members, &mut places, &mut notices);
-    h = reopen(h, &mut members, &mut places, &mut notices, urgent);
-    h = onward(h, &mut members, &mut places, &mut notices);
-    write(b"clock: ", h.clock as u64);
-    io::write_all(STDOUT_FILENO, b"\n");
+    let mut h = open(
+        &mut out,
+        hub::fresh_hub(),
+        &mut members,
+        &places,
+        &notices,
+        urgent,
+    );
+    h = send(&mut out, h, &mut members, &mut places, &mut notices);
+    h = reopen(&mut out, h, &mut members, &mut places, &mut notices, urgent);
+    h = onward(&mut out, h, &mut members, &mut places, &mut notices);
+    write(&mut out, b"clock: ", h.clock as u64);
+    streams::write_all(&mut out, b"\n");
 }

@@ -1,51 +1,63 @@
 // Holds the log on descriptor 3 against the one that the rules give for the trace on standard input. It tells on standard output what it found, and on standard
 // error what could not be read. Document 02, R-14.
+mod late; // late.rt: a file that its first read opens
+
+ghost use Rattle.std.specs.Prelude.{◌≡◌};
+ghost use Rattle.turns.specs.Words.{text};
 ghost use Rattle.check_log.specs.Words.{Says, Complains};
 
 use checker::{Check, Finding};
-use libc::{STDERR_FILENO, STDOUT_FILENO};
+use late::Late;
 use limits::{MEMBERS, NOTICES, PLACES};
+use std::io::Write;
 
 // Hands to `write`, on standard output, the words told of a judgement, and behind those of a log that is not accepted the digits of the offset.
-fn say(c: Check, words: &[u8], digits: &[u8])
+fn say<W: Write>(c: Check, words: &[u8], digits: &[u8], output: &mut W)
     requires { Says c.finding c.at words.now digits.now }
 {
-    io::write_all(STDOUT_FILENO, words);
-    io::write_all(STDOUT_FILENO, digits);
-    io::write_all(STDOUT_FILENO, b"\n");
+    streams::write_all(output, words);
+    streams::write_all(output, digits);
+    streams::write_all(output, b"\n");
 }
 
 // Hands to `write`, on standard error, what could not be read.
-fn complain(c: Check, words: &[u8])
+fn complain<W: Write>(c: Check, words: &[u8], errors: &mut W)
     requires { Complains c.finding words.now }
 {
-    io::write_all(STDERR_FILENO, words);
-    io::write_all(STDERR_FILENO, b"\n");
+    streams::write_all(errors, words);
+    streams::write_all(errors, b"\n");
 }
 
 // Tells what is found.
-fn tell(c: Check) {
+fn tell<O: Write, E: Write>(c: Check, output: &mut O, errors: &mut E) {
     let mut text = [0u8; 20];
-    let k = io::decimal(c.at, &mut text);
+    let k = streams::decimal(c.at, &mut text);
     let f = c.finding;
     match f {
         Finding::On => {}
-        Finding::Accepted => say(c, b"accepted", &text[..0]),
-        Finding::Differs => say(c, b"differs at byte ", &text[..k]),
-        Finding::TooLong => say(c, b"too long at byte ", &text[..k]),
-        Finding::EndsEarly => say(c, b"ends early at byte ", &text[..k]),
-        Finding::TraceFailed => complain(c, b"check_log: reading the trace failed"),
-        Finding::LogFailed => complain(c, b"check_log: reading the log failed"),
+        Finding::Accepted => say(c, b"accepted", &text[..0], output),
+        Finding::Differs => say(c, b"differs at byte ", &text[..k], output),
+        Finding::TooLong => say(c, b"too long at byte ", &text[..k], output),
+        Finding::EndsEarly => say(c, b"ends early at byte ", &text[..k], output),
+        Finding::TraceFailed => complain(c, b"check_log: reading the trace failed", errors),
+        Finding::LogFailed => complain(c, b"check_log: reading the log failed", errors),
     }
 }
 
-fn main() {
+// The path of the descriptor that the log is read from.
+fn log_path() -> &'static str
+    ensures { result.now ≡ text "/dev/fd/3" }
+{
+    "/dev/fd/3"
+}
+
+fn main(rt: HostRuntime) {
     let mut places = [0u32; PLACES];
     let mut members = [0u32; MEMBERS];
     let mut notices = [0u32; NOTICES];
-    let mut buf = io::large_buffer();
-    let mut out = io::large_buffer();
-    let mut log = io::large_buffer();
+    let mut buf = streams::large_buffer();
+    let mut out = streams::large_buffer();
+    let mut log = streams::large_buffer();
     let c = checker::check_all(
         &mut members,
         &mut places,
@@ -53,6 +65,8 @@ fn main() {
         &mut buf,
         &mut out,
         &mut log,
+        &mut rt.stdin(),
+        &mut Late::new(&rt, log_path()),
     );
-    tell(c);
+    tell(c, &mut rt.stdout(), &mut rt.stderr());
 }

@@ -22,7 +22,7 @@ use Rattle.checker.specs.declared.Finding.{Finding}
 use Rattle.checker.specs.declared.Finding.TheVariants.{On, Accepted, Differs, TooLong, EndsEarly, TraceFailed, LogFailed}
 use Rattle.checker.specs.declared.Check.{Check}
 use Rattle.checker.specs.Judgement.{common}
-use Rattle.checker.specs.Checks.{Fetched, without_more, with_more, Compares, Closes, Checks}
+use Rattle.checker.specs.Checks.{Move, Fetched, without_more, with_more, Compares, Closes, Checks}
 use Rattle.checker.specs.Checks.Move.{compares, steps, closes, fails}
 use Rattle.checker.specs.Checks.Checks.{none, move}
 use Rattle.checker.proofs.CommonLaws.{common_le, common_is, common_from}
@@ -160,10 +160,14 @@ module _ (c : Check) (e l : List ℕ) (r : Check) (l2 : List ℕ) (n : length e 
 known_on : (r : Check) (e l : List ℕ) → r.finding ≡ On → Known r.finding r e l
 known_on r e l o = subst (λ (f : Finding). Known f r e l) (sym o) tt
 
+known_moved : (c : Check) (t : Tables) (w e l : List ℕ) {given came wrote : List ℕ} {r : Check} {t2 : Tables} {w2 e2 l2 : List ℕ}
+    → Move c t w e l given came wrote r t2 w2 e2 l2 → Known r.finding r e2 l2
+known_moved c t w e l (compares h r e2 l2 C) = known_compared c e l r e2 l2 h C
+known_moved c t w e l (steps n g p k r t2 w2 o2 Q) =
+    known_on r (take Q.turned.answer.wrote o2) l (ap (λ (x : Check). x.finding) Q.check)
+known_moved c t w e l (closes n g r l2 C) = known_closed c e l r l2 n g C
+known_moved c t w e l (fails n g) = g
+
 pub known : {given came wrote : List ℕ} {c : Check} {t : Tables} {w e l : List ℕ} → Checks given came wrote c t w e l → Known c.finding c e l
 known none = tt
-known (move {given} {came} {wrote} {c} {t} {w} {e} {l} S o (compares h r e2 l2 C)) = known_compared c e l r e2 l2 h C
-known (move {given} {came} {wrote} {c} {t} {w} {e} {l} S o (steps n g p k r t2 w2 o2 Q)) =
-    known_on r (take Q.turned.answer.wrote o2) l (ap (λ (x : Check). x.finding) Q.check)
-known (move {given} {came} {wrote} {c} {t} {w} {e} {l} S o (closes n g r l2 C)) = known_closed c e l r l2 n g C
-known (move S o (fails n g)) = g
+known (move {given} {came} {wrote} {c} {t} {w} {e} {l} S o M) = known_moved c t w e l M

@@ -25,7 +25,7 @@ use Rattle.checker.specs.Judgement.{common, Judged}
 use Rattle.checker.specs.Checks.{Checks}
 use Rattle.checker.specs.Promises.{Decided, HasEnded, AtItsEnd, AllMoves}
 use Rattle.checker.proofs.CommonLaws.{common_le, common_itself, common_all, common_is, common_one}
-use Rattle.checker.proofs.JudgementLaws.{finding, Judgement, judgement, apart_there, early_there, long_there, same_there}
+use Rattle.checker.proofs.JudgementLaws.{Judgement, judgement, apart_there, early_there, long_there, same_there}
 use Rattle.checker.proofs.CheckLaws.{turns_of, all_taken, Met, met_of, Known, known}
 
 -- ---- of any two byte lists

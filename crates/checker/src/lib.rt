@@ -1,5 +1,7 @@
-// THE CHECKER: a trace on standard input and a log on descriptor 3 come in pieces; the log is held against the one that the rules give for the trace, byte for byte,
+// THE CHECKER: a trace and a log come in pieces, each from a reader of its own; the log is held against the one that the rules give for the trace, byte for byte,
 // in constant memory. Document 02, R-14.
+#![tactic(auto)]
+
 mod alike; // alike.rt: how many bytes two slices have in common
 
 ghost use Rattle.std.specs.Prelude.{◌≡◌, ◌+◌, ◌-◌, ◌^◌, ◌<◌, ◌≤◌, pos, length};
@@ -13,6 +15,7 @@ ghost use Rattle.checker.specs.declared.Finding.TheVariants.{On};
 ghost use Rattle.checker.specs.Checks.{Inside, Fetched, without_more, with_more, at_the_end, Compares, StepsOn, Closes, failed, Advances, first_check, is_on, Judges};
 ghost use Rattle.checker.specs.Bounds.{Fit, Nearer};
 
+use std::io::Read;
 use turns::{End, Turn};
 
 // What is found. On: nothing yet, another move follows. The rest is told: the log is the one that the rules give; it differs, is too long or ends early, at the offset;
@@ -52,15 +55,8 @@ pub struct Check {
     pub finding: Finding,
 }
 
-// The descriptor that the log is read from.
-fn log_descriptor() -> i32
-    ensures { result ≡ pos 3 }
-{
-    3
-}
-
 // A window with something in it, where the log has more: an empty one is read anew.
-fn fetch(log: &mut [u8], from: usize, to: usize) -> Part
+fn fetch<L: Read>(log: &mut [u8], from: usize, to: usize, log_input: &mut L) -> Part
     requires { Inside (length log.old) from to }
     ensures fetched { Fetched (window log.old from to) result.asked result.read (window log.new result.from result.to) }
     ensures inside { Inside (length log.old) result.from result.to }
@@ -73,7 +69,7 @@ fn fetch(log: &mut [u8], from: usize, to: usize) -> Part
             read: 0,
         };
     }
-    let read = libc::read(log_descriptor(), log);
+    let read = streams::read(log_input, log);
     if read < 0 {
         return Part {
             from: 0,
@@ -124,7 +120,7 @@ fn at_the_end(more: usize, read: isize) -> Finding
 }
 
 // Bytes that are to be met, held against the log.
-fn compare(c: Check, out: &[u8], log: &mut [u8]) -> Check
+fn compare<L: Read>(c: Check, out: &[u8], log: &mut [u8], log_input: &mut L) -> Check
     requires { Inside (length out.now) c.met c.wrote × Inside (length log.old) c.from c.to × (c.at + (c.wrote - c.met) < 2 ^ 64) }
     ensures compares { Compares c (window out.now c.met c.wrote) (window log.old c.from c.to) result (window out.now result.met result.wrote) (window log.new result.from result.to) }
     ensures inside { Inside (length out.now) result.met result.wrote × Inside (length log.old) result.from result.to }
@@ -132,7 +128,7 @@ fn compare(c: Check, out: &[u8], log: &mut [u8]) -> Check
     let v = c.turn;
     let met = c.met;
     let wrote = c.wrote;
-    let p = fetch(log, c.from, c.to);
+    let p = fetch(log, c.from, c.to, log_input);
     let from = p.from;
     let to = p.to;
     if from == to {
@@ -163,13 +159,14 @@ fn compare(c: Check, out: &[u8], log: &mut [u8]) -> Check
 }
 
 // As many steps of the replay as the room holds, and then more of the trace, if that is what is wanted. What they wrote is to be met.
-fn steps(
+fn steps<R: Read>(
     c: Check,
     members: &mut [u32],
     places: &mut [u32],
     notices: &mut [u32],
     buf: &mut [u8],
     out: &mut [u8],
+    input: &mut R,
 ) -> Check
     requires { Right (length buf.old) c.turn.cursor c.turn.from c.turn.to }
     ensures steps_on { StepsOn c (tables members.old places.old notices.old) (window buf.old c.turn.from c.turn.to) out.old result (tables members.new places.new notices.new) (window buf.new result.turn.from result.turn.to) out.new }
@@ -188,7 +185,7 @@ fn steps(
         last,
         out,
     );
-    let then = turns::follow(r, buf, from, to, last, true);
+    let then = turns::follow(r, buf, from, to, last, true, input);
     Check {
         turn: then,
         met: 0,
@@ -203,12 +200,12 @@ fn steps(
 }
 
 // The end of the trace: all that the rules give was met. Whether the log has more.
-fn close(c: Check, log: &mut [u8]) -> Check
+fn close<L: Read>(c: Check, log: &mut [u8], log_input: &mut L) -> Check
     requires { Inside (length log.old) c.from c.to }
     ensures { Closes c (window log.old c.from c.to) result (window log.new result.from result.to) }
 {
     let v = c.turn;
-    let p = fetch(log, c.from, c.to);
+    let p = fetch(log, c.from, c.to, log_input);
     Check {
         turn: v,
         met: c.met,
@@ -241,7 +238,7 @@ fn fail(c: Check) -> Check
 }
 
 // A MOVE: what is to be met is held against the log; where all of it was met, the replay goes on or ends.
-fn advance(
+fn advance<R: Read, L: Read>(
     c: Check,
     members: &mut [u32],
     places: &mut [u32],
@@ -249,20 +246,22 @@ fn advance(
     buf: &mut [u8],
     out: &mut [u8],
     log: &mut [u8],
+    input: &mut R,
+    log_input: &mut L,
 ) -> Check
     requires { Fit (length buf.old) (length out.old) (length log.old) c }
     ensures advances { Advances c (tables members.old places.old notices.old) (window buf.old c.turn.from c.turn.to) (window out.old c.met c.wrote) (window log.old c.from c.to) result (tables members.new places.new notices.new) (window buf.new result.turn.from result.turn.to) (window out.new result.met result.wrote) (window log.new result.from result.to) }
     ensures nearer { result.finding ≡ On → Nearer (length buf.old) (length out.old) (length log.old) c result }
 {
     if c.met < c.wrote {
-        return compare(c, out, log);
+        return compare(c, out, log, log_input);
     }
     let v = c.turn;
     let e = v.end;
     match e {
-        End::On => steps(c, members, places, notices, buf, out),
-        End::Whole => close(c, log),
-        End::Malformed => close(c, log),
+        End::On => steps(c, members, places, notices, buf, out, input),
+        End::Whole => close(c, log, log_input),
+        End::Malformed => close(c, log, log_input),
         End::ReadFailed => fail(c),
         End::NotTaken => fail(c),
     }
@@ -302,13 +301,15 @@ fn goes_on(f: Finding) -> bool
 }
 
 // ALL MOVES, from the fresh line and tables of zeros until something is found: the judgement.
-pub fn check_all(
+pub fn check_all<R: Read, L: Read>(
     members: &mut [u32],
     places: &mut [u32],
     notices: &mut [u32],
     buf: &mut [u8],
     out: &mut [u8],
     log: &mut [u8],
+    input: &mut R,
+    log_input: &mut L,
 ) -> Check
     requires notices_value { tables members.old places.old notices.old ≡ zero_tables }
     requires longest_record_in_bounds { (longest_record ≤ length buf.old) × (length buf.old ≤ 65536) }
@@ -318,7 +319,7 @@ pub fn check_all(
 {
     let mut c = first();
     loop {
-        let r = advance(c, members, places, notices, buf, out, log);
+        let r = advance(c, members, places, notices, buf, out, log, input, log_input);
         let f = r.finding;
         if !goes_on(f) {
             return r;

@@ -9,18 +9,20 @@ ghost use Rattle.turns.specs.Turns.{window, Right, Better, Turned};
 ghost use Rattle.turns.specs.Runs.{Ran};
 ghost use Rattle.mtredovim.specs.Words.{Says};
 
-use libc::{STDERR_FILENO, STDOUT_FILENO};
 use limits::{MEMBERS, NOTICES, PLACES};
+use std::io::{Read, Write};
 use turns::{End, Turn, first, follow, goes_on};
 
 // As many steps as the room holds, written out in one block; then more input, if that is what is wanted.
-fn advance(
+fn advance<R: Read, W: Write>(
     v: Turn,
     members: &mut [u32],
     places: &mut [u32],
     notices: &mut [u32],
     buf: &mut [u8],
     out: &mut [u8],
+    input: &mut R,
+    output: &mut W,
 ) -> Turn
     requires { Right (length buf.old) v.cursor v.from v.to }
     ensures turned { Turned v.cursor (tables members.old places.old notices.old) (window buf.old v.from v.to) v.last out.old result (tables members.new places.new notices.new) out.new (window buf.new result.from result.to) }
@@ -38,17 +40,19 @@ fn advance(
         last,
         out,
     );
-    let taken = io::write_all(STDOUT_FILENO, &out[..r.wrote]);
-    follow(r, buf, from, to, last, taken)
+    let taken = streams::write_all(output, &out[..r.wrote]);
+    follow(r, buf, from, to, last, taken, input)
 }
 
 // ALL TURNS, from the fresh line and tables of zeros until one that is not followed by another: the last one.
-fn replay_all(
+fn replay_all<R: Read, W: Write>(
     members: &mut [u32],
     places: &mut [u32],
     notices: &mut [u32],
     buf: &mut [u8],
     out: &mut [u8],
+    input: &mut R,
+    output: &mut W,
 ) -> Turn
     requires notices_value { tables members.old places.old notices.old ≡ zero_tables }
     requires longest_record_in_bounds { longest_record ≤ length buf.old }
@@ -57,7 +61,7 @@ fn replay_all(
 {
     let mut v = first();
     loop {
-        let r = advance(v, members, places, notices, buf, out);
+        let r = advance(v, members, places, notices, buf, out, input, output);
         let e = r.end;
         if !goes_on(e) {
             return r;
@@ -67,35 +71,48 @@ fn replay_all(
 }
 
 // Hands to `write`, on standard error, the words told of an end, and behind those of a malformed record the digits of its offset.
-fn say(v: Turn, words: &[u8], digits: &[u8])
+fn say<W: Write>(v: Turn, words: &[u8], digits: &[u8], errors: &mut W)
     requires { Says v.end v.cursor.at words.now digits.now }
 {
-    io::write_all(STDERR_FILENO, words);
-    io::write_all(STDERR_FILENO, digits);
-    io::write_all(STDERR_FILENO, b"\n");
+    streams::write_all(errors, words);
+    streams::write_all(errors, digits);
+    streams::write_all(errors, b"\n");
 }
 
 // Tells why the log is not whole, or that it ends in `ER`; nothing of any other log.
-fn tell(v: Turn) {
+fn tell<W: Write>(v: Turn, errors: &mut W) {
     let c = v.cursor;
     let mut text = [0u8; 20];
-    let k = io::decimal(c.at as u64, &mut text);
+    let k = streams::decimal(c.at as u64, &mut text);
     let e = v.end;
     match e {
         End::On => {}
         End::Whole => {}
-        End::Malformed => say(v, b"mtredovim: malformed record at offset ", &text[..k]),
-        End::ReadFailed => say(v, b"mtredovim: reading failed", &text[..0]),
-        End::NotTaken => say(v, b"mtredovim: writing failed", &text[..0]),
+        End::Malformed => say(
+            v,
+            b"mtredovim: malformed record at offset ",
+            &text[..k],
+            errors,
+        ),
+        End::ReadFailed => say(v, b"mtredovim: reading failed", &text[..0], errors),
+        End::NotTaken => say(v, b"mtredovim: writing failed", &text[..0], errors),
     }
 }
 
-fn main() {
+fn main(rt: HostRuntime) {
     let mut places = [0u32; PLACES];
     let mut members = [0u32; MEMBERS];
     let mut notices = [0u32; NOTICES];
-    let mut buf = io::large_buffer();
-    let mut out = io::large_buffer();
-    let v = replay_all(&mut members, &mut places, &mut notices, &mut buf, &mut out);
-    tell(v);
+    let mut buf = streams::large_buffer();
+    let mut out = streams::large_buffer();
+    let v = replay_all(
+        &mut members,
+        &mut places,
+        &mut notices,
+        &mut buf,
+        &mut out,
+        &mut rt.stdin(),
+        &mut rt.stdout(),
+    );
+    tell(v, &mut rt.stderr());
 }

@@ -3,12 +3,14 @@
 //
 // A request: what is asked (`t`, `a`, `T` or `A`); the record's place among the bytes; how many of the bytes are read; where the part of the room that is lent starts, and where
 // it ends; from 5 on the numbers of `made`; from 64 on the bytes. A room: 64 bytes, and behind them what is told: how many bytes reading took, and how many were written.
+#![tactic(auto)]
+
 mod made; // made.rt: records and answers of any numbers
 
 ghost use Rattle.std.specs.Prelude.{◌≡◌, length};
 
 use fields::read::one;
-use libc::{STDIN_FILENO, STDOUT_FILENO};
+use std::io::{Read, Write};
 
 // `t`: the trace record at a place is read, and what was read is written.
 fn trace(bytes: &[u8], place: usize, room: &mut [u8]) -> [u8; 2] {
@@ -84,21 +86,23 @@ fn block(asked: &[u8], rooms: &mut [u8])
 }
 
 // A block of requests and one of rooms, where there are any; whether the rooms were written back.
-fn turn() -> bool {
-    let mut asked = io::large_buffer();
-    let mut rooms = io::large_buffer();
-    io::read_full(STDIN_FILENO, &mut asked);
-    if io::read_full(STDIN_FILENO, &mut rooms) == 0 {
+fn turn<R: Read, W: Write>(from: &mut R, to: &mut W) -> bool {
+    let mut asked = streams::large_buffer();
+    let mut rooms = streams::large_buffer();
+    streams::read_full(from, &mut asked);
+    if streams::read_full(from, &mut rooms) == 0 {
         return false;
     }
     block(&asked, &mut rooms);
-    io::write_all(STDOUT_FILENO, &rooms)
+    streams::write_all(to, &rooms)
 }
 
 // Nothing says that the input ends, and a proved loop has to: so its turns are counted, from more than any input has.
-fn main() {
+fn main(rt: HostRuntime) {
+    let mut from = rt.stdin();
+    let mut to = rt.stdout();
     let mut turns: u64 = 1000000;
-    while turns > 0 && turn() {
+    while turns > 0 && turn(&mut from, &mut to) {
         turns -= 1;
     }
 }

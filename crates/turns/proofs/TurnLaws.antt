@@ -14,7 +14,7 @@ use mir.Syntax.{w64}
 use mir.Val.{Fits, hbits}
 use borrow.Author.Tests.{le-ltb, eq-eqb, ne_eqb, eqb-true, eqb-false}
 use Rattle.rules.proofs.Tests.{never}
-use Rattle.libc.specs.Io.{Moved}
+use Rattle.streams.specs.Moves.{Moved}
 use Rattle.tables.specs.Lent.{Tables}
 use Rattle.steps.specs.declared.Phase.TheVariants.{Finished}
 use Rattle.steps.specs.declared.Cursor.{Cursor}

@@ -2,7 +2,7 @@
 use Rattle.std.specs.Prelude.{ℕ, ◌≡◌, List, [] as none, ◌∷◌ as ◌then◌, length}
 use Prim.Native.Char.{code}
 use Prim.Native.String.{String, [], ◌∷◌}
-use Rattle.io.specs.Digits.{last_digits, IsDigitCount}
+use Rattle.streams.specs.Digits.{last_digits, IsDigitCount}
 
 -- the bytes of a text
 abbrev pub text : String → List ℕ

@@ -1,11 +1,13 @@
 // The turns of a program that replays a trace as it comes: a call of `pump` on the window of a buffer, whose bytes are handed on to be taken (written out, or
 // held against a log), and then more input, if that is wanted.
+#![tactic(auto)]
+
 ghost use Rattle.std.specs.Prelude.{◌≡◌, true, false, ◌+◌, ◌^◌, ◌<◌, length};
 ghost use Rattle.steps.specs.declared.Status.TheVariants.{MoreBytes};
 ghost use Rattle.turns.specs.declared.End.TheVariants.{On};
 ghost use Rattle.turns.specs.Turns.{is_on, given_by, reads, after_steps, first_turn, read_turn, window, Right, Better, Refilled, Followed, Onward};
 
-use libc::STDIN_FILENO;
+use std::io::Read;
 use steps::{Cursor, Status, Stepped};
 
 // What follows a turn. On: the next turn. The turns end after any other. Whole: the log is taken to its end, and every record was well formed. Malformed: it is
@@ -126,18 +128,26 @@ fn after_steps(taken: bool, k: Status, emptied: bool) -> End
 }
 
 // The window moves to the front, and more is read behind it.
-fn refill(c: Cursor, buf: &mut [u8], from: usize, to: usize) -> Turn
+fn refill<R: Read>(c: Cursor, buf: &mut [u8], from: usize, to: usize, input: &mut R) -> Turn
     requires { Right (length buf.old) c from to }
     ensures refilled { Refilled c (window buf.old from to) result (window buf.new result.from result.to) }
     ensures better { result.end ≡ On → Better (length buf.old) c from to false result }
 {
     let n = replay::slide(buf, from, to);
-    let read = libc::read(STDIN_FILENO, &mut buf[n..]);
+    let read = streams::read(input, &mut buf[n..]);
     heard(c, n, read)
 }
 
 // What follows a call of `pump` on the window from `from` to `to`, which answered r, and whose bytes were all taken or not: more input, if that is what is wanted.
-pub fn follow(r: Stepped, buf: &mut [u8], from: usize, to: usize, last: bool, taken: bool) -> Turn
+pub fn follow<R: Read>(
+    r: Stepped,
+    buf: &mut [u8],
+    from: usize,
+    to: usize,
+    last: bool,
+    taken: bool,
+    input: &mut R,
+) -> Turn
     requires { Right (length buf.old) r.cursor (from + r.used) to × (r.status ≡ MoreBytes → last ≡ false) }
     ensures followed { Followed r (window buf.old from to) last result (window buf.new result.from result.to) }
     ensures onward { Onward (length buf.old) r from to last taken result }
@@ -147,7 +157,7 @@ pub fn follow(r: Stepped, buf: &mut [u8], from: usize, to: usize, last: bool, ta
     let next = from + r.used;
     let k = r.status;
     if reads(taken, k) {
-        return refill(then, buf, next, to);
+        return refill(then, buf, next, to, input);
     }
     let emptied = next == to;
     let end = after_steps(taken, k, emptied);
