@@ -1,5 +1,7 @@
 // Holds the log on descriptor 3 against the one that the rules give for the trace on standard input. It tells on standard output what it found, and on standard
 // error what could not be read. Document 02, R-14.
+#![tactic(auto)]
+
 mod late; // late.rt: a file that its first read opens
 
 ghost use Rattle.std.specs.Prelude.{◌≡◌};

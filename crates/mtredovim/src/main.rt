@@ -1,4 +1,6 @@
 // Replays the trace on standard input and writes its answer log to standard output. It tells on standard error what went wrong.
+#![tactic(auto)]
+
 ghost use Rattle.std.specs.Prelude.{◌≡◌, ◌≤◌, length};
 ghost use Rattle.tables.specs.Lent.{tables};
 ghost use Rattle.state.specs.View.{zero_tables};
