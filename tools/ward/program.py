@@ -79,6 +79,6 @@ def judged(trace_path, log_path):
     by_shell = ["sh", "-c", 'trace=$1 log=$2; shift 2; exec "$@" <"$trace" 3<"$log"', "sh", trace_path, log_path]
     done = subprocess.run([*by_shell, *built("check_log")], stdout=subprocess.PIPE, stderr=subprocess.PIPE, check=False)
     said, complained = (text.decode(errors="replace").strip() for text in (done.stdout, done.stderr))
-    if done.returncode and not complained.startswith("check_log: reading the "):
+    if done.returncode:
         raise Ended(f"the checker {how_ended(done.returncode)}" + (f": {complained}" if complained else ""), CANNOT_RUN)
     return said, complained
