@@ -4,7 +4,8 @@
 
 mod alike; // alike.rt: how many bytes two slices have in common
 
-ghost use Rattle.std.specs.Prelude.{◌≡◌, ◌+◌, ◌-◌, ◌^◌, ◌<◌, ◌≤◌, pos, length};
+ghost use Rattle.std.specs.Prelude.{◌≡◌, true, ◌+◌, ◌-◌, ◌^◌, ◌<◌, ◌≤◌, pos, length};
+ghost use Rattle.streams.specs.Moves.{Reads};
 ghost use Rattle.traces.specs.Trace.{longest_record};
 ghost use Rattle.answers.specs.Answers.{longest_answer};
 ghost use Rattle.state.specs.View.{zero_tables};
@@ -60,6 +61,7 @@ fn fetch<L: Read>(log: &mut [u8], from: usize, to: usize, log_input: &mut L) -> 
     requires { Inside (length log.old) from to }
     ensures fetched { Fetched (window log.old from to) result.asked result.read (window log.new result.from result.to) }
     ensures inside { Inside (length log.old) result.from result.to }
+    ensures told { result.asked ≡ true → Reads (L.remaining log_input.old) (L.remaining log_input.new) result.read log.new }
 {
     if from < to {
         return Part {
