@@ -1,23 +1,47 @@
-// A file that its first read opens. Until then it takes no descriptor: one opened earlier would get the number of a standard stream that is closed.
+// A descriptor's file, which its first read opens anew. Until then it takes no descriptor: one opened earlier would get the number of a standard stream that is
+// closed.
+use crate::held::Held;
 use std::fs::File;
 use std::io;
-use std::io::Read;
+use std::io::{ErrorKind, Read, Seek, SeekFrom};
 
 #[derive(Drop)]
 pub(crate) struct Late<'a> {
     rt: &'a HostRuntime,
     path: &'a str,
+    info: &'a str,
     file: Option<File>,
 }
 
 impl<'a> Late<'a> {
-    pub(crate) fn new(rt: &'a HostRuntime, path: &'a str) -> Late<'a> {
+    // `path` leads to the descriptor's file, and `info` to what the system tells of the descriptor.
+    pub(crate) fn new(rt: &'a HostRuntime, path: &'a str, info: &'a str) -> Late<'a> {
         Late {
             rt: rt,
             path: path,
+            info: info,
             file: None,
         }
     }
+}
+
+// The file of a descriptor that may be read, at the descriptor's position.
+fn open(rt: &HostRuntime, path: &str, info: &str) -> io::Result<File> {
+    let held = Held::read_at(rt, info)?;
+    if !held.may_be_read() {
+        return Err(io::Error::from(ErrorKind::PermissionDenied));
+    }
+    let mut file = File::open(rt, path)?;
+    go_to(&mut file, held.position())?;
+    Ok(file)
+}
+
+// At its beginning a file is as it is opened. So a pipe, which has no other place, need not be moved.
+fn go_to(file: &mut File, position: u64) -> io::Result<()> {
+    if position != 0 {
+        file.seek(SeekFrom::Start(position))?;
+    }
+    Ok(())
 }
 
 impl<'a> Read for Late<'a> {
@@ -25,7 +49,7 @@ impl<'a> Read for Late<'a> {
         if let Some(file) = &mut self.file {
             return file.read(buf);
         }
-        let mut file = File::open(self.rt, self.path)?;
+        let mut file = open(self.rt, self.path, self.info)?;
         let got = file.read(buf);
         self.file = Some(file);
         got

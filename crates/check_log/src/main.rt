@@ -2,7 +2,8 @@
 // error what could not be read. Document 02, R-14.
 #![tactic(auto)]
 
-mod late; // late.rt: a file that its first read opens
+mod held; // held.rt: what the system tells of a descriptor
+mod late; // late.rt: a descriptor's file, which its first read opens
 
 ghost use Rattle.std.specs.Prelude.{◌≡◌};
 ghost use Rattle.turns.specs.Words.{text};
@@ -53,6 +54,13 @@ fn log_path() -> &'static str
     "/dev/fd/3"
 }
 
+// The path of what the system tells of that descriptor.
+fn info_path() -> &'static str
+    ensures { result.now ≡ text "/proc/self/fdinfo/3" }
+{
+    "/proc/self/fdinfo/3"
+}
+
 fn main(rt: HostRuntime) {
     let mut places = [0u32; PLACES];
     let mut members = [0u32; MEMBERS];
@@ -68,7 +76,7 @@ fn main(rt: HostRuntime) {
         &mut out,
         &mut log,
         &mut rt.stdin(),
-        &mut Late::new(&rt, log_path()),
+        &mut Late::new(&rt, log_path(), info_path()),
     );
     tell(c, &mut rt.stdout(), &mut rt.stderr());
 }
