@@ -1,5 +1,5 @@
 // What the system tells of a descriptor that this program holds, in /proc/self/fdinfo.
-ghost use Rattle.std.specs.Prelude.{◌≤◌, IfSome};
+ghost use Rattle.std.specs.Prelude.{ℕ, ◌≤◌, ◌<◌, ◌^◌, MatchOption};
 ghost use Rattle.check_log.specs.Words.{NumberBehind};
 
 use std::fs::File;
@@ -62,7 +62,7 @@ fn number_in(told: &str, name: &str, radix: u32) -> Option<u64>
 fn number_behind(line: &str, name: &str, radix: u32) -> Option<u64>
     requires lower_bound { 2 ≤ radix }
     requires upper_bound { radix ≤ 36 }
-    ensures { IfSome result (λ n. NumberBehind radix name.now line.now n) }
+    ensures { MatchOption result ((n : ℕ) → n < 2 ^ 64 → ¬ (NumberBehind radix name.now line.now n)) (λ n. NumberBehind radix name.now line.now n) }
 {
     u64::from_str_radix(line.strip_prefix(name)?, radix).ok()
 }
