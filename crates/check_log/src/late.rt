@@ -1,9 +1,10 @@
 // A descriptor's file, which its first read opens anew. Until then it takes no descriptor: one opened earlier would get the number of a standard stream that is
 // closed.
 use crate::held::Held;
-use std::fs::File;
-use std::io;
+use std::fs::{File, OpenOptions};
 use std::io::{ErrorKind, Read, Seek, SeekFrom};
+use std::os::unix::fs::FileTypeExt;
+use std::{fs, io};
 
 #[derive(Drop)]
 pub(crate) struct Late<'a> {
@@ -31,9 +32,27 @@ fn open(rt: &HostRuntime, path: &str, info: &str) -> io::Result<File> {
     if !held.may_be_read() {
         return Err(io::Error::from(ErrorKind::PermissionDenied));
     }
+    let other = other_end(rt, path)?;
     let mut file = File::open(rt, path)?;
+    drop(other);
     go_to(&mut file, held.position())?;
     Ok(file)
+}
+
+// A pipe opened for writing too, which waits for nobody. As long as it is held, opening a pipe with a name for reading does not wait for a writer: the last one may
+// have ended, with its bytes still in the pipe. `None` where the file is no pipe, or may not be written.
+fn other_end(rt: &HostRuntime, path: &str) -> io::Result<Option<File>> {
+    if fs::metadata(rt, path)?.file_type().is_fifo() {
+        Ok(
+            OpenOptions::new()
+                .read(true)
+                .write(true)
+                .open(rt, path)
+                .ok(),
+        )
+    } else {
+        Ok(None)
+    }
 }
 
 // At its beginning a file is as it is opened. So a pipe, which has no other place, need not be moved.
