@@ -26,6 +26,18 @@ impl<'a> Late<'a> {
     }
 }
 
+impl<'a> Read for Late<'a> {
+    fn read(&mut self, buf: &mut [u8]) -> io::Result<usize> {
+        if let Some(file) = &mut self.file {
+            return file.read(buf);
+        }
+        let mut file = open(self.rt, self.path, self.info)?;
+        let got = file.read(buf);
+        self.file = Some(file);
+        got
+    }
+}
+
 // The file of a descriptor that may be read, at the descriptor's position.
 fn open(rt: &HostRuntime, path: &str, info: &str) -> io::Result<File> {
     let held = Held::read_at(rt, info)?;
@@ -61,16 +73,4 @@ fn go_to(file: &mut File, position: u64) -> io::Result<()> {
         file.seek(SeekFrom::Start(position))?;
     }
     Ok(())
-}
-
-impl<'a> Read for Late<'a> {
-    fn read(&mut self, buf: &mut [u8]) -> io::Result<usize> {
-        if let Some(file) = &mut self.file {
-            return file.read(buf);
-        }
-        let mut file = open(self.rt, self.path, self.info)?;
-        let got = file.read(buf);
-        self.file = Some(file);
-        got
-    }
 }
