@@ -10,7 +10,7 @@ use borrow.Author.Tests.{eq-eqb, ne_eqb}
 use Rattle.either_line.specs.Line.{Line, tick, respond}
 use Rattle.answers.specs.declared.Reply.TheVariants.{Ticked}
 use Rattle.answers.specs.Answers.{answer_bytes}
-use Rattle.answer_log.specs.Log.{Asked, one_call, some_ticks, unread, asks, call_log, asked_within, asked_log, read_at, tick_log, ticks_run}
+use Rattle.answer_log.specs.Log.{Asked, one_call, some_ticks, unread, call_log, asked_within, asked_log, read_at, tick_log, ticks_run, asks_read, taken}
 use Rattle.answer_log.proofs.ReadLaws.{read_lies}
 
 -- what the records of bs ask, which starts at offset `at`
@@ -88,14 +88,14 @@ enough zero (suc g) at bs h k = rw (eq-eqb (length bs) 0 (omega arith))
 enough (suc f) zero at bs h k = rw (eq-eqb (length bs) 0 (omega arith))
 enough (suc f) (suc g) at bs h k =
     let lies = read_lies at bs in
-    let more : ℕ → List (Asked × ℕ) = λ i. asked_within i (at + (read_at at bs).taken) (drop (read_at at bs).taken bs) in
-    where_any (eqb (length bs) 0) ((asks (read_at at bs).what, at) ∷ more f) ((asks (read_at at bs).what, at) ∷ more g)
-    (one_more (asks (read_at at bs).what) (read_at at bs).taken at (more f) (more g) (λ z. ap asks (lies.no_byte z))
-    (λ p. enough f g (at + (read_at at bs).taken) (drop (read_at at bs).taken bs) (simp length-drop (omega (arith, lies.fits))) (simp length-drop (omega (arith, lies.fits)))))
+    let more : ℕ → List (Asked × ℕ) = λ i. asked_within i (at + taken (read_at at bs)) (drop (taken (read_at at bs)) bs) in
+    where_any (eqb (length bs) 0) ((asks_read (read_at at bs), at) ∷ more f) ((asks_read (read_at at bs), at) ∷ more g)
+    (one_more (asks_read (read_at at bs)) (taken (read_at at bs)) at (more f) (more g) (λ z. ap asks_read (lies.no_byte z))
+    (λ p. enough f g (at + taken (read_at at bs)) (drop (taken (read_at at bs)) bs) (simp length-drop (omega (arith, lies.fits))) (simp length-drop (omega (arith, lies.fits)))))
 
 -- the first record, and those behind it
 abbrev pub asked_behind : ℕ → List ℕ → List (Asked × ℕ)
-asked_behind at bs = (asks (read_at at bs).what, at) ∷ asked_from (at + (read_at at bs).taken) (drop (read_at at bs).taken bs)
+asked_behind at bs = (asks_read (read_at at bs), at) ∷ asked_from (at + taken (read_at at bs)) (drop (taken (read_at at bs)) bs)
 
 pub record_by_record : (at : ℕ) (bs : List ℕ) → 0 < length bs → counting (asked_from at bs) ≡ counting (asked_behind at bs)
 unfolding asked_within
@@ -103,9 +103,9 @@ record_by_record at bs h =
     let lies = read_lies at bs in
     enough (length bs) (suc (length bs)) at bs (omega arith) (omega arith)
     ∙ rw (ne_eqb (length bs) 0 (omega arith))
-    (one_more (asks (read_at at bs).what) (read_at at bs).taken at (asked_within (length bs) (at + (read_at at bs).taken) (drop (read_at at bs).taken bs))
-    (asked_from (at + (read_at at bs).taken) (drop (read_at at bs).taken bs)) (λ z. ap asks (lies.no_byte z))
-    (λ p. enough (length bs) (length (drop (read_at at bs).taken bs)) (at + (read_at at bs).taken) (drop (read_at at bs).taken bs) (simp length-drop (omega (arith, lies.fits))) (omega arith)))
+    (one_more (asks_read (read_at at bs)) (taken (read_at at bs)) at (asked_within (length bs) (at + taken (read_at at bs)) (drop (taken (read_at at bs)) bs))
+    (asked_from (at + taken (read_at at bs)) (drop (taken (read_at at bs)) bs)) (λ z. ap asks_read (lies.no_byte z))
+    (λ p. enough (length bs) (length (drop (taken (read_at at bs)) bs)) (at + taken (read_at at bs)) (drop (taken (read_at at bs)) bs) (simp length-drop (omega (arith, lies.fits))) (omega arith)))
 
 pub none_asked : (at : ℕ) (bs : List ℕ) → length bs ≡ 0 → asked_from at bs ≡ []
 unfolding asked_within

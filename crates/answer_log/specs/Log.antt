@@ -1,13 +1,12 @@
 -- THE ANSWER LOG of a trace, from bytes to bytes, by the rules alone: no hub value, no table, no window. Document 01, "Trace and answer records" and
 -- "One tick"; document 02, R-1, R-2, R-4, R-6, R-8, R-9, R-11, R-12 and R-13.
-use Rattle.std.specs.Prelude.{ℕ, zero, suc, ◌+◌, ◌-◌, cond, List, [], ◌∷◌, ◌++◌, ltb, eqb, length, drop}
+use Rattle.std.specs.Prelude.{ℕ, zero, suc, ◌+◌, ◌-◌, cond, List, [], ◌∷◌, ◌++◌, ltb, eqb, length, drop, Some, None}
 use Rattle.std.proofs.Math.Option.{Option, none, some}
 use Rattle.rules.specs.declared.Packet.{Packet}
 use Rattle.either_line.specs.Line.{Line, Request, link_levels, link_frames, admit_level, admit_share, offer, notice, close, tick, Reply, respond, resting_verdict, clock_of, fresh_line}
 use Rattle.traces.specs.declared.Record.{Record}
-use Rattle.traces.specs.declared.Record.TheVariants.{Link as LinkRecord, LinkStandBy, LinkWindows, LinkFrames, Admit, AdmitStamped, AdmitShare, Close, Offer, OfferStamped, Notice, Ticks, Malformed}
-use Rattle.traces.specs.declared.Found.{Found}
-use Rattle.traces.specs.Trace.{found, read_trace}
+use Rattle.traces.specs.declared.Record.TheVariants.{Link as LinkRecord, LinkStandBy, LinkWindows, LinkFrames, Admit, AdmitStamped, AdmitShare, Close, Offer, OfferStamped, Notice, Ticks}
+use Rattle.traces.specs.Trace.{Found, read_trace}
 use Rattle.answers.specs.declared.Reply.TheVariants.{Linked, Admitted, Closed, Offered, Noticed, Departed, Ticked, Broken}
 use Rattle.answers.specs.Answers.{answer_bytes}
 use Rattle.named.specs.Named.{link_named, framing_named, connection_named, stamped_named, share_named}
@@ -16,9 +15,19 @@ use Rattle.named.specs.Named.{link_named, framing_named, connection_named, stamp
 abbrev pub trace_limit : ℕ
 trace_limit = 16_777_216
 
--- the record that bs starts with, where bs starts at offset `at` of the trace: "a record that would end beyond the size limit" is malformed
+-- what was found at offset `at` of the trace: "a record that would end beyond the size limit" is malformed
+abbrev pub ends_within : ℕ → Found → Found
+ends_within at None = None
+ends_within at (Some (r, n)) = cond (ltb trace_limit (at + n)) None (Some (r, n))
+
+-- the record that bs starts with, where bs starts at offset `at` of the trace
 unfoldable pub read_at : ℕ → List ℕ → Found
-read_at at bs = cond (ltb trace_limit (at + (read_trace bs).taken)) (found none) (read_trace bs)
+read_at at bs = ends_within at (read_trace bs)
+
+-- the bytes that it takes: none, where it is malformed
+abbrev pub taken : Found → ℕ
+taken None = 0
+taken (Some (r, n)) = n
 
 -- ---- `TK`
 
@@ -52,11 +61,9 @@ pub data Asked : Type 0 where
   unread : Asked
 
 abbrev pub asks : Record → Asked
-asks (LinkRecord n m silence d1 d2 d3 d4 d5 d6 d7 d8) = one_call (link_levels (link_named (n ∷ m ∷ silence ∷ 0 ∷ d1 ∷ d2 ∷ d3 ∷ d4 ∷ d5 ∷ d6 ∷ d7 ∷ d8 ∷ [])))
-asks (LinkStandBy n m silence early d1 d2 d3 d4 d5 d6 d7 d8) =
-    one_call (link_levels (link_named (n ∷ m ∷ silence ∷ early ∷ d1 ∷ d2 ∷ d3 ∷ d4 ∷ d5 ∷ d6 ∷ d7 ∷ d8 ∷ [])))
-asks (LinkWindows n m silence early d1 d2 d3 d4 d5 d6 d7 d8 w1 w2 w3 w4 w5 w6 w7 w8) =
-    one_call (link_levels (link_named (n ∷ m ∷ silence ∷ early ∷ d1 ∷ d2 ∷ d3 ∷ d4 ∷ d5 ∷ d6 ∷ d7 ∷ d8 ∷ w1 ∷ w2 ∷ w3 ∷ w4 ∷ w5 ∷ w6 ∷ w7 ∷ w8 ∷ [])))
+asks (LinkRecord n m silence bounds) = one_call (link_levels (link_named (n ∷ m ∷ silence ∷ 0 ∷ bounds)))
+asks (LinkStandBy n m silence early bounds) = one_call (link_levels (link_named (n ∷ m ∷ silence ∷ early ∷ bounds)))
+asks (LinkWindows n m silence early bounds windows) = one_call (link_levels (link_named (n ∷ m ∷ silence ∷ early ∷ bounds ++ windows)))
 asks (LinkFrames frame m silence) = one_call (link_frames (framing_named (frame ∷ m ∷ silence ∷ [])))
 asks (Admit level gap size window average) = one_call (admit_level (connection_named (level ∷ gap ∷ size ∷ window ∷ average ∷ [])))
 asks (AdmitStamped level gap size allowance) = one_call (admit_level (stamped_named (level ∷ gap ∷ size ∷ allowance ∷ [])))
@@ -66,7 +73,11 @@ asks (Offer c len tag) = one_call (offer c len tag none)
 asks (OfferStamped c len tag stamp) = one_call (offer c len tag (some stamp))
 asks (Notice len tag) = one_call (notice len tag)
 asks (Ticks n) = some_ticks n
-asks Malformed = unread
+
+-- .. and what was read: what is malformed cannot be read
+abbrev pub asks_read : Found → Asked
+asks_read None = unread
+asks_read (Some (r, n)) = asks r
 
 -- what is written of the reply to a call: of a tick its departure, if there is one
 abbrev pub call_log : Request → Reply → List ℕ
@@ -83,7 +94,7 @@ call_log tick a = tick_log a
 unfoldable pub asked_within : ℕ → ℕ → List ℕ → List (Asked × ℕ)
 asked_within zero at bs = []
 asked_within (suc f) at bs =
-    cond (eqb (length bs) 0) [] ((asks (read_at at bs).what, at) ∷ asked_within f (at + (read_at at bs).taken) (drop (read_at at bs).taken bs))
+    cond (eqb (length bs) 0) [] ((asks_read (read_at at bs), at) ∷ asked_within f (at + taken (read_at at bs)) (drop (taken (read_at at bs)) bs))
 
 -- what is written of them from the line s on: of a malformed one `ER` with its offset, and nothing more; "an empty trace gives no output"
 abbrev pub asked_log : Line → List (Asked × ℕ) → List ℕ

@@ -1,8 +1,7 @@
 -- The laws of the answer kinds: what is their own.
+use Rattle.std.specs.Prelude.{Some}
 use mathlib.Core.Path.{◌≡◌, refl, sym, ap, ◌∙◌}
-use mathlib.Core.Bool.{true}
 use mathlib.Core.List.{[], ◌∷◌}
-use mathlib.Core.Option.{some}
 use native.Mathlib.Omega.{arith}
 use borrow.Author.Tests.{eqb-true}
 use Prim.Native.Nat.{◌<◌}
@@ -14,15 +13,10 @@ use Rattle.answers.specs.Kinds.{LA, CA, CD, PA, NA, DP, TA, ER}
 use Rattle.fields.specs.Formats.{starts, read_kinds, laid}
 use Rattle.answers.specs.Answers.{answer_kinds, answer_table, answer_layout, longest_answer}
 use Rattle.answers.specs.declared.Reply.{Reply}
-use Rattle.answers.specs.declared.Reply.TheVariants.{Linked, Admitted, Closed, Offered, Noticed, Departed, Ticked, Broken, Malformed}
+use Rattle.answers.specs.declared.Reply.TheVariants.{Linked, Admitted, Closed, Offered, Noticed, Departed, Ticked, Broken}
 use Rattle.fields.proofs.NumberLaws.{one_byte}
-use Rattle.fields.proofs.MarkLaws.{distinct, absent}
 use Rattle.fields.proofs.WindowLaws.{AllWithin}
 use Rattle.fields.proofs.FormatLaws.{ReadsBack, AllFair, two_letters, plain_fair, kind_back, length_laid}
-
-pub answer_marks : distinct answer_kinds ≡ true
-unfolding distinct absent number
-answer_marks = refl
 
 pub answer_back : ReadsBack answer_kinds answer_layout
 unfolding read_kinds starts laid none_lost bytes put_fields little
@@ -35,7 +29,6 @@ answer_back (Departed connection tag arrival eligibility finish) rest w =
     kind_back DP (connection ∷ tag ∷ arrival ∷ eligibility ∷ finish ∷ []) rest _ refl w.1 refl refl
 answer_back (Ticked verdict ticks) rest w = kind_back TA (verdict ∷ ticks ∷ []) rest _ refl w.1 refl refl
 answer_back (Broken offset) rest w = kind_back ER (14 ∷ offset ∷ []) rest _ refl w.1 refl refl
-answer_back Malformed rest w = absurd w
 
 pub answers_fair : AllFair answer_layout answer_kinds
 unfolding AllFair get_fields
@@ -55,7 +48,7 @@ answers_fair = (
               plain_fair TA (two_letters 0x54 0x41 (omega arith) (omega arith)) (λ b c. refl) (λ bs a. refl) (λ bs a. refl),
               (
                 plain_fair ER (two_letters 0x45 0x52 (omega arith) (omega arith)) (λ b c. refl) (λ bs a. ap (λ b. eqb b 14) (one_byte bs 2) ∙ a)
-                    (λ bs a. ap (λ v. some (ER, v ∷ number 4 bs 3 ∷ [])) (sym (one_byte bs 2 ∙ eqb-true (get_or bs 2 0) 14 a))),
+                    (λ bs a. ap (λ v. Some (ER, v ∷ number 4 bs 3 ∷ [])) (sym (one_byte bs 2 ∙ eqb-true (get_or bs 2 0) 14 a))),
                 tt,
               ),
             ),
@@ -76,7 +69,6 @@ answer_length (Noticed verdict eligibility) h = length_laid NA (verdict ∷ elig
 answer_length (Departed connection tag arrival eligibility finish) h = length_laid DP (connection ∷ tag ∷ arrival ∷ eligibility ∷ finish ∷ []) h
 answer_length (Ticked verdict ticks) h = length_laid TA (verdict ∷ ticks ∷ []) h
 answer_length (Broken offset) h = length_laid ER (14 ∷ offset ∷ []) h
-answer_length Malformed h = absurd (omega arith)
 
 -- The longest answer is a departure.
 pub answers_within : AllWithin longest_answer answer_kinds

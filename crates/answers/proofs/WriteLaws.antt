@@ -8,7 +8,7 @@ use borrow.Author.Tests.{le-ltb}
 use Rattle.fields.specs.Numbers.{little, put_fields, none_lost}
 use Rattle.fields.specs.Formats.{laid, fitting, over}
 use Rattle.answers.specs.declared.Reply.{Reply}
-use Rattle.answers.specs.declared.Reply.TheVariants.{Linked, Admitted, Closed, Offered, Noticed, Departed, Ticked, Broken, Malformed}
+use Rattle.answers.specs.declared.Reply.TheVariants.{Linked, Admitted, Closed, Offered, Noticed, Departed, Ticked, Broken}
 use Rattle.answers.specs.Answers.{answer_bytes, answer_table, longest_answer}
 use Rattle.answers.proofs.Laws.{answers_lawful}
 
@@ -21,7 +21,6 @@ table_short (Noticed v e) = omega arith
 table_short (Departed c t a e f) = omega arith
 table_short (Ticked v n) = omega arith
 table_short (Broken o) = omega arith
-table_short Malformed = omega arith
 
 pub answer_short : (r : Reply) → length (answer_bytes r) ≤ longest_answer
 answer_short r = go (length (answer_bytes r)) refl

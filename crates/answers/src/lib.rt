@@ -1,18 +1,15 @@
 // The answer records of document 01, "Trace and answer records", and of document 02, R-1, R-2 and R-8: their kinds as values, read and written.
-#![tactic(auto)]
+#![tactic(auto, using(std::proofs::lemmas::Grind::common_steps, fields::proofs::NumberLaws::length_little), unfolding(fields::specs::Formats::read_kind, fields::specs::Formats::laid, fields::specs::Numbers::get_fields, fields::specs::Numbers::put_fields, fields::specs::Numbers::none_lost, fields::specs::Numbers::sum))]
 
-ghost use Rattle.std.specs.Prelude.{◌≡◌, cond, ◌%◌, ltb, length, get_or};
-ghost use Rattle.std.proofs.Math.Option.{some, none};
-ghost use Rattle.fields.specs.Drafts.{Holds};
-ghost use Rattle.fields.specs.Formats.{read_kind, mark_among, fitting, over};
-ghost use Rattle.answers.specs.declared.Reply.TheVariants.{Departed};
-ghost use Rattle.answers.specs.Kinds.{CA as CA_kind, DP as DP_kind, ER as ER_kind};
-ghost use Rattle.answers.specs.Answers.{answer_kinds, found_reply, read_answer, answer_bytes};
+ghost use Rattle.std.specs.Prelude.{◌≡◌, ◌%◌, length, get_or, option_and_then};
+ghost use Rattle.fields.specs.Formats.{read_kind, laid, fitting, over};
+ghost use Rattle.answers.specs.Kinds.{LA as LA_kind, CA as CA_kind, CD as CD_kind, PA as PA_kind, NA as NA_kind, DP as DP_kind, TA as TA_kind, ER as ER_kind};
+ghost use Rattle.answers.specs.Answers.{answer_layout, read_answer, answer_bytes};
 
 use fields::Draft;
-use fields::read::{four, known, one, two};
+use fields::read::{four, one, two, whole_of};
 
-// The marks of the tables, compared on reading and written on answering.
+// The marks of the tables.
 const LA: [u8; 2] = *b"LA";
 
 const CA: [u8; 2] = *b"CA";
@@ -32,7 +29,7 @@ const ER: [u8; 2] = *b"ER";
 // The bytes of the longest answer.
 pub const LONGEST_ANSWER: usize = 19;
 
-// An answer record with its numbers, or malformed. `Broken` is the answer to a malformed trace record, and its verdict is always 14.
+// An answer record with its numbers. `Broken` is the answer to a malformed trace record, and its verdict is always 14.
 #[derive(Clone, Copy)]
 pub enum Reply {
     Linked {
@@ -69,142 +66,129 @@ pub enum Reply {
     Broken {
         offset: u32,
     },
-    Malformed,
 }
 
-// What reading found, and how many bytes it took: none where it is malformed.
-#[derive(Clone, Copy)]
-pub struct FoundReply {
-    pub what: Reply,
-    pub taken: usize,
-}
-
-// No answer, and no byte taken.
-fn nothing() -> FoundReply
-    ensures { result ≡ found_reply none }
+// The answer to a link.
+fn linked(s: &[u8]) -> Option<(Reply, usize)>
+    ensures { result ≡ read_kind LA_kind (get_or s.now 2 0) s.now }
 {
-    FoundReply {
-        what: Reply::Malformed,
-        taken: 0,
-    }
-}
-
-// An answer of so many bytes, where they are all there.
-fn whole_of(s: &[u8], size: usize, what: Reply) -> FoundReply
-    ensures { result ≡ found_reply (cond (ltb (length s.now) size) none (some (what, size))) }
-{
-    if s.len() < size {
-        return nothing();
-    }
-    FoundReply {
-        what: what,
-        taken: size,
-    }
-}
-
-// The mark that the bytes start with, as a number; 0 where it is none of an answer's.
-fn mark_of(s: &[u8]) -> u16
-    ensures { result ≡ mark_among answer_kinds s.now }
-{
-    let mark = known(s, ER, 0);
-    let mark = known(s, TA, mark);
-    let mark = known(s, DP, mark);
-    let mark = known(s, NA, mark);
-    let mark = known(s, PA, mark);
-    let mark = known(s, CD, mark);
-    let mark = known(s, CA, mark);
-    known(s, LA, mark)
-}
-
-// The answer to a malformed record: the verdict before its offset is 14.
-fn read_broken(s: &[u8]) -> FoundReply
-    ensures { result ≡ found_reply (read_kind ER_kind (get_or s.now 2 0) s.now) }
-{
-    let verdict = one(s, 2);
-    match verdict {
-        14 => whole_of(s, 7, Reply::Broken { offset: four(s, 3) }),
-        _ => nothing(),
-    }
+    whole_of(s, 3, Reply::Linked { verdict: one(s, 2) })
 }
 
 // The answer to an admission: the level that was short and its units stand behind the connection.
-fn read_admitted(s: &[u8]) -> FoundReply
-    ensures { result ≡ found_reply (read_kind CA_kind (get_or s.now 2 0) s.now) }
+fn admitted(s: &[u8]) -> Option<(Reply, usize)>
+    ensures { result ≡ read_kind CA_kind (get_or s.now 2 0) s.now }
 {
-    let admitted = Reply::Admitted {
-        verdict: one(s, 2),
-        connection: one(s, 3),
-        level: one(s, 4),
-        units: four(s, 5),
-    };
-    whole_of(s, 9, admitted)
+    whole_of(
+        s,
+        9,
+        Reply::Admitted {
+            verdict: one(s, 2),
+            connection: one(s, 3),
+            level: one(s, 4),
+            units: four(s, 5),
+        },
+    )
+}
+
+// The answer to a close.
+fn closed(s: &[u8]) -> Option<(Reply, usize)>
+    ensures { result ≡ read_kind CD_kind (get_or s.now 2 0) s.now }
+{
+    whole_of(s, 3, Reply::Closed { verdict: one(s, 2) })
+}
+
+// The answer to an offer.
+fn offered(s: &[u8]) -> Option<(Reply, usize)>
+    ensures { result ≡ read_kind PA_kind (get_or s.now 2 0) s.now }
+{
+    whole_of(
+        s,
+        7,
+        Reply::Offered {
+            verdict: one(s, 2),
+            eligibility: four(s, 3),
+        },
+    )
+}
+
+// The answer to a notice.
+fn noticed(s: &[u8]) -> Option<(Reply, usize)>
+    ensures { result ≡ read_kind NA_kind (get_or s.now 2 0) s.now }
+{
+    whole_of(
+        s,
+        7,
+        Reply::Noticed {
+            verdict: one(s, 2),
+            eligibility: four(s, 3),
+        },
+    )
 }
 
 // A packet's departure.
-fn read_departed(s: &[u8]) -> FoundReply
-    ensures { result ≡ found_reply (read_kind DP_kind (get_or s.now 2 0) s.now) }
+fn departed(s: &[u8]) -> Option<(Reply, usize)>
+    ensures { result ≡ read_kind DP_kind (get_or s.now 2 0) s.now }
 {
-    let departed = Reply::Departed {
-        connection: one(s, 2),
-        tag: four(s, 3),
-        arrival: four(s, 7),
-        eligibility: four(s, 11),
-        finish: four(s, 15),
-    };
-    whole_of(s, 19, departed)
+    whole_of(
+        s,
+        19,
+        Reply::Departed {
+            connection: one(s, 2),
+            tag: four(s, 3),
+            arrival: four(s, 7),
+            eligibility: four(s, 11),
+            finish: four(s, 15),
+        },
+    )
 }
 
-// The answer that the bytes start with: the marks are LA, CA, CD, PA, NA, DP, TA and ER as numbers.
-pub fn read(s: &[u8]) -> FoundReply
-    ensures { result ≡ read_answer s.now }
+// The answer to ticks.
+fn ticked(s: &[u8]) -> Option<(Reply, usize)>
+    ensures { result ≡ read_kind TA_kind (get_or s.now 2 0) s.now }
 {
-    let mark = mark_of(s);
-    let verdict = one(s, 2);
-    match mark {
-        0x414C => whole_of(s, 3, Reply::Linked { verdict: verdict }),
-        0x4143 => read_admitted(s),
-        0x4443 => whole_of(s, 3, Reply::Closed { verdict: verdict }),
-        0x4150 => {
-            let offered = Reply::Offered {
-                verdict: verdict,
-                eligibility: four(s, 3),
-            };
-            whole_of(s, 7, offered)
-        }
-        0x414E => {
-            let noticed = Reply::Noticed {
-                verdict: verdict,
-                eligibility: four(s, 3),
-            };
-            whole_of(s, 7, noticed)
-        }
-        0x5044 => read_departed(s),
-        0x4154 => {
-            let ticked = Reply::Ticked {
-                verdict: verdict,
-                ticks: two(s, 3),
-            };
-            whole_of(s, 5, ticked)
-        }
-        0x5245 => read_broken(s),
-        _ => nothing(),
+    whole_of(
+        s,
+        5,
+        Reply::Ticked {
+            verdict: one(s, 2),
+            ticks: two(s, 3),
+        },
+    )
+}
+
+// The answer to a malformed record: the verdict before its offset is 14.
+#[tactic(auto, unfolding(fields::specs::Formats::read_kind, fields::specs::Numbers::number, fields::specs::Numbers::get_fields, fields::specs::Numbers::sum))]
+fn broken(s: &[u8]) -> Option<(Reply, usize)>
+    ensures { result ≡ read_kind ER_kind (get_or s.now 2 0) s.now }
+{
+    match one(s, 2) {
+        14 => whole_of(s, 7, Reply::Broken { offset: four(s, 3) }),
+        _ => None,
     }
 }
 
-// The bytes of a departure.
-fn draft_departed(connection: u8, tag: u32, arrival: u32, eligibility: u32, finish: u32) -> Draft
-    ensures { Holds result (answer_bytes (Departed connection tag arrival eligibility finish)) }
+// The answer that the bytes start with, and how many bytes it takes; none where it is malformed.
+#[tactic(auto, unfolding(fields::specs::Formats::starts, fields::specs::Formats::read_kinds, fields::specs::Numbers::number))]
+pub fn read(s: &[u8]) -> Option<(Reply, usize)>
+    ensures { result ≡ read_answer s.now }
 {
-    Draft::headed(DP, connection)
-        .four(tag)
-        .four(arrival)
-        .four(eligibility)
-        .four(finish)
+    match [one(s, 0), one(s, 1)] {
+        LA => linked(s),
+        CA => admitted(s),
+        CD => closed(s),
+        PA => offered(s),
+        NA => noticed(s),
+        DP => departed(s),
+        TA => ticked(s),
+        ER => broken(s),
+        _ => None,
+    }
 }
 
-// The bytes of an answer; none of a malformed one.
+// The bytes of an answer.
 fn draft(r: Reply) -> Draft
-    ensures { Holds result (answer_bytes r) }
+    ensures { result ≡ answer_bytes r }
 {
     match r {
         Reply::Linked { verdict } => Draft::headed(LA, verdict),
@@ -232,18 +216,26 @@ fn draft(r: Reply) -> Draft
             arrival,
             eligibility,
             finish,
-        } => draft_departed(connection, tag, arrival, eligibility, finish),
+        } => Draft::headed(DP, connection)
+            .four(tag)
+            .four(arrival)
+            .four(eligibility)
+            .four(finish),
         Reply::Ticked { verdict, ticks } => Draft::headed(TA, verdict).two(ticks),
         Reply::Broken { offset } => Draft::headed(ER, 14).four(offset),
-        Reply::Malformed => Draft::empty(),
     }
 }
 
-// Writes an answer at the start of the room lent, and answers its length: 0, with no byte changed, where it is malformed or does not fit.
-pub fn write(r: Reply, room: &mut [u8]) -> usize
-    ensures { (result ≡ length (fitting (answer_bytes r) room.old)) × (room.new ≡ over (fitting (answer_bytes r) room.old) room.old) }
+// Writes an answer at the start of the room lent, where there is one, and answers how many bytes were written: none, with no byte changed, where it is malformed or does
+// not fit.
+// kept: the number of bytes written is a count, which callers add to their own (`steps::Stepped` has 0 too where nothing was to be written), and no mark of a refusal.
+pub fn write(r: Option<Reply>, room: &mut [u8]) -> usize
+    ensures { (result ≡ length (fitting (laid (option_and_then answer_layout r)) room.old)) × (room.new ≡ over (fitting (laid (option_and_then answer_layout r)) room.old) room.old) }
 {
-    draft(r).into_room(room)
+    match r {
+        Some(r) => draft(r).into_room(room),
+        None => 0,
+    }
 }
 
 // The low byte of a number. An answer's numbers of one byte are no larger.

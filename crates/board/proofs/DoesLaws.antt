@@ -11,9 +11,8 @@ use Rattle.either_line.proofs.Results.{answers_fit}
 use Rattle.tables.specs.Lent.{Tables}
 use Rattle.tables.proofs.CallLaws as C
 use Rattle.both.specs.declared.Kept.{Kept}
-use Rattle.both.specs.declared.Replied.{Replied}
 use Rattle.both.specs.View.{view, written, sound_kept}
-use Rattle.both.specs.Replied.{replied_of, refusal}
+use Rattle.both.specs.Replied.{Replied, replied_of, refusal}
 use Rattle.both.specs.Does.{Does as BothDoes}
 use Rattle.both.proofs.SoundLaws.{is_sound}
 use Rattle.both.proofs.DoesLaws as B

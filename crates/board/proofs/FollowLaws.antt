@@ -17,7 +17,9 @@ use Rattle.either_line.specs.Line.{Line, Request, link_levels, link_frames, admi
 use Rattle.either_line.proofs.Names.{LineHistory, taken, leaving, after, run_from, nothing_yet}
 use Rattle.either_line.proofs.Results.{refusals_change_nothing, sound_is_kept}
 use Rattle.tables.specs.Lent.{Tables}
-use Rattle.tables.specs.Places.{is_some, packet_or_unused, table_of}
+use Rattle.tables.specs.Places.{is_some, no_packet, table_of}
+use Rattle.tables.specs.Options.{option_of}
+use Rattle.std.specs.Prelude as code
 use Rattle.connections.specs.Members.{written_rows}
 use Rattle.tables.specs.Calls.{calls_from}
 use Rattle.both.specs.View.{view, kept_of, written}
@@ -63,8 +65,8 @@ departs a = go a.departed (clock_of a.next)
   where
     go : (o : Option Packet) (finish : ℕ)
         → departure_in
-        (cond (is_some o) 1 0 ∷ (packet_or_unused o).connection ∷ (packet_or_unused o).len ∷ (packet_or_unused o).tag ∷ (packet_or_unused o).arrival ∷ (packet_or_unused o).eligibility
-        ∷ cond (is_some o) finish 0 ∷ [])
+        (cond (code.is_some (option_of o)) 1 0 ∷ (code.unwrap_or (option_of o) no_packet).connection ∷ (code.unwrap_or (option_of o) no_packet).len ∷ (code.unwrap_or (option_of o) no_packet).tag ∷ (code.unwrap_or (option_of o) no_packet).arrival ∷ (code.unwrap_or (option_of o) no_packet).eligibility
+        ∷ cond (code.is_some (option_of o)) finish 0 ∷ [])
         ≡ dated o finish
     go none finish = refl
     go (some p) finish = refl

@@ -18,10 +18,6 @@ use Rattle.both.specs.View.{sound_kept}
 use Rattle.named.specs.Named.{eight_from}
 use Rattle.board.specs.Numbers.{line_length, kept_in, numbers_of, sound_lent}
 
--- numbers copied over all of a table
-pub copied_whole : (l v : List ℕ) → length l ≡ length v → sets l 0 v ≡ v
-copied_whole l v e = sets-eq v l 0 (omega arith) ∙ ap (λ (r : List ℕ). v ++ r) (drop_of_length-le l {i = 0 + length v} (omega arith)) ∙ append-nil v
-
 -- ---- the line's table
 
 -- READ AND WRITTEN BACK, a line's table is itself
@@ -34,7 +30,7 @@ pub record Eights (h : Kept) : Type 0 where
   pub windows : length h.hub.link.windows ≡ max_levels
 
 with_eights : (h : Kept) (ds ws : List ℕ) → ds ≡ h.hub.link.bounds → ws ≡ h.hub.link.windows
-    → ◌≡◌ {A = Kept} (record { hub = record { link = record { levels = h.hub.link.levels; largest = h.hub.link.largest; silence = h.hub.link.silence; early = h.hub.link.early; bounds = ds; windows = ws }; clock = h.hub.clock; serving = h.hub.serving; to_go = h.hub.to_go; silent = h.hub.silent }; frames = h.frames }) h
+    → ◌≡◌ {A = Kept} (record { hub = record { link = record { levels = h.hub.link.levels; largest = h.hub.link.largest; silence = h.hub.link.silence; early = h.hub.link.early; bounds = ds; windows = ws }; clock = h.hub.clock; wire = h.hub.wire }; frames = h.frames }) h
 with_eights h ds ws e f = rw (e, f)
 
 -- WRITTEN AND READ AGAIN, a `Kept` is itself

@@ -4,7 +4,7 @@ use native.Mathlib.Omega.{arith}
 use mathlib.Core.Path.{◌≡◌, refl, sym, ap, ◌∙◌, subst}
 use mathlib.Core.Bool.{Bool, true, false, cond, not, ◌||◌, true≢false}
 use mathlib.Core.Logic.{◌⊎◌, inl, inr}
-use mathlib.Core.Option.{Option, none}
+use mathlib.Core.Option.{Option, none, some}
 use Rattle.rules.specs.declared.Packet.{Packet}
 use lib.Dec.{eqb}
 use borrow.Author.Tests.{eq-eqb, ne_eqb, eqb-true, eqb-false, not-false}
@@ -13,12 +13,13 @@ use Rattle.rules.specs.Model.{no_short}
 use Rattle.rules.proofs.Sums.{cond_is, cond_ind}
 use Rattle.either_line.specs.Line.{Line, tick, Reply, SoundLine, refuse, respond, resting_verdict}
 use Rattle.either_line.proofs.Results.{refusals_change_nothing, sound_is_kept}
-use Rattle.tables.specs.Places.{is_some, packet_or_unused}
+use Rattle.tables.specs.Places.{is_some}
+use Rattle.tables.specs.Options.{option_of}
+use Rattle.std.specs.Prelude as code
 use Rattle.tables.specs.Lent.{Tables}
 use Rattle.both.specs.declared.Kept.{Kept}
-use Rattle.both.specs.declared.Replied.{Replied}
 use Rattle.both.specs.View.{view, kept_of, written, has_link, kept_clock, sound_kept}
-use Rattle.both.specs.Replied.{replied_of}
+use Rattle.both.specs.Replied.{Replied, replied_of}
 use Rattle.both.specs.Quiet.{passed}
 use Rattle.both.proofs.SoundLaws.{set_seen, is_sound, sound_view, tables_kept, kept_back}
 use Rattle.both.proofs.WrittenLaws.{written_reads_back}
@@ -279,9 +280,14 @@ going_first n h t ok =
       went_on = λ z. absurd (z refl);
     }
 
+-- whether a packet departs, of the code's option
+departs : (o : Option Packet) → is_some o ≡ code.is_some (option_of o)
+departs none = refl
+departs (some p) = refl
+
 -- as the code tells them
 abbrev as_told : ℕ → Many → Replied
-as_told v m = record { verdict = v; number = m.done; short = no_short; gone = is_some m.departed; packet = packet_or_unused m.departed; kept = kept_of m.next }
+as_told v m = record { verdict = v; number = m.done; short = no_short; departed = option_of m.departed; kept = kept_of m.next }
 
 module _ (n : ℕ) (s : Line) where
   run_told : replied_of (run_ticks n s) ≡ as_told (many_verdict n s) (many n s)
@@ -317,25 +323,25 @@ module _ (n : ℕ) (s : Line) (h : Kept) (t : Tables) (done : ℕ) (G : Going n 
         (λ e. ap (λ (x : Line). (respond tick x).verdict) (sym (G.at_first (eqb-true _ 0 e))) ∙ sym T.first_verdict)
         (λ e. G.went_on (eqb-false _ 0 e))
 
-    ended : (v g : Bool) → not (eqb r.verdict 0) ≡ v → r.gone ≡ g → (v || g) ≡ true → (b.verdict ≡ 0 → ⊥) ⊎ (is_some b.departed ≡ true)
+    ended : (v g : Bool) → not (eqb r.verdict 0) ≡ v → code.is_some r.departed ≡ g → (v || g) ≡ true → (b.verdict ≡ 0 → ⊥) ⊎ (is_some b.departed ≡ true)
     ended true g e f i = inl (λ z. true≢false (sym e ∙ ap (λ (x : Replied). not (eqb x.verdict 0)) D.0 ∙ ap (λ (x : ℕ). not (eqb x 0)) z))
-    ended false g e f i = inr (sym (ap (λ (x : Replied). x.gone) D.0) ∙ f ∙ i)
+    ended false g e f i = inr (departs b.departed ∙ sym (ap (λ (x : Replied). code.is_some x.departed) D.0) ∙ f ∙ i)
 
-    pub going_last : (not (eqb r.verdict 0) || r.gone) ≡ true → (x : Replied) → x ≡ last_of r done → (x ≡ replied_of (run_ticks n s)) × (u ≡ written (run_ticks n s).next)
+    pub going_last : (not (eqb r.verdict 0) || code.is_some r.departed) ≡ true → (x : Replied) → x ≡ last_of r done → (x ≡ replied_of (run_ticks n s)) × (u ≡ written (run_ticks n s).next)
     going_last i x e =
         let m = G.so_far ∙ ap (later done) (T.ends (ended _ _ refl refl i)) in
         let w = same_told n s (cond (eqb done 0) b.verdict 0) (later done (of_reply b)) verdict_is m in
         (e ∙ ap (λ (y : Replied). last_of y done) D.0 ∙ w.0, D.1 ∙ w.1)
 
     -- neither
-    goes : (v g : Bool) → not (eqb r.verdict 0) ≡ v → r.gone ≡ g → (v || g) ≡ false → (b.verdict ≡ 0) × (is_some b.departed ≡ false)
+    goes : (v g : Bool) → not (eqb r.verdict 0) ≡ v → code.is_some r.departed ≡ g → (v || g) ≡ false → (b.verdict ≡ 0) × (is_some b.departed ≡ false)
     goes true g e f i = absurd (true≢false i)
     goes false g e f i = (
       sym (ap (λ (x : Replied). x.verdict) D.0) ∙ eqb-true r.verdict 0 (not-false _ e),
-      sym (ap (λ (x : Replied). x.gone) D.0) ∙ f ∙ i,
+      departs b.departed ∙ sym (ap (λ (x : Replied). code.is_some x.departed) D.0) ∙ f ∙ i,
     )
 
-    module _ (i : (not (eqb r.verdict 0) || r.gone) ≡ false) where
+    module _ (i : (not (eqb r.verdict 0) || code.is_some r.departed) ≡ false) where
       o : (1 ≤ b.number) × (many (n - done) (view h t) ≡ later b.number (many (n - done - b.number) b.next))
       o = let g = goes _ _ refl refl i in T.goes_on g.0 g.1
 

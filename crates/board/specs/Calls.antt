@@ -1,8 +1,9 @@
 -- THE CALLS FROM C and what each is told: the verdict, and the numbers that are lent for the answer. include/mtredovim.h has a function for each.
-use Rattle.std.specs.Prelude.{ℕ, cond, ◌⊎◌, List, [], ◌∷◌}
+use Rattle.std.specs.Prelude.{ℕ, cond, ◌⊎◌, List, [], ◌∷◌, is_some, unwrap_or}
 use Rattle.std.proofs.Common.{inl, inr}
 use Rattle.either_line.specs.Line.{Line, Request, link_levels, link_frames, admit_level, admit_share, offer, notice, close, tick, Reply, respond, refused_number}
-use Rattle.both.specs.declared.Replied.{Replied}
+use Rattle.tables.specs.Places.{no_packet}
+use Rattle.both.specs.Replied.{Replied}
 use Rattle.both.specs.View.{kept_clock}
 use Rattle.board.specs.Ticks.{run_ticks}
 
@@ -33,8 +34,9 @@ spoken verdict numbers departure line = record { verdict = verdict; numbers = nu
 -- whether a packet departed; its connection, length, tag, arrival, eligibility and finish, which is the clock then: all 0 where none did
 abbrev pub departure_numbers : Replied → List ℕ
 departure_numbers r =
-    cond r.gone 1 0 ∷ r.packet.connection ∷ r.packet.len ∷ r.packet.tag ∷ r.packet.arrival ∷ r.packet.eligibility
-    ∷ cond r.gone (kept_clock r.kept) 0 ∷ []
+    let p = unwrap_or r.departed no_packet in
+    cond (is_some r.departed) 1 0 ∷ p.connection ∷ p.len ∷ p.tag ∷ p.arrival ∷ p.eligibility
+    ∷ cond (is_some r.departed) (kept_clock r.kept) 0 ∷ []
 
 -- the connection's number, and with verdict 8 the level that is short and its units
 abbrev pub admission_numbers : Replied → List ℕ

@@ -1,14 +1,12 @@
 -- How the code runs many ticks: stretch by stretch, quiet ticks at once, else one tick. Document 01, "One tick".
-use Rattle.std.specs.Prelude.{ℕ, ◌+◌, min, ◌≡◌, false, cond, eqb}
+use Rattle.std.specs.Prelude.{ℕ, ◌+◌, min, ◌≡◌, cond, eqb}
 use Rattle.std.proofs.Math.Option.{none}
 use Rattle.rules.specs.Model.{no_short}
 use Rattle.either_line.specs.Line.{Line, tick, Reply, respond}
-use Rattle.tables.specs.Places.{no_packet}
 use Rattle.tables.specs.Lent.{Tables}
 use Rattle.both.specs.declared.Kept.{Kept}
-use Rattle.both.specs.declared.Replied.{Replied}
 use Rattle.both.specs.View.{written}
-use Rattle.both.specs.Replied.{replied_of}
+use Rattle.both.specs.Replied.{Replied, replied_of, refusal}
 use Rattle.both.specs.Quiet.{passed, quiet_ticks}
 
 -- as many as are counted in 16 bits
@@ -37,7 +35,7 @@ Gives a told after = (told ≡ replied_of a) × (after ≡ written a.next)
 
 -- no packet has departed: the verdict, the ticks done, what is kept
 abbrev pub undeparted : ℕ → ℕ → Kept → Replied
-undeparted verdict done h = record { verdict = verdict; number = done; short = no_short; gone = false; packet = no_packet; kept = h }
+undeparted verdict done h = refusal h verdict done
 
 -- the last stretch behind `done` ticks: a tick that is refused then is not told
 abbrev pub last_of : Replied → ℕ → Replied
@@ -45,10 +43,9 @@ last_of r done = record {
   verdict = cond (eqb done 0) r.verdict 0;
   number = done + r.number;
   short = no_short;
-  gone = r.gone;
-  packet = r.packet;
+  departed = r.departed;
   kept = r.kept;
 }
 
 abbrev pub counted_told : Replied → Replied
-counted_told r = record { verdict = r.verdict; number = cond (eqb r.verdict 0) 1 0; short = r.short; gone = r.gone; packet = r.packet; kept = r.kept }
+counted_told r = record { verdict = r.verdict; number = cond (eqb r.verdict 0) 1 0; short = r.short; departed = r.departed; kept = r.kept }

@@ -1,9 +1,8 @@
 // The line's table, read as what `both` keeps of a line and written back; whether the four tables are sound; a link that a caller names; the numbers of an answer.
-ghost use Rattle.std.specs.Prelude.{◌≡◌, cond, ◌∷◌, ◌++◌, ◌<◌, length};
+ghost use Rattle.std.specs.Prelude.{◌≡◌, ◌∷◌, ◌++◌, ◌<◌, length};
 ghost use Rattle.rules.specs.Limits.{beyond_32_bits};
 ghost use Rattle.tables.specs.Lent.{tables};
 ghost use Rattle.named.specs.Named.{eight_from, link_named};
-ghost use Rattle.both.specs.View.{kept_clock};
 ghost use Rattle.board.specs.Numbers.{line_length, hub_in, frames_in, kept_in, numbers_of, sound_lent};
 ghost use Rattle.board.specs.Calls.{departure_numbers, admission_numbers};
 
@@ -44,9 +43,7 @@ fn hub_in(line: &[u32]) -> Hub
     Hub {
         link: link_in(line),
         clock: line[20],
-        serving: line[21],
-        to_go: line[22],
-        silent: line[23],
+        wire: line::on_wire(line[21], line[22], line[23]),
     }
 }
 
@@ -62,9 +59,7 @@ fn frames_in(line: &[u32]) -> Frames
             silence: line[26],
         },
         clock: line[27],
-        serving: line[28],
-        to_go: line[29],
-        silent: line[30],
+        wire: line::on_wire(line[28], line[29], line[30]),
     }
 }
 
@@ -111,16 +106,16 @@ fn numbers_of(h: Kept) -> [u32; LINE]
         w[6],
         w[7],
         levels.clock,
-        levels.serving,
-        levels.to_go,
-        levels.silent,
+        levels.wire.serving,
+        levels.wire.to_go,
+        levels.wire.silent,
         f.frame,
         f.largest,
         f.silence,
         frames.clock,
-        frames.serving,
-        frames.to_go,
-        frames.silent,
+        frames.wire.serving,
+        frames.wire.to_go,
+        frames.wire.silent,
     ]
 }
 
@@ -129,8 +124,7 @@ pub(crate) fn put_kept(line: &mut [u32], h: Kept)
     requires { length line.old ≡ line_length }
     ensures { line.new ≡ numbers_of h }
 {
-    let numbers = numbers_of(h);
-    tables::copy(line, 0, &numbers);
+    line.copy_from_slice(&numbers_of(h));
 }
 
 // Whether the four tables are sound: exactly, for any numbers and any lengths.
@@ -155,10 +149,10 @@ pub(crate) fn link_of(
     ensures { result ≡ link_named (levels ∷ largest ∷ silence ∷ early ∷ (eight_from 0 bounds.now ++ eight_from 0 windows.now)) }
 {
     Link {
-        levels: levels,
-        largest: largest,
-        silence: silence,
-        early: early,
+        levels,
+        largest,
+        silence,
+        early,
         bounds: [
             bounds[0], bounds[1], bounds[2], bounds[3], bounds[4], bounds[5], bounds[6], bounds[7],
         ],
@@ -184,29 +178,20 @@ pub(crate) fn admission_of(told: Replied) -> [u32; ADMISSION]
     [told.number, short.level, short.units as u32]
 }
 
-// The finish of the packet that has departed, if one has.
-fn finish_of(told: Replied) -> u32
-    ensures { result ≡ cond told.gone (kept_clock told.kept) 0 }
-{
-    if told.gone {
-        return both::clock_of(told.kept);
-    }
-    0
-}
-
 // The numbers of a departure.
 pub(crate) fn departure_of(told: Replied) -> [u32; DEPARTURE]
     ensures { result ≡ departure_numbers told }
 {
-    let p = told.packet;
-    let finish = finish_of(told);
-    [
-        told.gone as u32,
-        p.connection,
-        p.len,
-        p.tag,
-        p.arrival,
-        p.eligibility,
-        finish,
-    ]
+    match told.departed {
+        Some(p) => [
+            1,
+            p.connection,
+            p.len,
+            p.tag,
+            p.arrival,
+            p.eligibility,
+            both::clock_of(told.kept),
+        ],
+        None => [0; DEPARTURE],
+    }
 }

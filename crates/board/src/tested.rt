@@ -165,17 +165,7 @@ pub extern "C" fn mtredovim_offer_tested(
     requires { sound_lent line.old (tables members.old places.old notices.now) ≡ true }
     ensures { Does (inl (offer c len tag none)) line.old (tables members.old places.old notices.now) (spoken result (eligibility.new ∷ []) [] line.new) (tables members.new places.new notices.now) }
 {
-    let told = both::offer(
-        read_kept(line),
-        members,
-        places,
-        notices,
-        c,
-        len,
-        tag,
-        false,
-        0,
-    );
+    let told = both::offer(read_kept(line), members, places, notices, c, len, tag, None);
     put_kept(line, told.kept);
     *eligibility = told.number;
     told.verdict
@@ -205,8 +195,7 @@ pub extern "C" fn mtredovim_offer_stamped_tested(
         c,
         len,
         tag,
-        true,
-        stamp,
+        Some(stamp),
     );
     put_kept(line, told.kept);
     *eligibility = told.number;

@@ -9,24 +9,12 @@ ghost use Rattle.board.specs.Ticks.{run_ticks};
 ghost use Rattle.board.specs.Stretch.{Gives, counted_told, undeparted, last_of, stretch};
 
 use both::{Kept, Replied};
-use limits::numbers::least_short;
+use line::Told;
+use line::answers::say;
+use rules::Short;
 
 // As many ticks as are passed over at once.
-const AT_ONCE: u16 = 65_535;
-
-// No packet has departed.
-fn undeparted(verdict: u32, done: u32, h: Kept) -> Replied
-    ensures { result ≡ undeparted verdict done h }
-{
-    Replied {
-        verdict: verdict,
-        number: done,
-        short: connections::no_short(),
-        gone: false,
-        packet: tables::no_packet(),
-        kept: h,
-    }
-}
+const AT_ONCE: u16 = u16::MAX;
 
 // k quiet ticks.
 fn quiet(h: Kept, k: u16) -> Replied
@@ -34,23 +22,16 @@ fn quiet(h: Kept, k: u16) -> Replied
     ensures { (t : Tables) → result ≡ undeparted 0 k (kept_of (passed (view h t) k)) }
 {
     let then = both::quiet::pass_over(h, k);
-    undeparted(0, k as u32, then)
+    say(then, 0, k as u32)
 }
 
 // A tick, counted where it is done.
 fn counted(told: Replied) -> Replied
     ensures { result ≡ counted_told told }
 {
-    let short = told.short;
-    let packet = told.packet;
-    let kept = told.kept;
-    Replied {
-        verdict: told.verdict,
+    Told {
         number: (told.verdict == 0) as u32,
-        short: short,
-        gone: told.gone,
-        packet: packet,
-        kept: kept,
+        ..told
     }
 }
 
@@ -65,7 +46,7 @@ fn stretch(
     requires { sound_kept h (tables members.old places.old notices.old) ≡ true }
     ensures { Gives (stretch left (view h (tables members.old places.old notices.old))) result (tables members.new places.new notices.new) }
 {
-    let k = both::quiet::quiet_ticks(h, members, places, notices, least_short(left, AT_ONCE));
+    let k = both::quiet::quiet_ticks(h, members, places, notices, left.min(AT_ONCE as u32) as u16);
     if k != 0 {
         return quiet(h, k);
     }
@@ -87,15 +68,11 @@ fn last_of(told: Replied, done: u32) -> Replied
     requires { done + told.number < beyond_32_bits }
     ensures { result ≡ last_of told done }
 {
-    let packet = told.packet;
-    let kept = told.kept;
-    Replied {
+    Told {
         verdict: told_verdict(told.verdict, done),
         number: done + told.number,
-        short: connections::no_short(),
-        gone: told.gone,
-        packet: packet,
-        kept: kept,
+        short: Short::default(),
+        ..told
     }
 }
 
@@ -121,17 +98,18 @@ pub(crate) fn run_ticks(
     ensures { Gives (run_ticks n (view h (tables members.old places.old notices.old))) result (tables members.new places.new notices.new) }
 {
     if n == 0 {
-        return undeparted(resting(h), 0, h);
+        return say(h, resting(h), 0);
     }
     let mut line = h;
     let mut done: u32 = 0;
+    // kept: the new form is no plainer: a turn does as many ticks as its stretch tells
     while done < n {
         let told = stretch(line, members, places, notices, n - done);
-        if (told.verdict != 0) | told.gone {
+        if (told.verdict != 0) | told.departed.is_some() {
             return last_of(told, done);
         }
         line = told.kept;
         done += told.number;
     }
-    undeparted(0, n, line)
+    say(line, 0, n)
 }

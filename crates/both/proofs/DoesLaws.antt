@@ -27,17 +27,18 @@ use Rattle.tables.specs.Lent.{Tables}
 use Rattle.tables.specs.Places.{table_of}
 use Rattle.tables.proofs.CallLaws as C
 use Rattle.connections.specs.Members.{written_rows}
-use Rattle.connections.specs.Stamps.{stamp_if}
+use Rattle.std.specs.Prelude as code
+use Rattle.tables.specs.Options.{option_in}
 use Rattle.shares.specs.Shares.{written_shares}
-use Rattle.state.specs.declared.Hub.{Hub}
-use Rattle.state.specs.declared.Told.{Told}
+use Rattle.state.specs.View.{Hub}
+use Rattle.state.specs.Told.{Told}
 use Rattle.state.specs.View.{zero_tables, view as level_view, written as level_written}
 use Rattle.state.specs.Told.{told_of}
 use Rattle.state.specs.Does.{Does as LevelDoes}
 use Rattle.state.proofs.SoundLaws.{is_sound as level_is_sound, tables_kept as level_kept}
 use Rattle.state.proofs.DoesLaws.{told_as as level_told_as, left_as as level_left_as}
-use Rattle.framed_state.specs.declared.Frames.{Frames}
-use Rattle.framed_state.specs.declared.Said.{Said}
+use Rattle.framed_state.specs.View.{Frames}
+use Rattle.framed_state.specs.Said.{Said}
 use Rattle.framed_state.specs.View.{frames_of, sound_frames, view as frame_view, written as frame_written}
 use Rattle.framed_state.specs.Said.{said_of}
 use Rattle.framed_state.specs.Does.{Does as FrameDoes}
@@ -45,7 +46,7 @@ use Rattle.framed_state.proofs.SoundLaws.{is_sound as frame_is_sound}
 use Rattle.framed_state.proofs.WrittenLaws.{written_sound}
 use Rattle.framed_state.proofs.DoesLaws.{said_as, left_as as frame_left_as}
 use Rattle.both.specs.declared.Kept.{Kept}
-use Rattle.both.specs.declared.Replied.{Replied}
+use Rattle.both.specs.Replied.{Replied}
 use Rattle.both.specs.View.{has_frames, framed, view, unframed, written, members_framed, sound_kept}
 use Rattle.both.proofs.Views.{of_levels, of_frames}
 use Rattle.both.specs.Replied.{replied_of, refusal, of_told, of_said}
@@ -101,9 +102,9 @@ module _ (k : Request) (h : Kept) (t : Tables) (ok : sound_kept h t ≡ true) wh
         ∙ sym (cond_is (unframed (frame_written B.next)) (level_written level_fresh) still_set))
 
 -- an offer without a stamp is a call of the discipline of frames
-pub unstamped : (c len tag : ℕ) (brings : Bool) (st : ℕ) → brings ≡ false → frame_call (offer c len tag (stamp_if brings st)) ≡ some (frame_offer c len tag)
-unstamped c len tag true st e = never (sym e)
-unstamped c len tag false st e = refl
+pub unstamped : (c len tag : ℕ) (o : code.Option ℕ) → code.is_some o ≡ false → frame_call (offer c len tag (option_in o)) ≡ some (frame_offer c len tag)
+unstamped c len tag (code.Some st) e = never (sym e)
+unstamped c len tag code.None e = refl
 
 -- ---- what the discipline that is set does not know
 
@@ -118,9 +119,9 @@ module _ (h : Kept) (t : Tables) (ok : sound_kept h t ≡ true) where
     pub level_refused : (x : Connection) (r : Replied) → r ≡ refusal h 2 no_connection_number → Does (admit_level x) h t r t
     level_refused x r e = refuses (admit_level x) h t ok 2 no_connection_number r (R.level_refused (view h t) (sound_view h t ok) levels_fresh x) e
 
-    pub stamp_refused : (c len tag : ℕ) (brings : Bool) (st : ℕ) → brings ≡ true → (r : Replied) → r ≡ refusal h 2 0 → Does (offer c len tag (stamp_if brings st)) h t r t
-    stamp_refused c len tag true st i r e = refuses (offer c len tag (some st)) h t ok 2 0 r (R.stamp_refused (view h t) (sound_view h t ok) levels_fresh c len tag st) e
-    stamp_refused c len tag false st i r e = never i
+    pub stamp_refused : (c len tag : ℕ) (o : code.Option ℕ) → code.is_some o ≡ true → (r : Replied) → r ≡ refusal h 2 0 → Does (offer c len tag (option_in o)) h t r t
+    stamp_refused c len tag (code.Some st) i r e = refuses (offer c len tag (some st)) h t ok 2 0 r (R.stamp_refused (view h t) (sound_view h t ok) levels_fresh c len tag st) e
+    stamp_refused c len tag code.None i r e = never i
 
     pub close_refused : (c : ℕ) (r : Replied) → r ≡ refusal h 2 0 → Does (close c) h t r t
     close_refused c r e = refuses (close c) h t ok 2 0 r (R.close_refused (view h t) (sound_view h t ok) levels_fresh c) e

@@ -19,8 +19,8 @@ use Rattle.service.specs.Quiet.{passed as level_passed, quiet_ticks as level_qui
 use Rattle.service.proofs.QuietLaws as level
 use Rattle.framed_service.specs.Quiet.{passed as frame_passed, quiet_ticks as frame_quiet_ticks}
 use Rattle.framed_service.proofs.QuietLaws as frame
-use Rattle.state.specs.declared.Hub.{Hub}
-use Rattle.framed_state.specs.declared.Frames.{Frames}
+use Rattle.state.specs.View.{Hub}
+use Rattle.framed_state.specs.View.{Frames}
 use Rattle.tables.specs.Lent.{Tables}
 use Rattle.state.specs.View.{hub_of, view as level_view}
 use Rattle.framed_state.specs.View.{frames_of, view as frame_view}

@@ -17,10 +17,10 @@ use Rattle.either_line.specs.Line.{levels_set, frames_set, clock_of, SoundLine, 
 use Rattle.either_line.proofs.Results.{test_is_exact}
 use Rattle.tables.specs.Lent.{Tables}
 use Rattle.shares.specs.Shares.{shares_length}
-use Rattle.state.specs.declared.Hub.{Hub}
+use Rattle.state.specs.View.{Hub}
 use Rattle.state.specs.View.{hub_of, sound_hub, written as level_written}
 use Rattle.state.proofs.SoundLaws.{is_sound as level_is_sound, tables_kept as level_kept, members_size}
-use Rattle.framed_state.specs.declared.Frames.{Frames}
+use Rattle.framed_state.specs.View.{Frames}
 use Rattle.framed_state.specs.View.{frames_of, sound_frames, written as frame_written}
 use Rattle.framed_state.proofs.SoundLaws.{is_sound as frame_is_sound, tables_kept as frame_kept}
 use Rattle.both.specs.declared.Kept.{Kept}

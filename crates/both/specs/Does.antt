@@ -4,7 +4,7 @@ use Rattle.either_line.specs.Line.{Request, refused_number, respond}
 use Rattle.tables.specs.Lent.{Tables}
 use Rattle.tables.specs.Calls.{DoesBy}
 use Rattle.both.specs.declared.Kept.{Kept}
-use Rattle.both.specs.declared.Replied.{Replied}
+use Rattle.both.specs.Replied.{Replied}
 use Rattle.both.specs.View.{view, written, sound_kept}
 use Rattle.both.specs.Replied.{replied_of, refusal}
 

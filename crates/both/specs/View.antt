@@ -9,10 +9,10 @@ use Rattle.limits.specs.Zeros.{zeros}
 pub use Rattle.tables.specs.Lent.{Tables, tables}
 use Rattle.connections.specs.Members.{members_length}
 use Rattle.shares.specs.Shares.{shares_length}
-use Rattle.state.specs.declared.Hub.{Hub}
+use Rattle.state.specs.View.{Hub}
 use Rattle.state.specs.View.{sound_hub, hub_of, view as level_view, written as level_written}
 pub use Rattle.state.specs.View.{zero_tables}
-use Rattle.framed_state.specs.declared.Frames.{Frames}
+use Rattle.framed_state.specs.View.{Frames}
 use Rattle.framed_state.specs.View.{sound_frames, frames_of, view as frame_view, written as frame_written}
 use Rattle.both.specs.declared.Kept.{Kept}
 
@@ -58,13 +58,13 @@ written s = cond (frames_set s) (unframed (frame_written s.frames)) (level_writt
 unfoldable pub unused_hub : Hub → Bool
 unused_hub h =
     eqb h.link.levels 0
-    && (all_zero h.link && (eqb h.clock 0 && (eqb h.serving 0 && (eqb h.to_go 0 && eqb h.silent 0))))
+    && (all_zero h.link && (eqb h.clock 0 && (eqb h.wire.serving 0 && (eqb h.wire.to_go 0 && eqb h.wire.silent 0))))
 
 unfoldable pub unused_frames : Frames → Bool
 unused_frames h =
     eqb h.link.frame 0
     && (eqb h.link.largest 0
-    && (eqb h.link.silence 0 && (eqb h.clock 0 && (eqb h.serving 0 && (eqb h.to_go 0 && eqb h.silent 0)))))
+    && (eqb h.link.silence 0 && (eqb h.clock 0 && (eqb h.wire.serving 0 && (eqb h.wire.to_go 0 && eqb h.wire.silent 0)))))
 
 -- the table of connections has its length, and zeros behind the table of shares
 unfoldable pub members_framed : List ℕ → Bool

@@ -7,7 +7,7 @@ pub mod quiet; // quiet.rt: ticks in which nothing starts and nothing departs
 
 ghost use Rattle.std.specs.Prelude.{◌≡◌, true};
 ghost use Rattle.either_line.specs.Line.{fresh_line, link_levels, link_frames, admit_level, admit_share, offer, notice, close, tick};
-ghost use Rattle.connections.specs.Stamps.{stamp_if};
+ghost use Rattle.tables.specs.Options.{option_in};
 ghost use Rattle.tables.specs.Lent.{tables};
 ghost use Rattle.both.specs.View.{kept_of, kept_clock, has_link, sound_kept};
 ghost use Rattle.both.specs.Does.{Does};
@@ -15,7 +15,9 @@ ghost use Rattle.both.specs.Does.{Does};
 use framed_state::Frames;
 use frames::{Framing, Share};
 use limits::{NO_CONNECTION, SHARES};
-use rules::{Connection, Link, Packet, Short};
+use line::Told;
+use line::answers::say;
+use rules::{Connection, Link};
 use state::Hub;
 
 // What a caller keeps beside the tables: the hub of levels and the frames. The one that is not set is fresh; the tables are those of the other. A line with frames has
@@ -26,17 +28,8 @@ pub struct Kept {
     pub frames: Frames,
 }
 
-// The reply to a request, and what is kept after it. `short` is what an admission refused with 8 was told, else zeros. `packet` is the departed one where `gone` says
-// so, else an unused row.
-#[derive(Clone, Copy)]
-pub struct Replied {
-    pub verdict: u32,
-    pub number: u32,
-    pub short: Short,
-    pub gone: bool,
-    pub packet: Packet,
-    pub kept: Kept,
-}
+// The reply to a request, and what is kept after it. `short` is what an admission refused with 8 was told, else zeros.
+pub type Replied = Told<Kept>;
 
 // The fresh line, of either discipline; its three tables start as zeros.
 pub fn fresh_line() -> Kept
@@ -84,6 +77,8 @@ pub fn is_sound(h: Kept, members: &[u32], places: &[u32], notices: &[u32]) -> bo
     sound::is_sound(h.hub, members, places, notices)
 }
 
+// kept: what may not change: that a request leaves a table is said by its `&`, and `Does` names the same slice before and after, so the tables are three parameters
+
 // A link of levels.
 pub fn link_levels(h: Kept, members: &[u32], places: &[u32], notices: &[u32], l: Link) -> Replied
     requires { sound_kept h (tables members.now places.now notices.now) ≡ true }
@@ -93,7 +88,7 @@ pub fn link_levels(h: Kept, members: &[u32], places: &[u32], notices: &[u32], l:
         let told = calls::link_tested(h.hub, members, places, notices, l);
         return parts::by_levels(h, told);
     }
-    parts::refuse(h, 3, 0)
+    say(h, 3, 0)
 }
 
 // A link of frames.
@@ -102,7 +97,7 @@ pub fn link_frames(h: Kept, members: &[u32], places: &[u32], notices: &[u32], l:
     ensures { Does (link_frames l) h (tables members.now places.now notices.now) result (tables members.now places.now notices.now) }
 {
     if h.hub.link.levels != 0 {
-        return parts::refuse(h, 3, 0);
+        return say(h, 3, 0);
     }
     let said = framed_calls::link_tested(h.frames, &members[..SHARES], places, notices, l);
     parts::by_frames(h, said)
@@ -123,7 +118,7 @@ pub fn admit_level(
         let told = calls::admit_tested(h.hub, members, places, notices, x);
         return parts::by_levels(h, told);
     }
-    parts::refuse(h, 2, NO_CONNECTION)
+    say(h, 2, NO_CONNECTION)
 }
 
 // A connection with a share asks to be admitted.
@@ -138,7 +133,7 @@ pub fn admit_share(
     ensures { Does (admit_share x) h (tables members.old places.now notices.now) result (tables members.new places.now notices.now) }
 {
     if h.frames.link.frame == 0 {
-        return parts::refuse(h, 2, NO_CONNECTION);
+        return say(h, 2, NO_CONNECTION);
     }
     let said = framed_calls::admit_tested(h.frames, &mut members[..SHARES], places, notices, x);
     parts::by_frames(h, said)
@@ -153,18 +148,17 @@ pub fn offer(
     c: u32,
     len: u32,
     tag: u32,
-    brings: bool,
-    stamp: u32,
+    stamp: Option<u32>,
 ) -> Replied
     requires { sound_kept h (tables members.old places.old notices.now) ≡ true }
-    ensures { Does (offer c len tag (stamp_if brings stamp)) h (tables members.old places.old notices.now) result (tables members.new places.new notices.now) }
+    ensures { Does (offer c len tag (option_in stamp)) h (tables members.old places.old notices.now) result (tables members.new places.new notices.now) }
 {
     if h.frames.link.frame == 0 {
-        let told = calls::offer_tested(h.hub, members, places, notices, c, len, tag, brings, stamp);
+        let told = calls::offer_tested(h.hub, members, places, notices, c, len, tag, stamp);
         return parts::by_levels(h, told);
     }
-    if brings {
-        return parts::refuse(h, 2, 0);
+    if stamp.is_some() {
+        return say(h, 2, 0);
     }
     let said = framed_calls::offer_tested(
         h.frames,
@@ -207,7 +201,7 @@ pub fn close(h: Kept, members: &mut [u32], places: &[u32], notices: &[u32], c: u
         let told = calls::close_tested(h.hub, members, places, notices, c);
         return parts::by_levels(h, told);
     }
-    parts::refuse(h, 2, 0)
+    say(h, 2, 0)
 }
 
 // One tick.

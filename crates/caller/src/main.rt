@@ -15,8 +15,8 @@ type Places = [u32; hub::PLACES];
 type Notices = [u32; hub::NOTICES];
 
 fn write<W: Write>(out: &mut W, text: &[u8], n: u64) {
-    streams::write_all(out, text);
-    streams::print_decimal(out, n);
+    let _ = streams::write_all(out, text);
+    let _ = streams::print_decimal(out, n);
 }
 
 // A packet that has left. Its finish is the clock after the tick.
@@ -26,22 +26,22 @@ fn show_departure<W: Write>(out: &mut W, p: Packet, finish: u32) {
     write(out, b", arrival ", p.arrival as u64);
     write(out, b", eligibility ", p.eligibility as u64);
     write(out, b", finish ", finish as u64);
-    streams::write_all(out, b"\n");
+    let _ = streams::write_all(out, b"\n");
 }
 
 // What a call answered. Verdict 0: it is done, and `number` is the connection's number after an admission, the eligibility after an offer or a notice. Any other
 // verdict: nothing has changed, and with an 8 `short` names the level that is short and by how many units. The hub that comes with it goes to the next call.
 fn show<W: Write>(out: &mut W, call: &[u8], r: Told) -> Hub {
     let short = r.short;
-    streams::write_all(out, call);
+    let _ = streams::write_all(out, call);
     write(out, b": verdict ", r.verdict as u64);
     write(out, b", number ", r.number as u64);
     if short.level != 0 {
         write(out, b", short at level ", short.level as u64);
         write(out, b" by ", short.units);
     }
-    streams::write_all(out, b"\n");
-    r.hub
+    let _ = streams::write_all(out, b"\n");
+    r.kept
 }
 
 // So many ticks, one call each. A tick answers with at most one packet, and is refused only where no link is set or the clock has ended.
@@ -54,14 +54,12 @@ fn ticks<W: Write>(
     n: u32,
 ) -> Hub {
     let mut h = before;
-    let mut i: u32 = 0;
-    while i < n {
+    for _ in 0..n {
         let r = hub::tick(h, members, places, notices);
-        h = r.hub;
-        if r.gone {
-            show_departure(out, r.packet, h.clock);
+        h = r.kept;
+        if let Some(p) = r.departed {
+            show_departure(out, p, h.clock);
         }
-        i += 1;
     }
     h
 }
@@ -232,5 +230,5 @@ fn main(rt: HostRuntime) {
     h = reopen(&mut out, h, &mut members, &mut places, &mut notices, urgent);
     h = onward(&mut out, h, &mut members, &mut places, &mut notices);
     write(&mut out, b"clock: ", h.clock as u64);
-    streams::write_all(&mut out, b"\n");
+    let _ = streams::write_all(&mut out, b"\n");
 }

@@ -10,7 +10,6 @@ use lib.ListN.{length, get_or, set, length-append, length-set, get_or-eq_default
 use lib.Seq.{get_or-set_same, get_or-set_other}
 use Rattle.rules.specs.declared.Link.{Link}
 use Rattle.rules.specs.declared.Connection.{Connection}
-use Rattle.rules.specs.declared.Packet.{Packet}
 use Rattle.rules.specs.declared.Short.{Short}
 use Rattle.rules.specs.Words.{All}
 use Rattle.rules.specs.Limits.{max_connections, clock_end, beyond_32_bits}
@@ -33,7 +32,7 @@ use Rattle.rules.proofs.Bounds.{rows_fit_places, eligibilities_fit_32, charges_f
 use Rattle.rules.proofs.Stamps.{in_time_of}
 use Rattle.rules.proofs.SoundKept.{done_sound}
 use Rattle.rules.proofs.Verdicts.{tick_done, admit_done, OfferDone, offer_done, CloseDone, close_done}
-use Rattle.tables.specs.Places.{places_length, rows, written_places, no_packet}
+use Rattle.tables.specs.Places.{places_length, rows, written_places}
 use Rattle.connections.specs.declared.Member.{Member}
 use Rattle.connections.specs.Members.{member_in, connections_in, pasts_in, closed_in, used_by, used_in, first_in, written_members}
 use Rattle.connections.specs.Rows.{connection_of, past_of, last_of, written_table}
@@ -43,35 +42,35 @@ use Rattle.connections.proofs.WrittenLaws.{members_rows, used_is, first_is}
 use Rattle.connections.proofs.OwnerLaws.{first_same}
 use Rattle.connections.proofs.SweepLaws.{swept_as_is}
 use Rattle.connections.proofs.RegulatorLaws.{MemberFacts, member_facts}
-use Rattle.state.specs.declared.Hub.{Hub}
-use Rattle.state.specs.declared.Told.{Told}
-use Rattle.state.specs.View.{Tables, tables, view, sound_hub}
-use Rattle.state.specs.Told.{refusal}
+use Rattle.state.specs.View.{Hub, Tables, tables, view, sound_hub}
+use Rattle.state.specs.Told.{Told, refusal}
 use Rattle.state.specs.Does.{Does}
 use Rattle.state.proofs.SoundLaws as S
+use Rattle.std.specs.Prelude.{None}
 use Rattle.state.proofs.SoundLaws.{shapes, formed_tables, is_sound, members_kept, places_kept, notices_kept, tables_kept, others, figures_in_limits}
 use Rattle.state.proofs.DoesLaws.{refuses, acts}
 use Rattle.service.specs.Ready.{Ready}
 use Rattle.service.specs.Gives.{Gives}
 use Rattle.service.proofs.ReadyLaws.{ready}
-use Rattle.causes.specs.declared.Ruling.{Ruling}
-use Rattle.causes.specs.declared.Noted.{Noted}
+use Rattle.causes.specs.declared.refusals.Refusal.{Refusal}
+use Rattle.causes.specs.Refusals.{number_of, short_of}
 use Rattle.causes.specs.Notices.{Takes}
-use Rattle.calls.specs.Rulings.{ruling_of}
+use Rattle.causes.proofs.RefusalLaws.{some_number}
+use Rattle.std.specs.Prelude.{Ok, Err}
 
 module _ (h : Hub) (t : Tables) (ok : sound_hub h t ≡ true) where
   -- ---- a call that is refused as its verdict says
 
-  pub refused : (k : Call) (v n : ℕ) (r : Told) → v ≡ verdict k (view h t) → (v ≡ 0 → ⊥) → refused_short k (view h t) v ≡ no_short → n ≡ refused_number k
-      → r ≡ refusal h v n → Does k h t r t
-  refused k v n r e z q f g =
-      refuses k h t ok v (v - 1) n r (sym e) (omega (arith, z)) f
-      (g ∙ ap (λ (u : Short). record { verdict = v; number = n; short = u; gone = false; packet = no_packet; hub = h }) (sym q))
+  pub refused : (k : Call) (why : Refusal) (v n : ℕ) (r : Told) → number_of why ≡ verdict k (view h t) → v ≡ number_of why → refused_short k (view h t) v ≡ no_short
+      → n ≡ refused_number k → r ≡ refusal h v n → Does k h t r t
+  refused k why v n r e i q f g =
+      refuses k h t ok v (v - 1) n r (sym (i ∙ e)) (omega (arith, i, some_number why)) f
+      (g ∙ ap (λ (u : Short). record { verdict = v; number = n; short = u; departed = None; kept = h }) (sym q))
 
   -- ---- a link
 
   pub linked : (l : Link) (r : Told) (g : Hub) → verdict (link l) (view h t) ≡ 0
-      → g ≡ record { link = l; clock = h.clock; serving = h.serving; to_go = h.to_go; silent = h.silent } → r ≡ refusal g 0 0 → Does (link l) h t r t
+      → g ≡ record { link = l; clock = h.clock; wire = h.wire } → r ≡ refusal g 0 0 → Does (link l) h t r t
   linked l r g e f i = acts (link l) h t ok r t e (i ∙ ap (λ (k : Hub). refusal k 0 0) f) (tables_kept h t ok)
 
   -- ---- a tick
@@ -121,7 +120,7 @@ module _ (h : Hub) (t : Tables) (ok : sound_hub h t ≡ true) where
             go false o = never (sym ((S.linked h t ok n).free_blank c (closed_below c e) o).2 ∙ e)
 
   pub tick_acts : (r : Told) (m p n : List ℕ) (b : ℕ) → verdict tick (view h t) ≡ 0 → Gives (ticked (view h t)) r p n
-      → b ≡ charge_time h.link → Swept t.members b r.hub.clock m → Does tick h t r (tables m p n)
+      → b ≡ charge_time h.link → Swept t.members b r.kept.clock m → Does tick h t r (tables m p n)
   tick_acts r m p n b e g f w =
       let l = tick_leaves (view h t) in
       let k = w (ticked (view h t)).next
@@ -130,7 +129,7 @@ module _ (h : Hub) (t : Tables) (ok : sound_hub h t ≡ true) where
         pasts_are = l.pasts;
         marks_are = l.closed;
         time_is = ap charge_time l.link ∙ sym f;
-        clock_is = sym (ap (λ (d : Told). d.hub.clock) g.0);
+        clock_is = sym (ap (λ (d : Told). d.kept.clock) g.0);
       }) in
       acts tick h t ok r (tables m p n) e g.0 (λ i. tables (k i) (g.1 i) (g.2 i))
 
@@ -138,7 +137,7 @@ module _ (h : Hub) (t : Tables) (ok : sound_hub h t ≡ true) where
   pub tick_frees_nobody : (r : Told) (p n : List ℕ) → verdict tick (view h t) ≡ 0 → Gives (ticked (view h t)) r p n → first_in t.members ≡ 0 → Does tick h t r (tables t.members p n)
   tick_frees_nobody r p n e g z =
       tick_acts r t.members p n (charge_time h.link) e g refl
-      (swept_as_is t.members (shapes t (formed_tables h t ok)).members_shape (charge_time h.link) r.hub.clock (closed_order (tick_done (view h t) e).set) (λ l. absurd (omega arith)))
+      (swept_as_is t.members (shapes t (formed_tables h t ok)).members_shape (charge_time h.link) r.kept.clock (closed_order (tick_done (view h t) e).set) (λ l. absurd (omega arith)))
 
 -- ---- an admission
 
@@ -146,16 +145,13 @@ pub admit_room : (h : Hub) (t : Tables) (x : Connection) (c : ℕ) → verdict (
 admit_room h t x c e f = omega (arith, (admit_done (view h t) x e).free)
 
 module _ (h : Hub) (t : Tables) (ok : sound_hub h t ≡ true) (x : Connection) where
-  -- refused as it was ruled
-  pub admit_refuses : (v : Ruling) (p : Packet) → v ≡ ruling_of (admit x) (view h t) → (v.verdict ≡ 0 → ⊥) → p ≡ no_packet
-      → Does (admit x) h t (record { verdict = v.verdict; number = 255; short = v.short; gone = false; packet = p; hub = h }) t
-  admit_refuses v p e n f =
-      let s = view h t in
-      let i : v.verdict ≡ verdict (admit x) s = ap (λ (y : Ruling). y.verdict) e in
-      let j : v.short ≡ refused_short (admit x) s v.verdict
-      = ap (λ (y : Ruling). y.short) e ∙ ap (refused_short (admit x) s) (sym i) in
-      refuses (admit x) h t ok v.verdict (v.verdict - 1) 255 _ (sym i) (omega (arith, n)) refl
-      (λ k. record { verdict = v.verdict; number = 255; short = j k; gone = false; packet = f k; hub = h })
+  -- refused, with what the refusal says
+  pub admit_refuses : (why : Refusal) (v : ℕ) (u : Short) (r : Told) → number_of why ≡ verdict (admit x) (view h t)
+      → short_of why ≡ refused_short (admit x) (view h t) (number_of why) → v ≡ number_of why → u ≡ short_of why → r ≡ refusal h v 255
+      → Does (admit x) h t (record r { short = u }) t
+  admit_refuses why v u r e f i j g =
+      refuses (admit x) h t ok v (v - 1) 255 _ (sym (i ∙ e)) (omega (arith, i, some_number why)) refl
+      (λ k. record (g k) { short = (j ∙ f ∙ ap (refused_short (admit x) (view h t)) (sym i)) k })
 
   -- done: the newcomer at the lowest free number, of which nothing is left
   pub admit_acts : (r : Told) (c : ℕ) (m : List ℕ) → verdict (admit x) (view h t) ≡ 0 → c ≡ free_number (connections_in t.members) → r ≡ refusal h 0 c
@@ -228,14 +224,18 @@ module _ (h : Hub) (t : Tables) (ok : sound_hub h t ≡ true) (c len tag : ℕ) 
 -- ---- a notice: refused or done, by its verdict
 
 module _ (h : Hub) (t : Tables) (ok : sound_hub h t ≡ true) where
-  pub notice_does : (len tag v : ℕ) → v ≡ verdict (notice len tag) (view h t) → (x : Noted) (q : List ℕ) (r : Told) → Takes v h.clock len tag t.notices x q
-      → r ≡ refusal h x.verdict x.number → Does (notice len tag) h t r (tables t.members t.places q)
-  notice_does len tag zero e x q r k j =
-      acts (notice len tag) h t ok r (tables t.members t.places q) (sym e) (j ∙ ap (λ (y : Noted). refusal h y.verdict y.number) k.0)
-      (λ i. tables (members_kept h t ok i) (places_kept h t ok i) (k.1 i))
-  notice_does len tag (suc w) e x q r k j =
-      subst (λ (u : List ℕ). Does (notice len tag) h t r (tables t.members t.places u)) (sym k.1)
-      (refused h t ok (notice len tag) (suc w) 0 r e (λ z. omega arith) refl refl (j ∙ ap (λ (y : Noted). refusal h y.verdict y.number) k.0))
+  pub notice_done : (len tag v : ℕ) → v ≡ verdict (notice len tag) (view h t) → (e : ℕ) (q : List ℕ) (r : Told)
+      → Takes v h.clock len tag t.notices (Ok e) q → r ≡ refusal h 0 e → Does (notice len tag) h t r (tables t.members t.places q)
+  notice_done len tag zero i e q r k j =
+      acts (notice len tag) h t ok r (tables t.members t.places q) (sym i) (j ∙ ap (refusal h 0) k.1)
+      (λ n. tables (members_kept h t ok n) (places_kept h t ok n) (k.2 n))
+  notice_done len tag (suc v) i e q r k j = let no : ◌≡◌ {A = ℕ} 0 (suc v) = k.0 in absurd (omega arith)
+
+  pub notice_refused : (len tag : ℕ) (why : Refusal) (v : ℕ) (q : List ℕ) (r : Told) → number_of why ≡ verdict (notice len tag) (view h t)
+      → (w : ℕ) → Takes w h.clock len tag t.notices (Err why) q → v ≡ number_of why → r ≡ refusal h v 0 → Does (notice len tag) h t r (tables t.members t.places q)
+  notice_refused len tag why v q r e zero k i j = absurd (some_number why k.0)
+  notice_refused len tag why v q r e (suc w) k i j =
+      subst (λ (u : List ℕ). Does (notice len tag) h t r (tables t.members t.places u)) (sym k.2) (refused h t ok (notice len tag) why v 0 r e i refl refl j)
 
 -- ---- a close
 

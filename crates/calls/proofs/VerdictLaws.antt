@@ -13,38 +13,43 @@ use Rattle.rules.specs.declared.Connection.{Connection}
 use Rattle.rules.specs.declared.Short.{Short}
 use Rattle.rules.specs.Words.{All, within, first_number}
 use Rattle.rules.specs.Limits.{max_largest, max_connections, max_reserved, beyond_32_bits}
-use Rattle.rules.specs.Model.{Past, State, Call, admit, offer, close, no_connection, no_past, nth, figures, past}
+use Rattle.rules.specs.Model.{Past, State, Call, admit, offer, no_connection, no_past, nth, figures, past}
 use Rattle.rules.specs.Admission.{level_within, owned, stands, free_number, joining, bound, reservation, reserved, level_test, passes, stand_by_on, distance}
 use Rattle.rules.specs.Service.{suits, untimely, untimely_by, eligibility_by, of}
 use Rattle.rules.specs.SoundTest.{sound}
-use Rattle.rules.specs.Calls.{heard, too_far, no_link_set, clock_ended, causes, verdicts, verdict, refused_short}
-use Rattle.rules.proofs.Tests.{passed, never, never_number, within_true}
+use Rattle.rules.specs.Calls.{heard, too_far, no_link_set, clock_ended, causes, verdicts, verdict}
+use Rattle.rules.proofs.Tests.{passed, never, within_true}
 use Rattle.rules.proofs.Sums.{cond_is}
 use Rattle.rules.proofs.Standing.{owned_level, level_free, stands_is, stands_owned, stands_below, free_is}
 use Rattle.rules.proofs.LevelTest.{holds_test}
 use Rattle.rules.proofs.Verdicts.{heard_parts}
 use Rattle.rules.proofs.Bounds.{distances_fit_32}
-use Rattle.rules.proofs.Results.{level_test_tells}
 use Rattle.tables.specs.Places.{rows}
-use Rattle.causes.specs.declared.Ruling.{Ruling}
-use Rattle.causes.specs.Causes.{nothing_short, early_offer}
-use Rattle.causes.proofs.CauseLaws.{sound_first, front_gives, behind_gives, says_nothing}
+use Rattle.causes.specs.declared.refusals.Refusal.{Refusal}
+use Rattle.causes.specs.Refusals.{number_of}
+use Rattle.causes.specs.Causes.{early_offer}
+use Rattle.causes.proofs.CauseLaws.{sound_first, front_gives, behind_gives}
+use Rattle.causes.proofs.RefusalLaws.{some_number}
 use Rattle.connections.specs.declared.Member.{Member}
-use Rattle.connections.specs.Members.{member_in, connections_in, pasts_in}
+use Rattle.connections.specs.Members.{member_in, connections_in, pasts_in, closed_in}
 use Rattle.connections.specs.Rows.{connection_of, past_of}
-use Rattle.connections.specs.Stamps.{stamp_if}
+use Rattle.tables.specs.Options.{option_in}
+use Rattle.std.specs.Prelude as code
 use Rattle.connections.specs.Within.{Within, SumsWith}
 use Rattle.connections.proofs.MemberLaws.{connections_length, connection_is, past_is}
 use Rattle.connections.proofs.RegulatorLaws.{MemberFacts}
 use Rattle.connections.proofs.FigureLaws.{link_limits, figure_limits, entry_limits, sums_joining, reserved_joining}
-use Rattle.state.specs.declared.Hub.{Hub}
-use Rattle.state.specs.View.{Tables, view, sound_hub}
+use Rattle.state.specs.View.{Hub, Tables, view, sound_hub}
 use Rattle.state.proofs.SoundLaws.{sound_view, is_sound, figures_in_limits}
-use Rattle.calls.specs.Rulings.{ruling_of, early_admit, early_close, too_far_in}
+use Rattle.calls.specs.Rulings.{early_admit, too_far_in}
 
 pub by_causes : (k : Call) (s : State) → sound s ≡ true → first_number (causes k s) ≡ verdict k s
 unfolding verdicts
 by_causes k s ok = sound_first (sound s) (causes k s) ok
+
+-- what the causes give on a sound hub is the verdict
+pub found : (h : Hub) (t : Tables) → sound_hub h t ≡ true → (k : Call) {v : ℕ} → v ≡ first_number (causes k (view h t)) → v ≡ verdict k (view h t)
+found h t ok k e = e ∙ by_causes k (view h t) (sound_view h t ok)
 
 -- ---- an offer: what needs no walk over the places, then the rest
 
@@ -54,17 +59,13 @@ pub hears : (s : State) (c : ℕ) (st : Option ℕ) (x : Connection) (a b : Bool
 unfolding heard
 hears s c st x a b is e f = (λ i. (e ∙ sym (stands_is s c)) i && (f ∙ ap (λ (y : Connection). suits y st) is) i)
 
--- a stamp, and none
-module _ (t : List ℕ) (c clock stamp : ℕ) (brings : Bool) where
-  pub untimely_without : brings ≡ false → false ≡ untimely_by (nth (connections_in t) c) (get_or (pasts_in t) c no_past) clock (stamp_if brings stamp)
-  untimely_without b = rw b
-
-  pub untimely_with : brings ≡ true → c < max_connections → (m : Member) → m ≡ member_in t c → (r : Bool) → r ≡ untimely (connection_of m) (past_of m) clock stamp
-      → r ≡ untimely_by (nth (connections_in t) c) (get_or (pasts_in t) c no_past) clock (stamp_if brings stamp)
-  untimely_with b k m i r e =
-      rw b
-      (e
-      ∙ (λ j. untimely ((ap connection_of i ∙ sym (connection_is t c k)) j) ((ap past_of i ∙ sym (past_is t c k)) j) clock stamp))
+-- an offer with a stamp, of the row read
+pub untimely_with : (t : List ℕ) (c clock at : ℕ) (o : code.Option ℕ) → o ≡ code.Some at → c < max_connections → (m : Member) → m ≡ member_in t c → (r : Bool) → r ≡ untimely (connection_of m) (past_of m) clock at
+    → r ≡ untimely_by (nth (connections_in t) c) (get_or (pasts_in t) c no_past) clock (option_in o)
+untimely_with t c clock at o b k m i r e =
+    rw b
+    (e
+    ∙ (λ j. untimely ((ap connection_of i ∙ sym (connection_is t c k)) j) ((ap past_of i ∙ sym (past_is t c k)) j) clock at))
 
 -- an offer that is too far: with the queue off, and with it on, of the row read
 module _ (l : Link) (t : List ℕ) (c clock : ℕ) (st : Option ℕ) (on : Bool) (is_on : on ≡ stand_by_on l) where
@@ -103,10 +104,10 @@ module _ (h : Hub) (t : Tables) (ok : sound_hub h t ≡ true) (c len tag : ℕ) 
   front_is : early_offer u b x.size len ≡ in_front
   front_is i = (2, unset i) ∷ (10, not (there i)) ∷ (11, not (within 1 (is i).size len)) ∷ []
 
-  pub offer_early : (v : ℕ) → v ≡ first_number (early_offer u b x.size len) → (v ≡ 0 → ⊥) → v ≡ verdict (offer c len tag st) offered
-  offer_early v e n =
+  pub offer_early : (why : Refusal) → number_of why ≡ first_number (early_offer u b x.size len) → number_of why ≡ verdict (offer c len tag st) offered
+  offer_early why e =
       let f = e ∙ ap first_number front_is in
-      f ∙ front_gives in_front rest (λ z. n (f ∙ z)) ∙ by_causes (offer c len tag st) offered (sound_view h t ok)
+      f ∙ front_gives in_front rest (λ z. some_number why (f ∙ z)) ∙ by_causes (offer c len tag st) offered (sound_view h t ok)
 
   module _ (none : first_number (early_offer u b x.size len) ≡ 0) where
     unrefused : first_number in_front ≡ 0
@@ -145,25 +146,10 @@ module _ (h : Hub) (t : Tables) (ok : sound_hub h t ≡ true) (c len tag : ℕ) 
           (entry_limits h.link (connections_in t.members) w c x is).reach_fits,
         )
 
--- ---- a close, the same
+-- ---- a close: whether it stands, as the rules say it
 
-module _ (h : Hub) (t : Tables) (ok : sound_hub h t ≡ true) (c : ℕ) (b : Bool) (there : b ≡ stands (view h t) c) where
-  abbrev ahead : List (ℕ × Bool)
-  ahead = no_link_set (view h t) ∷ (10, not (stands (view h t) c)) ∷ []
-
-  abbrev then : List (ℕ × Bool)
-  then = (16, leb 1 (length (of c (rows t.places)))) ∷ []
-
-  ahead_is : early_close h.link b ≡ ahead
-  ahead_is i = no_link_set (view h t) ∷ (10, not (there i)) ∷ []
-
-  pub close_early : (v : ℕ) → v ≡ first_number (early_close h.link b) → (v ≡ 0 → ⊥) → v ≡ verdict (close c) (view h t)
-  close_early v e n =
-      let f = e ∙ ap first_number ahead_is in
-      f ∙ front_gives ahead then (λ z. n (f ∙ z)) ∙ by_causes (close c) (view h t) (sound_view h t ok)
-
-  pub close_late : first_number (early_close h.link b) ≡ 0 → (v : ℕ) → v ≡ first_number then → v ≡ verdict (close c) (view h t)
-  close_late none v e = e ∙ behind_gives ahead then (omega arith, (omega arith, tt)) (ap first_number (sym ahead_is) ∙ none) ∙ by_causes (close c) (view h t) (sound_view h t ok)
+pub stands_as : (h : Hub) (t : Tables) (c : ℕ) (b : Bool) → b ≡ (owned (connections_in t.members) c && not (get_or (closed_in t.members) c false)) → b ≡ stands (view h t) c
+stands_as h t c b e = e ∙ sym (stands_is (view h t) c)
 
 -- a level within its limits
 some_level : (l : Link) (x : Connection) → level_within l x ≡ true → 1 ≤ x.level
@@ -188,18 +174,10 @@ module _ (h : Hub) (t : Tables) (ok : sound_hub h t ≡ true) (x : Connection) (
   same_front : early_admit h.link c x ≡ front
   same_front = ap (λ (k : ℕ). early_admit h.link k x) is
 
-  ruled_as : (v : ℕ) (r : Ruling) → r ≡ nothing_short v → verdict (admit x) asked ≡ v → (v ≡ 8 → ⊥) → r ≡ ruling_of (admit x) asked
-  ruled_as v r q e n =
-      q ∙ says_nothing v (level_test h.link together) n ∙ ap (λ (w : ℕ). record { verdict = w; short = refused_short (admit x) asked w }) (sym e)
-
-  -- none of the early numbers is 8
-  not_eight : first_number front ≡ 8 → ⊥
-  not_eight = never_number 8 front ((λ e. absurd (omega arith)), ((λ e. absurd (omega arith)), ((λ e. absurd (omega arith)), ((λ e. absurd (omega arith)), tt)))) (omega arith)
-
-  pub admit_early : (v : ℕ) (r : Ruling) → v ≡ first_number (early_admit h.link c x) → (v ≡ 0 → ⊥) → r ≡ nothing_short v → r ≡ ruling_of (admit x) asked
-  admit_early v r e z q =
+  pub admit_early : (why : Refusal) → number_of why ≡ first_number (early_admit h.link c x) → number_of why ≡ verdict (admit x) asked
+  admit_early why e =
       let f = e ∙ ap first_number same_front in
-      ruled_as v r q (sym (f ∙ front_gives front behind (λ y. z (f ∙ y)) ∙ by_causes (admit x) asked (sound_view h t ok))) (λ y. not_eight (sym f ∙ y))
+      f ∙ front_gives front behind (λ y. some_number why (f ∙ y)) ∙ by_causes (admit x) asked (sound_view h t ok)
 
   module _ (none : first_number (early_admit h.link c x) ≡ 0) where
     none_early : first_number front ≡ 0
@@ -242,21 +220,13 @@ module _ (h : Hub) (t : Tables) (ok : sound_hub h t ≡ true) (x : Connection) (
     admit_reserved a b e f = rw (e, f) (sym (reserved_joining h.link (connections_in t.members) x free_room free_blank))
 
     module _ (s : Short) (e : s ≡ level_test h.link together) where
-      pub admit_short : (s.level ≡ 0 → ⊥) → record { verdict = 8; short = s } ≡ ruling_of (admit x) asked
+      pub admit_short : (s.level ≡ 0 → ⊥) → 8 ≡ verdict (admit x) asked
       admit_short z =
           let f : passes h.link together ≡ false = ap (λ (u : Short). eqb u.level 0) (sym e) ∙ ne_eqb s.level 0 z in
-          let v : 8 ≡ verdict (admit x) asked = sym (cond_is 8 (cond (ltb max_reserved (reserved h.link together)) 9 0) (ap not f)) ∙ by_sums in
-          (λ i. record { verdict = 8; short = e i }) ∙ ap (λ (w : ℕ). record { verdict = w; short = refused_short (admit x) asked w }) v
+          sym (cond_is 8 (cond (ltb max_reserved (reserved h.link together)) 9 0) (ap not f)) ∙ by_sums
 
       -- no level is short: all that is left is the reservations
-      pub admit_room : (r a : ℕ) → s.level ≡ 0 → a ≡ reserved h.link together → r ≡ cond (ltb max_reserved a) 9 0 → record { verdict = r; short = s } ≡ ruling_of (admit x) asked
+      pub admit_room : (r a : ℕ) → s.level ≡ 0 → a ≡ reserved h.link together → r ≡ cond (ltb max_reserved a) 9 0 → r ≡ verdict (admit x) asked
       admit_room r a z g k =
           let f : passes h.link together ≡ true = ap (λ (u : Short). eqb u.level 0) (sym e) ∙ eq-eqb s.level 0 z in
-          let u = level_test_tells h.link together in
-          let q : s.units ≡ 0 = ap (λ (u : Short). u.units) e ∙ u.1.1 (u.0.0 (ap (λ (u : Short). u.level) (sym e) ∙ z)) in
-          let j = k ∙ ap (λ (b : ℕ). cond (ltb max_reserved b) 9 0) g in
-          ruled_as r (record { verdict = r; short = s }) (λ i. record { verdict = r; short = record { level = z i; units = q i } }) (sym (j ∙ sym (cond_is 8 (cond (ltb max_reserved (reserved h.link together)) 9 0) (ap not f)) ∙ by_sums)) (λ y. nine (ltb max_reserved (reserved h.link together)) (sym j ∙ y))
-        where
-          nine : (b : Bool) → ◌≡◌ {A = ℕ} (cond b 9 0) 8 → ⊥
-          nine true e = omega arith
-          nine false e = omega arith
+          k ∙ ap (λ (b : ℕ). cond (ltb max_reserved b) 9 0) g ∙ sym (cond_is 8 (cond (ltb max_reserved (reserved h.link together)) 9 0) (ap not f)) ∙ by_sums

@@ -4,24 +4,14 @@ use Rattle.std.proofs.Math.Option.{Option}
 use Rattle.rules.specs.declared.Link.{Link}
 use Rattle.rules.specs.declared.Connection.{Connection}
 use Rattle.rules.specs.Limits.{max_connections}
-use Rattle.rules.specs.Model.{State, Call, nth, no_past}
+use Rattle.rules.specs.Model.{nth, no_past}
 use Rattle.rules.specs.Admission.{level_within, figures_within, stand_by_on, distance}
 use Rattle.rules.specs.Service.{eligibility_by}
-use Rattle.rules.specs.Calls.{verdict, refused_short}
 use Rattle.connections.specs.Members.{connections_in, pasts_in}
-use Rattle.causes.specs.declared.Ruling.{Ruling}
-
--- the verdict of a call, and what the level test said where that is the cause
-abbrev pub ruling_of : Call → State → Ruling
-ruling_of k s = record { verdict = verdict k s; short = refused_short k s (verdict k s) }
 
 -- the rows of an admission's table that need no sum, where c is the lowest free number
 abbrev pub early_admit : Link → ℕ → Connection → List (ℕ × Bool)
 early_admit l c x = (2, eqb l.levels 0) ∷ (5, not (level_within l x)) ∷ (6, not (figures_within l x)) ∷ (7, leb max_connections c) ∷ []
-
--- the rows of a close's table that need no walk over the places, and whether it stands
-abbrev pub early_close : Link → Bool → List (ℕ × Bool)
-early_close l stands = (2, eqb l.levels 0) ∷ (10, not stands) ∷ []
 
 -- the test of 18 at number c of a table of connections: the rules' `too_far`
 abbrev pub too_far_in : Link → List ℕ → ℕ → ℕ → Option ℕ → Bool

@@ -6,7 +6,7 @@ mod verdicts; // verdicts.rt: the verdict of each call
 ghost use Rattle.std.specs.Prelude.{◌≡◌, true};
 ghost use Rattle.rules.specs.Model.{link, admit, offer, notice, close, tick};
 ghost use Rattle.rules.specs.Calls.{verdict};
-ghost use Rattle.connections.specs.Stamps.{stamp_if};
+ghost use Rattle.tables.specs.Options.{option_in};
 ghost use Rattle.state.specs.View.{tables, view, sound_hub};
 ghost use Rattle.state.specs.Does.{Does};
 
@@ -19,13 +19,10 @@ pub fn link_tested(h: Hub, members: &[u32], places: &[u32], notices: &[u32], l: 
     requires { sound_hub h (tables members.now places.now notices.now) ≡ true }
     ensures { Does (link l) h (tables members.now places.now notices.now) result (tables members.now places.now notices.now) }
 {
-    let v = verdicts::link_verdict(h, members, places, notices, l);
-    if v != 0 {
-        return say(h, v, 0);
+    if let Err(why) = verdicts::link_verdict(h, members, places, notices, l) {
+        return say(h, why.number(), 0);
     }
-    let mut g = h;
-    g.link = l;
-    say(g, 0, 0)
+    say(Hub { link: l, ..h }, 0, 0)
 }
 
 // A tick that is done: its three steps, and then every number whose charge is over is freed.
@@ -39,7 +36,7 @@ fn run_on(h: Hub, members: &mut [u32], places: &mut [u32], notices: &mut [u32]) 
         return told;
     }
     let time = connections::closing::charge_time(h.link);
-    let clock = told.hub.clock;
+    let clock = told.kept.clock;
     connections::closing::sweep(members, time, clock);
     told
 }
@@ -49,9 +46,8 @@ pub fn tick_tested(h: Hub, members: &mut [u32], places: &mut [u32], notices: &mu
     requires { sound_hub h (tables members.old places.old notices.old) ≡ true }
     ensures { Does tick h (tables members.old places.old notices.old) result (tables members.new places.new notices.new) }
 {
-    let v = verdicts::tick_verdict(h, members, places, notices);
-    if v != 0 {
-        return say(h, v, 0);
+    if let Err(why) = verdicts::tick_verdict(h, members, places, notices) {
+        return say(h, why.number(), 0);
     }
     run_on(h, members, places, notices)
 }
@@ -69,16 +65,10 @@ pub fn admit_tested(
 {
     let n = connections::used(members);
     let c = connections::free_number(members, n);
-    let v = verdicts::admit_verdict(h, members, places, notices, n, c, x);
-    let short = v.short;
-    if v.verdict != 0 {
+    if let Err(why) = verdicts::admit_verdict(h, members, places, notices, n, c, x) {
         return Told {
-            verdict: v.verdict,
-            number: NO_CONNECTION,
-            short: short,
-            gone: false,
-            packet: tables::no_packet(),
-            hub: h,
+            short: why.short(),
+            ..say(h, why.number(), NO_CONNECTION)
         };
     }
     connections::add_member(members, c, x);
@@ -94,23 +84,22 @@ fn accept(
     c: u32,
     len: u32,
     tag: u32,
-    brings: bool,
-    stamp: u32,
+    stamp: Option<u32>,
 ) -> Told
-    requires { (sound_hub h (tables members.old places.old notices.now) ≡ true) × (verdict (offer c len tag (stamp_if brings stamp)) (view h (tables members.old places.old notices.now)) ≡ 0) }
-    ensures { Does (offer c len tag (stamp_if brings stamp)) h (tables members.old places.old notices.now) result (tables members.new places.new notices.now) }
+    requires { (sound_hub h (tables members.old places.old notices.now) ≡ true) × (verdict (offer c len tag (option_in stamp)) (view h (tables members.old places.old notices.now)) ≡ 0) }
+    ensures { Does (offer c len tag (option_in stamp)) h (tables members.old places.old notices.now) result (tables members.new places.new notices.now) }
 {
     let k = c as usize;
     let m = connections::member_at(members, k);
-    let e = connections::stamps::eligibility_by(m, h.clock, brings, stamp) as u32;
+    let e = connections::stamps::eligibility_by(m, h.clock, stamp) as u32;
     let held = tables::count(places);
     tables::append(
         places,
         held,
         Packet {
             connection: c,
-            len: len,
-            tag: tag,
+            len,
+            tag,
             arrival: h.clock,
             eligibility: e,
         },
@@ -128,17 +117,15 @@ pub fn offer_tested(
     c: u32,
     len: u32,
     tag: u32,
-    brings: bool,
-    stamp: u32,
+    stamp: Option<u32>,
 ) -> Told
     requires { sound_hub h (tables members.old places.old notices.now) ≡ true }
-    ensures { Does (offer c len tag (stamp_if brings stamp)) h (tables members.old places.old notices.now) result (tables members.new places.new notices.now) }
+    ensures { Does (offer c len tag (option_in stamp)) h (tables members.old places.old notices.now) result (tables members.new places.new notices.now) }
 {
-    let v = verdicts::offer_verdict(h, members, places, notices, c, len, brings, stamp);
-    if v != 0 {
-        return say(h, v, 0);
+    if let Err(why) = verdicts::offer_verdict(h, members, places, notices, c, len, stamp) {
+        return say(h, why.number(), 0);
     }
-    accept(h, members, places, notices, c, len, tag, brings, stamp)
+    accept(h, members, places, notices, c, len, tag, stamp)
 }
 
 // A notice is offered.
@@ -154,8 +141,10 @@ pub fn notice_tested(
     ensures { Does (notice len tag) h (tables members.now places.now notices.old) result (tables members.now places.now notices.new) }
 {
     let unset = verdicts::unset(h);
-    let x = causes::take_notice(unset, h.link.largest, h.clock, notices, len, tag);
-    say(h, x.verdict, x.number)
+    match causes::take_notice(unset, h.link.largest, h.clock, notices, len, tag) {
+        Ok(eligibility) => say(h, 0, eligibility),
+        Err(why) => say(h, why.number(), 0),
+    }
 }
 
 // A close that is done: the number is freed at once where its charge is over, else its owner is charged.
@@ -178,9 +167,8 @@ pub fn close_tested(h: Hub, members: &mut [u32], places: &[u32], notices: &[u32]
     requires { sound_hub h (tables members.old places.now notices.now) ≡ true }
     ensures { Does (close c) h (tables members.old places.now notices.now) result (tables members.new places.now notices.now) }
 {
-    let v = verdicts::close_verdict(h, members, places, notices, c);
-    if v != 0 {
-        return say(h, v, 0);
+    if let Err(why) = verdicts::close_verdict(h, members, places, notices, c) {
+        return say(h, why.number(), 0);
     }
     close_now(h, members, places, notices, c)
 }

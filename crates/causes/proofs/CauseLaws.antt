@@ -1,23 +1,17 @@
--- Laws of a table of verdicts: number 1 first; the rows in front decided first, and then the others; a length that does not fit; how many packets of a connection the rows have.
+-- Laws of a table of verdicts: number 1 first; the rows in front decided first, and then the others; how many packets of a connection the rows have.
 use Prim.Native.Nat.{ℕ, ◌+◌, ◌≤◌, ◌<◌}
 use native.Mathlib.Omega.{arith}
 use mathlib.Core.Path.{◌≡◌, refl, sym, ap, ◌∙◌}
-use mathlib.Core.Logic.{◌⊎◌, inl, inr}
 use mathlib.Core.Bool.{Bool, true, false, cond, not}
 use mathlib.Core.List.{List, [], ◌∷◌, ◌++◌}
-use lib.Dec.{ltb, eqb}
+use lib.Dec.{eqb}
 use lib.ListN.{length, drop}
 use lib.Seq.{drop-length}
-use borrow.Author.Tests.{ne_eqb, lt-ltb, le-ltb}
 use Rattle.rules.specs.declared.Packet.{Packet}
-use Rattle.rules.specs.declared.Short.{Short}
-use Rattle.rules.specs.Model.{no_short}
-use Rattle.rules.specs.Words.{All, within, first_number}
+use Rattle.rules.specs.Words.{All, first_number}
 use Rattle.rules.specs.Service.{of}
-use Rattle.rules.proofs.Tests.{passed, within_intro}
-use Rattle.rules.proofs.Sums.{cond_is, split}
-use Rattle.limits.proofs.ChainLaws.{too_low, too_high}
-use Rattle.causes.specs.Causes.{nothing_short}
+use Rattle.rules.proofs.Tests.{passed}
+use Rattle.rules.proofs.Sums.{cond_is}
 
 -- number 1 in front of the others, on a sound state
 pub sound_first : (b : Bool) (rs : List (ℕ × Bool)) → b ≡ true → first_number rs ≡ first_number ((1, not b) ∷ rs)
@@ -39,25 +33,6 @@ none_in_front (r ∷ rs) behind k = none_in_front rs behind k.1 ∙ sym (cond_is
 
 pub behind_gives : (front behind : List (ℕ × Bool)) → All (λ r. 0 < r.0) front → first_number front ≡ 0 → first_number behind ≡ first_number (front ++ behind)
 behind_gives front behind a e = none_in_front front behind (passed front a e)
-
-pub zero_then : (v w : ℕ) → v ≡ w → v ≡ 0 → w ≡ 0
-zero_then v w e z = sym e ∙ z
-
--- a verdict other than 8 says nothing of how much is over
-pub says_nothing : (v : ℕ) (over : Short) → (v ≡ 8 → ⊥) → nothing_short v ≡ record { verdict = v; short = cond (eqb v 8) over no_short }
-says_nothing v over n i = record { verdict = v; short = sym (cond_is over no_short (ne_eqb v 8 n)) i }
-
--- ---- a length that does not fit
-
-pub too_short : (largest len : ℕ) → len < 1 → true ≡ not (within 1 largest len)
-too_short largest len h = ap not (sym (too_low 1 largest len h))
-
-pub too_long : (largest len : ℕ) → 1 ≤ len → ltb largest len ≡ not (within 1 largest len)
-too_long largest len h = go (split len largest)
-  where
-    go : (len ≤ largest) ⊎ (largest < len) → ltb largest len ≡ not (within 1 largest len)
-    go (inl k) = le-ltb largest len k ∙ ap not (sym (within_intro 1 largest len h k))
-    go (inr k) = lt-ltb largest len k ∙ ap not (sym (too_high 1 largest len h k))
 
 -- ---- the packets of a connection
 

@@ -1,2 +1,3 @@
 pub mod CauseLaws
 pub mod NoticeLaws
+pub mod RefusalLaws

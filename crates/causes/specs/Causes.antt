@@ -2,13 +2,7 @@
 -- Document 01, "Verdict numbers"; document 02, R-1 and R-13.
 use Rattle.std.specs.Prelude.{ℕ, Bool, not, List, [], ◌∷◌, leb}
 use Rattle.rules.specs.Limits.{clock_end, max_notices}
-use Rattle.rules.specs.Model.{no_short}
 use Rattle.rules.specs.Words.{within}
-use Rattle.causes.specs.declared.Ruling.{Ruling}
-
--- a verdict that says nothing of how much is over
-abbrev pub nothing_short : ℕ → Ruling
-nothing_short verdict = record { verdict = verdict; short = no_short }
 
 -- the rows of an offer's table that need no walk over the places; `heard` says that its connection hears it
 abbrev pub early_offer : Bool → Bool → ℕ → ℕ → List (ℕ × Bool)

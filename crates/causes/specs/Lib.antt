@@ -1,2 +1,3 @@
 pub mod Causes
 pub mod Notices
+pub mod Refusals

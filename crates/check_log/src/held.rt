@@ -49,13 +49,8 @@ fn number_in(told: &str, name: &str, radix: u32) -> Option<u64>
     requires lower_bound { 2 ≤ radix }
     requires upper_bound { radix ≤ 36 }
 {
-    for line in told.lines() {
-        let number = number_behind(line, name, radix);
-        if number.is_some() {
-            return number;
-        }
-    }
-    None
+    told.lines()
+        .find_map(|line| number_behind(line, name, radix))
 }
 
 // The number that a line gives behind a name, and nothing else.

@@ -18,9 +18,9 @@ impl<'a> Late<'a> {
     // `path` leads to the descriptor's file, and `info` to what the system tells of the descriptor.
     pub(crate) fn new(rt: &'a HostRuntime, path: &'a str, info: &'a str) -> Late<'a> {
         Late {
-            rt: rt,
-            path: path,
-            info: info,
+            rt,
+            path,
+            info,
             file: None,
         }
     }

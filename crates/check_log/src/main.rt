@@ -13,37 +13,37 @@ use checker::{Check, Finding};
 use late::Late;
 use limits::{MEMBERS, NOTICES, PLACES};
 use std::io::Write;
+use steps::Lent;
 
 // Hands to `write`, on standard output, the words told of a judgement, and behind those of a log that is not accepted the digits of the offset.
 fn say<W: Write>(c: Check, words: &[u8], digits: &[u8], output: &mut W)
     requires { Says c.finding c.at words.now digits.now }
 {
-    streams::write_all(output, words);
-    streams::write_all(output, digits);
-    streams::write_all(output, b"\n");
+    let _ = streams::write_all(output, words);
+    let _ = streams::write_all(output, digits);
+    let _ = streams::write_all(output, b"\n");
 }
 
 // Hands to `write`, on standard error, what could not be read.
 fn complain<W: Write>(c: Check, words: &[u8], errors: &mut W)
     requires { Complains c.finding words.now }
 {
-    streams::write_all(errors, words);
-    streams::write_all(errors, b"\n");
+    let _ = streams::write_all(errors, words);
+    let _ = streams::write_all(errors, b"\n");
 }
 
 // Tells what is found.
 fn tell<O: Write, E: Write>(c: Check, output: &mut O, errors: &mut E) {
     let mut text = [0u8; 20];
     let k = streams::decimal(c.at, &mut text);
-    let f = c.finding;
-    match f {
-        Finding::On => {}
-        Finding::Accepted => say(c, b"accepted", &text[..0], output),
-        Finding::Differs => say(c, b"differs at byte ", &text[..k], output),
-        Finding::TooLong => say(c, b"too long at byte ", &text[..k], output),
-        Finding::EndsEarly => say(c, b"ends early at byte ", &text[..k], output),
-        Finding::TraceFailed => complain(c, b"check_log: reading the trace failed", errors),
-        Finding::LogFailed => complain(c, b"check_log: reading the log failed", errors),
+    match c.finding {
+        None => {}
+        Some(Finding::Accepted) => say(c, b"accepted", b"", output),
+        Some(Finding::Differs) => say(c, b"differs at byte ", &text[..k], output),
+        Some(Finding::TooLong) => say(c, b"too long at byte ", &text[..k], output),
+        Some(Finding::EndsEarly) => say(c, b"ends early at byte ", &text[..k], output),
+        Some(Finding::TraceFailed) => complain(c, b"check_log: reading the trace failed", errors),
+        Some(Finding::LogFailed) => complain(c, b"check_log: reading the log failed", errors),
     }
 }
 
@@ -68,10 +68,13 @@ fn main(rt: HostRuntime) {
     let mut buf = streams::large_buffer();
     let mut out = streams::large_buffer();
     let mut log = streams::large_buffer();
+    let mut t = Lent {
+        members: &mut members,
+        places: &mut places,
+        notices: &mut notices,
+    };
     let c = checker::check_all(
-        &mut members,
-        &mut places,
-        &mut notices,
+        &mut t,
         &mut buf,
         &mut out,
         &mut log,

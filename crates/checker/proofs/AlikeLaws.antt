@@ -1,67 +1,75 @@
--- Eight bytes from a place on, and one by one.
-use Prim.Native.Nat.{ℕ, suc, ◌+◌, ◌≤◌, ◌<◌, min}
+-- Eights of bytes that two lists have in common, and single bytes.
+use Prim.Native.Nat.{ℕ, zero, suc, ◌+◌, ◌*◌, ◌-◌, ◌≤◌, ◌/◌}
 use native.Mathlib.Omega.{arith}
-use mathlib.Core.Path.{◌≡◌, refl}
-use mathlib.Core.Bool.{Bool, true, ◌&&◌}
-use mathlib.Core.List.{List}
+use mathlib.Core.Path.{◌≡◌, refl, sym, ap, ◌∙◌}
+use mathlib.Core.Bool.{Bool, true, false, cond}
+use mathlib.Core.List.{List, [], ◌∷◌}
 use lib.Dec.{eqb}
-use lib.ListN.{length, take, drop, get_or, length-drop}
-use lib.Seq.{drop-cons, take-add, take-suc}
-use borrow.Author.Tests.{eqb-true, ne_eqb}
-use Rattle.rules.proofs.Tests.{and_true}
+use lib.ListN.{length, take, drop}
+use lib.Seq.{take-add}
+use Rattle.std.specs.List.{prefix_len, zip}
+use Rattle.std.specs.Simd.{first_chunks}
+use Rattle.std.specs.Cmp.Lexicographic.{pointwise, same_text}
+use Rattle.std.proofs.lemmas.List.{take_rest}
 use Rattle.checker.specs.Judgement.{common}
-use Rattle.checker.proofs.CommonLaws.{common_from, common_le}
+use Rattle.checker.proofs.CommonLaws.{common_from}
 
-module _ (a b : List ℕ) where
-  abbrev same : ℕ → Bool
-  same i = eqb (get_or a i 0) (get_or b i 0)
+-- single bytes
+pub bytes_common : (x y : List ℕ) → prefix_len (λ (p : ℕ × ℕ). eqb p.0 p.1) (zip x y) ≡ common x y
+bytes_common [] y = refl
+bytes_common (a ∷ x) [] = refl
+bytes_common (a ∷ x) (b ∷ y) = go (eqb a b) (bytes_common x y)
+  where
+    go : (c : Bool) → prefix_len (λ (p : ℕ × ℕ). eqb p.0 p.1) (zip x y) ≡ common x y → cond c (1 + prefix_len (λ (p : ℕ × ℕ). eqb p.0 p.1) (zip x y)) 0 ≡ cond c (suc (common x y)) 0
+    go true e = omega (arith, e)
+    go false e = refl
 
-  -- a byte, and k behind it
-  one_more : (i j k : ℕ) → j ≡ suc i → i < length a → i < length b → same i ≡ true → take k (drop j a) ≡ take k (drop j b) → take (suc k) (drop i a) ≡ take (suc k) (drop i b)
-  one_more i j k f h g e t = let n = eqb-true (get_or a i 0) (get_or b i 0) e in let u = rw f at t in rw (drop-cons a i 0 h, drop-cons b i 0 g) (rw (n, u))
+-- how many eights, of n and of m
+abbrev pub met : ℕ → ℕ → List ℕ → List ℕ → ℕ
+met n m x y = prefix_len (λ (p : List ℕ × List ℕ). pointwise eqb p.0 p.1) (zip (first_chunks 8 n x) (first_chunks 8 m y))
 
-  pub eight_alike : (i : ℕ) → i + 8 ≤ length a → i + 8 ≤ length b
-      → ((((same i && same (i + 1)) && same (i + 2)) && same (i + 3)) && (((same (i + 4) && same (i + 5)) && same (i + 6)) && same (i + 7))) ≡ true
-      → take 8 (drop i a) ≡ take 8 (drop i b)
-  eight_alike i h g e =
-      let p = and_true _ _ e in
-      let q = and_true _ _ p.0 in
-      let r = and_true _ _ q.0 in
-      let s = and_true _ _ r.0 in
-      let u = and_true _ _ p.1 in
-      let v = and_true _ _ u.0 in
-      let w = and_true _ _ v.0 in
-      one_more i (i + 1) 7 (omega arith) (omega arith) (omega arith) s.0
-      (one_more (i + 1) (i + 2) 6 (omega arith) (omega arith) (omega arith) s.1
-      (one_more (i + 2) (i + 3) 5 (omega arith) (omega arith) (omega arith) r.1
-      (one_more (i + 3) (i + 4) 4 (omega arith) (omega arith) (omega arith) q.1
-      (one_more (i + 4) (i + 5) 3 (omega arith) (omega arith) (omega arith) w.0
-      (one_more (i + 5) (i + 6) 2 (omega arith) (omega arith) (omega arith) w.1
-      (one_more (i + 6) (i + 7) 1 (omega arith) (omega arith) (omega arith) v.1
-      (one_more (i + 7) (i + 8) 0 (omega arith) (omega arith) (omega arith) u.1 refl)))))))
+pub met_few : (n m : ℕ) (x y : List ℕ) → (met n m x y ≤ n) × (met n m x y ≤ m)
+met_few zero m x y = (omega arith, omega arith)
+met_few (suc n) zero x y = (omega arith, omega arith)
+met_few (suc n) (suc m) x y = go (pointwise eqb (take 8 x) (take 8 y)) (met_few n m (drop 8 x) (drop 8 y))
+  where
+    k : ℕ
+    k = met n m (drop 8 x) (drop 8 y)
 
-  -- .. behind i that are alike
-  pub eight_more : (i : ℕ) → take i a ≡ take i b → take 8 (drop i a) ≡ take 8 (drop i b) → take (i + 8) a ≡ take (i + 8) b
-  eight_more i e f = rw (take-add i 8 a, take-add i 8 b, e, f)
+    go : (b : Bool) → (k ≤ n) × (k ≤ m) → (cond b (1 + k) 0 ≤ suc n) × (cond b (1 + k) 0 ≤ suc m)
+    go true l = (omega (arith, l.0), omega (arith, l.1))
+    go false l = (omega arith, omega arith)
 
-  -- one behind i that are alike
-  pub byte_more : (i : ℕ) → i < length a → i < length b → take i a ≡ take i b → get_or a i 0 ≡ get_or b i 0 → take (i + 1) a ≡ take (i + 1) b
-  byte_more i h g e f =
-      let s : i + 1 ≡ suc i = omega arith in
-      rw (s, take-suc a i 0 h, take-suc b i 0 g, e, f)
+pub met_same : (n m : ℕ) (x y : List ℕ) → take (met n m x y * 8) x ≡ take (met n m x y * 8) y
+met_same zero m x y = refl
+met_same (suc n) zero x y = refl
+met_same (suc n) (suc m) x y = go (pointwise eqb (take 8 x) (take 8 y)) refl (met_same n m (drop 8 x) (drop 8 y))
+  where
+    k : ℕ
+    k = met n m (drop 8 x) (drop 8 y)
 
-  -- none behind i that are alike
-  pub no_more : (i : ℕ) → i < length a → i < length b → take i a ≡ take i b → (get_or a i 0 ≡ get_or b i 0 → ⊥) → i ≡ common a b
-  no_more i h g e f =
-      let c = common_from i a b (omega arith) (omega arith) e in
-      let d = rw (drop-cons a i 0 h, drop-cons b i 0 g, ne_eqb (get_or a i 0) (get_or b i 0) f) at c in
-      omega (arith, d)
+    go : (b : Bool) → pointwise eqb (take 8 x) (take 8 y) ≡ b → take (k * 8) (drop 8 x) ≡ take (k * 8) (drop 8 y) → take (cond b (1 + k) 0 * 8) x ≡ take (cond b (1 + k) 0 * 8) y
+    go true e f =
+        let more : (1 + k) * 8 ≡ 8 + k * 8 = omega arith in
+        let here : take 8 x ≡ take 8 y = same_text (take 8 x) (take 8 y) (sym e) in
+        rw (more, take-add 8 (k * 8) x, take-add 8 (k * 8) y, here, f)
+    go false e f = refl
 
-  -- one of the two ends there
-  pub at_an_end : (i : ℕ) → i ≤ length a → i ≤ length b → min (length a) (length b) ≤ i → take i a ≡ take i b → i ≡ common a b
-  at_an_end i h g o e =
-      let c = common_from i a b h g e in
-      let k = common_le (drop i a) (drop i b) in
-      let l = rw (length-drop i a) at k.0 in
-      let m = rw (length-drop i b) at k.1 in
-      omega arith
+-- .. where each is cut into as many as it has
+pub eights_are : (a b : List ℕ) {x y : List (List ℕ)} {r : ℕ} → x ≡ first_chunks 8 (length a / 8) a → y ≡ first_chunks 8 (length b / 8) b
+    → r ≡ prefix_len (λ (p : List ℕ × List ℕ). pointwise eqb p.0 p.1) (zip x y) → (r * 8 ≤ length a) × (r * 8 ≤ length b) × (take (r * 8) a ≡ take (r * 8) b)
+eights_are a b {x} {y} {r} f g k =
+    let n = length a / 8 in
+    let m = length b / 8 in
+    let e : r ≡ met n m a b =
+    k ∙ ap (λ (z : List (List ℕ)). prefix_len (λ (p : List ℕ × List ℕ). pointwise eqb p.0 p.1) (zip z y)) f
+    ∙ ap (λ (z : List (List ℕ)). prefix_len (λ (p : List ℕ × List ℕ). pointwise eqb p.0 p.1) (zip (first_chunks 8 n a) z)) g in
+    let w = met_few n m a b in
+    (omega (arith, e, w.0), omega (arith, e, w.1), rw e (met_same n m a b))
+
+-- .. and of what is left behind them all that are the same
+pub rest_common : (a b : List ℕ) (m : ℕ) {r : ℕ} → m ≤ length a → m ≤ length b → take m a ≡ take m b → r ≡ common (take (length a - m) (drop m a)) (take (length b - m) (drop m b)) → m + r ≡ common a b
+rest_common a b m h g e k =
+    let c = common_from m a b h g e in
+    let t = rw (take_rest a m, take_rest b m) at k in
+    omega (arith, c, t)

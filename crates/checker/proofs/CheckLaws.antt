@@ -5,21 +5,21 @@ use mathlib.Core.Path.{◌≡◌, refl, sym, ap, ◌∙◌, subst}
 use mathlib.Core.Bool.{Bool, true, false, cond, ◌&&◌}
 use mathlib.Core.Logic.{◌⊎◌}
 use mathlib.Core.List.{List, [], ◌∷◌, ◌++◌, append_assoc, append-nil}
-use lib.Dec.{ltb, eqb}
-use lib.IntN.{ℤ}
+use lib.Dec.{ltb}
+use Rattle.std.specs.Prelude.{Option, Some, None, Result, Ok, Err}
+use Rattle.streams.specs.declared.ReadError.{ReadError}
 use lib.ListN.{length, take, drop, length-append, length-drop, take-append-drop}
 use lib.Seq.{length-take-le}
-use lib.Signed.{non_neg}
 use borrow.Author.Tests.{ltb-true, ltb-false, eq-eqb}
-use Rattle.rules.proofs.Tests.{and_true, and_intro}
+use Rattle.rules.proofs.Tests.{never, and_true}
 use Rattle.tables.specs.Lent.{Tables}
 use Rattle.turns.specs.declared.End.TheVariants.{ReadFailed, NotTaken}
 use Rattle.turns.specs.declared.Turn.{Turn}
-use Rattle.turns.specs.Turns.{given_by, is_end, EndsLog}
+use Rattle.turns.specs.Turns.{has_failed, EndsLog}
 use Rattle.turns.specs.Runs.{Turns}
 use Rattle.turns.specs.Runs.Turns.{none as no_turn, turn}
 use Rattle.checker.specs.declared.Finding.{Finding}
-use Rattle.checker.specs.declared.Finding.TheVariants.{On, Accepted, Differs, TooLong, EndsEarly, TraceFailed, LogFailed}
+use Rattle.checker.specs.declared.Finding.TheVariants.{Accepted, Differs, TooLong, EndsEarly, TraceFailed, LogFailed}
 use Rattle.checker.specs.declared.Check.{Check}
 use Rattle.checker.specs.Judgement.{common}
 use Rattle.checker.specs.Checks.{Move, Fetched, without_more, with_more, Compares, Closes, Checks}
@@ -96,22 +96,23 @@ met_of (move {given} {came} {wrote} {c} {t} {w} {e} {l} S o (fails n g)) = met_e
 
 -- ---- what is known where something is found
 
-abbrev pub Known : Finding → Check → List ℕ → List ℕ → Type 0
-Known On r e l = Unit
-Known Accepted r e l = (length e ≡ 0) × (length l ≡ 0) × EndsLog r.turn.end × ((r.asked ≡ true) × (is_end r.read ≡ true))
-Known Differs r e l = (0 < length e) × (0 < length l) × (common l e ≡ 0)
-Known TooLong r e l = (length e ≡ 0) × (0 < length l) × EndsLog r.turn.end
-Known EndsEarly r e l = (0 < length e) × (length l ≡ 0) × ((r.asked ≡ true) × (is_end r.read ≡ true))
-Known TraceFailed r e l = (r.turn.end ≡ ReadFailed) ⊎ (r.turn.end ≡ NotTaken)
-Known LogFailed r e l = non_neg r.read ≡ false
+abbrev pub Known : Option Finding → Check → List ℕ → List ℕ → Type 0
+Known None r e l = Unit
+Known (Some Accepted) r e l = (length e ≡ 0) × (length l ≡ 0) × EndsLog r.turn.end × (r.read ≡ Some (Ok 0))
+Known (Some Differs) r e l = (0 < length e) × (0 < length l) × (common l e ≡ 0)
+Known (Some TooLong) r e l = (length e ≡ 0) × (0 < length l) × EndsLog r.turn.end
+Known (Some EndsEarly) r e l = (0 < length e) × (length l ≡ 0) × (r.read ≡ Some (Ok 0))
+Known (Some TraceFailed) r e l = (r.turn.end ≡ Some ReadFailed) ⊎ (r.turn.end ≡ Some NotTaken)
+Known (Some LogFailed) r e l = has_failed r.read ≡ true
 
 -- nothing came: a read that did not fail told the end
-ended : (l : List ℕ) (b : Bool) (z : ℤ) (l2 : List ℕ) → Fetched l b z l2 → length l2 ≡ 0 → non_neg z ≡ true → (b ≡ true) × (is_end z ≡ true)
-ended l b z l2 F n e =
-    let h = simp length-append at (ap length F.rest) in (
-      F.where_empty ∙ eq-eqb (length l) 0 (omega (arith, h)),
-      and_intro (non_neg z) (eqb (given_by z) 0) e (eq-eqb (given_by z) 0 (omega (arith, h, F.count))),
-    )
+ended : (l : List ℕ) (z : Option (Result ℕ ReadError)) (l2 : List ℕ) → Fetched l z l2 → length l2 ≡ 0 → has_failed z ≡ false → z ≡ Some (Ok 0)
+ended l None l2 F n e = let h = simp length-append at (ap length F.rest) in never (F.where_empty ∙ eq-eqb (length l) 0 (omega (arith, h)))
+ended l (Some (Ok k)) l2 F n e =
+    let h = simp length-append at (ap length F.rest) in
+    let i : k ≡ 0 = omega (arith, h, F.count) in
+    rw i
+ended l (Some (Err k)) l2 F n e = never (sym e)
 
 module _ (c : Check) (e l : List ℕ) (r : Check) (e2 l2 : List ℕ) (h : 0 < length e) (C : Compares c e l r e2 l2) where
   left_e : length e2 ≡ length e - common C.came e
@@ -129,36 +130,36 @@ module _ (c : Check) (e l : List ℕ) (r : Check) (e2 l2 : List ℕ) (h : 0 < le
       rw (C.expected, C.rest) (omega (arith, d))
 
   pub known_compared : Known r.finding r e2 l2
-  known_compared = subst (λ (f : Finding). Known f r e2 l2) (sym C.finding) (go (ltb 0 (length C.came)) refl)
+  known_compared = subst (λ (f : Option Finding). Known f r e2 l2) (sym C.finding) (go (ltb 0 (length C.came)) refl)
     where
-      some_came : (b : Bool) → (ltb 0 (length e2) && ltb 0 (length l2)) ≡ b → Known (cond b Differs On) r e2 l2
+      some_came : (b : Bool) → (ltb 0 (length e2) && ltb 0 (length l2)) ≡ b → Known (cond b (Some Differs) None) r e2 l2
       some_came true f = let p = and_true (ltb 0 (length e2)) (ltb 0 (length l2)) f in (ltb-true 0 (length e2) p.0, ltb-true 0 (length l2) p.1, parted)
       some_came false f = tt
 
-      none_came : length C.came ≡ 0 → (b : Bool) → non_neg r.read ≡ b → Known (cond b EndsEarly LogFailed) r e2 l2
-      none_came n true f =
+      none_came : length C.came ≡ 0 → (b : Bool) → has_failed r.read ≡ b → Known (Some (cond b LogFailed EndsEarly)) r e2 l2
+      none_came n true f = f
+      none_came n false f =
           let b = common_le C.came e in
-          (omega (arith, left_e, b), omega (arith, left_l), ended l r.asked r.read C.came C.fetched n f)
-      none_came n false f = f
+          (omega (arith, left_e, b), omega (arith, left_l), ended l r.read C.came C.fetched n f)
 
-      go : (b : Bool) → ltb 0 (length C.came) ≡ b → Known (cond b (with_more (length e2) (length l2)) (without_more r.read)) r e2 l2
+      go : (b : Bool) → ltb 0 (length C.came) ≡ b → Known (cond b (with_more (length e2) (length l2)) (Some (without_more r.read))) r e2 l2
       go true f = some_came (ltb 0 (length e2) && ltb 0 (length l2)) refl
-      go false f = none_came (let n = ltb-false 0 (length C.came) f in omega arith) (non_neg r.read) refl
+      go false f = none_came (let n = ltb-false 0 (length C.came) f in omega arith) (has_failed r.read) refl
 
 module _ (c : Check) (e l : List ℕ) (r : Check) (l2 : List ℕ) (n : length e ≡ 0) (g : EndsLog c.turn.end) (C : Closes c l r l2) where
   ends : EndsLog r.turn.end
   ends = subst (λ (v : Turn). EndsLog v.end) (sym C.turn) g
 
   pub known_closed : Known r.finding r e l2
-  known_closed = subst (λ (f : Finding). Known f r e l2) (sym C.finding) (go (ltb 0 (length l2)) refl (non_neg r.read) refl)
+  known_closed = subst (λ (f : Option Finding). Known f r e l2) (sym C.finding) (go (ltb 0 (length l2)) refl (has_failed r.read) refl)
     where
-      go : (b : Bool) → ltb 0 (length l2) ≡ b → (d : Bool) → non_neg r.read ≡ d → Known (cond b TooLong (cond d Accepted LogFailed)) r e l2
+      go : (b : Bool) → ltb 0 (length l2) ≡ b → (d : Bool) → has_failed r.read ≡ d → Known (Some (cond b TooLong (cond d LogFailed Accepted))) r e l2
       go true f d h = (n, ltb-true 0 (length l2) f, ends)
-      go false f true h = let m : length l2 ≡ 0 = (let k = ltb-false 0 (length l2) f in omega arith) in (n, m, ends, ended l r.asked r.read l2 C.fetched m h)
-      go false f false h = h
+      go false f true h = h
+      go false f false h = let m : length l2 ≡ 0 = (let k = ltb-false 0 (length l2) f in omega arith) in (n, m, ends, ended l r.read l2 C.fetched m h)
 
-known_on : (r : Check) (e l : List ℕ) → r.finding ≡ On → Known r.finding r e l
-known_on r e l o = subst (λ (f : Finding). Known f r e l) (sym o) tt
+known_on : (r : Check) (e l : List ℕ) → r.finding ≡ None → Known r.finding r e l
+known_on r e l o = subst (λ (f : Option Finding). Known f r e l) (sym o) tt
 
 known_moved : (c : Check) (t : Tables) (w e l : List ℕ) {given came wrote : List ℕ} {r : Check} {t2 : Tables} {w2 e2 l2 : List ℕ}
     → Move c t w e l given came wrote r t2 w2 e2 l2 → Known r.finding r e2 l2

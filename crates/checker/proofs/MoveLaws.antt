@@ -6,27 +6,27 @@ use mathlib.Core.Bool.{Bool, true, false, cond, ◌&&◌}
 use mathlib.Core.Logic.{◌⊎◌}
 use mathlib.Core.List.{List, [], ◌++◌}
 use lib.Dec.{ltb}
-use lib.IntN.{ℤ, pos}
+use Rattle.std.specs.Prelude.{Option, Some, None, Result, is_some}
+use Rattle.streams.specs.declared.ReadError.{ReadError}
 use lib.ListN.{length, take, length-drop}
-use lib.Signed.{non_neg}
 use borrow.Author.Tests.{ltb-true, ltb-false}
 use Rattle.rules.proofs.Tests.{never, and_cases}
 use Rattle.state.specs.View.{zero_tables}
 use Rattle.tables.specs.Lent.{Tables}
 use Rattle.answers.specs.Answers.{longest_answer}
-use Rattle.turns.specs.declared.End.TheVariants.{On as Goes_on, ReadFailed, NotTaken}
+use Rattle.turns.specs.declared.End.{End}
+use Rattle.turns.specs.declared.End.TheVariants.{ReadFailed, NotTaken}
 use Rattle.turns.specs.declared.Turn.{Turn}
 use Rattle.replay.specs.Sessions.{Steps}
 use Rattle.steps.specs.declared.Stepped.{Stepped}
-use Rattle.turns.specs.Turns.{EndsLog, is_on as turn_on, turns_left, window, Right, Better, Followed}
+use Rattle.turns.specs.Turns.{EndsLog, turns_left, window, Right, Better, Followed}
 use Rattle.turns.proofs.TurnLaws.{turned}
-use Rattle.turns.proofs.RunLaws.{on_true}
 use Rattle.turns.proofs.Results.{so_many_turns}
 use Rattle.checker.specs.declared.Finding.{Finding}
-use Rattle.checker.specs.declared.Finding.TheVariants.{On, Accepted, Differs, TooLong, EndsEarly, TraceFailed, LogFailed}
+use Rattle.checker.specs.declared.Finding.TheVariants.{Differs}
 use Rattle.checker.specs.declared.Check.{Check}
 use Rattle.checker.specs.Judgement.{common}
-use Rattle.checker.specs.Checks.{Inside, without_more, with_more, Compares, StepsOn, Closes, failed, Advances, first_check, is_on, Checks, Judges}
+use Rattle.checker.specs.Checks.{Inside, without_more, with_more, Compares, StepsOn, Closes, failed, Advances, first_check, Checks, Judges}
 use Rattle.checker.specs.Checks.Checks.{none, move}
 use Rattle.checker.specs.Checks.Move.{compares, steps, closes, fails}
 use Rattle.checker.proofs.CommonLaws.{common_le}
@@ -36,7 +36,7 @@ use Rattle.checker.specs.Bounds.{left, Fit, Nearer}
 
 -- after a turn v of the replay, which wrote n bytes
 abbrev stepped : Check → Turn → ℕ → Check
-stepped c v n = record { turn = v; met = 0; wrote = n; from = c.from; to = c.to; asked = false; read = pos 0; at = c.at; finding = On }
+stepped c v n = record { turn = v; met = 0; wrote = n; from = c.from; to = c.to; read = None; at = c.at; finding = None }
 
 -- a call of `pump` that answered a, and what follows it, where all is taken
 pub steps_on : (c : Check) (t : Tables) (w o : List ℕ) (a : Stepped) (v : Turn) (t2 : Tables) (w2 o2 : List ℕ) → Steps (length o / longest_answer) c.turn.cursor t w c.turn.last o a t2 o2
@@ -51,14 +51,14 @@ module _ (c : Check) (t : Tables) (w e l : List ℕ) where
   pub by_closing : (r : Check) (w2 e2 l2 : List ℕ) → length e ≡ 0 → EndsLog c.turn.end → Closes c l r l2 → w2 ≡ w → e2 ≡ e → Advances c t w e l r t w2 e2 l2
   by_closing r w2 e2 l2 n g C f h = rw (f, h) (record { given = []; came = C.fetched.got; wrote = []; move = closes n g r l2 C })
 
-  pub by_failing : length e ≡ 0 → (c.turn.end ≡ ReadFailed) ⊎ (c.turn.end ≡ NotTaken) → Advances c t w e l (failed c) t w e l
+  pub by_failing : length e ≡ 0 → (c.turn.end ≡ Some ReadFailed) ⊎ (c.turn.end ≡ Some NotTaken) → Advances c t w e l (failed c) t w e l
   by_failing n g = record { given = []; came = []; wrote = []; move = fails n g }
 
 first_bytes : (b : List ℕ) (n : ℕ) → window b 0 n ≡ take n b
 first_bytes b n = let e : n - 0 ≡ n = omega arith in rw e
 
 -- with the log's buffer b
-pub by_steps : (c : Check) (t : Tables) (w e b o : List ℕ) (r : Check) (t2 : Tables) (w2 o2 : List ℕ) → length e ≡ 0 → c.turn.end ≡ Goes_on → longest_answer ≤ length o
+pub by_steps : (c : Check) (t : Tables) (w e b o : List ℕ) (r : Check) (t2 : Tables) (w2 o2 : List ℕ) → length e ≡ 0 → c.turn.end ≡ None → longest_answer ≤ length o
     → StepsOn c t w o r t2 w2 o2
     → Advances c t w e (window b c.from c.to) r t2 w2 (window o2 r.met r.wrote) (window b r.from r.to)
 by_steps c t w e b o r t2 w2 o2 n g k S =
@@ -70,41 +70,32 @@ by_steps c t w e b o r t2 w2 o2 n g k S =
 -- ---- it leaves less to do
 
 -- after the end nothing follows
-pub end_on : (c : Check) (l : List ℕ) (r : Check) (l2 : List ℕ) → Closes c l r l2 → r.finding ≡ On → ⊥
-end_on c l r l2 C o = go (ltb 0 (length l2)) (non_neg r.read) (sym C.finding ∙ o)
+pub end_on : (c : Check) (l : List ℕ) (r : Check) (l2 : List ℕ) → Closes c l r l2 → r.finding ≡ None → ⊥
+end_on c l r l2 C o = found (sym C.finding ∙ o)
   where
-    go : (b d : Bool) → cond b TooLong (cond d Accepted LogFailed) ≡ On → ⊥
-    go true d f = never cc
-    go false true f = never cc
-    go false false f = never cc
+    found : {f : Finding} → Some f ≡ None → ⊥
+    found e = never cc
 
-none_on : (z : ℤ) → without_more z ≡ On → ⊥
-none_on z e = go (non_neg z) e
-  where
-    go : (b : Bool) → cond b EndsEarly LogFailed ≡ On → ⊥
-    go true f = never cc
-    go false f = never cc
-
-not_both : (b : Bool) → cond b Differs On ≡ On → b ≡ false
+not_both : (b : Bool) → cond b (Some Differs) None ≡ None → b ≡ false
 not_both true f = never cc
 not_both false f = refl
 
 -- bytes came, and one of the two is used up
-pub on_met : (came e : List ℕ) (z : ℤ) (m n : ℕ) → 0 < length e → m ≡ length e - common came e → n ≡ length came - common came e
-    → cond (ltb 0 (length came)) (with_more m n) (without_more z) ≡ On → 0 < common came e
+pub on_met : (came e : List ℕ) (z : Option (Result ℕ ReadError)) (m n : ℕ) → 0 < length e → m ≡ length e - common came e → n ≡ length came - common came e
+    → cond (ltb 0 (length came)) (with_more m n) (Some (without_more z)) ≡ None → 0 < common came e
 on_met came e z m n h p q f = go (ltb 0 (length came)) refl f
   where
-    go : (b : Bool) → ltb 0 (length came) ≡ b → cond b (with_more m n) (without_more z) ≡ On → 0 < common came e
+    go : (b : Bool) → ltb 0 (length came) ≡ b → cond b (with_more m n) (Some (without_more z)) ≡ None → 0 < common came e
     go true g d =
         let i = ltb-true 0 (length came) g in
         and_cases (ltb 0 m) (ltb 0 n) (not_both (ltb 0 m && ltb 0 n) d)
         (λ x. let y = ltb-false 0 m x in omega arith)
         (λ _ x. let y = ltb-false 0 n x in omega arith)
-    go false g d = absurd (none_on z d)
+    go false g d = never cc
 
 module _ (N M K : ℕ) (c : Check) (F : Fit N M K c) where
   pub compares_nearer : (r : Check) (e l e2 l2 : List ℕ) → length e ≡ c.wrote - c.met → length e2 ≡ r.wrote - r.met → 0 < length e → Compares c e l r e2 l2
-      → Inside M r.met r.wrote → Inside K r.from r.to → r.finding ≡ On → Nearer N M K c r
+      → Inside M r.met r.wrote → Inside K r.from r.to → r.finding ≡ None → Nearer N M K c r
   compares_nearer r e l e2 l2 p q h C I L o =
       let m : length e2 ≡ length e - common C.came e = ap length C.expected ∙ length-drop _ e in
       let n : length l2 ≡ length C.came - common C.came e = ap length C.rest ∙ length-drop _ C.came in
@@ -123,17 +114,17 @@ module _ (N M K : ℕ) (c : Check) (F : Fit N M K c) where
       }
 
   -- what is left after a turn v of the replay
-  left_less : (v : Turn) → c.turn.end ≡ Goes_on → (v.end ≡ Goes_on → Better N c.turn.cursor c.turn.from c.turn.to c.turn.last v)
+  left_less : (v : Turn) → c.turn.end ≡ None → (v.end ≡ None → Better N c.turn.cursor c.turn.from c.turn.to c.turn.last v)
       → left N v < left N c.turn
-  left_less v g B = rw g (go (turn_on v.end) refl)
+  left_less v g B = rw g (go v.end refl)
     where
-      go : (b : Bool) → turn_on v.end ≡ b
-          → cond b (suc (turns_left N v.cursor v.from v.to v.last)) 0 < suc (turns_left N c.turn.cursor c.turn.from c.turn.to c.turn.last)
-      go true f = omega (arith, (B (on_true v.end f)).less)
-      go false f = omega arith
+      go : (e : Option End) → v.end ≡ e
+          → cond (is_some e) 0 (suc (turns_left N v.cursor v.from v.to v.last)) < suc (turns_left N c.turn.cursor c.turn.from c.turn.to c.turn.last)
+      go None f = omega (arith, (B f).less)
+      go (Some e) f = omega arith
 
-  pub steps_nearer : (t : Tables) (w o : List ℕ) (r : Check) (t2 : Tables) (w2 o2 : List ℕ) → c.turn.end ≡ Goes_on → StepsOn c t w o r t2 w2 o2
-      → r.wrote ≤ M → (r.turn.end ≡ Goes_on → Better N c.turn.cursor c.turn.from c.turn.to c.turn.last r.turn)
+  pub steps_nearer : (t : Tables) (w o : List ℕ) (r : Check) (t2 : Tables) (w2 o2 : List ℕ) → c.turn.end ≡ None → StepsOn c t w o r t2 w2 o2
+      → r.wrote ≤ M → (r.turn.end ≡ None → Better N c.turn.cursor c.turn.from c.turn.to c.turn.last r.turn)
       → Nearer N M K c r
   steps_nearer t w o r t2 w2 o2 g S h B =
       let k = left_less r.turn g B in
@@ -173,24 +164,11 @@ pub record Made (c : Check) (t : Tables) (w e l : List ℕ) : Type 0 where
 pub made_none : (t : Tables) → t ≡ zero_tables → Made first_check t [] [] []
 made_none t e = rw e (record { given = []; came = []; wrote = []; checks = none })
 
-pub made_more : (c : Check) (t : Tables) (w e l : List ℕ) → Made c t w e l → c.finding ≡ On → (r : Check) (t2 : Tables) (w2 e2 l2 : List ℕ)
+pub made_more : (c : Check) (t : Tables) (w e l : List ℕ) → Made c t w e l → c.finding ≡ None → (r : Check) (t2 : Tables) (w2 e2 l2 : List ℕ)
     → Advances c t w e l r t2 w2 e2 l2 → Made r t2 w2 e2 l2
 made_more c t w e l M o r t2 w2 e2 l2 A =
     record { given = M.given ++ A.given; came = M.came ++ A.came; wrote = M.wrote ++ A.wrote; checks = move M.checks o A.move }
 
-pub made_judges : (r : Check) (t : Tables) (w e l : List ℕ) → Made r t w e l → (r.finding ≡ On → ⊥) → Judges r
+pub made_judges : (r : Check) (t : Tables) (w e l : List ℕ) → Made r t w e l → (r.finding ≡ None → ⊥) → Judges r
 made_judges r t w e l M o =
     record { trace = M.given; found = M.came; wrote = M.wrote; tables = t; window = w; expected = e; log_window = l; checks = M.checks; over = o }
-
--- whether another move follows
-pub goes_true : (f : Finding) → is_on f ≡ true → f ≡ On
-goes_true On e = refl
-goes_true Accepted e = never e
-goes_true Differs e = never e
-goes_true TooLong e = never e
-goes_true EndsEarly e = never e
-goes_true TraceFailed e = never e
-goes_true LogFailed e = never e
-
-pub goes_false : (f : Finding) → is_on f ≡ false → f ≡ On → ⊥
-goes_false f e g = never (sym e ∙ ap is_on g)

@@ -7,19 +7,19 @@ use mathlib.Core.Logic.{◌⊎◌, inl, inr, ◌↔◌}
 use mathlib.Core.List.{List, [], ◌++◌}
 use lib.Dec.{eqb}
 use lib.ListN.{length, take, drop, length-drop, take-append-drop}
-use lib.Signed.{non_neg}
 use borrow.Author.Tests.{eqb-true, eqb-false, eq-eqb}
 use Rattle.rules.proofs.Tests.{never}
+use Rattle.std.specs.Prelude.{Option, Some, None, Ok}
 use Rattle.tables.specs.Lent.{Tables}
 use Rattle.answer_log.specs.Log.{log}
 use Rattle.answer_log.specs.Bad.{EndsWith}
 use Rattle.replay.proofs.Results.{ends_with_its_er}
 use Rattle.turns.specs.declared.End.TheVariants.{ReadFailed, NotTaken}
-use Rattle.turns.specs.Turns.{is_end, EndsLog}
+use Rattle.turns.specs.Turns.{has_failed, EndsLog}
 use Rattle.turns.specs.Promises.{AfterAnyTurn}
 use Rattle.turns.proofs.Results.{all_turns}
 use Rattle.checker.specs.declared.Finding.{Finding}
-use Rattle.checker.specs.declared.Finding.TheVariants.{On, Accepted, Differs, TooLong, EndsEarly, TraceFailed, LogFailed}
+use Rattle.checker.specs.declared.Finding.TheVariants.{Accepted, Differs, TooLong, EndsEarly, TraceFailed, LogFailed}
 use Rattle.checker.specs.declared.Check.{Check}
 use Rattle.checker.specs.Judgement.{common, Judged}
 use Rattle.checker.specs.Checks.{Checks}
@@ -32,7 +32,6 @@ use Rattle.checker.proofs.CheckLaws.{turns_of, all_taken, Met, met_of, Known, kn
 
 -- what a finding says of n, the length of the longest common beginning of x and y
 abbrev Says : ℕ → List ℕ → List ℕ → Finding → Type 0
-Says n x y On = ⊥
 Says n x y Accepted = (n ≡ length x) × (n ≡ length y)
 Says n x y Differs = (n < length x) × (n < length y)
 Says n x y TooLong = (n < length x) × (n ≡ length y)
@@ -82,6 +81,20 @@ judged_as j x y e = subst (λ (k : Judgement). Judged k.finding k.offset x y) (s
 
 -- ---- of the checker
 
+abbrev is_decided : Finding → Bool
+is_decided Accepted = true
+is_decided Differs = true
+is_decided TooLong = true
+is_decided EndsEarly = true
+is_decided TraceFailed = false
+is_decided LogFailed = false
+
+not_decided : (f : Finding) → is_decided f ≡ false → Decided f → ⊥
+not_decided f e (inl d) = never (sym e ∙ ap is_decided d)
+not_decided f e (inr (inl d)) = never (sym e ∙ ap is_decided d)
+not_decided f e (inr (inr (inl d))) = never (sym e ∙ ap is_decided d)
+not_decided f e (inr (inr (inr d))) = never (sym e ∙ ap is_decided d)
+
 -- what the rules give goes on from what was written
 goes_on : (wrote l : List ℕ) → take (length wrote) l ≡ wrote → l ≡ wrote ++ drop (length wrote) l
 goes_on wrote l e = sym (take-append-drop (length wrote) l) ∙ ap (λ x. x ++ drop (length wrote) l) e
@@ -92,8 +105,8 @@ none_left wrote l e = rw (length-drop (length wrote) l, e) (omega arith)
 empty : {l : List ℕ} → l ≡ [] → length l ≡ 0
 empty e = ap length e
 
-module _ (given then came more wrote : List ℕ) (r : Check) (t : Tables) (w e l : List ℕ) (J : Checks given came wrote r t w e l) (over : r.finding ≡ On → ⊥)
-    (g : r.turn.last ≡ true → then ≡ []) (m : HasEnded r.finding → more ≡ []) where
+module _ (given then came more wrote : List ℕ) (r : Check) (t : Tables) (w e l : List ℕ) (J : Checks given came wrote r t w e l) (over : r.finding ≡ None → ⊥)
+    (g : r.turn.last ≡ true → then ≡ []) (m : (f : Finding) → r.finding ≡ Some f → HasEnded f → more ≡ []) where
   abbrev rules : List ℕ
   rules = log (given ++ then)
 
@@ -111,57 +124,62 @@ module _ (given then came more wrote : List ℕ) (r : Check) (t : Tables) (w e l
   abbrev JudgedThere : Finding → Type 0
   JudgedThere f = record { finding = f; offset = length M.both } ≡ judgement ((M.both ++ l) ++ more) ((M.both ++ e) ++ rest)
 
-  told : (f : Finding) → r.finding ≡ f → JudgedThere f → record { finding = r.finding; offset = r.at } ≡ judgement (came ++ more) rules
-  told f i j =
+  told : (f : Finding) → JudgedThere f → record { finding = f; offset = r.at } ≡ judgement (came ++ more) rules
+  told f j =
       let p : (M.both ++ l) ++ more ≡ came ++ more = ap (λ x. x ++ more) (sym M.log) in
       let q : (M.both ++ e) ++ rest ≡ rules = ap (λ x. x ++ rest) (sym M.rules) ∙ sym (goes_on wrote rules so_far.it_writes_nothing_else) in
       let k = subst (λ x. record { finding = f; offset = length M.both } ≡ judgement x ((M.both ++ e) ++ rest)) p j in
       let h = subst (λ y. record { finding = f; offset = length M.both } ≡ judgement (came ++ more) y) q k in
-      rw (i, ← M.count) h
+      rw (← M.count) h
 
-  known_as : (f : Finding) → r.finding ≡ f → Known f r e l
-  known_as f i = subst (λ (x : Finding). Known x r e l) i (known J)
+  known_as : (f : Finding) → r.finding ≡ Some f → Known (Some f) r e l
+  known_as f i = subst (λ (x : Option Finding). Known x r e l) i (known J)
 
   -- the rules give nothing more
   given_all : EndsLog r.turn.end → length rest ≡ 0
   given_all i = none_left wrote rules (so_far.the_program_writes_the_log i)
 
-  judges : Decided r.finding → record { finding = r.finding; offset = r.at } ≡ judgement (came ++ more) rules
-  judges (inl i) =
+  judges : (f : Finding) → r.finding ≡ Some f → Decided f → record { finding = f; offset = r.at } ≡ judgement (came ++ more) rules
+  judges Accepted i d =
       let k = known_as Accepted i in
-      told Accepted i (same_there M.both l e more rest k.0 (given_all k.2) k.1 (empty (m (inl i))))
-  judges (inr (inl i)) = let k = known_as Differs i in told Differs i (apart_there M.both l e more rest k.2 k.1 k.0)
-  judges (inr (inr (inl i))) = let k = known_as TooLong i in told TooLong i (long_there M.both l e more rest k.0 (given_all k.2) k.1)
-  judges (inr (inr (inr i))) = let k = known_as EndsEarly i in told EndsEarly i (early_there M.both l e more rest k.1 (empty (m (inr i))) k.0)
+      told Accepted (same_there M.both l e more rest k.0 (given_all k.2) k.1 (empty (m Accepted i (inl refl))))
+  judges Differs i d = let k = known_as Differs i in told Differs (apart_there M.both l e more rest k.2 k.1 k.0)
+  judges TooLong i d = let k = known_as TooLong i in told TooLong (long_there M.both l e more rest k.0 (given_all k.2) k.1)
+  judges EndsEarly i d = let k = known_as EndsEarly i in told EndsEarly (early_there M.both l e more rest k.1 (empty (m EndsEarly i (inr refl))) k.0)
+  judges TraceFailed i d = absurd (not_decided TraceFailed refl d)
+  judges LogFailed i d = absurd (not_decided LogFailed refl d)
 
-  the_judgement : Decided r.finding → Judged r.finding r.at (came ++ more) rules
-  the_judgement d = judged_as (record { finding = r.finding; offset = r.at }) (came ++ more) rules (judges d)
+  the_judgement : (f : Finding) → r.finding ≡ Some f → Decided f → Judged f r.at (came ++ more) rules
+  the_judgement f i d = judged_as (record { finding = f; offset = r.at }) (came ++ more) rules (judges f i d)
 
-  read_to_its_end : HasEnded r.finding → (r.asked ≡ true) × (is_end r.read ≡ true)
-  read_to_its_end (inl i) = (known_as Accepted i).3
-  read_to_its_end (inr i) = (known_as EndsEarly i).2
+  read_to_its_end : (f : Finding) → r.finding ≡ Some f → HasEnded f → r.read ≡ Some (Ok 0)
+  read_to_its_end f i (inl d) = (known_as Accepted (i ∙ ap (λ (x : Finding). Some x) d)).3
+  read_to_its_end f i (inr d) = (known_as EndsEarly (i ∙ ap (λ (x : Finding). Some x) d)).2
 
-  failed : (r.turn.end ≡ ReadFailed) ⊎ (r.turn.end ≡ NotTaken) → non_neg r.turn.read ≡ false
+  failed : (r.turn.end ≡ Some ReadFailed) ⊎ (r.turn.end ≡ Some NotTaken) → has_failed r.turn.read ≡ true
   failed (inl i) = so_far.it_ends_for_no_other_reason.1 i
   failed (inr i) = never (sym (so_far.it_ends_for_no_other_reason.0 i) ∙ all_taken J)
 
-  reason : (f : Finding) → r.finding ≡ f
-      → Decided r.finding ⊎ (((r.finding ≡ TraceFailed) × (non_neg r.turn.read ≡ false)) ⊎ ((r.finding ≡ LogFailed) × (non_neg r.read ≡ false)))
-  reason On i = absurd (over i)
-  reason Accepted i = inl (inl i)
-  reason Differs i = inl (inr (inl i))
-  reason TooLong i = inl (inr (inr (inl i)))
-  reason EndsEarly i = inl (inr (inr (inr i)))
-  reason TraceFailed i = inr (inl (i, failed (known_as TraceFailed i)))
-  reason LogFailed i = inr (inr (i, known_as LogFailed i))
+  reason : (f : Finding) → r.finding ≡ Some f → Decided f ⊎ (((f ≡ TraceFailed) × (has_failed r.turn.read ≡ true)) ⊎ ((f ≡ LogFailed) × (has_failed r.read ≡ true)))
+  reason Accepted i = inl (inl refl)
+  reason Differs i = inl (inr (inl refl))
+  reason TooLong i = inl (inr (inr (inl refl)))
+  reason EndsEarly i = inl (inr (inr (inr refl)))
+  reason TraceFailed i = inr (inl (refl, failed (known_as TraceFailed i)))
+  reason LogFailed i = inr (inr (refl, known_as LogFailed i))
+
+  found_so : (o : Option Finding) → r.finding ≡ o
+      → (f : Finding) × (r.finding ≡ Some f) × (Decided f ⊎ (((f ≡ TraceFailed) × (has_failed r.turn.read ≡ true)) ⊎ ((f ≡ LogFailed) × (has_failed r.read ≡ true))))
+  found_so None i = absurd (over i)
+  found_so (Some f) i = (f, i, reason f i)
 
   at_its_end : AtItsEnd (given ++ then) (came ++ more) r
   at_its_end =
       record {
         the_checker_judges = the_judgement;
-        a_damaged_trace_has_its_ER = λ offset b i. subst (EndsWith _) (sym ((the_judgement (inl i)).accepts_exactly.0 i)) (ends_with_its_er (given ++ then) offset b);
+        a_damaged_trace_has_its_ER = λ offset b i. subst (EndsWith _) (sym ((the_judgement Accepted i (inl refl)).accepts_exactly.0 refl)) (ends_with_its_er (given ++ then) offset b);
         ended_as_read = read_to_its_end;
-        they_end_for_no_other_reason = reason r.finding refl;
+        they_end_for_no_other_reason = found_so r.finding refl;
       }
 
 pub all_moves : AllMoves

@@ -1,19 +1,18 @@
 -- The moves end, and the offset fits its 64 bits.
-use Rattle.std.specs.Prelude.{ℕ, suc, ◌+◌, ◌-◌, ◌*◌, ◌^◌, ◌<◌, ◌≤◌, ◌≡◌, cond}
+use Rattle.std.specs.Prelude.{ℕ, suc, ◌+◌, ◌-◌, ◌*◌, ◌^◌, ◌<◌, ◌≤◌, ◌≡◌, cond, None, is_some}
 use Rattle.answers.specs.Answers.{longest_answer}
-use Rattle.turns.specs.declared.End.TheVariants.{On as Goes_on}
 use Rattle.turns.specs.declared.Turn.{Turn}
-use Rattle.turns.specs.Turns.{is_on, turns_left, Right}
+use Rattle.turns.specs.Turns.{turns_left, Right}
 use Rattle.checker.specs.declared.Check.{Check}
 use Rattle.checker.specs.Checks.{Inside}
 
 -- a bound on the turns of the replay that follow a turn, with n bytes in the trace's buffer
 abbrev pub left : ℕ → Turn → ℕ
-left n v = cond (is_on v.end) (suc (turns_left n v.cursor v.from v.to v.last)) 0
+left n v = cond (is_some v.end) 0 (suc (turns_left n v.cursor v.from v.to v.last))
 
 -- all is as it must be, with n bytes in the trace's buffer, m in the room and k in the log's buffer
 pub record Fit (n m k : ℕ) (c : Check) : Type 0 where
-  pub trace : c.turn.end ≡ Goes_on → Right n c.turn.cursor c.turn.from c.turn.to
+  pub trace : c.turn.end ≡ None → Right n c.turn.cursor c.turn.from c.turn.to
   pub room : (longest_answer ≤ m) × (m ≤ 65536)
   pub expected : Inside m c.met c.wrote
   pub log : Inside k c.from c.to

@@ -11,7 +11,7 @@ use lib.ListN.{length, get_or, set, take, drop, length-set, get_or-map}
 use lib.Seq.{sets, set-get_or, set-set, set_comm, take-nil, drop-cons, get_or-drop}
 use borrow.Author.Tests.{eqb-true, eq-eqb, ne_eqb}
 use Rattle.rules.specs.declared.Connection.{Connection}
-use Rattle.rules.specs.Limits.{max_connections, beyond_32_bits}
+use Rattle.rules.specs.Limits.{max_connections}
 use Rattle.rules.specs.Model.{Past, no_connection, no_past, nth}
 use Rattle.rules.specs.Service.{charge_over}
 use Rattle.rules.proofs.Sums.{split, same, cond_is}
@@ -23,8 +23,9 @@ use Rattle.tables.specs.Table.{row_in}
 use Rattle.connections.specs.declared.Member.{Member}
 use Rattle.connections.specs.Members.{member_width, no_member, member_in, put_member, members_in, connections_in, pasts_in, closed_in, used_by, earlier, first_closed, used_in, first_in, row_of, members_for, written_rows, written_members, rows_formed, members_formed}
 use Rattle.connections.specs.Rows.{member_head, rows_end, past_of, closed_of, last_of, member, written_table}
-use Rattle.connections.specs.Closing.{ClosedInOrder}
-use Rattle.connections.proofs.MemberLaws.{length_members, connections_length, pasts_length, closed_length, past_member, closed_member, member_is, connection_is, past_is, closed_is, rows_written, set_used, set_first}
+use Rattle.std.specs.Prelude.{Option, None, Some}
+use Rattle.connections.specs.Closing.{one_more, one_less, ClosedInOrder}
+use Rattle.connections.proofs.MemberLaws.{length_members, connections_length, pasts_length, closed_length, past_member, closed_member, member_is, connection_is, past_is, rows_written, set_used, set_first}
 use Rattle.connections.proofs.OwnerLaws.{up_to, up_to_some, level_behind, first_same}
 use Rattle.connections.proofs.WrittenLaws.{Formed, formed_parts, member_formed_at, rows_length, members_are, table_written, members_rows, used_is, first_is, put_anew, for_set, Few, pasts_few, connections_back}
 
@@ -92,8 +93,13 @@ free_level_stays (x ∷ cs) (suc c) (suc i) z = free_level_stays cs c i z
 
 -- ---- one more than the earliest last eligibility of those that are closed
 
-pub earlier_none : (a b : ℕ) → b ≡ 0 → earlier a b ≡ a
-earlier_none a b h = cond_is a (min a b) (eq-eqb b 0 h)
+pub less_of : (o : Option ℕ) (n : ℕ) → one_more o ≡ n → o ≡ one_less n
+less_of None n e = ap one_less e
+less_of (Some a) n e = ap one_less e
+
+pub more_of : (o : Option ℕ) (n : ℕ) → o ≡ one_less n → one_more o ≡ n
+more_of o zero e = ap one_more e
+more_of o (suc n) e = ap one_more e
 
 pub earlier_some : (a b : ℕ) → 0 < b → earlier a b ≡ min a b
 earlier_some a b h = cond_is a (min a b) (ne_eqb b 0 (λ e. omega arith))
@@ -109,7 +115,7 @@ earlier_swap a b (suc f) =
     ∙ omega (arith, earlier_some (suc a) (min (suc b) (suc f)) l, earlier_some (suc b) (min (suc a) (suc f)) k)
     ∙ ap (earlier (suc b)) (sym e)
 
-earlier_le : (a f : ℕ) → (0 < earlier (suc a) f) × (earlier (suc a) f ≤ suc a) × (0 < f → earlier (suc a) f ≤ f)
+pub earlier_le : (a f : ℕ) → (0 < earlier (suc a) f) × (earlier (suc a) f ≤ suc a) × (0 < f → earlier (suc a) f ≤ f)
 earlier_le a zero = (omega arith, omega arith, λ l. absurd (omega arith))
 earlier_le a (suc f) = let e = earlier_some (suc a) (suc f) (omega arith) in (omega (arith, e), omega (arith, e), λ l. omega (arith, e))
 
@@ -118,6 +124,13 @@ pub first_none : (hs : List Past) (bs : List Bool) → ((c : ℕ) → get_or bs 
 first_none [] bs f = refl
 first_none (h ∷ hs) [] f = refl
 first_none (h ∷ hs) (b ∷ bs) f = cond_is _ _ (f 0) ∙ first_none hs bs (λ c. f (suc c))
+
+-- it fits where one more than each of them does
+pub first_fits : (n : ℕ) → 0 < n → (hs : List Past) (bs : List Bool) → ((c : ℕ) → get_or bs c false ≡ true → last_of (get_or hs c no_past) + 1 < n) → first_closed hs bs < n
+first_fits n p [] bs f = p
+first_fits n p (h ∷ hs) [] f = p
+first_fits n p (h ∷ hs) (true ∷ bs) f = let k = earlier_le (last_of h) (first_closed hs bs) in omega (arith, k.1, f 0 refl)
+first_fits n p (h ∷ hs) (false ∷ bs) f = first_fits n p hs bs (λ c. f (suc c))
 
 -- one more is closed: its own is taken in
 pub first_marked : (hs : List Past) (bs : List Bool) (c : ℕ) → c < length hs → c < length bs → get_or bs c false ≡ false
@@ -171,10 +184,11 @@ module _ (t : List ℕ) (o : ClosedInOrder t) (n : ℕ) (h : used_by (connection
       not_true_false (closed_of (get_or (members_in t) c no_member))
       (λ e. owned_level (connections_in t) c (o.closed_owned c (closed_member t c ∙ e)) (level_behind (connections_in t) c (omega arith)))
 
-  pub first_behind : first_among (drop n (members_in t)) ≡ 0
-  first_behind =
-      first_none (map past_of (drop n (members_in t))) (map closed_of (drop n (members_in t)))
-      (λ c. get_or-map closed_of (drop n (members_in t)) c no_member ∙ ap closed_of (get_or-drop n (members_in t) c no_member) ∙ open_behind (n + c) (omega arith))
+-- .. nor one that counts
+pub first_behind : (t : List ℕ) (n : ℕ) → ((c : ℕ) → n ≤ c → get_or (closed_in t) c false ≡ false) → first_among (drop n (members_in t)) ≡ 0
+first_behind t n f =
+    first_none (map past_of (drop n (members_in t))) (map closed_of (drop n (members_in t)))
+    (λ c. get_or-map closed_of (drop n (members_in t)) c no_member ∙ ap closed_of (get_or-drop n (members_in t) c no_member) ∙ sym (closed_member t (n + c)) ∙ f (n + c) (omega arith))
 
 module _ (t : List ℕ) (f : rows_formed t ≡ true) where
   -- the number of row k that is its last eligibility
@@ -191,12 +205,6 @@ module _ (t : List ℕ) (f : rows_formed t ≡ true) where
       rw (m, i)
       (ap (λ (n : Member). cond (eqb n.mark 0) (first_among (drop (suc k) (members_in t))) (earlier (suc last) (first_among (drop (suc k) (members_in t))))) (sym (member_is t k l))
       ∙ first_with (members_in t) k last (omega (arith, length_members t)) (e ∙ last_read k l ∙ ap last_of (past_member t k)))
-
-  -- where it is closed, one more than its last eligibility fits
-  pub last_fits : ClosedInOrder t → (k mark last : ℕ) → k < max_connections → mark ≡ get_or (row_in member_width t k) 7 0 → last ≡ get_or (row_in member_width t k) member_head 0
-      → (mark ≡ 0 → ⊥) → last + 1 < beyond_32_bits
-  last_fits o k mark last l m e n =
-      rw (e, last_read k l) (o.closed_fits k (closed_is t k l ∙ ap not (ne_eqb (get_or (row_in member_width t k) 7 0) 0 (λ z. n (m ∙ z)))))
 
   -- both numbers behind the rows put anew
   pub sums_put : (u g : ℕ) → set (set t rows_end u) (rows_end + 1) g ≡ written_table (connections_in t) (pasts_in t) (closed_in t) u g

@@ -1,14 +1,14 @@
 -- Laws that the figures of connections give the code: bounds by level, counts, shares and sums.
 use mathlib.Core.Path.{◌≡◌, refl, sym, ap, ◌∙◌, subst}
-use mathlib.Core.Bool.{true, false, cond, ◌&&◌}
+use mathlib.Core.Bool.{Bool, true, false, cond, ◌&&◌}
 use mathlib.Core.List.{List, [], ◌∷◌}
 use mathlib.Core.Logic.{⊎_elim}
 use Prim.Native.Nat.{ℕ, zero, suc, ◌+◌, ◌*◌, ◌-◌, ◌/◌, ◌%◌, ◌≤◌, ◌<◌, min}
-use native.Mathlib.Nat.{le-div_iff_mul-le, div-lt_iff_lt-mul, div-add-mod', mod-lt, mul-le-mul_right, mul-le-mul_left, le_trans, pos_of_div-pos}
+use native.Mathlib.Nat.{mul-le-mul_right, mul-le-mul_left, le_trans, pos_of_div-pos}
 use native.Mathlib.Omega.{arith}
 use native.Mathlib.Numerals.{add-one}
 use lib.Dec.{leb, eqb}
-use borrow.Author.Tests.{leb-true, le-leb, lt-leb, eqb-true, eq-eqb, ne_eqb}
+use borrow.Author.Tests.{leb-true, eqb-true, eq-eqb, ne_eqb}
 use lib.ListN.{length, get_or, get_or-eq_default}
 use Rattle.rules.specs.declared.Link.{Link}
 use Rattle.rules.specs.declared.Connection.{Connection}
@@ -21,7 +21,7 @@ use Rattle.rules.proofs.Sums.{split, same, upto_yes, upto_no, upto_le, cond_is}
 use Rattle.rules.proofs.Standing.{level_owned, level_free}
 use Rattle.rules.proofs.Figures.{few_at_once, reservation_is, sum_is, window_none, conditions_none}
 use Rattle.rules.proofs.LevelTest.{test_holds, holds_excess}
-use Rattle.rules.proofs.Count.{rounded_up_le, count_plain, count_average, count_none}
+use Rattle.rules.proofs.Count.{count_plain, count_average, count_none}
 use Rattle.connections.specs.Within.{Within, SumsWith, bound_in, share_of, share_in, most_share}
 use Rattle.connections.proofs.OwnerLaws.{sum_joining}
 
@@ -104,26 +104,6 @@ figure_limits l x e =
     record { some_gap = (within_true 1 max_gap x.gap a.0).0; some_size = b.0; size_le = b.1; burst_le = few_at_once l x e; allowance_le = allowance_high x k.1 }
 
 -- ---- counts and shares
-
--- a quotient, rounded up: the quotient where nothing is left, else one more
-module _ (w x : ℕ) (h : 1 ≤ x) where
-  pub divides_up : w % x ≡ 0 → (w / x ≡ rounded_up w x) × (w / x ≤ w)
-  divides_up e = let k : w / x ≡ rounded_up w x = omega (arith, least_of, most_of) in (k, omega (arith, k, rounded_up_le w x h))
-    where
-      least_of : w / x ≤ rounded_up w x
-      least_of = (le-div_iff_mul-le h).1 (omega (arith, div-add-mod' w x))
-
-      most_of : rounded_up w x < suc (w / x)
-      most_of = (div-lt_iff_lt-mul h).1 (omega (arith, div-add-mod' w x))
-
-  pub rest_up : (w % x ≡ 0 → ⊥) → (w / x + 1 ≡ rounded_up w x) × (w / x + 1 ≤ w)
-  rest_up n = let k : w / x + 1 ≡ rounded_up w x = omega (arith, least_of, most_of) in (k, omega (arith, k, rounded_up_le w x h))
-    where
-      least_of : suc (w / x) ≤ rounded_up w x
-      least_of = (le-div_iff_mul-le h).1 (omega (arith, div-add-mod' w x, n))
-
-      most_of : rounded_up w x < suc (suc (w / x))
-      most_of = (div-lt_iff_lt-mul h).1 (omega (arith, div-add-mod' w x, mod-lt w h))
 
 pub burst_is : (x : Connection) → x.window / x.average ≡ burst x
 unfolding burst
@@ -295,17 +275,13 @@ module _ (l : Link) (none : windowed l ≡ false) where
         ap (excess_from l cs m 0) (conditions_none l none m)
         ∙ ap (λ (n : ℕ). cond (leb (level_sum l cs m 0) n) 0 (level_sum l cs m 0 - n)) (window_none l none m)
 
-    module _ (h : m ≤ l.levels) (s d : ℕ) (e : s ≡ level_sum l cs m 0) (f : d ≡ bound l m) where
-      by_bound : excess l cs m ≡ cond (leb s d) 0 (s - d)
-      by_bound = rw (e, f) excess_by_bound
-
-      -- a sum above its bound
-      pub test_short : d < s → record { level = m; units = s - d } ≡ short_from l cs m (l.levels + 1 - m)
-      test_short lt = test_over l cs m h (s - d) (sym (by_bound ∙ cond_is 0 (s - d) (lt-leb s d lt))) (λ z. omega arith)
-
-      -- a sum that is not
-      pub test_next : s ≤ d → short_from l cs (m + 1) (l.levels + 1 - (m + 1)) ≡ short_from l cs m (l.levels + 1 - m)
-      test_next le = test_pass l cs m h (by_bound ∙ cond_is 0 (s - d) (le-leb s d le))
+    -- by how much its sum is above its bound
+    pub over_bound : (s d : ℕ) → s ≡ level_sum l cs m 0 → d ≡ bound l m → s - d ≡ excess l cs m
+    over_bound s d e f = rw (e, f) (sym (excess_by_bound ∙ either (leb (level_sum l cs m 0) (bound l m)) refl))
+      where
+        either : (b : Bool) → leb (level_sum l cs m 0) (bound l m) ≡ b → cond b 0 (level_sum l cs m 0 - bound l m) ≡ level_sum l cs m 0 - bound l m
+        either true h = omega (arith, leb-true (level_sum l cs m 0) (bound l m) h)
+        either false h = refl
 
   -- the sum of level m with a newcomer, for any connections whose sums these are
   pub sum_with : (cs js : List Connection) (x : Connection) → SumsWith l cs x js → (m s : ℕ) → m ≤ l.levels

@@ -4,10 +4,10 @@ use mathlib.Core.Bool.{false, not, not-not}
 use mathlib.Core.List.{List, [], ◌∷◌, ◌++◌, map, append_assoc, append-nil}
 use Prim.Native.Nat.{ℕ, zero, suc, ◌+◌, ◌*◌, ◌-◌, ◌≤◌, ◌<◌}
 use native.Mathlib.Omega.{arith}
-use native.Mathlib.Numerals.{unary_clauses}
+use borrow.Rule.Slice.PartMut.{put_mid}
 use lib.Dec.{eqb}
 use lib.ListN.{length-map, length-append, length-drop, length-replicate, get_or-map, get_or-eq_default, drop_of_length-le, length, get_or, set, take, drop, replicate}
-use lib.Seq.{sets, sets-eq, take-nil, length-take-le, drop-drop, drop-cons, set_at, get_or_at}
+use lib.Seq.{ext_get_or, sets, sets-eq, take-nil, length-take-le, drop-drop, drop-cons, set_at, get_or_at}
 use Rattle.rules.specs.declared.Connection.{Connection}
 use Rattle.rules.specs.Words.{All}
 use Rattle.rules.specs.Limits.{max_connections, max_remembered}
@@ -16,6 +16,8 @@ use Rattle.rules.specs.Admission.{owned}
 use Rattle.rules.proofs.Standing.{level_free}
 use Rattle.tables.specs.Table.{row_in, rows_in, numbers, write}
 use Rattle.tables.proofs.TableLaws.{numbers_all, length_numbers, length_rows, made_at, write_rows, length_write, put_at, first_back}
+use Rattle.limits.proofs.ZeroLaws.{zero_at, zeros_rep}
+use Rattle.std.specs.Array.{AllOfLen}
 use Rattle.connections.specs.declared.Member.{Member}
 use Rattle.connections.specs.Members.{member_width, members_length, figures_row, row_of, member_of, no_member, member_in, put_member, members_in, members_are, connections_in, pasts_in, closed_in, used_in, first_in, written_rows}
 use Rattle.connections.specs.Rows.{member_head, rows_end, connection_of, past_of, closed_of}
@@ -49,6 +51,15 @@ drop_take zero b l = let e : 0 + b ≡ b = omega arith in ap (λ (k : ℕ). take
 drop_take (suc a) b [] = let e : suc a + b ≡ suc (a + b) = omega arith in ap (λ (k : ℕ). drop (suc a) (take k [])) e ∙ sym (take-nil b)
 drop_take (suc a) b (x ∷ l) = let e : suc a + b ≡ suc (a + b) = omega arith in ap (λ (k : ℕ). drop (suc a) (take k (x ∷ l))) e ∙ drop_take a b l
 
+-- numbers that are all 0
+all_zero : (v : List ℕ) (n : ℕ) → AllOfLen (λ x. x ≡ 0) v n → v ≡ replicate n 0
+all_zero v n a =
+    ext_get_or 0 v (replicate n 0) (a.long ∙ sym (length-replicate {A = ℕ} n 0)) (λ i h. a.at i 0 (omega (arith, a.long)) ∙ sym (zero_at (replicate n 0) i (zeros_rep n)))
+
+-- a row of zeros
+pub blank : (m : Member) → m.figures ≡ no_connection → m.mark ≡ 0 → m.known ≡ 0 → AllOfLen (λ x. x ≡ 0) m.ticks max_remembered → m ≡ no_member
+blank m e f g a = rw (e, f, g, all_zero m.ticks max_remembered a)
+
 -- numbers copied over as many zeros
 pub copied_over : (v : List ℕ) (n : ℕ) → length v ≡ n → sets (replicate n 0) 0 v ≡ v
 copied_over v n e =
@@ -57,14 +68,13 @@ copied_over v n e =
     ∙ append-nil v
 
 pub ticks_read : (t : List ℕ) (i : ℕ) → member_width * i + member_width ≤ length t
-    → sets (replicate max_remembered 0) 0 (take (member_width * i + member_width - (member_width * i + member_head)) (drop (member_width * i + member_head) t)) ≡ (member_in t i).ticks
+    → take (member_width * i + member_width - (member_width * i + member_head)) (drop (member_width * i + member_head) t) ≡ (member_in t i).ticks
 ticks_read t i h =
     let k : member_width * i + member_width - (member_width * i + member_head) ≡ max_remembered = omega arith in
     let v : List ℕ = take max_remembered (drop (member_width * i + member_head) t) in
     let n : length v ≡ max_remembered = length-take-le max_remembered (drop (member_width * i + member_head) t) (omega (arith, length-drop (member_width * i + member_head) t)) in
     let r : drop member_head (row_in member_width t i) ≡ v = drop_take member_head max_remembered (drop (member_width * i) t) ∙ ap (take max_remembered) (drop-drop member_head (member_width * i) t) in
-    ap (λ (j : ℕ). sets (replicate max_remembered 0) 0 (take j (drop (member_width * i + member_head) t))) k
-    ∙ copied_over v max_remembered n
+    ap (λ (j : ℕ). take j (drop (member_width * i + member_head) t)) k
     ∙ sym (ap (numbers max_remembered) r ∙ numbers_all max_remembered v n)
 
 -- numbers written behind others
@@ -72,9 +82,13 @@ sets_behind : (l : List ℕ) (i : ℕ) (a b : List ℕ) → sets l i (a ++ b) �
 sets_behind l i [] b = let e : i ≡ i + 0 = omega arith in ap (λ (j : ℕ). sets l j b) e
 sets_behind l i (x ∷ a) b = let e : suc i + length a ≡ i + suc (length a) = omega arith in sets_behind (set l i x) (suc i) a b ∙ ap (λ (j : ℕ). sets (sets (set l i x) (suc i) a) j b) e
 
-pub put_figures : (t : List ℕ) (at : ℕ) (x : Connection)
-    → set (set (set (set (set (set (set t at x.level) (at + 1) x.size) (at + 2) x.gap) (at + 3) x.window) (at + 4) x.average) (at + 5) x.kind) (at + 6) x.allowance ≡ sets t at (figures_row x)
-put_figures t at x = simp unary_clauses
+-- a part of a table that became vs
+pub part_put : (a k : ℕ) (t ys vs : List ℕ) → ys ≡ vs → k ≡ length vs → a + length vs ≤ length t → put_mid a k t ys ≡ sets t a vs
+part_put a k t ys vs e n h =
+    ap (λ (l : List ℕ). take a t ++ (l ++ drop k (drop a t))) e
+    ∙ sym (append_assoc (take a t) vs (drop k (drop a t)))
+    ∙ ap (λ (l : List ℕ). take a t ++ vs ++ l) (drop-drop k a t ∙ ap (λ (j : ℕ). drop (a + j) t) n)
+    ∙ sym (sets-eq vs t a h)
 
 pub put_parts : (t : List ℕ) (at : ℕ) (m : Member) → Long m
     → sets (set (set (sets t at (figures_row m.figures)) (at + 7) m.mark) (at + 8) m.known) (at + member_head) m.ticks ≡ sets t at (row_of m)

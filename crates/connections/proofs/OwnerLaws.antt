@@ -28,17 +28,9 @@ free_le [] i e = omega arith
 free_le (x ∷ cs) zero e = omega (arith, cond_is 0 (suc (free_number cs)) (eq-eqb x.level 0 e))
 free_le (x ∷ cs) (suc i) e = cond_ind (λ (n : ℕ). n ≤ suc i) (eqb x.level 0) (λ _. omega arith) (λ _. omega (arith, free_le cs i e))
 
--- one by one: it is not below i
-module _ (cs : List Connection) (i : ℕ) (h : i ≤ free_number cs) where
-  pub free_here : (nth cs i).level ≡ 0 → i ≡ free_number cs
-  free_here e = omega (arith, free_le cs i e)
-
-  pub free_next : ((nth cs i).level ≡ 0 → ⊥) → i + 1 ≤ free_number cs
-  free_next n = go (same i (free_number cs))
-    where
-      go : (i ≡ free_number cs) ⊎ (i ≡ free_number cs → ⊥) → i + 1 ≤ free_number cs
-      go (inl e) = absurd (n (ap (λ (j : ℕ). (nth cs j).level) e ∙ free_none cs))
-      go (inr e) = omega (arith, e)
+-- a number without an owner, below which each has one
+pub free_first : (cs : List Connection) (i : ℕ) → (nth cs i).level ≡ 0 → ((k : ℕ) → k < i → (nth cs k).level ≡ 0 → ⊥) → i ≡ free_number cs
+free_first cs i e below = ⊎_elim (λ l. omega (arith, free_le cs i e)) (λ l. absurd (below (free_number cs) l (free_none cs))) (split i (free_number cs))
 
 -- ---- how many numbers there are up to the last owner
 

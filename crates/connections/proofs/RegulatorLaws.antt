@@ -3,11 +3,11 @@ use Prim.Native.Nat.{ℕ, zero, suc, ◌+◌, ◌-◌, ◌/◌, ◌≤◌, ◌<�
 use native.Mathlib.Omega.{arith}
 use mathlib.Core.Path.{◌≡◌, refl, sym, ap, ◌∙◌, subst}
 use mathlib.Core.Bool.{Bool, true, false}
-use mathlib.Core.List.{List, [], ◌∷◌, ◌++◌, append-nil}
+use mathlib.Core.List.{List, [], ◌∷◌, ◌++◌}
 use mathlib.Core.Option.{none, some}
 use lib.Dec.{eqb}
 use lib.ListN.{length, get_or, get_elem?, set, take, drop, replicate, length-append, length-take, length-drop, length-replicate, drop_of_length-le}
-use lib.Seq.{sets, sets-eq, take-nil, take_all, take-append-le, drop-drop, length-take-le, get_or-take, get_or-drop}
+use lib.Seq.{take-nil, take_all, take-append-le, drop-cons, drop-drop, length-take-le, get_or-take, get_or-drop}
 use borrow.Author.Tests.{eq-eqb, ne_eqb}
 use Rattle.rules.specs.Limits.{max_connections, max_remembered}
 use Rattle.rules.specs.declared.Link.{Link}
@@ -22,7 +22,7 @@ use Rattle.rules.proofs.Figures.{burst_none}
 use Rattle.rules.proofs.Sums.{cond_is}
 use Rattle.rules.proofs.Tests.{and_true, and_intro}
 use Rattle.limits.specs.Zeros.{zeros}
-use Rattle.limits.proofs.ZeroLaws.{zeros_parts, zeros_rep, zeros_left, drop_zeros}
+use Rattle.limits.proofs.ZeroLaws.{zeros_parts, zeros_rep, drop_zeros}
 use Rattle.tables.specs.Table.{numbers}
 use Rattle.tables.proofs.TableLaws.{numbers_again}
 use Rattle.connections.specs.declared.Member.{Member}
@@ -49,9 +49,6 @@ at_none (x ∷ l) (suc i) h = at_none l i (omega arith)
 module _ (m : Member) (k n x : ℕ) where
   rest_length : length (drop k (past_of m)) ≡ min m.known (length m.ticks) - k
   rest_length = length-drop k (past_of m) ∙ ap (λ (j : ℕ). j - k) (length-take m.known m.ticks)
-
-  pub before_zero : n ≡ 0 → 0 ≡ ticks_after x (nth_before n (drop k (past_of m)))
-  before_zero e = rw e
 
   pub before_none : (n ≡ 0 → ⊥) → m.known < k + n → 0 ≡ ticks_after x (nth_before n (drop k (past_of m)))
   before_none z h = go n refl
@@ -92,13 +89,11 @@ module _ (flag last gap now : ℕ) where
 
 -- ---- one more
 
--- a new first one, and the others copied behind it
-pub shifted : (l : List ℕ) (e : ℕ) → length l ≡ max_remembered → sets (set (replicate max_remembered 0) 0 e) 1 (take 15 l) ≡ e ∷ take 15 l
-shifted l e h =
-    let n : length (take 15 l) ≡ 15 = length-take-le 15 l (omega arith) in
-    sets-eq (take 15 l) (e ∷ replicate 15 0) 1 (omega arith)
-    ∙ ap (λ (k : ℕ). e ∷ (take 15 l ++ drop (1 + k) (e ∷ replicate {A = ℕ} 15 0))) n
-    ∙ ap (λ (r : List ℕ). e ∷ r) (append-nil (take 15 l))
+-- turned by one, so that the last comes first, and a new first one in its place
+pub turned : (l : List ℕ) (e n : ℕ) → length l ≡ max_remembered → n ≡ 15 → set (drop n l ++ take n l) 0 e ≡ e ∷ take 15 l
+turned l e n h k =
+    let last : drop 15 l ≡ get_or l 15 0 ∷ [] = drop-cons l 15 0 (omega arith) ∙ ap (λ (r : List ℕ). get_or l 15 0 ∷ r) (drop_of_length-le l {i = 16} (omega arith)) in
+    ap (λ (j : ℕ). set (drop j l ++ take j l) 0 e) k ∙ ap (λ (r : List ℕ). set (r ++ take 15 l) 0 e) last
 
 take_both : (k n : ℕ) (l : List ℕ) → take n (take k l) ≡ take k (take n l)
 take_both zero zero l = refl
@@ -121,11 +116,11 @@ module _ (m : Member) (e : ℕ) (long : length m.ticks ≡ max_remembered) (f : 
       (ap (numbers 15) (take_both m.known 15 m.ticks)
       ∙ numbers_again m.known 15 (take 15 m.ticks) (length-take-le 15 m.ticks (omega arith)) (zeros_taken m.known 15 m.ticks (formed_parts m f).zero_behind))
 
-  more_known : length (remember (past_of m) e) ≡ min max_remembered (m.known + 1)
+  more_known : length (remember (past_of m) e) ≡ min (m.known + 1) max_remembered
   unfolding remember
   more_known = omega (arith, length-take max_remembered (e ∷ past_of m), length-take m.known m.ticks, (formed_parts m f).known_le)
 
-  pub remembering_is : (k : ℕ) (ts : List ℕ) → k ≡ min max_remembered (m.known + 1) → ts ≡ e ∷ take 15 m.ticks
+  pub remembering_is : (k : ℕ) (ts : List ℕ) → k ≡ min (m.known + 1) max_remembered → ts ≡ e ∷ take 15 m.ticks
       → ◌≡◌ {A = Member} (record { figures = m.figures; mark = m.mark; known = k; ticks = ts }) (member (connection_of m) (remember (past_of m) e) (closed_of m))
   remembering_is k ts a b = rw (a ∙ sym more_known, b ∙ sym more_ticks, mark_back m f)
 
@@ -147,12 +142,11 @@ zeros_behind zero l w z y = zeros_all l w z y
 zeros_behind (suc k) [] w z y = (zeros_parts (suc k) w y).1
 zeros_behind (suc k) (x ∷ l) w z y = zeros_behind k l w z y
 
-numbers_padded : (n k : ℕ) (l : List ℕ) → length l ≤ n → k ≤ length l → zeros (drop k l) ≡ true → numbers n (take k l) ≡ sets (replicate n 0) 0 l
+numbers_padded : (n k : ℕ) (l : List ℕ) → length l ≤ n → k ≤ length l → zeros (drop k l) ≡ true → numbers n (take k l) ≡ l ++ replicate (n - length l) 0
 numbers_padded n k l h i z =
     let w : List ℕ = replicate (n - length l) 0 in
     ap (numbers n) (sym (take-append-le k l w i))
     ∙ numbers_again k n (l ++ w) (omega (arith, length-append l w, length-replicate {A = ℕ} (n - length l) 0)) (zeros_behind k l w z (zeros_rep (n - length l)))
-    ∙ sym (sets-eq l (replicate n 0) 0 (omega (arith, length-replicate {A = ℕ} n 0)) ∙ ap (λ (r : List ℕ). l ++ r) (drop_zeros (0 + length l) n ∙ zeros_left (n - (0 + length l)) (n - length l) (omega arith)))
 
 module _ (m : Member) (n : ℕ) (long : length m.ticks ≡ max_remembered) (f : member_formed m ≡ true) where
   pub forgets_all : m.known ≤ n
@@ -168,7 +162,7 @@ module _ (m : Member) (n : ℕ) (long : length m.ticks ≡ max_remembered) (f : 
     fewer_known : length (drop n (past_of m)) ≡ m.known - n
     fewer_known = omega (arith, length-drop n (past_of m), length-take m.known m.ticks, (formed_parts m f).known_le)
 
-    fewer_ticks : numbers max_remembered (drop n (past_of m)) ≡ sets (replicate max_remembered 0) 0 (take (max_remembered - n) (drop n m.ticks))
+    fewer_ticks : numbers max_remembered (drop n (past_of m)) ≡ drop n m.ticks ++ drop (max_remembered - n) (replicate max_remembered 0)
     fewer_ticks =
         let l : List ℕ = drop n m.ticks in
         let j : n + (m.known - n) ≡ m.known = omega arith in
@@ -176,11 +170,14 @@ module _ (m : Member) (n : ℕ) (long : length m.ticks ≡ max_remembered) (f : 
         ap (numbers max_remembered) rest
         ∙ numbers_padded max_remembered (m.known - n) l (omega (arith, length-drop n m.ticks)) (omega (arith, length-drop n m.ticks, k.known_le))
         (ap zeros (drop-drop (m.known - n) n m.ticks ∙ ap (λ (i : ℕ). drop i m.ticks) j) ∙ k.zero_behind)
-        ∙ ap (sets (replicate max_remembered 0) 0) (sym (take_all (max_remembered - n) l (omega (arith, length-drop n m.ticks))))
+        ∙ ap (λ (r : List ℕ). l ++ r) (sym (drop_zeros (max_remembered - n) max_remembered ∙ ap (λ (i : ℕ). replicate i 0) (omega (arith, length-drop n m.ticks))))
 
-    pub forgets_some : (k : ℕ) (ts : List ℕ) → k ≡ m.known - n → ts ≡ sets (replicate max_remembered 0) 0 (take (max_remembered - n) (drop n m.ticks))
+    pub forgets_some : (k : ℕ) (ts : List ℕ) → k ≡ m.known - n → ts ≡ take (length m.ticks - n) (drop n m.ticks) ++ drop (max_remembered - n) (replicate max_remembered 0)
         → ◌≡◌ {A = Member} (record { figures = m.figures; mark = m.mark; known = k; ticks = ts }) (member (connection_of m) (drop n (past_of m)) (closed_of m))
-    forgets_some k ts a b = rw (a ∙ sym fewer_known, b ∙ sym fewer_ticks, mark_back m f)
+    forgets_some k ts a b =
+        let c : ts ≡ numbers max_remembered (drop n (past_of m)) =
+        b ∙ ap (λ (l : List ℕ). l ++ drop (max_remembered - n) (replicate max_remembered 0)) (take_all (length m.ticks - n) (drop n m.ticks) (omega (arith, length-drop n m.ticks))) ∙ sym fewer_ticks in
+        rw (a ∙ sym fewer_known, c, mark_back m f)
 
 -- ---- a connection read from its table
 

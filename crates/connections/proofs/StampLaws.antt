@@ -1,35 +1,18 @@
 -- Laws of an offer that may bring a stamp, and of a stamp that is out of time.
 use Prim.Native.Nat.{ℕ, ◌+◌, ◌≤◌, ◌<◌}
 use native.Mathlib.Omega.{arith}
-use mathlib.Core.Path.{◌≡◌, refl, ap}
-use mathlib.Core.Bool.{Bool, true, false, not}
+use mathlib.Core.Path.{◌≡◌, refl}
+use mathlib.Core.Bool.{true}
 use lib.Dec.{eqb, ltb}
 use borrow.Author.Tests.{lt-ltb, le-ltb}
 use Rattle.rules.specs.declared.Connection.{Connection}
 use Rattle.rules.specs.Model.{Past}
 use Rattle.rules.specs.Admission.{stamped}
-use Rattle.rules.specs.Service.{nth_before, ticks_after, next_eligibility, suits, eligibility_by, untimely}
-use Rattle.connections.specs.Stamps.{stamp_if}
+use Rattle.rules.specs.Service.{nth_before, ticks_after, untimely}
 
 pub stamped_is : (x : Connection) → eqb x.kind 1 ≡ stamped x
 unfolding stamped
 stamped_is x = refl
-
--- ---- with a stamp and without one
-
-module _ (x : Connection) (stamp : ℕ) (brings : Bool) where
-  pub suits_with : brings ≡ true → (r : Bool) → r ≡ stamped x → r ≡ suits x (stamp_if brings stamp)
-  suits_with b r e = rw b e
-
-  pub suits_without : brings ≡ false → (r : Bool) → r ≡ stamped x → not r ≡ suits x (stamp_if brings stamp)
-  suits_without b r e = rw b (ap not e)
-
-module _ (x : Connection) (h : Past) (now stamp : ℕ) (brings : Bool) where
-  pub eligible_with : brings ≡ true → (r : ℕ) → r ≡ stamp + x.allowance → r ≡ eligibility_by x h now (stamp_if brings stamp)
-  eligible_with b r e = rw b e
-
-  pub eligible_without : brings ≡ false → (r : ℕ) → r ≡ next_eligibility x h now → r ≡ eligibility_by x h now (stamp_if brings stamp)
-  eligible_without b r e = rw b e
 
 -- ---- out of time
 

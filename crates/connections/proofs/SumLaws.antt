@@ -5,7 +5,7 @@ use mathlib.Core.List.{List}
 use mathlib.Core.Logic.{◌⊎◌, inl, inr}
 use Prim.Native.Nat.{ℕ, suc, ◌+◌, ◌*◌, ◌-◌, ◌≤◌, ◌<◌, max}
 use native.Mathlib.Omega.{arith}
-use lib.ListN.{length, get_or, set, replicate, length-replicate}
+use lib.ListN.{length, get_or, set, replicate}
 use lib.Seq.{get_or-set_same, get_or-set_other}
 use Rattle.rules.specs.declared.Link.{Link}
 use Rattle.rules.specs.declared.Connection.{Connection}
@@ -80,9 +80,6 @@ added_end l x f low s t k A h e j a g = let d = A.done j a (omega arith) in (ome
 pub record AddedFirst (l : Link) (low : ℕ) (cs : List Connection) (i : ℕ) (sums : List ℕ) : Type 0 where
   pub sum_of : (k : ℕ) → low ≤ k → k < l.levels → get_or sums k 0 ≡ sum i (λ (c : ℕ). share_at l (nth cs c) k)
   pub sum_le : (k : ℕ) → low ≤ k → k < l.levels → get_or sums k 0 ≤ i * most_share
-
-pub zeros_length : (n : ℕ) (s : List ℕ) → s ≡ replicate n 0 → length s ≡ n
-zeros_length n s e = ap length e ∙ length-replicate {A = ℕ} n 0
 
 module _ (l : Link) (low : ℕ) (cs : List Connection) where
   pub first_start : (n : ℕ) (s : List ℕ) → s ≡ replicate n 0 → AddedFirst l low cs 0 s

@@ -1,12 +1,12 @@
 -- Laws of the level test of a link with windows: the sum of a condition, the conditions of a level, level by level.
-use Prim.Native.Nat.{ℕ, zero, suc, ◌+◌, ◌*◌, ◌-◌, ◌≤◌, ◌<◌, max}
+use Prim.Native.Nat.{ℕ, zero, suc, ◌+◌, ◌*◌, ◌-◌, ◌≤◌, ◌<◌, min, max}
 use native.Mathlib.Omega.{arith}
 use mathlib.Core.Path.{◌≡◌, refl, sym, ap, ◌∙◌}
 use mathlib.Core.Bool.{true, false, true≢false}
-use mathlib.Core.List.{List}
+use mathlib.Core.List.{List, [], ◌∷◌}
+use Rattle.std.specs.List.{fold}
 use lib.Dec.{leb, ltb, eqb}
-use lib.ListN.{length, get_or, drop, drop_of_length-le}
-use lib.Seq.{drop-cons}
+use lib.ListN.{length, get_or}
 use borrow.Author.Tests.{le-leb, lt-leb, eq-eqb, ne_eqb}
 use Rattle.rules.specs.declared.Link.{Link}
 use Rattle.rules.specs.declared.Connection.{Connection}
@@ -33,15 +33,13 @@ pub window_is : (l : Link) (m : ℕ) → bound_in l.windows m ≡ own_window l m
 window_is l zero = refl
 window_is l (suc m) = refl
 
--- the largest of some numbers, from the last down
-pub largest_none : (ws : List ℕ) → 0 ≡ largest_of (drop (length ws) ws)
-largest_none ws = sym (ap largest_of (drop_of_length-le ws {i = length ws} (omega arith)))
+-- the largest of some numbers, one by one
+largest_behind : (a : ℕ) (ws : List ℕ) → fold max a ws ≡ max a (largest_of ws)
+largest_behind a [] = omega arith
+largest_behind a (w ∷ ws) = largest_behind (max a w) ws ∙ omega arith
 
-pub largest_before : (ws : List ℕ) (k r : ℕ) → 1 ≤ k → k ≤ length ws → r ≡ largest_of (drop k ws) → max (get_or ws (k - 1) 0) r ≡ largest_of (drop (k - 1) ws)
-largest_before ws zero r a b e = absurd (omega arith)
-largest_before ws (suc j) r a b e =
-    let q : suc j - 1 ≡ j = omega arith in
-    rw (q, drop-cons ws j 0 (omega arith), e)
+pub largest_is : (ws : List ℕ) → fold max 0 ws ≡ largest_of ws
+largest_is ws = largest_behind 0 ws ∙ omega arith
 
 -- the time of a charge
 pub charge_bound : (l : Link) → windowed l ≡ false → bound l l.levels ≡ charge_time l
@@ -89,17 +87,9 @@ pub own_later : (w i : ℕ) → (i ≡ 0 → ⊥) → i ≡ own_span w i
 own_later w zero n = absurd (n refl)
 own_later w (suc β) n = refl
 
-pub before_first : (d w i : ℕ) → i ≡ 0 → w ≡ before_span d w i
-before_first d w zero e = refl
-before_first d w (suc β) e = absurd (omega arith)
-
-pub before_short : (d w i : ℕ) → (i ≡ 0 → ⊥) → d + (i - 1) < w → d + (i - 1) ≡ before_span d w i
-before_short d w zero n h = absurd (n refl)
-before_short d w (suc β) n h = omega arith
-
-pub before_long : (d w i : ℕ) → (i ≡ 0 → ⊥) → w ≤ d + (i - 1) → w ≡ before_span d w i
-before_long d w zero n h = absurd (n refl)
-before_long d w (suc β) n h = omega arith
+pub before_later : (d w i : ℕ) → (i ≡ 0 → ⊥) → min w (d + (i - 1)) ≡ before_span d w i
+before_later d w zero n = absurd (n refl)
+before_later d w (suc β) n = omega arith
 
 pub spans_fit : (l : Link) → link_within l ≡ true → windowed l ≡ true → (m : ℕ) → 1 ≤ m → m ≤ l.levels → (w i d o u : ℕ) → w ≡ own_window l m → i ≤ window l m
     → o ≡ own_span w i → u ≡ before_span d w i → (o ≤ max_bound) × (u ≤ max_bound)

@@ -1,5 +1,5 @@
 -- Closed connections in their table, and the numbers that are freed. Document 02, R-8.
-use Rattle.std.specs.Prelude.{ℕ, ◌+◌, ◌<◌, ◌≤◌, ◌≡◌, Bool, true, false, cond, ◌&&◌, List, length, get_or}
+use Rattle.std.specs.Prelude.{Option, None, Some, ℕ, zero, suc, ◌+◌, ◌<◌, ◌≤◌, ◌≡◌, Bool, true, false, cond, ◌&&◌, List, length, get_or}
 use Rattle.rules.specs.Limits.{beyond_32_bits}
 use Rattle.rules.specs.Model.{State, no_connection, no_past, past, figures, closed_at}
 use Rattle.rules.specs.Admission.{owned, charge_time}
@@ -7,6 +7,15 @@ use Rattle.rules.specs.Service.{charge_over, cleared}
 use Rattle.connections.specs.declared.Member.{Member}
 use Rattle.connections.specs.Members.{no_member, connections_in, pasts_in, closed_in, written_members}
 use Rattle.connections.specs.Rows.{past_of, closed_of, last_of}
+
+-- the number behind the rows for an eligibility: one more, and 0 where there is none; and the eligibility that such a number stands for
+abbrev pub one_more : Option ℕ → ℕ
+one_more None = 0
+one_more (Some e) = suc e
+
+abbrev pub one_less : ℕ → Option ℕ
+one_less zero = None
+one_less (suc e) = Some e
 
 -- a row is closed and its charge is over; freed, nothing is left of it
 abbrev pub ended : ℕ → ℕ → Member → Bool

@@ -2,4 +2,3 @@ pub mod Members
 pub mod Rows
 pub mod Within
 pub mod Closing
-pub mod Stamps

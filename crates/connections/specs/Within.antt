@@ -1,29 +1,17 @@
 -- What the sums over connections rely on: every figure within its limits, so that nothing is lost in 64 bits; and what they add up to.
-use Rattle.std.specs.Prelude.{ℕ, zero, suc, ◌+◌, ◌*◌, ◌<◌, ◌≤◌, min, ◌≡◌, true, false, cond, List, [], ◌∷◌, eqb, length, get_or}
+use Rattle.std.specs.Prelude.{ℕ, zero, suc, ◌+◌, ◌*◌, ◌<◌, ◌≤◌, min, ◌≡◌, true, false, cond, List, [], ◌∷◌, eqb, get_or}
 use Rattle.rules.specs.declared.Link.{Link}
 use Rattle.rules.specs.declared.Connection.{Connection}
 use Rattle.rules.specs.Limits.{max_largest, max_silence, max_bound, max_connections}
 use Rattle.rules.specs.Model.{Past, no_connection, nth}
 use Rattle.rules.specs.Words.{upto}
-use Rattle.rules.specs.Admission.{link_within, figures_within, windowed, owned, bound, count, cost, load, load_by, span, level_sum}
-use Rattle.connections.specs.Members.{members_length, connections_in, used_by}
+use Rattle.rules.specs.Admission.{link_within, figures_within, owned, bound, count, cost, load, load_by, span, level_sum}
 
 -- the link is within its limits; each number has an owner whose figures are, or is free, and then blank
 pub record Within (l : Link) (cs : List Connection) : Type 0 where
   pub link_in : link_within l ≡ true
   pub figures_in : (c : ℕ) → owned cs c ≡ true → figures_within l (nth cs c) ≡ true
   pub blank_in : (c : ℕ) → owned cs c ≡ false → nth cs c ≡ no_connection
-
--- what the test of a link with windows is made on: a table of connections within their limits, which has owners up to row n at most, and a newcomer
-pub record Tested (l : Link) (members : List ℕ) (n : ℕ) (x : Connection) : Type 0 where
-  pub whole : length members ≡ members_length
-  pub owners : used_by (connections_in members) ≤ n
-  pub few : n ≤ max_connections
-  pub level_in : 1 ≤ x.level
-  pub gap_in : 1 ≤ x.gap
-  pub size_in : x.size ≤ max_largest
-  pub within : Within l (connections_in members)
-  pub own : windowed l ≡ true
 
 -- what a connection adds to a sum of level m, counted within w, and the most that this can be
 abbrev pub share_of : Link → ℕ → ℕ → Connection → ℕ
@@ -56,6 +44,10 @@ share_in l m i x = share_of l m (span l m i x.level) x
 -- the sums of the connections js are those of cs with the share of a newcomer x, in every condition
 abbrev pub SumsWith : Link → List Connection → Connection → List Connection → Type 0
 SumsWith l cs x js = (m i : ℕ) → m ≤ l.levels → level_sum l js m i ≡ load_by l cs m (span l m i) + share_in l m i x + cost l l.largest
+
+-- what holds of any connections whose sums are these
+abbrev pub Whichever : Link → List Connection → Connection → (List Connection → Type 0) → Type 0
+Whichever l cs x P = (js : List Connection) → SumsWith l cs x js → P js
 
 -- the windows in which a condition counts: that of the level itself, with the window w, that of the levels before it, with the bound d
 abbrev pub own_span : ℕ → ℕ → ℕ

@@ -1,16 +1,14 @@
 // Connections that are closed, and numbers that are freed. Document 02, R-8.
-ghost use Rattle.std.specs.Prelude.{◌≡◌, true, false, cond, map, suc, ◌+◌, ◌<◌, ◌≤◌, eqb, length, get_or, set};
+ghost use Rattle.std.specs.Prelude.{◌≡◌, true, false, map, ℕ, ◌+◌, ◌-◌, ◌<◌, ◌≤◌, length, get_or, set};
 ghost use Rattle.rules.specs.Limits.{max_connections, beyond_32_bits};
 ghost use Rattle.rules.specs.Model.{no_connection, no_past};
 ghost use Rattle.rules.specs.Admission.{charge_time};
 ghost use Rattle.rules.specs.Service.{charge_over};
 ghost use Rattle.connections.specs.Members.{members_length, no_member, members_in, connections_in, pasts_in, closed_in, earlier, used_by, used_in, first_closed, first_in, written_rows, written_members, member_formed, rows_formed, members_formed};
 ghost use Rattle.connections.specs.Rows.{past_of, last_of};
-ghost use Rattle.connections.specs.Closing.{freed, ClosedInOrder, Swept};
+ghost use Rattle.connections.specs.Closing.{one_more, one_less, freed, ClosedInOrder, Swept};
 
-use super::{
-    MARK, Member, bound_of, member_at, no_figures, number, put_member, used, wide, windows,
-};
+use super::{MARK, Member, bound_of, member_at, number, put_member, used, windows};
 use limits::{MAX_REMEMBERED, MEMBER_HEAD, MEMBER_ROWS, MEMBER_WIDTH};
 use rules::Link;
 
@@ -23,8 +21,7 @@ pub fn charge_time(l: Link) -> u32
     if !windows::has_windows(l) {
         return d;
     }
-    let own = l.windows;
-    d + windows::largest_of(&own)
+    d + windows::largest_of(&l.windows)
 }
 
 // The charge of a connection is over: it never sent, or the clock has reached its last eligibility plus the time of a charge.
@@ -35,25 +32,13 @@ pub fn charge_over(m: Member, time: u32, clock: u32) -> bool
     if m.known == 0 {
         return true;
     }
-    wide(m.ticks[0]) + wide(time) <= wide(clock)
+    u64::from(m.ticks[0]) + u64::from(time) <= u64::from(clock)
 }
 
 // ---- the numbers behind the rows
 
-// The earlier of two, of which the second is 0 where there is none.
-fn earlier(a: u32, b: u32) -> u32
-    ensures { result ≡ earlier a b }
-{
-    if b == 0 {
-        return a;
-    }
-    if a < b {
-        return a;
-    }
-    b
-}
-
 // One more than the earliest last eligibility of those that are closed, 0 where none is: the second of the two numbers behind the rows.
+// kept: 0 for none is the layout of the table, and service, calls and sound rely on the contract of first_charge.
 pub fn first_charge(members: &[u32]) -> u32
     requires { length members.now ≡ members_length }
     ensures { result ≡ first_in members.now }
@@ -61,33 +46,44 @@ pub fn first_charge(members: &[u32]) -> u32
     members[MEMBER_ROWS + 1]
 }
 
-// The earliest last eligibility, and one more, with that of a row taken in: it counts where it is marked.
-fn first_with(mark: u32, last: u32, first: u32) -> u32
-    requires { (mark ≡ 0 → ⊥) → last + 1 < beyond_32_bits }
-    ensures { result ≡ cond (eqb mark 0) first (earlier (suc last) first) }
+// The same as an eligibility, where there is one.
+fn first_charged(members: &[u32]) -> Option<u32>
+    requires { length members.now ≡ members_length }
+    ensures { result ≡ one_less (first_in members.now) }
 {
-    if mark == 0 {
-        return first;
-    }
-    earlier(last + 1, first)
+    first_charge(members).checked_sub(1)
 }
 
-// One more than the earliest last eligibility of those that are closed; all of them stand before row n.
-fn first_of(members: &[u32], n: usize) -> u32
-    requires { (rows_formed members.now ≡ true) × ClosedInOrder members.now × (used_by (connections_in members.now) ≤ n) × (n ≤ max_connections) }
-    ensures { result ≡ first_closed (pasts_in members.now) (closed_in members.now) }
+// The earlier of an eligibility and the first of others, where there are any.
+fn earlier(last: u32, first: Option<u32>) -> u32
+    ensures { result ≡ earlier (last + 1) (one_more first) - 1 }
 {
-    let mut first: u32 = 0;
-    let mut k = n;
-    while 0 < k {
-        k -= 1;
-        first = first_with(
-            number(members, k, MARK),
-            number(members, k, MEMBER_HEAD),
-            first,
-        );
+    first.map_or(last, |e| e.min(last))
+}
+
+// The earliest last eligibility of those that are closed, where any is; all of them stand before row n.
+pub fn earliest_closed(members: &[u32], n: usize) -> Option<u32>
+    requires { (rows_formed members.now ≡ true) × ((c : ℕ) → n ≤ c → get_or (closed_in members.now) c false ≡ false) × (n ≤ max_connections) }
+    ensures { result ≡ one_less (first_closed (pasts_in members.now) (closed_in members.now)) }
+{
+    let mut first = None;
+    for k in (0..n).rev() {
+        if number(members, k, MARK) != 0 {
+            first = Some(earlier(number(members, k, MEMBER_HEAD), first));
+        }
     }
     first
+}
+
+// The number behind the rows that stands for it.
+fn number_for(first: Option<u32>) -> u32
+    requires { one_more first < beyond_32_bits }
+    ensures { result ≡ one_more first }
+{
+    match first {
+        None => 0,
+        Some(e) => e + 1,
+    }
 }
 
 // How many rows there are up to the last owner's, n at most.
@@ -95,12 +91,10 @@ pub fn owners_up_to(members: &[u32], n: usize) -> usize
     requires { (length members.now ≡ members_length) × (used_by (connections_in members.now) ≤ n) × (n ≤ max_connections) }
     ensures { result ≡ used_by (connections_in members.now) }
 {
-    let mut k = n;
-    while 0 < k {
-        if number(members, k - 1, 0) != 0 {
-            return k;
+    for k in (0..n).rev() {
+        if number(members, k, 0) != 0 {
+            return k + 1;
         }
-        k -= 1;
     }
     0
 }
@@ -113,21 +107,9 @@ pub fn mark_closed(members: &mut [u32], c: usize)
     ensures { members.new ≡ written_members (connections_in members.old) (pasts_in members.old) (set (closed_in members.old) c true) }
 {
     let last = number(members, c, MEMBER_HEAD);
-    let first = earlier(last + 1, first_charge(members));
+    let first = earlier(last, first_charged(members));
     members[MEMBER_WIDTH * c + MARK] = 1;
-    members[MEMBER_ROWS + 1] = first;
-}
-
-// A row of zeros.
-fn no_member() -> Member
-    ensures { result ≡ no_member }
-{
-    Member {
-        figures: no_figures(),
-        mark: 0,
-        known: 0,
-        ticks: [0u32; MAX_REMEMBERED],
-    }
+    members[MEMBER_ROWS + 1] = first + 1;
 }
 
 // Number c, whose owner is not closed, is freed.
@@ -136,7 +118,7 @@ pub fn free_member(members: &mut [u32], c: usize)
     ensures { members.new ≡ written_members (set (connections_in members.old) c no_connection) (set (pasts_in members.old) c no_past) (closed_in members.old) }
 {
     let n = used(members);
-    put_member(members, c, no_member());
+    put_member(members, c, Member::default());
     let left = owners_up_to(members, n);
     members[MEMBER_ROWS] = left as u32;
 }
@@ -152,7 +134,7 @@ fn clear_ended(members: &mut [u32], i: usize, time: u32, clock: u32)
         return;
     }
     if charge_over(member_at(members, i), time, clock) {
-        put_member(members, i, no_member());
+        put_member(members, i, Member::default());
     }
 }
 
@@ -161,10 +143,8 @@ fn clear_each(members: &mut [u32], n: usize, time: u32, clock: u32)
     requires { (rows_formed members.old ≡ true) × ClosedInOrder members.old × (used_by (connections_in members.old) ≤ n) × (n ≤ max_connections) }
     ensures { members.new ≡ written_rows (map (freed time clock) (members_in members.old)) (used_in members.old) (first_in members.old) }
 {
-    let mut i: usize = 0;
-    while i < n {
+    for i in 0..n {
         clear_ended(members, i, time, clock);
-        i += 1;
     }
 }
 
@@ -174,7 +154,7 @@ fn sum_up(members: &mut [u32], n: usize)
     ensures { members.new ≡ written_members (connections_in members.old) (pasts_in members.old) (closed_in members.old) }
 {
     let owners = owners_up_to(members, n);
-    let earliest = first_of(members, owners);
+    let earliest = number_for(earliest_closed(members, owners));
     members[MEMBER_ROWS] = owners as u32;
     members[MEMBER_ROWS + 1] = earliest;
 }
@@ -194,11 +174,10 @@ pub fn sweep(members: &mut [u32], time: u32, clock: u32)
     requires { (members_formed members.old ≡ true) × ClosedInOrder members.old }
     ensures { Swept members.old time clock members.new }
 {
-    let first = first_charge(members);
-    if first == 0 {
+    let Some(first) = first_charged(members) else {
         return;
-    }
-    if wide(clock) + 1 < wide(first) + wide(time) {
+    };
+    if u64::from(clock) < u64::from(first) + u64::from(time) {
         return;
     }
     free_ended(members, time, clock);

@@ -5,6 +5,7 @@ pub mod closing; // closing.rt: connections that are closed, and numbers that ar
 pub mod regulator; // regulator.rt: the next eligibility of a connection, and what it remembers
 pub mod stand_by; // stand_by.rt: packets that may go before they are eligible, and how far past the clock that may lie
 pub mod stamps; // stamps.rt: offers that bring a stamp, and connections that want one
+mod tested; // tested.rt: what a level test is made on, and the level test
 mod windows; // windows.rt: the level test of a link with windows
 
 ghost use Rattle.std.specs.Prelude.{◌≡◌, true, false, not, ◌&&◌, List, ℕ, ◌+◌, ◌*◌, ◌-◌, ◌/◌, ◌<◌, ◌≤◌, min, max, length, get_or, set, drop, replicate};
@@ -22,9 +23,10 @@ ghost use Rattle.connections.specs.Within.{Within, SumsWith, Added, Loads, bound
 
 use limits::{MAX_CONNECTIONS, MAX_LEVELS, MAX_REMEMBERED, MEMBER_HEAD, MEMBER_ROWS, MEMBER_WIDTH};
 use rules::{Connection, Link, Short};
+use tested::Tested;
 
 // A row of the table: a connection's figures, a mark where it is closed, how many eligibilities of its accepted packets are remembered, and these, newest first.
-#[derive(Clone, Copy)]
+#[derive(Clone, Copy, Default)]
 pub struct Member {
     pub figures: Connection,
     pub mark: u32,
@@ -38,6 +40,7 @@ pub const MARK: usize = 7;
 pub(crate) const KNOWN: usize = 8;
 
 // Number k of row i.
+// kept: the slice and the clause on its length of number, member_at, is_free, used, free_number, figures_of, stands, level_of and connection_at, which other crates call, ask what they asked.
 pub fn number(members: &[u32], i: usize, k: usize) -> u32
     requires { (member_width * i + member_width ≤ length members.now) × (k < member_width) }
     ensures { result ≡ get_or (row_in member_width members.now i) k 0 }
@@ -53,7 +56,7 @@ fn ticks_at(members: &[u32], i: usize) -> [u32; MAX_REMEMBERED]
     let end = MEMBER_WIDTH * i + MEMBER_WIDTH;
     let at = MEMBER_WIDTH * i + MEMBER_HEAD;
     let mut ticks = [0u32; MAX_REMEMBERED];
-    tables::copy(&mut ticks, 0, &members[at..end]);
+    ticks.copy_from_slice(&members[at..end]);
     ticks
 }
 
@@ -92,13 +95,16 @@ fn put_figures(members: &mut [u32], i: usize, x: Connection)
     ensures { members.new ≡ sets members.old (member_width * i) (figures_row x) }
 {
     let at = MEMBER_WIDTH * i;
-    members[at] = x.level;
-    members[at + 1] = x.size;
-    members[at + 2] = x.gap;
-    members[at + 3] = x.window;
-    members[at + 4] = x.average;
-    members[at + 5] = x.kind;
-    members[at + 6] = x.allowance;
+    let row = [
+        x.level,
+        x.size,
+        x.gap,
+        x.window,
+        x.average,
+        x.kind,
+        x.allowance,
+    ];
+    members[at..at + MARK].copy_from_slice(&row);
 }
 
 // Row i becomes m.
@@ -110,8 +116,7 @@ fn put_member(members: &mut [u32], i: usize, m: Member)
     put_figures(members, i, m.figures);
     members[at + MARK] = m.mark;
     members[at + KNOWN] = m.known;
-    let ticks = m.ticks;
-    tables::copy(members, at + MEMBER_HEAD, &ticks);
+    members[at + MEMBER_HEAD..at + MEMBER_WIDTH].copy_from_slice(&m.ticks);
 }
 
 // Row i is free: all its numbers are 0.
@@ -137,14 +142,7 @@ pub fn free_number(members: &[u32], n: usize) -> usize
     requires { (length members.now ≡ members_length) × (n ≡ used_by (connections_in members.now)) }
     ensures { result ≡ free_number (connections_in members.now) }
 {
-    let mut i: usize = 0;
-    while i < n {
-        if number(members, i, 0) == 0 {
-            return i;
-        }
-        i += 1;
-    }
-    n
+    (0..n).find(|i| number(members, *i, 0) == 0).unwrap_or(n)
 }
 
 // Row c has an owner: the first of the two numbers behind the rows, raised where it is less.
@@ -152,11 +150,7 @@ fn use_up_to(members: &mut [u32], c: usize)
     requires { (length members.old ≡ members_length) × (c < max_connections) }
     ensures { members.new ≡ set members.old rows_end (max (used_in members.old) (c + 1)) }
 {
-    let n = used(members);
-    if c < n {
-        return;
-    }
-    members[MEMBER_ROWS] = c as u32 + 1;
+    members[MEMBER_ROWS] = members[MEMBER_ROWS].max(c as u32 + 1);
 }
 
 // A connection that was just admitted, at the lowest free number c, of which nothing is left.
@@ -170,27 +164,10 @@ pub fn add_member(members: &mut [u32], c: usize, x: Connection)
         c,
         Member {
             figures: x,
-            mark: 0,
-            known: 0,
-            ticks: [0u32; MAX_REMEMBERED],
+            ..Member::default()
         },
     );
     use_up_to(members, c);
-}
-
-// The figures of a free number: zeros.
-pub(crate) fn no_figures() -> Connection
-    ensures { result ≡ no_connection }
-{
-    Connection {
-        level: 0,
-        gap: 0,
-        size: 0,
-        window: 0,
-        average: 0,
-        kind: 0,
-        allowance: 0,
-    }
 }
 
 // The figures of number c; zeros where it has no owner.
@@ -202,7 +179,7 @@ pub fn figures_of(members: &[u32], c: u32) -> Connection
     if k < MAX_CONNECTIONS {
         return figures_at(members, k);
     }
-    no_figures()
+    Connection::default()
 }
 
 // Number c stands: it has an owner that is not closed.
@@ -250,7 +227,7 @@ pub fn forget(members: &mut [u32], c: usize, n: u32)
 pub(crate) fn wide(x: u32) -> u64
     ensures { (result ≡ x) × (result < beyond_32_bits) }
 {
-    x as u64
+    u64::from(x)
 }
 
 // Of a link's bounds that of a level; 0 where there is none.
@@ -272,8 +249,7 @@ pub(crate) fn bound_in(bounds: &[u32], level: u32) -> u32
 pub fn bound_of(l: Link, level: u32) -> u32
     ensures { result ≡ bound l level }
 {
-    let bounds = l.bounds;
-    bound_in(&bounds, level)
+    bound_in(&l.bounds, level)
 }
 
 // w / x, rounded up.
@@ -281,30 +257,14 @@ fn quotient_up(w: u32, x: u32) -> u64
     requires { 1 ≤ x }
     ensures { (result ≡ rounded_up w x) × (result ≤ w) }
 {
-    let whole = wide(w / x);
-    if w % x == 0 {
-        return whole;
-    }
-    whole + 1
-}
-
-fn least(a: u64, b: u64) -> u64
-    ensures { result ≡ min a b }
-{
-    if a < b {
-        return a;
-    }
-    b
+    u64::from(w.div_ceil(x))
 }
 
 // The packets that an averaging window may hold; 0 where there is no average.
 pub fn packets_in(window: u32, average: u32) -> u32
     ensures { result ≡ window / average }
 {
-    if average == 0 {
-        return 0;
-    }
-    window / average
+    window.checked_div(average).unwrap_or(0)
 }
 
 // What the average allows within w ticks: n for each whole window, and for the rest n at most.
@@ -312,8 +272,8 @@ fn average_in(x: Connection, n: u32, w: u32) -> u64
     requires { (1 ≤ x.gap) × (n ≡ burst x) × (1 ≤ n) }
     ensures { result ≡ average_count x w }
 {
-    let rest = least(wide(n), quotient_up(w % x.window, x.gap));
-    wide(w / x.window) * wide(n) + rest
+    let rest = u64::from(n).min(quotient_up(w % x.window, x.gap));
+    u64::from(w / x.window) * u64::from(n) + rest
 }
 
 // How many packets may be eligible within w ticks: w / gap, rounded up, or what the average allows where that is less.
@@ -326,7 +286,7 @@ pub fn count_in(x: Connection, w: u32) -> u64
     if n == 0 {
         return most;
     }
-    least(most, average_in(x, n, w))
+    most.min(average_in(x, n, w))
 }
 
 // The places reserved for a connection of a link with these bounds; none for a free number, which has no gap.
@@ -346,8 +306,7 @@ pub fn reserve(l: Link, x: Connection) -> u64
     requires { (x.level ≡ 0 → x ≡ no_connection) × ((x.level ≡ 0 → ⊥) → 1 ≤ x.gap) × (x.allowance + bound l x.level < beyond_32_bits) }
     ensures { (result ≡ reservation l x) × (result < beyond_32_bits) }
 {
-    let bounds = l.bounds;
-    reserve_in(&bounds, x)
+    reserve_in(&l.bounds, x)
 }
 
 // What a packet costs the line, in ticks: a tick for each unit, and then the silence.
@@ -355,7 +314,7 @@ pub(crate) fn cost_of(len: u32, silence: u32) -> u64
     requires { (len ≤ max_largest) × (silence ≤ max_silence) }
     ensures { (result ≡ len + silence) × (result ≤ max_largest + max_silence) }
 {
-    wide(len) + wide(silence)
+    u64::from(len) + u64::from(silence)
 }
 
 // What a connection adds to a sum of level m, counted within w; a free number nothing.
@@ -380,105 +339,26 @@ pub fn connection_at(members: &[u32], i: usize) -> Connection
     figures_at(members, i)
 }
 
-// The larger of two places.
-fn larger(i: usize, k: usize) -> usize
-    ensures { result ≡ max i k }
-{
-    if i < k {
-        return k;
-    }
-    i
-}
-
-// To the sum of each level from place `low` and from its own level on the share of a connection; a free number, which has no gap, adds nothing.
-fn add_shares(l: Link, bounds: &[u32], x: Connection, low: usize, sums: &mut [u64])
-    requires x_value { (x.level ≡ 0 → x ≡ no_connection) × ((x.level ≡ 0 → ⊥) → 1 ≤ x.gap) × (x.size ≤ max_largest) × (link_within l ≡ true) × (bounds.now ≡ l.bounds) × (length bounds.now ≡ max_levels) }
-    requires sums_len { (length sums.old ≡ max_levels) × ((k : ℕ) → low ≤ k → k < l.levels → get_or sums.old k 0 ≤ max_connections * most_share) }
-    ensures { Added l low x sums.old sums.new }
-{
-    if x.gap == 0 {
-        return;
-    }
-    let cost = cost_of(x.size, l.silence);
-    let levels = l.levels as usize;
-    let mut k = larger(low, (x.level - 1) as usize);
-    while k < levels {
-        sums[k] = sums[k] + count_in(x, bounds[k]) * cost;
-        k += 1;
-    }
-}
-
-// To the sum of each level from place `low` on, none so far, the shares of the connections, which have owners up to row n at most.
-fn add_all(l: Link, bounds: &[u32], members: &[u32], n: usize, low: usize, sums: &mut [u64])
-    requires { (length members.now ≡ members_length) × (used_by (connections_in members.now) ≤ n) × (n ≤ max_connections) × Within l (connections_in members.now) × (bounds.now ≡ l.bounds) × (length bounds.now ≡ max_levels) × (sums.old ≡ replicate max_levels 0) }
-    ensures { Loads l low (connections_in members.now) sums.new }
-{
-    let mut c: usize = 0;
-    while c < n {
-        let x = connection_at(members, c);
-        add_shares(l, bounds, x, low, sums);
-        c += 1;
-    }
-}
-
-// The sum of level m with a newcomer counted, from the sums without it.
-fn sum_at(l: Link, sums: &[u64], x: Connection, m: u32) -> u64
-    requires { (length sums.now ≡ max_levels) × (get_or sums.now (m - 1) 0 ≤ max_connections * most_share) × (1 ≤ m) × (m ≤ l.levels) × (1 ≤ x.level) × (1 ≤ x.gap) × (x.size ≤ max_largest) × (link_within l ≡ true) }
-    ensures { result ≡ get_or sums.now (m - 1) 0 + share_of l m (bound l m) x + cost l l.largest }
-{
-    let d = bound_of(l, m);
-    let k = (m - 1) as usize;
-    sums[k] + share(l, x, m, d) + cost_of(l.largest, l.silence)
-}
-
 // No level is short.
 pub fn no_short() -> Short
     ensures { result ≡ no_short }
 {
-    Short { level: 0, units: 0 }
-}
-
-// The level test from level `low` on, over the connections, which have owners up to row n at most, and a newcomer, on a link without windows.
-fn bounds_from(l: Link, members: &[u32], n: usize, x: Connection, low: u32) -> Short
-    requires { (length members.now ≡ members_length) × (used_by (connections_in members.now) ≤ n) × (n ≤ max_connections) × (1 ≤ x.level) × (1 ≤ x.gap) × (x.size ≤ max_largest) × Within l (connections_in members.now) × (windowed l ≡ false) × (1 ≤ low) }
-    ensures { (js : List Figures) → SumsWith l (connections_in members.now) x js → result ≡ short_from l js low (l.levels + 1 - low) }
-{
-    let place = (low - 1) as usize;
-    let bounds = l.bounds;
-    let mut sums = [0u64; MAX_LEVELS as usize];
-    add_all(l, &bounds, members, n, place, &mut sums);
-    let mut m = low;
-    while m <= l.levels {
-        let d = bound_of(l, m);
-        let sum = sum_at(l, &sums, x, m);
-        if wide(d) < sum {
-            return Short {
-                level: m,
-                units: sum - wide(d),
-            };
-        }
-        m += 1;
-    }
-    Short { level: 0, units: 0 }
-}
-
-// The level test from level `low` on, with windows or without.
-fn test_from(l: Link, members: &[u32], n: usize, x: Connection, low: u32) -> Short
-    requires { (length members.now ≡ members_length) × (used_by (connections_in members.now) ≤ n) × (n ≤ max_connections) × (1 ≤ x.level) × (1 ≤ x.gap) × (x.size ≤ max_largest) × Within l (connections_in members.now) × (1 ≤ low) }
-    ensures { (js : List Figures) → SumsWith l (connections_in members.now) x js → result ≡ short_from l js low (l.levels + 1 - low) }
-{
-    if windows::has_windows(l) {
-        return windows::finer_from(l, members, n, x, low);
-    }
-    bounds_from(l, members, n, x, low)
+    Short::default()
 }
 
 // The level test over the connections, which have owners up to row n at most, and a newcomer: that of any connections whose sums are these.
+// kept: the parameters and clauses of level_test, newcomer_test, standing_test and reserved_by, which other crates call, ask what they asked.
 pub fn level_test(l: Link, members: &[u32], n: usize, x: Connection) -> Short
     requires { (length members.now ≡ members_length) × (used_by (connections_in members.now) ≤ n) × (n ≤ max_connections) × (1 ≤ x.level) × (1 ≤ x.gap) × (x.size ≤ max_largest) × Within l (connections_in members.now) }
     ensures { (js : List Figures) → SumsWith l (connections_in members.now) x js → result ≡ level_test l js }
 {
-    test_from(l, members, n, x, 1)
+    let tested = Tested {
+        link: l,
+        members,
+        n,
+        newcomer: x,
+    };
+    tested.test_from(1)
 }
 
 // The same, where the connections pass the test without the newcomer: it adds nothing to the sums of the levels below its own, so that these are not made.
@@ -486,7 +366,13 @@ pub fn newcomer_test(l: Link, members: &[u32], n: usize, x: Connection) -> Short
     requires { (length members.now ≡ members_length) × (used_by (connections_in members.now) ≤ n) × (n ≤ max_connections) × (1 ≤ x.level) × (1 ≤ x.gap) × (x.size ≤ max_largest) × Within l (connections_in members.now) × (passes l (connections_in members.now) ≡ true) }
     ensures { (js : List Figures) → SumsWith l (connections_in members.now) x js → result ≡ level_test l js }
 {
-    test_from(l, members, n, x, x.level)
+    let tested = Tested {
+        link: l,
+        members,
+        n,
+        newcomer: x,
+    };
+    tested.test_from(x.level)
 }
 
 // The level test over the connections, which have owners up to row n at most. Nobody new is counted: a connection of a level above all others adds to no sum.
@@ -497,11 +383,7 @@ pub fn standing_test(l: Link, members: &[u32], n: usize) -> Short
     let nobody = Connection {
         level: l.levels + 1,
         gap: 1,
-        size: 0,
-        window: 0,
-        average: 0,
-        kind: 0,
-        allowance: 0,
+        ..Connection::default()
     };
     level_test(l, members, n, nobody)
 }
@@ -511,13 +393,9 @@ pub fn reserved_by(l: Link, members: &[u32], n: usize) -> u64
     requires { (length members.now ≡ members_length) × (used_by (connections_in members.now) ≤ n) × (n ≤ max_connections) × Within l (connections_in members.now) }
     ensures { (result ≡ reserved l (connections_in members.now)) × (result ≤ max_connections * beyond_32_bits) }
 {
-    let bounds = l.bounds;
     let mut sum: u64 = 0;
-    let mut i: usize = 0;
-    while i < n {
-        let x = connection_at(members, i);
-        sum += reserve_in(&bounds, x);
-        i += 1;
+    for i in 0..n {
+        sum += reserve_in(&l.bounds, connection_at(members, i));
     }
     sum
 }

@@ -8,27 +8,18 @@ ghost use Rattle.connections.specs.Members.{member_formed};
 ghost use Rattle.connections.specs.Rows.{connection_of, past_of, closed_of, member};
 ghost use Rattle.connections.specs.Within.{gap_only, last_only};
 
-use super::{Member, packets_in, wide};
+use super::{Member, packets_in};
 use limits::MAX_REMEMBERED;
 
-// The greater of two.
-pub fn greatest(a: u64, b: u64) -> u64
-    ensures { result ≡ max a b }
-{
-    if a < b {
-        return b;
-    }
-    a
-}
-
 // The next eligibility by the gap alone: on arrival where no packet was accepted (flag 0), else the greater of now and the last one plus the gap.
+// kept: the C interface: the flag and the number come as C hands them to mtredovim_next_eligibility.
 pub fn gap_eligibility(flag: u32, last: u32, gap: u32, now: u32) -> u64
     ensures { result ≡ next_eligibility (gap_only gap) (last_only flag last) now }
 {
     if flag == 0 {
-        return wide(now);
+        return u64::from(now);
     }
-    greatest(wide(now), wide(last) + wide(gap))
+    u64::from(now).max(u64::from(last) + u64::from(gap))
 }
 
 // x ticks after the n-th eligibility before, n from 1, once the newest k are forgotten; 0 where there is none.
@@ -43,7 +34,7 @@ pub fn after_nth(m: Member, k: u32, n: u32, x: u32) -> u64
         return 0;
     }
     let i = (k + n - 1) as usize;
-    wide(m.ticks[i]) + wide(x)
+    u64::from(m.ticks[i]) + u64::from(x)
 }
 
 // The k-th newest of those remembered, k from 0.
@@ -61,10 +52,7 @@ pub fn earliest_behind(m: Member, k: u32) -> u64
     ensures { result ≡ earliest (connection_of m) (drop k (past_of m)) }
 {
     let n = packets_in(m.figures.window, m.figures.average);
-    greatest(
-        after_nth(m, k, 1, m.figures.gap),
-        after_nth(m, k, n, m.figures.window),
-    )
+    after_nth(m, k, 1, m.figures.gap).max(after_nth(m, k, n, m.figures.window))
 }
 
 // The next eligibility of a connection.
@@ -72,18 +60,7 @@ pub fn next_eligibility(m: Member, now: u32) -> u64
     requires { (m.known ≤ max_remembered) × (burst (connection_of m) ≤ max_remembered) }
     ensures { result ≡ next_eligibility (connection_of m) (past_of m) now }
 {
-    greatest(wide(now), earliest_behind(m, 0))
-}
-
-// How many are remembered with one more.
-fn one_more(known: u32) -> u32
-    requires { known ≤ max_remembered }
-    ensures { result ≡ min max_remembered (known + 1) }
-{
-    if known < MAX_REMEMBERED as u32 {
-        return known + 1;
-    }
-    known
+    u64::from(now).max(earliest_behind(m, 0))
 }
 
 // The same connection once a packet is accepted with the eligibility e: it comes first, and of the others the last is forgotten where there is no room.
@@ -91,16 +68,13 @@ pub(crate) fn remembering(m: Member, e: u32) -> Member
     requires { member_formed m ≡ true }
     ensures { result ≡ member (connection_of m) (remember (past_of m) e) (closed_of m) }
 {
-    let figures = m.figures;
-    let old = m.ticks;
-    let mut ticks = [0u32; MAX_REMEMBERED];
+    let mut ticks = m.ticks;
+    ticks.rotate_right(1);
     ticks[0] = e;
-    tables::copy(&mut ticks, 1, &old[0..MAX_REMEMBERED - 1]);
     Member {
-        figures: figures,
-        mark: m.mark,
-        known: one_more(m.known),
-        ticks: ticks,
+        known: (m.known + 1).min(MAX_REMEMBERED as u32),
+        ticks,
+        ..m
     }
 }
 
@@ -109,23 +83,19 @@ pub(crate) fn forgetting(m: Member, n: u32) -> Member
     requires { member_formed m ≡ true }
     ensures { result ≡ member (connection_of m) (drop n (past_of m)) (closed_of m) }
 {
-    let figures = m.figures;
+    let mut ticks = [0u32; MAX_REMEMBERED];
     if m.known <= n {
         return Member {
-            figures: figures,
-            mark: m.mark,
             known: 0,
-            ticks: [0u32; MAX_REMEMBERED],
+            ticks,
+            ..m
         };
     }
-    let old = m.ticks;
     let from = n as usize;
-    let mut ticks = [0u32; MAX_REMEMBERED];
-    tables::copy(&mut ticks, 0, &old[from..MAX_REMEMBERED]);
+    ticks[..MAX_REMEMBERED - from].copy_from_slice(&m.ticks[from..]);
     Member {
-        figures: figures,
-        mark: m.mark,
         known: m.known - n,
-        ticks: ticks,
+        ticks,
+        ..m
     }
 }

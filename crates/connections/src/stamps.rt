@@ -4,7 +4,7 @@ ghost use Rattle.rules.specs.Limits.{max_remembered};
 ghost use Rattle.rules.specs.Admission.{burst, stamped};
 ghost use Rattle.rules.specs.Service.{suits, eligibility_by, untimely};
 ghost use Rattle.connections.specs.Rows.{connection_of, past_of};
-ghost use Rattle.connections.specs.Stamps.{stamp_if};
+ghost use Rattle.tables.specs.Options.{option_in};
 
 use super::regulator::{after_nth, next_eligibility};
 use super::{Member, wide};
@@ -21,13 +21,13 @@ pub fn is_stamped(x: Connection) -> bool
 }
 
 // An offer suits a connection: it brings a stamp exactly where the connection is regulated by stamps.
-pub fn suits(x: Connection, brings: bool, stamp: u32) -> bool
-    ensures { result ≡ suits x (stamp_if brings stamp) }
+pub fn suits(x: Connection, stamp: Option<u32>) -> bool
+    ensures { result ≡ suits x (option_in stamp) }
 {
-    if brings {
-        return is_stamped(x);
+    match stamp {
+        Some(_) => is_stamped(x),
+        None => !is_stamped(x),
     }
-    !is_stamped(x)
 }
 
 // The eligibility that a stamp gives.
@@ -53,12 +53,12 @@ pub fn untimely(m: Member, now: u32, stamp: u32) -> bool
 }
 
 // The eligibility of an offer: a stamp's, where it brings one, else the connection's next.
-pub fn eligibility_by(m: Member, now: u32, brings: bool, stamp: u32) -> u64
+pub fn eligibility_by(m: Member, now: u32, stamp: Option<u32>) -> u64
     requires { (m.known ≤ max_remembered) × (burst (connection_of m) ≤ max_remembered) }
-    ensures { result ≡ eligibility_by (connection_of m) (past_of m) now (stamp_if brings stamp) }
+    ensures { result ≡ eligibility_by (connection_of m) (past_of m) now (option_in stamp) }
 {
-    if brings {
-        return behind_stamp(m.figures, stamp);
+    match stamp {
+        Some(at) => behind_stamp(m.figures, at),
+        None => next_eligibility(m, now),
     }
-    next_eligibility(m, now)
 }

@@ -8,7 +8,7 @@ ghost use Rattle.connections.specs.Rows.{connection_of, past_of};
 
 use super::regulator::after_nth;
 use super::stamps::is_stamped;
-use super::{Member, packets_in, reserve, wide};
+use super::{Member, packets_in, reserve};
 use limits::STAND_BY_ON;
 use rules::{Connection, Link};
 
@@ -31,7 +31,7 @@ pub fn distance(l: Link, x: Connection) -> u64
     requires { (x.level ≡ 0 → x ≡ no_connection) × ((x.level ≡ 0 → ⊥) → 1 ≤ x.gap) × (x.allowance + bound l x.level < beyond_32_bits) }
     ensures { result ≡ distance l x }
 {
-    reserve(l, x) * wide(x.gap)
+    reserve(l, x) * u64::from(x.gap)
 }
 
 // What is remembered settles the next eligibility beyond the clock: with an average the n-th before is known, without one the newest lies beyond the clock too.
@@ -41,7 +41,7 @@ pub fn settles(m: Member, now: u32) -> bool
 {
     let n = packets_in(m.figures.window, m.figures.average);
     if n == 0 {
-        return wide(now) < after_nth(m, 0, 1, 0);
+        return u64::from(now) < after_nth(m, 0, 1, 0);
     }
     n <= m.known
 }

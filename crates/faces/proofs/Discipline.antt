@@ -1,8 +1,10 @@
 -- What the proofs ask of a discipline: its rules, its code's contract, the tie of the two, and the laws of these.
 use Prim.Native.Nat.{ℕ}
 use mathlib.Core.Path.{◌≡◌}
-use mathlib.Core.Bool.{Bool, true, false, cond}
-use mathlib.Core.Option.{none, some}
+use mathlib.Core.Bool.{Bool, true}
+use mathlib.Core.Option.{none}
+use Rattle.std.specs.Prelude.{Option, None}
+use Rattle.tables.specs.Options.{option_in}
 use Rattle.rules.specs.declared.Packet.{Packet}
 use Rattle.rules.specs.declared.Short.{Short}
 use Rattle.rules.specs.Model.{Outcome}
@@ -22,8 +24,7 @@ pub record Discipline : Type 1 where
   pub verdict : Told → ℕ
   pub number : Told → ℕ
   pub short : Told → Short
-  pub gone : Told → Bool
-  pub packet : Told → Packet
+  pub departed : Told → Option Packet
   pub kept : Told → Kept
   -- the tie
   pub view : Kept → Tables → State
@@ -42,10 +43,10 @@ pub record Discipline : Type 1 where
       → (verdict (told_of a) ≡ a.verdict)
       × (number (told_of a) ≡ a.number)
       × (short (told_of a) ≡ a.short)
-      × (cond (gone (told_of a)) (some (packet (told_of a))) none ≡ a.departed)
+      × (option_in (departed (told_of a)) ≡ a.departed)
   pub kept_told : (a : Outcome State) → kept (told_of a) ≡ kept_of a.next
   pub kept_back : (h : Kept) (t : Tables) → h ≡ kept_of (view h t)
-  pub refused_as : (h : Kept) (v n : ℕ) → (verdict (refusal h v n) ≡ v) × (kept (refusal h v n) ≡ h) × (number (refusal h v n) ≡ n) × (gone (refusal h v n) ≡ false)
+  pub refused_as : (h : Kept) (v n : ℕ) → (verdict (refusal h v n) ≡ v) × (kept (refusal h v n) ≡ h) × (number (refusal h v n) ≡ n) × (departed (refusal h v n) ≡ None)
   -- laws of the tie
   pub is_sound : (h : Kept) (t : Tables) → sound h t ≡ true → Sound (view h t)
   pub tables_kept : (h : Kept) (t : Tables) → sound h t ≡ true → t ≡ written (view h t)

@@ -1,23 +1,19 @@
 -- THE PROOF of specs/Promises: the fields of `KeepsToTheRules`, each under its name, for any discipline and its runs that have the laws.
 use mathlib.Core.Path.{◌≡◌, refl, sym, ap, ◌∙◌, subst}
-use mathlib.Core.Bool.{Bool, true, false, cond}
+use mathlib.Core.Bool.{Bool, true, false}
 use mathlib.Core.List.{List, [], ◌∷◌}
-use mathlib.Core.Option.{Option, none, some}
+use Rattle.std.specs.Prelude as code
 use Rattle.rules.specs.declared.Packet.{Packet}
 use Rattle.rules.specs.Model.{Outcome}
 use Rattle.rules.proofs.Sums.{cond_is}
 use Rattle.tables.specs.Calls.{calls_from}
 use Rattle.tables.specs.Lent.{Tables}
-use Rattle.tables.specs.Places.{is_some, packet_or_unused}
+use Rattle.tables.specs.Options.{option_in}
+pub use Rattle.tables.proofs.OptionLaws.{option_back}
 use Rattle.tables.proofs.CallLaws.{same_outcome}
 use Rattle.faces.specs.Promises as F
 use Rattle.faces.specs.Promises.{Account, KeepsToTheRules}
 use Rattle.faces.proofs.Discipline.{Discipline}
-
--- the packet that is told to leave, read as the rules have it
-pub departed_back : (o : Option Packet) → cond (is_some o) (some (packet_or_unused o)) none ≡ o
-departed_back none = refl
-departed_back (some p) = refl
 
 -- whatever a test says
 by_test : {P : Type 0} (b : Bool) → (b ≡ false → P) → (b ≡ true → P) → P
@@ -41,23 +37,23 @@ pub record Runs (D : Discipline) : Type 1 where
   pub zeros_written : zero_tables ≡ D.written (now start)
 
 module _ (D : Discipline) (R : Runs D) where
-  open D use {State, Call, Sound, answer, refused_number, Kept, Told, verdict, number, short, gone, packet, kept, view, kept_of, written, sound, told_of, refusal, tells, leaves, ruled, told_back, kept_told, kept_back, refused_as, is_sound, tables_kept, read_written, written_sound, next_sound, never_1, refuses}
+  open D use {State, Call, Sound, answer, refused_number, Kept, Told, verdict, number, short, departed, kept, view, kept_of, written, sound, told_of, refusal, tells, leaves, ruled, told_back, kept_told, kept_back, refused_as, is_sound, tables_kept, read_written, written_sound, next_sound, never_1, refuses}
   open R use {History, logged, now, run_from, start, run, zero_tables, run_none, run_more, run_is, now_logged, start_sound, zeros_written}
 
   abbrev fresh : Kept
   fresh = kept_of (now start)
 
   abbrev answer_read : Told → Tables → Outcome State
-  answer_read = F.answer_read Sound answer refused_number logged run now view kept_of written sound fresh zero_tables tells leaves told_of verdict number short gone packet kept
+  answer_read = F.answer_read Sound answer refused_number logged run now view kept_of written sound fresh zero_tables tells leaves told_of verdict number short departed kept
 
   abbrev says : Call → Kept → Tables → Outcome State
-  says = F.says Sound answer refused_number logged run now view kept_of written sound fresh zero_tables tells leaves told_of verdict number short gone packet kept
+  says = F.says Sound answer refused_number logged run now view kept_of written sound fresh zero_tables tells leaves told_of verdict number short departed kept
 
   abbrev call : Account History Kept → Call → Account History Kept
-  call = F.call Sound answer refused_number logged run now view kept_of written sound fresh zero_tables tells leaves told_of verdict number short gone packet kept
+  call = F.call Sound answer refused_number logged run now view kept_of written sound fresh zero_tables tells leaves told_of verdict number short departed kept
 
   abbrev calls : List Call → Account History Kept
-  calls = F.calls Sound answer refused_number logged run now view kept_of written sound fresh zero_tables tells leaves told_of verdict number short gone packet kept
+  calls = F.calls Sound answer refused_number logged run now view kept_of written sound fresh zero_tables tells leaves told_of verdict number short departed kept
 
   -- ---- one call
 
@@ -149,7 +145,7 @@ module _ (D : Discipline) (R : Runs D) where
   runs_sound : (ks : List Call) → Sound (now (run ks))
   runs_sound ks = subst (λ (x : History). Sound (now x)) (sym (run_is ks)) (sound_from ks start start_sound)
 
-  pub keeps_to_the_rules : KeepsToTheRules Sound answer refused_number logged run now view kept_of written sound fresh zero_tables tells leaves told_of verdict number short gone packet kept
+  pub keeps_to_the_rules : KeepsToTheRules Sound answer refused_number logged run now view kept_of written sound fresh zero_tables tells leaves told_of verdict number short departed kept
   keeps_to_the_rules = record {
     one_outcome = λ k h before told told' after after' D E. same_outcome tells leaves k h before told told' after after' D E;
     test_is_exact = λ h t. (
@@ -162,7 +158,7 @@ module _ (D : Discipline) (R : Runs D) where
         (λ e.
         let a = refused_told k h t e in
         let f = refused_as h 1 (refused_number k) in
-        (ap kept a ∙ f.1, refused_left k h t e, ap number a ∙ f.2, cond_is _ _ (ap gone a ∙ f.3)))
+        (ap kept a ∙ f.1, refused_left k h t e, ap number a ∙ f.2, ap (λ (x : code.Option Packet). option_in x) (ap departed a ∙ f.3)))
         (λ e.
         let a = says_as k h t e in
         let f = refuses k (view h t) (λ z. n (ap (λ (x : Outcome State). x.verdict) a ∙ z)) in (

@@ -1,10 +1,11 @@
 -- WHAT IS PROMISED OF THE PUBLIC FUNCTIONS, whatever the discipline: one record, whose fields are the promises. `hub` and `framed_hub` say it of theirs (specs/Promises.antt of each).
 -- Proved in proofs/Results.
-use Rattle.std.specs.Prelude.{ℕ, ◌≡◌, Bool, true, false, cond, ◌↔◌, List, []}
-use Rattle.std.proofs.Math.Option.{none, some}
+use Rattle.std.specs.Prelude.{ℕ, ◌≡◌, Bool, true, false, ◌↔◌, List, [], Option}
+use Rattle.std.proofs.Math.Option.{none}
 use Rattle.rules.specs.declared.Packet.{Packet}
 use Rattle.rules.specs.declared.Short.{Short}
 use Rattle.rules.specs.Model.{Outcome}
+use Rattle.tables.specs.Options.{option_in}
 use Rattle.tables.specs.Lent.{Tables}
 use Rattle.tables.specs.Calls.{DoesBy, calls_from}
 
@@ -21,10 +22,10 @@ module _ {Call Kept Told State History : Type 0} (Sound : State → Type 0) (ans
     (logged : History → Call → Outcome State → History) (run : List Call → History) (now : History → State)
     (view : Kept → Tables → State) (kept_of : State → Kept) (written : State → Tables) (sound : Kept → Tables → Bool) (fresh : Kept) (zero_tables : Tables)
     (tells : Call → Kept → Tables → Told) (leaves : Call → Kept → Tables → Tables) (told_of : Outcome State → Told)
-    (verdict number : Told → ℕ) (short : Told → Short) (gone : Told → Bool) (packet : Told → Packet) (kept : Told → Kept) where
+    (verdict number : Told → ℕ) (short : Told → Short) (departed : Told → Option Packet) (kept : Told → Kept) where
   -- the rules' answer, read off what a call told and the tables that it left
   abbrev pub answer_read : Told → Tables → Outcome State
-  answer_read told after = record { verdict = verdict told; number = number told; short = short told; departed = cond (gone told) (some (packet told)) none; next = view (kept told) after }
+  answer_read told after = record { verdict = verdict told; number = number told; short = short told; departed = option_in (departed told); next = view (kept told) after }
 
   -- .. of the call k, handed what is kept between the calls, h, and the tables t
   abbrev pub says : Call → Kept → Tables → Outcome State

@@ -1,8 +1,8 @@
 -- Reading and writing in any format: what one law says of every kind.
+use Rattle.std.specs.Prelude.{Option, Some, None}
 use mathlib.Core.Path.{◌≡◌, refl, sym, ap, ◌∙◌, fun_ext}
 use mathlib.Core.Bool.{Bool, true, false, cond, ◌&&◌}
 use mathlib.Core.List.{List, [], ◌∷◌, ◌++◌, append_assoc}
-use mathlib.Core.Option.{Option, some, none}
 use Prim.Native.Nat.{ℕ, ◌+◌, ◌<◌, ◌≤◌, ◌^◌}
 use native.Mathlib.Omega.{arith}
 use borrow.Author.Tests.{eqb-true, le-ltb, ltb-false}
@@ -28,15 +28,15 @@ length_bytes k xs = length-append k.mark (put_fields (k.widths (get_or xs 0 0)) 
 
 -- A record that is written has the bytes of its kind and its numbers; and one that has bytes has as many as its kind says.
 pub laid_is : {R : Type 0} (k : Kind R) (xs : List ℕ) → k.allows (get_or xs 0 0) ≡ true → none_lost (k.widths (get_or xs 0 0)) xs ≡ true
-    → laid (some (k, xs)) ≡ bytes k xs
+    → laid (Some (k, xs)) ≡ bytes k xs
 unfolding laid bytes
 laid_is k xs a n = rw (a, n)
 
-pub written_laid : {R : Type 0} (k : Kind R) (xs : List ℕ) → Written (some (k, xs)) → laid (some (k, xs)) ≡ bytes k xs
+pub written_laid : {R : Type 0} (k : Kind R) (xs : List ℕ) → Written (Some (k, xs)) → laid (Some (k, xs)) ≡ bytes k xs
 written_laid k xs w = laid_is k xs w.0 (fits_none_lost (k.widths (get_or xs 0 0)) xs w.1)
 
-pub length_laid : {R : Type 0} (k : Kind R) (xs : List ℕ) → 0 < length (laid (some (k, xs)))
-    → length (laid (some (k, xs))) ≡ length k.mark + sum (k.widths (get_or xs 0 0))
+pub length_laid : {R : Type 0} (k : Kind R) (xs : List ℕ) → 0 < length (laid (Some (k, xs)))
+    → length (laid (Some (k, xs))) ≡ length k.mark + sum (k.widths (get_or xs 0 0))
 unfolding laid bytes
 length_laid k xs = go (k.allows (get_or xs 0 0) && none_lost (k.widths (get_or xs 0 0)) xs)
   where
@@ -65,18 +65,18 @@ starts_take (a ∷ b ∷ []) bs l h =
     heads (x ∷ []) e f p q = absurd (omega arith)
     heads (x ∷ y ∷ bs) e f p q = rw (e, f)
 
-pub some_same : {A : Type 0} {x y : A} → some x ≡ some y → x ≡ y
+pub some_same : {A : Type 0} {x y : A} → Some x ≡ Some y → x ≡ y
 some_same h = cc
 
 -- What is whole has all its bytes.
-pub of_whole : {R : Type 0} (n : ℕ) (x r : R) (m : ℕ) (bs : List ℕ) → whole n x bs ≡ some (r, m) → (n ≤ length bs) × (x ≡ r) × (n ≡ m)
+pub of_whole : {R : Type 0} (n : ℕ) (x r : R) (m : ℕ) (bs : List ℕ) → whole n x bs ≡ Some (r, m) → (n ≤ length bs) × (x ≡ r) × (n ≡ m)
 of_whole {R} n x r m bs = go (ltb (length bs) n) refl
   where
-    go : (t : Bool) → ltb (length bs) n ≡ t → cond {A = Option (R × ℕ)} t none (some (x, n)) ≡ some (r, m) → (n ≤ length bs) × (x ≡ r) × (n ≡ m)
+    go : (t : Bool) → ltb (length bs) n ≡ t → cond {A = Option (R × ℕ)} t None (Some (x, n)) ≡ Some (r, m) → (n ≤ length bs) × (x ≡ r) × (n ≡ m)
     go true e h = let z : ◌≡◌ {A = ℕ} 0 1 = cc in absurd (omega arith)
     go false e h = (ltb-false (length bs) n e, ap (λ p. p.0) (some_same h), ap (λ p. p.1) (some_same h))
 
-pub whole_is : {R : Type 0} (n : ℕ) (r : R) (bs : List ℕ) → n ≤ length bs → whole n r bs ≡ some (r, n)
+pub whole_is : {R : Type 0} (n : ℕ) (r : R) (bs : List ℕ) → n ≤ length bs → whole n r bs ≡ Some (r, n)
 whole_is n r bs h = rw (le-ltb (length bs) n h)
 
 -- The fields behind a mark.
@@ -101,7 +101,7 @@ module _ {R : Type 0} (k : Kind R) where
   pub kind_back : (xs rest : List ℕ) (b : ℕ) → length k.mark ≡ 2 → ((i : ℕ) → get_or xs i 0 < 256 ^ get_or (k.widths (get_or xs 0 0)) i 0)
       → k.allows b ≡ true
       → k.widths b ≡ k.widths (get_or xs 0 0)
-      → read_kind k b (bytes k xs ++ rest) ≡ some (made_of k xs, length (bytes k xs))
+      → read_kind k b (bytes k xs ++ rest) ≡ Some (made_of k xs, length (bytes k xs))
   kind_back xs rest b two fit allowed same =
       let ws = k.widths (get_or xs 0 0) in
       let bs = bytes k xs ++ rest in
@@ -109,8 +109,8 @@ module _ {R : Type 0} (k : Kind R) where
       allowed_is b bs allowed
       ∙ ap (λ vs. whole (2 + sum vs) (made_of k (get_fields vs bs 2)) bs) same
       ∙ whole_is (2 + sum ws) (made_of k (get_fields ws bs 2)) bs (simp length-append (omega arith))
-      ∙ ap (λ r. some (r, 2 + sum ws)) (ap k.make (fun_ext (fields_of k xs rest two fit)))
-      ∙ ap (λ m. some (made_of k xs, m)) (sym len)
+      ∙ ap (λ r. Some (r, 2 + sum ws)) (ap k.make (fun_ext (fields_of k xs rest two fit)))
+      ∙ ap (λ m. Some (made_of k xs, m)) (sym len)
 
   -- What is read of a kind, and where it stands.
   pub record ReadAs (bs : List ℕ) (r : R) (n : ℕ) : Type 0 where
@@ -119,7 +119,7 @@ module _ {R : Type 0} (k : Kind R) where
     pub made : made_of k (get_fields (k.widths (get_or bs 2 0)) bs 2) ≡ r
     pub count : size k (get_or bs 2 0) ≡ n
 
-  pub of_kind : (bs : List ℕ) (r : R) (n : ℕ) → read_kind k (get_or bs 2 0) bs ≡ some (r, n) → ReadAs bs r n
+  pub of_kind : (bs : List ℕ) (r : R) (n : ℕ) → read_kind k (get_or bs 2 0) bs ≡ Some (r, n) → ReadAs bs r n
   unfolding read_kind
   of_kind bs r n = go (k.allows (get_or bs 2 0)) refl
     where
@@ -129,7 +129,7 @@ module _ {R : Type 0} (k : Kind R) where
       x : R
       x = made_of k (get_fields (k.widths b) bs 2)
 
-      go : (t : Bool) → k.allows b ≡ t → cond t (whole (size k b) x bs) none ≡ some (r, n) → ReadAs bs r n
+      go : (t : Bool) → k.allows b ≡ t → cond t (whole (size k b) x bs) None ≡ Some (r, n) → ReadAs bs r n
       go true e h =
           let w = of_whole (size k b) x r n bs h in
           record { allowed = e; there = w.0; made = w.1; count = w.2 }
@@ -143,7 +143,7 @@ pub record Fair {R : Type 0} (layout : R → Option (Kind R × List ℕ)) (k : K
   pub same_allowed : (bs : List ℕ) → k.allows (get_or bs 2 0) ≡ true
       → k.allows (get_or (get_fields (k.widths (get_or bs 2 0)) bs 2) 0 0) ≡ true
   pub same_layout : (bs : List ℕ) → k.allows (get_or bs 2 0) ≡ true
-      → layout (made_of k (get_fields (k.widths (get_or bs 2 0)) bs 2)) ≡ some (k, get_fields (k.widths (get_or bs 2 0)) bs 2)
+      → layout (made_of k (get_fields (k.widths (get_or bs 2 0)) bs 2)) ≡ Some (k, get_fields (k.widths (get_or bs 2 0)) bs 2)
 
 pub two_letters : (a b : ℕ) → 0 < a → 0 < b → Letters (a ∷ b ∷ [])
 two_letters a b h k = record { two = refl; first = h; second = k }
@@ -153,7 +153,7 @@ pub plain_fair : {R : Type 0} {layout : R → Option (Kind R × List ℕ)} (k : 
     → ((b c : ℕ) → k.widths b ≡ k.widths c)
     → ((bs : List ℕ) → k.allows (get_or bs 2 0) ≡ true → k.allows (get_or (get_fields (k.widths (get_or bs 2 0)) bs 2) 0 0) ≡ true)
     → ((bs : List ℕ) → k.allows (get_or bs 2 0) ≡ true
-    → layout (made_of k (get_fields (k.widths (get_or bs 2 0)) bs 2)) ≡ some (k, get_fields (k.widths (get_or bs 2 0)) bs 2))
+    → layout (made_of k (get_fields (k.widths (get_or bs 2 0)) bs 2)) ≡ Some (k, get_fields (k.widths (get_or bs 2 0)) bs 2))
     → Fair layout k
 plain_fair k letters widths allowed layouts =
     record { letters = letters; same_widths = λ bs a. widths _ _; same_allowed = allowed; same_layout = layouts }
@@ -164,7 +164,7 @@ AllFair layout (k ∷ ks) = Fair layout k × AllFair layout ks
 
 module _ {R : Type 0} (layout : R → Option (Kind R × List ℕ)) where
   kind_written : (k : Kind R) → Fair layout k → (bs : List ℕ) (r : R) (n : ℕ) → ((i : ℕ) → get_or bs i 0 < 256) → starts k.mark bs ≡ true
-      → read_kind k (get_or bs 2 0) bs ≡ some (r, n)
+      → read_kind k (get_or bs 2 0) bs ≡ Some (r, n)
       → laid (layout r) ≡ take n bs
   unfolding bytes
   kind_written k fair bs r n bytes_only begins h =
@@ -184,14 +184,14 @@ module _ {R : Type 0} (layout : R → Option (Kind R × List ℕ)) where
 
   -- Whatever was read is written as the bytes that were read.
   pub kinds_written : (ks : List (Kind R)) → AllFair layout ks → (bs : List ℕ) (r : R) (n : ℕ) → ((i : ℕ) → get_or bs i 0 < 256)
-      → read_kinds ks bs ≡ some (r, n)
+      → read_kinds ks bs ≡ Some (r, n)
       → laid (layout r) ≡ take n bs
   unfolding read_kinds AllFair
   kinds_written [] fair bs r n b = λ h. let z : ◌≡◌ {A = ℕ} 0 1 = cc in absurd (omega arith)
   kinds_written (k ∷ ks) fair bs r n b = go (starts k.mark bs) refl (kinds_written ks fair.1 bs r n b)
     where
-      go : (t : Bool) → starts k.mark bs ≡ t → (read_kinds ks bs ≡ some (r, n) → laid (layout r) ≡ take n bs)
-          → cond t (read_kind k (get_or bs 2 0) bs) (read_kinds ks bs) ≡ some (r, n)
+      go : (t : Bool) → starts k.mark bs ≡ t → (read_kinds ks bs ≡ Some (r, n) → laid (layout r) ≡ take n bs)
+          → cond t (read_kind k (get_or bs 2 0) bs) (read_kinds ks bs) ≡ Some (r, n)
           → laid (layout r) ≡ take n bs
       go true e more h = kind_written k fair.0 bs r n b e h
       go false e more h = more h
@@ -199,7 +199,7 @@ module _ {R : Type 0} (layout : R → Option (Kind R × List ℕ)) where
 -- What is written is read back.
 abbrev pub ReadsBack : {R : Type 0} → List (Kind R) → (R → Option (Kind R × List ℕ)) → Type 0
 ReadsBack {R} kinds layout =
-    (r : R) (rest : List ℕ) → Written (layout r) → read_kinds kinds (laid (layout r) ++ rest) ≡ some (r, length (laid (layout r)))
+    (r : R) (rest : List ℕ) → Written (layout r) → read_kinds kinds (laid (layout r) ++ rest) ≡ Some (r, length (laid (layout r)))
 
 -- Two records with the same bytes are both what those bytes are read as.
 pub apart : {R : Type 0} (kinds : List (Kind R)) (layout : R → Option (Kind R × List ℕ)) → ReadsBack kinds layout

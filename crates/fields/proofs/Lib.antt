@@ -4,5 +4,5 @@ pub mod FieldLaws
 pub mod MarkLaws
 pub mod FormatLaws
 pub mod WindowLaws
-pub mod DraftLaws
 pub mod PartLaws
+pub mod DraftLaws

@@ -1,7 +1,7 @@
 -- Parts of what specs/Formats says, by names that the proofs use.
+use Rattle.std.specs.Prelude.{Option, Some, None}
 use mathlib.Core.Bool.{cond}
 use mathlib.Core.List.{List, ◌++◌}
-use mathlib.Core.Option.{Option, some, none}
 use Prim.Native.Nat.{ℕ, ◌+◌}
 use lib.ListN.{length, get_or}
 use lib.Dec.{ltb}
@@ -18,4 +18,4 @@ size k b = 2 + sum (k.widths b)
 
 -- A record r of so many bytes, and their number; nothing where it is cut short.
 abbrev pub whole : {R : Type 0} → ℕ → R → List ℕ → Option (R × ℕ)
-whole n r bs = cond (ltb (length bs) n) none (some (r, n))
+whole n r bs = cond (ltb (length bs) n) None (Some (r, n))

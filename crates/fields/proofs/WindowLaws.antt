@@ -1,8 +1,8 @@
 -- Reading does not look past the record.
+use Rattle.std.specs.Prelude.{Some, None}
 use mathlib.Core.Path.{◌≡◌, refl, sym, ap, ◌∙◌}
 use mathlib.Core.Bool.{Bool, true, false, cond}
 use mathlib.Core.List.{List, [], ◌∷◌, ◌++◌}
-use mathlib.Core.Option.{some, none}
 use Prim.Native.Nat.{ℕ, zero, suc, ◌+◌, ◌≤◌}
 use native.Mathlib.Omega.{arith}
 use lib.ListN.{length, get_or, length-append, get_or-append}
@@ -42,13 +42,13 @@ module _ {R : Type 0} (longest : ℕ) (bs rest : List ℕ) (long : longest ≤ l
       made l = made_of k (get_fields (k.widths b) l 2)
 
       go : (t : Bool) → k.allows b ≡ t
-          → cond t (whole (size k b) (made (bs ++ rest)) (bs ++ rest)) none ≡ cond t (whole (size k b) (made bs) bs) none
+          → cond t (whole (size k b) (made (bs ++ rest)) (bs ++ rest)) None ≡ cond t (whole (size k b) (made bs) bs) None
       go false e = refl
       go true e =
           let n = size k b in
           let fits = within e in
           whole_is n (made (bs ++ rest)) (bs ++ rest) (simp length-append (omega arith))
-          ∙ ap (λ xs. some (made_of k xs, n)) (fields_same (k.widths b) bs rest 2 (omega arith))
+          ∙ ap (λ xs. Some (made_of k xs, n)) (fields_same (k.widths b) bs rest 2 (omega arith))
           ∙ sym (whole_is n (made bs) bs (omega arith))
 
   pub kinds_same : (ks : List (Kind R)) → 3 ≤ longest → AllWithin longest ks → read_kinds ks (bs ++ rest) ≡ read_kinds ks bs

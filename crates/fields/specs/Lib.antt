@@ -1,5 +1,4 @@
 pub mod Numbers
 pub mod Kinds
 pub mod Formats
-pub mod Drafts
 pub mod Laws

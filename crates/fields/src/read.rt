@@ -1,16 +1,12 @@
 // The marks and the numbers of a record, read from bytes. A byte past the end counts as 0, so that a cut record needs one test of its length.
-ghost use Rattle.std.specs.Prelude.{◌≡◌, cond, ◌<◌};
+ghost use Rattle.std.specs.Prelude.{◌≡◌, cond, ltb, length, ◌<◌, Some, None};
 ghost use Rattle.fields.specs.Numbers.{number};
-ghost use Rattle.fields.specs.Formats.{starts};
 
 // The byte at a place.
 pub fn one(s: &[u8], at: usize) -> u8
     ensures { result ≡ number 1 s.now at }
 {
-    if at < s.len() {
-        return s[at];
-    }
-    0
+    s.get(at).copied().unwrap_or(0)
 }
 
 // The number in two bytes, the low one first.
@@ -18,30 +14,23 @@ pub fn two(s: &[u8], at: usize) -> u16
     requires { at < 1024 }
     ensures { result ≡ number 2 s.now at }
 {
-    let low = one(s, at) as u16;
-    let high = one(s, at + 1) as u16;
-    low + 256 * high
+    u16::from_le_bytes([one(s, at), one(s, at + 1)])
 }
 
-// The number in four bytes: two pairs, the low pair first.
+// The number in four bytes, the low one first.
 pub fn four(s: &[u8], at: usize) -> u32
     requires { at < 60 }
     ensures { result ≡ number 4 s.now at }
 {
-    let low = two(s, at) as u32;
-    let high = two(s, at + 2) as u32;
-    low + 65536 * high
+    u32::from_le_bytes([one(s, at), one(s, at + 1), one(s, at + 2), one(s, at + 3)])
 }
 
-// The mark that the bytes start with, as a number, its first letter low, where it is the one handed in; else the number handed in.
-pub fn known(s: &[u8], mark: [u8; 2], otherwise: u16) -> u16
-    ensures { result ≡ cond (starts mark s.now) (number 2 mark 0) otherwise }
+// A record of so many bytes, and their number, where they are all there.
+pub fn whole_of<T: Copy>(s: &[u8], size: usize, what: T) -> Option<(T, usize)>
+    ensures { result ≡ cond (ltb (length s.now) size) None (Some (what, size)) }
 {
-    if one(s, 0) != mark[0] {
-        return otherwise;
+    if s.len() < size {
+        return None;
     }
-    if one(s, 1) != mark[1] {
-        return otherwise;
-    }
-    two(s, 0)
+    Some((what, size))
 }

@@ -2,7 +2,7 @@
 use Prim.Native.Nat.{ℕ, zero, suc, ◌+◌, ◌*◌, ◌/◌, ◌≤◌, ◌<◌}
 use native.Mathlib.Omega.{arith}
 use mathlib.Core.Path.{◌≡◌, refl, sym, ap, ◌∙◌}
-use mathlib.Core.Bool.{Bool, true, false, ◌&&◌}
+use mathlib.Core.Bool.{Bool, true, false, cond, ◌&&◌}
 use mathlib.Core.Logic.{⊎_elim}
 use mathlib.Core.List.{List, [], ◌∷◌, ◌++◌}
 use lib.Dec.{eqb, leb}
@@ -26,8 +26,9 @@ use Rattle.fields.specs.Numbers.{number, get_fields}
 use Rattle.fields.specs.Formats.{starts}
 use Rattle.fields.proofs.FieldLaws.{fields_on}
 use Rattle.traces.specs.declared.Record.{Record}
-use Rattle.traces.specs.declared.Record.TheVariants.{Link as LinkRecord, LinkStandBy, LinkWindows, LinkFrames, Admit, AdmitStamped, AdmitShare, Close, Offer, OfferStamped, Notice, Ticks, Malformed}
-use Rattle.traces.specs.declared.Found.{Found}
+use Rattle.traces.specs.declared.Record.TheVariants.{Link as LinkRecord, LinkStandBy, LinkWindows, LinkFrames, Admit, AdmitStamped, AdmitShare, Close, Offer, OfferStamped, Notice, Ticks}
+use Rattle.traces.specs.Kinds.{LE}
+use Rattle.std.specs.Prelude.{Some, None}
 use Rattle.traces.specs.Trace.{trace_layout, read_trace}
 use Rattle.named.specs.Named.{connection_named}
 use Rattle.connections.specs.Within.{gap_only, last_only}
@@ -44,13 +45,17 @@ next_is flag last gap now = refl
 -- ---- the link
 
 -- a record of another kind names none, as the code tells it apart: it is no `LK` and no `LW`
-pub of_no_link : (r : Record) → ((n s silence d1 d2 d3 d4 d5 d6 d7 d8 : ℕ) → r ≡ LinkRecord n s silence d1 d2 d3 d4 d5 d6 d7 d8 → ⊥)
-    → ((n s silence early d1 d2 d3 d4 d5 d6 d7 d8 w1 w2 w3 w4 w5 w6 w7 w8 : ℕ) → r ≡ LinkWindows n s silence early d1 d2 d3 d4 d5 d6 d7 d8 w1 w2 w3 w4 w5 w6 w7 w8 → ⊥)
+pub of_no_link : (r : Record) → ((n s silence : ℕ) (bounds : List ℕ) → r ≡ LinkRecord n s silence bounds → ⊥)
+    → ((n s silence early : ℕ) (bounds windows : List ℕ) → r ≡ LinkWindows n s silence early bounds windows → ⊥)
     → no_link ≡ link_of (trace_layout r)
 unfolding starts
-of_no_link (LinkRecord n s silence d1 d2 d3 d4 d5 d6 d7 d8) a b = absurd (a n s silence d1 d2 d3 d4 d5 d6 d7 d8 refl)
-of_no_link (LinkStandBy n s silence early d1 d2 d3 d4 d5 d6 d7 d8) a b = refl
-of_no_link (LinkWindows n s silence early d1 d2 d3 d4 d5 d6 d7 d8 w1 w2 w3 w4 w5 w6 w7 w8) a b = absurd (b n s silence early d1 d2 d3 d4 d5 d6 d7 d8 w1 w2 w3 w4 w5 w6 w7 w8 refl)
+of_no_link (LinkRecord n s silence bounds) a b = absurd (a n s silence bounds refl)
+of_no_link (LinkStandBy n s silence early bounds) a b = go (eqb (length bounds) 8)
+  where
+    go : (t : Bool) → no_link ≡ link_of (cond t (Some (LE, n ∷ s ∷ silence ∷ early ∷ bounds)) None)
+    go true = refl
+    go false = refl
+of_no_link (LinkWindows n s silence early bounds windows) a b = absurd (b n s silence early bounds windows refl)
 of_no_link (LinkFrames frame largest silence) a b = refl
 of_no_link (Admit level gap size window average) a b = refl
 of_no_link (AdmitStamped level gap size allowance) a b = refl
@@ -60,19 +65,20 @@ of_no_link (Offer c len tag) a b = refl
 of_no_link (OfferStamped c len tag stamp) a b = refl
 of_no_link (Notice len tag) a b = refl
 of_no_link (Ticks n) a b = refl
-of_no_link Malformed a b = refl
 
-module _ (lk : List ℕ) (f : Found) (e : f ≡ read_trace lk) where
-  taken_is : (read_trace lk).taken ≡ f.taken
-  taken_is = ap (λ (g : Found). g.taken) (sym e)
-
-  pub not_whole : (f.taken ≡ length lk → ⊥) → no_link ≡ link_asked lk
+module _ (lk : List ℕ) where
+  pub no_record : read_trace lk ≡ None → no_link ≡ link_asked lk
   unfolding link_asked
-  not_whole n = rw (taken_is, ne_eqb f.taken (length lk) n) refl
+  no_record e = rw e
 
-  pub link_is : f.taken ≡ length lk → link_of (trace_layout f.what) ≡ link_asked lk
-  unfolding link_asked
-  link_is t = rw (taken_is, eq-eqb f.taken (length lk) t) (ap (λ (g : Found). link_of (trace_layout g.what)) e)
+  module _ {r : Record} {n : ℕ} (e : read_trace lk ≡ Some (r, n)) where
+    pub not_whole : (n ≡ length lk → ⊥) → no_link ≡ link_asked lk
+    unfolding link_asked
+    not_whole m = rw (e, ne_eqb n (length lk) m)
+
+    pub link_is : n ≡ length lk → link_of (trace_layout r) ≡ link_asked lk
+    unfolding link_asked
+    link_is t = rw (e, eq-eqb n (length lk) t)
 
 -- ---- the rows
 

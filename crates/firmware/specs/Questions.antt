@@ -1,6 +1,5 @@
 -- THE QUESTIONS, answered by the rules' own definitions. Document 01, "Two questions from C firmware"; document 02, R-2, R-6, R-9 and R-12.
-use Rattle.std.specs.Prelude.{ℕ, ◌*◌, ◌/◌, Bool, cond, ◌&&◌, List, [], ◌∷◌, ◌++◌, eqb, leb, length, take, drop}
-use Rattle.std.proofs.Math.Option.{Option, none, some}
+use Rattle.std.specs.Prelude.{ℕ, ◌*◌, ◌/◌, Bool, cond, ◌&&◌, List, [], ◌∷◌, ◌++◌, eqb, leb, length, take, drop, Option, Some, None}
 use Rattle.rules.specs.declared.Link.{Link}
 use Rattle.rules.specs.declared.Connection.{Connection}
 use Rattle.rules.specs.Words.{every, tabulate}
@@ -15,7 +14,7 @@ use Rattle.fields.specs.Kinds.{Kind}
 use Rattle.fields.specs.Formats.{starts}
 use Rattle.traces.specs.declared.Record.{Record}
 use Rattle.traces.specs.Kinds.{LK, LW, CN}
-use Rattle.traces.specs.Trace.{trace_layout, read_trace}
+use Rattle.traces.specs.Trace.{Found, trace_layout, read_trace}
 use Rattle.named.specs.Named.{link_named, connection_named}
 
 -- ---- (a)
@@ -33,13 +32,17 @@ next_asked flag last gap now = next_eligibility (record { level = 0; gap = gap; 
 -- the link that a record names, by its kind and its numbers: an `LK`, or an `LW` (R-12), with its setting and its windows. No link, which is within no limits, where a record
 -- is of another kind or malformed
 abbrev pub link_of : Option (Kind Record × List ℕ) → Link
-link_of none = no_link
-link_of (some (k, xs)) =
+link_of None = no_link
+link_of (Some (k, xs)) =
     cond (starts LK.mark k.mark) (link_named (take 3 xs ++ 0 ∷ drop 3 xs)) (cond (starts LW.mark k.mark) (link_named xs) no_link)
 
--- "one whole `LK` record", or `LW`: the link that it names; none where the bytes are more than the record
+-- "one whole `LK` record", or `LW`: the link that it names; none where the bytes are malformed or more than the record
+abbrev pub link_whole : ℕ → Found → Link
+link_whole n None = no_link
+link_whole n (Some (r, taken)) = cond (eqb taken n) (link_of (trace_layout r)) no_link
+
 unfoldable pub link_asked : List ℕ → Link
-link_asked lk = cond (eqb (read_trace lk).taken (length lk)) (link_of (trace_layout (read_trace lk).what)) no_link
+link_asked lk = link_whole (length lk) (read_trace lk)
 
 -- a table of "rows laid out as in `CN` after its mark", which are of 9 bytes since R-6: row i, and all rows. They are of the first kind
 unfoldable pub row_asked : List ℕ → ℕ → Connection

@@ -40,40 +40,16 @@ fn link_of(what: Record) -> Link
             levels,
             largest,
             silence,
-            d1,
-            d2,
-            d3,
-            d4,
-            d5,
-            d6,
-            d7,
-            d8,
-        } => named::link_named(levels, largest, silence, d1, d2, d3, d4, d5, d6, d7, d8),
+            bounds,
+        } => named::link_named(levels, largest, silence, bounds),
         Record::LinkWindows {
             levels,
             largest,
             silence,
             early,
-            d1,
-            d2,
-            d3,
-            d4,
-            d5,
-            d6,
-            d7,
-            d8,
-            w1,
-            w2,
-            w3,
-            w4,
-            w5,
-            w6,
-            w7,
-            w8,
-        } => named::windows_named(
-            levels, largest, silence, early, d1, d2, d3, d4, d5, d6, d7, d8, w1, w2, w3, w4, w5,
-            w6, w7, w8,
-        ),
+            bounds,
+            windows,
+        } => named::windows_named(levels, largest, silence, early, bounds, windows),
         _ => named::no_link(),
     }
 }
@@ -82,12 +58,10 @@ fn link_of(what: Record) -> Link
 fn link_asked(lk: &[u8]) -> Link
     ensures { result ≡ link_asked lk.now }
 {
-    let found = traces::read(lk);
-    if found.taken != lk.len() {
-        return named::no_link();
+    match traces::read(lk) {
+        Some((what, taken)) if taken == lk.len() => link_of(what),
+        _ => named::no_link(),
     }
-    let what = found.what;
-    link_of(what)
 }
 
 // The connection of row i: its bytes lie as those of a `CN` behind its mark.
@@ -111,15 +85,7 @@ fn rows_ok(l: Link, rows: &[u8], n: usize) -> bool
     requires { 9 * n ≤ length rows.now }
     ensures { result ≡ every n (λ i. connection_sound l (row_asked rows.now i)) }
 {
-    let mut i: usize = 0;
-    while i < n {
-        let x = row_asked(rows, i);
-        if !limits::connection_ok(l, x) {
-            return false;
-        }
-        i += 1;
-    }
-    true
+    (0..n).all(|i| limits::connection_ok(l, row_asked(rows, i)))
 }
 
 // The connections of the first n rows, put into an empty table.
@@ -127,11 +93,9 @@ fn lay_out(rows: &[u8], n: usize, members: &mut [u32])
     requires { (n ≤ max_connections) × (9 * n ≤ length rows.now) × ((i : ℕ) → i < n → 1 ≤ (row_asked rows.now i).level) × (members.old ≡ laid_out 0 rows.now) }
     ensures { members.new ≡ laid_out n rows.now }
 {
-    let mut i: usize = 0;
-    while i < n {
+    for i in 0..n {
         let x = row_asked(rows, i);
         connections::add_member(members, i, x);
-        i += 1;
     }
 }
 

@@ -7,7 +7,6 @@ use mathlib.Core.Bool.{Bool, true, false, cond}
 use mathlib.Core.List.{List, ◌∷◌}
 use lib.Dec.{eqb}
 use lib.ListN.{length, drop}
-use lib.Seq.{drop-length}
 use Rattle.rules.specs.declared.Packet.{Packet}
 use Rattle.rules.specs.Words.{total}
 use Rattle.rules.specs.Service.{of}
@@ -17,16 +16,14 @@ use Rattle.frames.specs.Service.{newly, used}
 use Rattle.frames.specs.SoundState.{Fits}
 use Rattle.frames.proofs.Figures.{framing_facts, stands_below}
 use Rattle.frames.proofs.Results.{rows_fit}
-use Rattle.causes.proofs.CauseLaws.{one_more, bit_le, all_counted}
+use Rattle.causes.proofs.CauseLaws.{one_more, bit_le}
 use Rattle.tables.specs.Places.{rows, row_at, no_packet}
 use Rattle.tables.proofs.PlacesLaws.{row_is, rows_from}
 use Rattle.shares.specs.Shares.{shares_in}
-use Rattle.framed_state.specs.declared.Frames.{Frames}
-use Rattle.framed_state.specs.View.{Tables, view, sound_frames}
+use Rattle.framed_state.specs.View.{Frames, Tables, view, sound_frames}
 use Rattle.framed_state.proofs.SoundLaws.{is_sound, linked}
 use Rattle.framed_sound.specs.Parts.{Measured}
 use Rattle.framed_sound.proofs.TallyLaws.{newly_most, cost_here}
-use Rattle.framed_calls.specs.Rulings.{taken_of}
 
 -- ---- the rows of a sound line can be counted
 
@@ -55,9 +52,6 @@ module _ (w : Packet → ℕ) (c : ℕ) where
       go true = refl
       go false = omega arith
 
-  all_weighed : (ps : List Packet) (n i : ℕ) → i ≡ length ps → n + total w (of c (drop i ps)) ≡ total w (of c ps) → n ≡ total w (of c ps)
-  all_weighed ps n i e h = omega (arith, ap (λ (l : List Packet). total w (of c l)) (ap (λ (j : ℕ). drop j ps) e ∙ drop-length ps))
-
 -- ---- the pass: before row i it has counted n packets of connection c and `units` of its units
 
 pub record Pass (l : Framing) (t : ℕ) (places : List ℕ) (c i n units : ℕ) : Type 0 where
@@ -67,15 +61,6 @@ pub record Pass (l : Framing) (t : ℕ) (places : List ℕ) (c i n units : ℕ) 
   pub weighs : units + used l t c (drop i (rows places)) ≡ used l t c (rows places)
 
 module _ (l : Framing) (t : ℕ) (places : List ℕ) (c : ℕ) where
-  pub pass_none : Pass l t places c 0 0 0
-  pass_none = record { few = omega arith; light = omega arith; counts = omega arith; weighs = omega arith }
-
-  pub pass_all : (i n units : ℕ) → i ≡ length (rows places) → Pass l t places c i n units → record { held = n; units = units } ≡ taken_of l t c (rows places)
-  pass_all i n units e P j = record {
-    held = all_counted c (rows places) n i e P.counts j;
-    units = all_weighed (newly l t) c (rows places) units i e P.weighs j;
-  }
-
   module _ (K : Measured l places) (i : ℕ) (h : i < length (rows places)) (p : Packet) (is : p ≡ row_at places i) where
     pub units_le : (m : ℕ) → m ≡ cond (eqb p.connection c) (newly l t p) 0 → m ≤ 2112
     units_le m u = omega (arith, u, go (eqb p.connection c))

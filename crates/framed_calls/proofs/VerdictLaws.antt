@@ -9,7 +9,7 @@ use lib.ListN.{length}
 use borrow.Author.Tests.{eq-eqb, lt-ltb, le-ltb, not-false}
 use Rattle.rules.specs.Words.{All, within, first_number}
 use Rattle.rules.specs.Limits.{max_reserved}
-use Rattle.rules.proofs.Tests.{passed, never, never_number}
+use Rattle.rules.proofs.Tests.{passed, never}
 use Rattle.rules.proofs.Sums.{cond_is}
 use Rattle.frames.specs.declared.Framing.{Framing}
 use Rattle.frames.specs.declared.Share.{Share}
@@ -18,23 +18,28 @@ use Rattle.frames.specs.Admission.{cost, stands, frame_sum, all_places}
 use Rattle.frames.specs.Service.{used}
 use Rattle.frames.specs.SoundState.{SoundWithLink}
 use Rattle.frames.specs.SoundTest.{sound}
-use Rattle.frames.specs.Calls.{no_link_set, clock_ended, causes, verdicts, verdict, refused_short}
+use Rattle.frames.specs.Calls.{no_link_set, clock_ended, causes, verdicts, verdict}
 use Rattle.frames.proofs.Figures.{cost_is, sum_is, stands_below, sum_snoc}
-use Rattle.causes.specs.declared.Ruling.{Ruling}
-use Rattle.causes.specs.Causes.{nothing_short, early_offer}
-use Rattle.causes.proofs.CauseLaws.{sound_first, front_gives, behind_gives, says_nothing}
+use Rattle.causes.specs.declared.refusals.Refusal.{Refusal}
+use Rattle.causes.specs.Refusals.{number_of}
+use Rattle.causes.specs.Causes.{early_offer}
+use Rattle.causes.proofs.CauseLaws.{sound_first, front_gives, behind_gives}
+use Rattle.causes.proofs.RefusalLaws.{some_number}
 use Rattle.tables.specs.Places.{rows}
 use Rattle.shares.specs.Shares.{shares_in}
-use Rattle.framed_state.specs.declared.Frames.{Frames}
-use Rattle.framed_state.specs.View.{Tables, view, sound_frames}
+use Rattle.framed_state.specs.View.{Frames, Tables, view, sound_frames}
 use Rattle.framed_state.proofs.SoundLaws.{sound_view, linked}
 use Rattle.framed_calls.specs.declared.verdicts.Taken.{Taken}
-use Rattle.framed_calls.specs.Rulings.{ruling_of, early_admit, taken_of}
-use Rattle.frames.proofs.Names.{all_units, frame_over}
+use Rattle.framed_calls.specs.Rulings.{early_admit, taken_of}
+use Rattle.frames.proofs.Names.{all_units}
 
 pub by_causes : (k : Call) (s : State) → sound s ≡ true → first_number (causes k s) ≡ verdict k s
 unfolding verdicts
 by_causes k s ok = sound_first (sound s) (causes k s) ok
+
+-- what the causes give on a sound line is the verdict
+pub found : (h : Frames) (t : Tables) → sound_frames h t ≡ true → (k : Call) {v : ℕ} → v ≡ first_number (causes k (view h t)) → v ≡ verdict k (view h t)
+found h t ok k e = e ∙ by_causes k (view h t) (sound_view h t ok)
 
 -- ---- an offer: what needs no walk over the places, then the rest
 
@@ -54,10 +59,10 @@ module _ (h : Frames) (t : Tables) (ok : sound_frames h t ≡ true) (c len tag :
   front_is : early_offer u b h.link.largest len ≡ in_front
   front_is i = (2, unset i) ∷ (10, not (there i)) ∷ (11, not (within 1 h.link.largest len)) ∷ []
 
-  pub offer_early : (v : ℕ) → v ≡ first_number (early_offer u b h.link.largest len) → (v ≡ 0 → ⊥) → v ≡ verdict (offer c len tag) offered
-  offer_early v e n =
+  pub offer_early : (why : Refusal) → number_of why ≡ first_number (early_offer u b h.link.largest len) → number_of why ≡ verdict (offer c len tag) offered
+  offer_early why e =
       let f = e ∙ ap first_number front_is in
-      f ∙ front_gives in_front rest (λ z. n (f ∙ z)) ∙ by_causes (offer c len tag) offered (sound_view h t ok)
+      f ∙ front_gives in_front rest (λ z. some_number why (f ∙ z)) ∙ by_causes (offer c len tag) offered (sound_view h t ok)
 
   module _ (none : first_number (early_offer u b h.link.largest len) ≡ 0) where
     unrefused : first_number in_front ≡ 0
@@ -105,18 +110,10 @@ module _ (h : Frames) (t : Tables) (ok : sound_frames h t ≡ true) (x : Share) 
   same_front : early_admit h.link n x ≡ front
   same_front = ap (λ (k : ℕ). early_admit h.link k x) is
 
-  ruled_as : (v : ℕ) (r : Ruling) → r ≡ nothing_short v → verdict (admit x) asked ≡ v → (v ≡ 8 → ⊥) → r ≡ ruling_of (admit x) asked
-  ruled_as v r q e n =
-      q ∙ says_nothing v (frame_over asked x) n ∙ ap (λ (w : ℕ). record { verdict = w; short = refused_short (admit x) asked w }) (sym e)
-
-  -- none of the early numbers is 8
-  not_eight : first_number front ≡ 8 → ⊥
-  not_eight = never_number 8 front ((λ e. absurd (omega arith)), ((λ e. absurd (omega arith)), ((λ e. absurd (omega arith)), tt))) (omega arith)
-
-  pub admit_early : (v : ℕ) (r : Ruling) → v ≡ first_number (early_admit h.link n x) → (v ≡ 0 → ⊥) → r ≡ nothing_short v → r ≡ ruling_of (admit x) asked
-  admit_early v r e z q =
+  pub admit_early : (why : Refusal) → number_of why ≡ first_number (early_admit h.link n x) → number_of why ≡ verdict (admit x) asked
+  admit_early why e =
       let f = e ∙ ap first_number same_front in
-      ruled_as v r q (sym (f ∙ front_gives front behind (λ y. z (f ∙ y)) ∙ by_causes (admit x) asked (sound_view h t ok))) (λ y. not_eight (sym f ∙ y))
+      f ∙ front_gives front behind (λ y. some_number why (f ∙ y)) ∙ by_causes (admit x) asked (sound_view h t ok)
 
   module _ (none : first_number (early_admit h.link n x) ≡ 0) where
     none_early : first_number front ≡ 0
@@ -143,21 +140,14 @@ module _ (h : Frames) (t : Tables) (ok : sound_frames h t ≡ true) (x : Share) 
       pub over_by : total - h.link.frame ≤ x.units
       over_by = omega (arith, e, admit_units, sum_with h.link (shares_in t.members) x _ refl, sum_is h.link (shares_in t.members))
 
-      pub admit_over : h.link.frame < total → record { verdict = 8; short = record { level = 0; units = total - h.link.frame } } ≡ ruling_of (admit x) asked
+      pub admit_over : h.link.frame < total → 8 ≡ verdict (admit x) asked
       admit_over l =
           let f : ltb h.link.frame (frame_sum h.link together) ≡ true = ap (ltb h.link.frame) (sym e) ∙ lt-ltb h.link.frame total l in
-          let v : 8 ≡ verdict (admit x) asked = sym (cond_is 8 (cond (ltb max_reserved (all_places together)) 9 0) f) ∙ by_sums in
-          (λ i. record { verdict = 8; short = record { level = 0; units = e i - h.link.frame } })
-          ∙ ap (λ (w : ℕ). record { verdict = w; short = refused_short (admit x) asked w }) v
+          sym (cond_is 8 (cond (ltb max_reserved (all_places together)) 9 0) f) ∙ by_sums
 
       -- the frame is not over: all that is left is the places
-      pub admit_room : total ≤ h.link.frame → (p v : ℕ) (r : Ruling) → p ≡ all_places (shares_in t.members) → v ≡ cond (ltb max_reserved (p + x.places)) 9 0 → r ≡ nothing_short v → r ≡ ruling_of (admit x) asked
-      admit_room l p v r f k q =
+      pub admit_room : total ≤ h.link.frame → (p v : ℕ) → p ≡ all_places (shares_in t.members) → v ≡ cond (ltb max_reserved (p + x.places)) 9 0 → v ≡ verdict (admit x) asked
+      admit_room l p v f k =
           let g : ltb h.link.frame (frame_sum h.link together) ≡ false = ap (ltb h.link.frame) (sym e) ∙ le-ltb h.link.frame total l in
           let a : p + x.places ≡ all_places together = ap (λ (m : ℕ). m + x.places) f ∙ sym (sum_snoc (shares_in t.members) x (λ y. y.places)) in
-          let j = k ∙ ap (λ (m : ℕ). cond (ltb max_reserved m) 9 0) a in
-          ruled_as v r q (sym (j ∙ sym (cond_is 8 (cond (ltb max_reserved (all_places together)) 9 0) g) ∙ by_sums)) (λ y. nine (ltb max_reserved (all_places together)) (sym j ∙ y))
-        where
-          nine : (b : Bool) → ◌≡◌ {A = ℕ} (cond b 9 0) 8 → ⊥
-          nine true e = omega arith
-          nine false e = omega arith
+          k ∙ ap (λ (m : ℕ). cond (ltb max_reserved m) 9 0) a ∙ sym (cond_is 8 (cond (ltb max_reserved (all_places together)) 9 0) g) ∙ by_sums

@@ -5,16 +5,9 @@ use Rattle.rules.specs.Limits.{max_connections}
 use Rattle.rules.specs.Service.{of}
 use Rattle.frames.specs.declared.Framing.{Framing}
 use Rattle.frames.specs.declared.Share.{Share}
-use Rattle.frames.specs.Model.{State, Call}
 use Rattle.frames.specs.Admission.{share_within}
 use Rattle.frames.specs.Service.{used}
-use Rattle.frames.specs.Calls.{verdict, refused_short}
-use Rattle.causes.specs.declared.Ruling.{Ruling}
 use Rattle.framed_calls.specs.declared.verdicts.Taken.{Taken}
-
--- the verdict of a call, and by how much the frame is over where that is the cause
-abbrev pub ruling_of : Call → State → Ruling
-ruling_of k s = record { verdict = verdict k s; short = refused_short k s (verdict k s) }
 
 -- the rows of an admission's table that need no sum, while n connections stand
 abbrev pub early_admit : Framing → ℕ → Share → List (ℕ × Bool)

@@ -20,13 +20,10 @@ pub fn link_tested(h: Frames, shares: &[u32], places: &[u32], notices: &[u32], l
     requires { sound_frames h (tables shares.now places.now notices.now) ≡ true }
     ensures { Does (link l) h (tables shares.now places.now notices.now) result (tables shares.now places.now notices.now) }
 {
-    let v = verdicts::link_verdict(h, shares, places, notices, l);
-    if v != 0 {
-        return say(h, v, 0);
+    if let Err(why) = verdicts::link_verdict(h, shares, places, notices, l) {
+        return say(h, why.number(), 0);
     }
-    let mut g = h;
-    g.link = l;
-    say(g, 0, 0)
+    say(Frames { link: l, ..h }, 0, 0)
 }
 
 // A connection asks to be admitted.
@@ -41,16 +38,10 @@ pub fn admit_tested(
     ensures { Does (admit x) h (tables shares.old places.now notices.now) result (tables shares.new places.now notices.now) }
 {
     let standing = shares::standing(shares);
-    let v = verdicts::admit_verdict(h, shares, places, notices, standing, x);
-    let short = v.short;
-    if v.verdict != 0 {
+    if let Err(why) = verdicts::admit_verdict(h, shares, places, notices, standing, x) {
         return Said {
-            verdict: v.verdict,
-            number: NO_CONNECTION,
-            short: short,
-            gone: false,
-            packet: tables::no_packet(),
-            frames: h,
+            short: why.short(),
+            ..say(h, why.number(), NO_CONNECTION)
         };
     }
     shares::join(shares, standing, x);
@@ -77,8 +68,8 @@ fn accept(
         held,
         Packet {
             connection: c,
-            len: len,
-            tag: tag,
+            len,
+            tag,
             arrival: h.clock,
             eligibility: e,
         },
@@ -99,9 +90,8 @@ pub fn offer_tested(
     requires { sound_frames h (tables shares.now places.old notices.now) ≡ true }
     ensures { Does (offer c len tag) h (tables shares.now places.old notices.now) result (tables shares.now places.new notices.now) }
 {
-    let v = verdicts::offer_verdict(h, shares, places, notices, c, len);
-    if v != 0 {
-        return say(h, v, 0);
+    if let Err(why) = verdicts::offer_verdict(h, shares, places, notices, c, len) {
+        return say(h, why.number(), 0);
     }
     accept(h, shares, places, notices, c, len, tag)
 }
@@ -119,8 +109,10 @@ pub fn notice_tested(
     ensures { Does (notice len tag) h (tables shares.now places.now notices.old) result (tables shares.now places.now notices.new) }
 {
     let unset = verdicts::unset(h);
-    let x = causes::take_notice(unset, h.link.largest, h.clock, notices, len, tag);
-    say(h, x.verdict, x.number)
+    match causes::take_notice(unset, h.link.largest, h.clock, notices, len, tag) {
+        Ok(eligibility) => say(h, 0, eligibility),
+        Err(why) => say(h, why.number(), 0),
+    }
 }
 
 // One tick.
@@ -128,9 +120,8 @@ pub fn tick_tested(h: Frames, shares: &[u32], places: &mut [u32], notices: &mut 
     requires { sound_frames h (tables shares.now places.old notices.old) ≡ true }
     ensures { Does tick h (tables shares.now places.old notices.old) result (tables shares.now places.new notices.new) }
 {
-    let v = verdicts::tick_verdict(h, shares, places, notices);
-    if v != 0 {
-        return say(h, v, 0);
+    if let Err(why) = verdicts::tick_verdict(h, shares, places, notices) {
+        return say(h, why.number(), 0);
     }
     framed_service::run_on(h, shares, places, notices)
 }

@@ -1,4 +1,4 @@
-// The verdict of each call on a sound state: what the table of verdicts asks, each by a function of its own, and the first number of which the test holds.
+// The verdict of each call on a sound state: the tests of the table of verdicts in its order, the longer ones each by a function of its own; the first that holds refuses the call.
 // Document 02, R-13, with the numbers of document 01, "Verdict numbers".
 ghost use Rattle.std.specs.Prelude.{◌≡◌, true, cond, [], ◌∷◌, ◌++◌, ℕ, ◌+◌, ◌≤◌, ◌<◌, eqb, length};
 ghost use Rattle.rules.specs.Words.{first_number};
@@ -6,14 +6,15 @@ ghost use Rattle.rules.specs.Limits.{beyond_32_bits};
 ghost use Rattle.frames.specs.Model.{link, admit, offer, tick};
 ghost use Rattle.frames.specs.Admission.{frame_sum};
 ghost use Rattle.frames.specs.Service.{newly};
-ghost use Rattle.frames.specs.Calls.{verdict};
+ghost use Rattle.frames.specs.Calls.{verdict, refused_short};
+ghost use Rattle.causes.specs.Refusals.{verdict_of, over_of};
 ghost use Rattle.tables.specs.Places.{rows, written_places, places_length};
 ghost use Rattle.shares.specs.Shares.{shares_in, shares_formed};
 ghost use Rattle.framed_state.specs.View.{tables, view, sound_frames};
 ghost use Rattle.framed_sound.specs.Parts.{Measured};
-ghost use Rattle.framed_calls.specs.Rulings.{ruling_of, early_admit, taken_of};
+ghost use Rattle.framed_calls.specs.Rulings.{early_admit, taken_of};
 
-use causes::{Ruling, first_of};
+use causes::Refusal;
 use framed_sound::tally;
 use framed_state::Frames;
 use frames::{Framing, Share};
@@ -52,20 +53,14 @@ fn taken_by(l: Framing, clock: u32, places: &[u32], c: u32) -> Taken
     requires { (places.now ≡ written_places (rows places.now)) × (length places.now ≡ places_length) × Measured l places.now }
     ensures { result ≡ taken_of l clock c (rows places.now) }
 {
-    let held = tables::count(places);
-    let mut n: u64 = 0;
+    let mut held: u64 = 0;
     let mut units: u64 = 0;
-    let mut i: usize = 0;
-    while i < held {
+    for i in 0..tables::count(places) {
         let p = tables::row(places, i);
-        n += causes::one_if_same(p.connection, c);
+        held += causes::one_if_same(p.connection, c);
         units += counted(l, clock, p, c);
-        i += 1;
     }
-    Taken {
-        held: n,
-        units: units,
-    }
+    Taken { held, units }
 }
 
 // The sum of all r with that of x, plus S and its silence, where the sum of those who stand is within the frame.
@@ -85,30 +80,46 @@ pub(crate) fn link_verdict(
     places: &[u32],
     notices: &[u32],
     l: Framing,
-) -> u32
+) -> Result<(), Refusal>
     requires { sound_frames h (tables shares.now places.now notices.now) ≡ true }
-    ensures { result ≡ verdict (link l) (view h (tables shares.now places.now notices.now)) }
+    ensures { verdict_of result ≡ verdict (link l) (view h (tables shares.now places.now notices.now)) }
 {
     // a link that is set already is not looked at further
     if !unset(h) {
-        return 3;
+        return Err(Refusal::LinkSet);
     }
-    first_of(!limits::framing_ok(l), 4, 0)
+    if !limits::framing_ok(l) {
+        return Err(Refusal::LinkLimit);
+    }
+    Ok(())
 }
 
-pub(crate) fn tick_verdict(h: Frames, shares: &[u32], places: &[u32], notices: &[u32]) -> u32
+pub(crate) fn tick_verdict(
+    h: Frames,
+    shares: &[u32],
+    places: &[u32],
+    notices: &[u32],
+) -> Result<(), Refusal>
     requires { sound_frames h (tables shares.now places.now notices.now) ≡ true }
-    ensures { result ≡ verdict tick (view h (tables shares.now places.now notices.now)) }
+    ensures { verdict_of result ≡ verdict tick (view h (tables shares.now places.now notices.now)) }
 {
     causes::of_tick(unset(h), h.clock)
 }
 
 // What speaks against an admission before a sum is made.
-fn admit_refusal(h: Frames, standing: usize, x: Share) -> u32
-    ensures { result ≡ first_number (early_admit h.link standing x) }
+fn admit_refusal(h: Frames, standing: usize, x: Share) -> Result<(), Refusal>
+    ensures { verdict_of result ≡ first_number (early_admit h.link standing x) }
 {
-    let many = first_of(MAX_CONNECTIONS <= standing, 7, 0);
-    first_of(unset(h), 2, first_of(!limits::share_ok(x), 6, many))
+    if unset(h) {
+        return Err(Refusal::NoLink);
+    }
+    if !limits::share_ok(x) {
+        return Err(Refusal::Figures);
+    }
+    if MAX_CONNECTIONS <= standing {
+        return Err(Refusal::NoNumber);
+    }
+    Ok(())
 }
 
 pub(crate) fn admit_verdict(
@@ -118,28 +129,25 @@ pub(crate) fn admit_verdict(
     notices: &[u32],
     standing: usize,
     x: Share,
-) -> Ruling
+) -> Result<(), Refusal>
     requires { (sound_frames h (tables shares.now places.now notices.now) ≡ true) × (standing ≡ length (shares_in shares.now)) }
-    ensures { result ≡ ruling_of (admit x) (view h (tables shares.now places.now notices.now)) }
+    ensures number { verdict_of result ≡ verdict (admit x) (view h (tables shares.now places.now notices.now)) }
+    ensures over { over_of result ≡ refused_short (admit x) (view h (tables shares.now places.now notices.now)) (verdict_of result) }
 {
-    let early = admit_refusal(h, standing, x);
-    if early != 0 {
-        return causes::ruled(early);
-    }
+    admit_refusal(h, standing, x)?;
     let frame = h.link.frame as u64;
     let sum = sum_with(h.link, shares, standing, x);
     if frame < sum {
-        let over = sum - frame;
-        return Ruling {
-            verdict: 8,
-            short: Short {
-                level: 0,
-                units: over,
-            },
-        };
+        return Err(Refusal::LevelTest(Short {
+            level: 0,
+            units: sum - frame,
+        }));
     }
     let places_asked = shares::places_of_all(shares, standing) + x.places as u64;
-    causes::ruled(first_of(MAX_RESERVED < places_asked, 9, 0))
+    if MAX_RESERVED < places_asked {
+        return Err(Refusal::Reservations);
+    }
+    Ok(())
 }
 
 pub(crate) fn offer_verdict(
@@ -149,23 +157,24 @@ pub(crate) fn offer_verdict(
     notices: &[u32],
     c: u32,
     len: u32,
-) -> u32
+) -> Result<(), Refusal>
     requires { sound_frames h (tables shares.now places.now notices.now) ≡ true }
-    ensures { (tag : ℕ) → result ≡ verdict (offer c len tag) (view h (tables shares.now places.now notices.now)) }
+    ensures { (tag : ℕ) → verdict_of result ≡ verdict (offer c len tag) (view h (tables shares.now places.now notices.now)) }
 {
     let l = h.link;
     let stands = shares::stands(shares, c);
-    let early = causes::early_offer(unset(h), stands, l.largest, len);
-    if early != 0 {
-        return early;
-    }
+    causes::early_offer(unset(h), stands, l.largest, len)?;
     let x = shares::figures_of(shares, c);
     let taken = taken_by(l, h.clock, places, c);
+    if x.places as u64 <= taken.held {
+        return Err(Refusal::Full);
+    }
+    if causes::ended(h.clock) {
+        return Err(Refusal::ClockEnded);
+    }
     let asked = taken.units + (len as u64 + l.silence as u64);
-    let late = first_of(
-        causes::ended(h.clock),
-        13,
-        first_of((x.units as u64) < asked, 19, 0),
-    );
-    first_of(x.places as u64 <= taken.held, 12, late)
+    if (x.units as u64) < asked {
+        return Err(Refusal::PastUnits);
+    }
+    Ok(())
 }

@@ -5,7 +5,7 @@ use Rattle.frames.specs.Calls.{form, refused_number, answer}
 use Rattle.frames.specs.Histories.{History, logged}
 use Rattle.frames.specs.Runs.{run}
 use Rattle.faces.specs.Promises.{KeepsToTheRules}
-use Rattle.framed_state.specs.declared.Said.{Said}
+use Rattle.line.specs.declared.Told.{Told}
 use Rattle.framed_state.specs.View.{zero_tables, view, frames_of, written, sound_frames}
 use Rattle.framed_state.specs.Said.{said_of}
 use Rattle.framed_state.specs.Does.{tells, leaves}
@@ -16,4 +16,4 @@ abbrev pub TheFramedHubKeepsToTheRules : Type 1
 TheFramedHubKeepsToTheRules =
     KeepsToTheRules Sound answer refused_number (logged answer (λ k. (form k).0) State.clock) run History.now
     view frames_of written sound_frames (frames_of fresh) zero_tables
-    tells leaves said_of Said.verdict Said.number Said.short Said.gone Said.packet Said.frames
+    tells leaves said_of Told.verdict Told.number Told.short Told.departed Told.kept

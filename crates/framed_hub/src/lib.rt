@@ -11,6 +11,7 @@ ghost use Rattle.framed_state.specs.Does.{Does};
 use framed_state::{Frames, Said, say};
 use frames::{Framing, Share};
 use limits::NO_CONNECTION;
+use line::Wire;
 
 // How many numbers the caller lends: as the table of connections, as the places table, as the table of notices.
 pub const CONNECTIONS: usize = limits::SHARES;
@@ -24,15 +25,9 @@ pub fn fresh_frames() -> Frames
     ensures { result ≡ frames_of fresh }
 {
     Frames {
-        link: Framing {
-            frame: 0,
-            largest: 0,
-            silence: 0,
-        },
+        link: Framing::default(),
         clock: 0,
-        serving: 0,
-        to_go: 0,
-        silent: 0,
+        wire: Wire::default(),
     }
 }
 

@@ -1,23 +1,24 @@
 -- Laws of the choice, which is the first row or none, and of the tick with it.
-use Prim.Native.Nat.{ℕ, ◌<◌}
+use Prim.Native.Nat.{ℕ, ◌≤◌, ◌<◌}
 use native.Mathlib.Omega.{arith}
-use mathlib.Core.Path.{◌≡◌, refl, sym, ap, ◌∙◌, subst}
-use mathlib.Core.Bool.{Bool, true, false, cond}
+use mathlib.Core.Path.{◌≡◌, sym, ap, ◌∙◌, subst}
 use mathlib.Core.List.{List, [], ◌∷◌}
 use mathlib.Core.Option.{none, some}
 use lib.Dec.{leb}
 use lib.ListN.{length, drop}
-use borrow.Author.Tests.{leb-false}
+use borrow.Author.Tests.{le-leb}
+use Rattle.std.specs.Prelude as code
+use Rattle.std.specs.Prelude.{Some, None}
 use Rattle.rules.specs.declared.Packet.{Packet}
 use Rattle.rules.specs.Words.{All, Pairs}
 use Rattle.rules.specs.Limits.{notice_number}
 use Rattle.rules.specs.Service.{begun, sends, wire_tick, sent}
 use Rattle.rules.proofs.Lists.{all_map}
-use Rattle.rules.proofs.Sums.{cond_ind}
-use Rattle.rules.proofs.Rows.{nil_of}
+use Rattle.rules.proofs.Sums.{cond_is, cond_ind}
 use Rattle.frames.specs.Service.{first_eligible}
 use Rattle.frames.proofs.SoundTick.{none_eligible}
 use Rattle.tables.specs.Places.{rows, row_at}
+use Rattle.tables.specs.Options.{option_of}
 use Rattle.tables.proofs.PlacesLaws.{rows_from}
 use Rattle.line.specs.declared.Wire.{Wire}
 use Rattle.line.specs.declared.Sent.{Sent}
@@ -28,21 +29,25 @@ use Rattle.frames.proofs.Names.{NotAfter}
 
 -- ---- the choice
 
-head_or_none : (t : ℕ) (r : Packet) (rs : List Packet) → All (NotAfter r) rs → cond (leb r.eligibility t) (some r) none ≡ first_eligible t (r ∷ rs)
-head_or_none t r rs h = go (leb r.eligibility t) refl
-  where
-    go : (b : Bool) → leb r.eligibility t ≡ b → cond b (some r) none ≡ cond b (some r) (first_eligible t rs)
-    go true e = refl
-    go false e = sym (none_eligible t rs (all_map (λ p k. omega (arith, leb-false r.eligibility t e)) rs h))
-
 module _ (clock : ℕ) (t : List ℕ) where
-  pub no_row : length (rows t) ≡ 0 → none ≡ first_eligible clock (rows t)
-  no_row n = ap (first_eligible clock) (sym (nil_of (rows t) n))
+  module _ (l : 0 < length (rows t)) (p : Packet) (is : p ≡ row_at t 0) where
+    abbrev rest : List Packet
+    rest = drop 1 (rows t)
 
-  pub first_row : 0 < length (rows t) → Pairs NotAfter (rows t) → cond (leb (row_at t 0).eligibility clock) (some (row_at t 0)) none ≡ first_eligible clock (rows t)
-  first_row l h =
-      let e = rows_from t 0 l in
-      head_or_none clock (row_at t 0) (drop 1 (rows t)) (subst (Pairs NotAfter) e h).0 ∙ ap (first_eligible clock) (sym e)
+    rows_are : p ∷ rest ≡ rows t
+    rows_are = ap (λ (q : Packet). q ∷ rest) is ∙ sym (rows_from t 0 l)
+
+    as_rows : (d : code.Option Packet) → d ≡ option_of (first_eligible clock (p ∷ rest)) → d ≡ option_of (first_eligible clock (rows t))
+    as_rows d e = e ∙ ap (λ (ps : List Packet). option_of (first_eligible clock ps)) rows_are
+
+    pub first_row : p.eligibility ≤ clock → Some p ≡ option_of (first_eligible clock (rows t))
+    first_row h = as_rows (Some p) (ap option_of (sym (cond_is (some p) (first_eligible clock rest) (le-leb p.eligibility clock h))))
+
+    -- those behind it are no earlier
+    pub no_row_yet : clock < p.eligibility → Pairs NotAfter (rows t) → None ≡ option_of (first_eligible clock (rows t))
+    no_row_yet h k =
+        let later = all_map (λ q a. omega (arith, h)) rest (subst (Pairs NotAfter) (sym rows_are) k).0 in
+        as_rows None (ap option_of (sym (none_eligible clock (p ∷ rest) (h, later))))
 
 -- ---- the tick
 

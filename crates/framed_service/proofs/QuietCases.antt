@@ -9,7 +9,6 @@ use lib.ListN.{length, drop}
 use Rattle.rules.specs.declared.Packet.{Packet}
 use Rattle.rules.specs.Words.{All, Pairs}
 use Rattle.rules.specs.Limits.{clock_end}
-use Rattle.rules.proofs.Rows.{nil_of}
 use Rattle.frames.specs.Model.{State, wire}
 use Rattle.frames.specs.SoundTest.{sound}
 use Rattle.frames.proofs.SoundExact.{exact}
@@ -27,9 +26,6 @@ not_before t [] h = omega arith
 not_before t (p ∷ ps) h = omega (arith, h.0, not_before t ps h.1)
 
 module _ (t : List ℕ) where
-  pub no_row : length (rows t) ≡ 0 → clock_end ≡ eligible_from (rows t)
-  no_row n = ap eligible_from (sym (nil_of (rows t) n))
-
   pub first_row : 0 < length (rows t) → Pairs NotAfter (rows t) → min (row_at t 0).eligibility clock_end ≡ eligible_from (rows t)
   first_row l h =
       let e = rows_from t 0 l in

@@ -5,12 +5,7 @@ use Rattle.rules.specs.Limits.{notice_number}
 use Rattle.rules.specs.declared.Packet.{Packet}
 use Rattle.tables.specs.Places.{rows}
 use Rattle.line.specs.declared.Wire.{Wire}
-use Rattle.line.specs.Wires.{on_wire, InPlace}
-use Rattle.framed_state.specs.declared.Frames.{Frames}
-
--- the line of a `Frames`
-abbrev pub wire_in : Frames → Wire
-wire_in h = on_wire h.serving h.to_go h.silent
+use Rattle.line.specs.Wires.{InPlace}
 
 -- row order: no eligibility falls
 abbrev pub NotAfter : Packet → Packet → Type 0

@@ -12,7 +12,6 @@ ghost use Rattle.framed_service.specs.Quiet.{passed, quiet_ticks};
 
 use framed_state::Frames;
 use limits::CLOCK_END;
-use limits::numbers::{least, least_short, without};
 
 // How long no packet becomes eligible: up to the clock's end, and not at all where one is. Eligibilities never fall in row order, so that the first row tells.
 fn wait(places: &[u32], clock: u32) -> u32
@@ -20,20 +19,19 @@ fn wait(places: &[u32], clock: u32) -> u32
     ensures { result ≡ eligible_from (rows places.now) - clock }
 {
     if tables::none(places) {
-        return without(CLOCK_END, clock);
+        return CLOCK_END.saturating_sub(clock);
     }
     let first = tables::row(places, 0);
-    without(least(first.eligibility, CLOCK_END), clock)
+    first.eligibility.min(CLOCK_END).saturating_sub(clock)
 }
 
 // The ticks in which nothing starts and nothing departs, by the line, the places and the notices.
 fn quiet_for(h: Frames, places: &[u32], notices: &[u32]) -> u32
     requires { Pairs NotAfter (rows places.now) }
-    ensures { result ≡ quiet_for h.to_go h.silent (rows places.now) (notices_in notices.now) none h.clock }
+    ensures { result ≡ quiet_for h.wire.to_go h.wire.silent (rows places.now) (notices_in notices.now) none h.clock }
 {
-    let w = line::on_wire(h.serving, h.to_go, h.silent);
-    if !line::quiet::awaits(w, notices) {
-        return line::quiet::taken_for(w);
+    if !line::quiet::awaits(h.wire, notices) {
+        return line::quiet::taken_for(h.wire);
     }
     wait(places, h.clock)
 }
@@ -46,8 +44,8 @@ pub fn quiet_ticks(h: Frames, shares: &[u32], places: &[u32], notices: &[u32], l
     if h.link.frame == 0 {
         return 0;
     }
-    let rest = least(quiet_for(h, places, notices), CLOCK_END - h.clock);
-    least_short(rest, left)
+    let rest = quiet_for(h, places, notices).min(CLOCK_END - h.clock);
+    rest.min(left as u32) as u16
 }
 
 // The line k ticks on, where nothing starts and nothing departs in them.
@@ -55,10 +53,5 @@ pub fn pass_over(h: Frames, k: u16) -> Frames
     requires { h.clock + k ≤ clock_end }
     ensures { (t : Tables) → result ≡ frames_of (passed (view h t) k) }
 {
-    let w = line::quiet::passed(line::on_wire(h.serving, h.to_go, h.silent), k);
-    let mut later = h;
-    later.clock = h.clock + k as u32;
-    later.to_go = w.to_go;
-    later.silent = w.silent;
-    later
+    line::quiet::pass_over(h, k)
 }

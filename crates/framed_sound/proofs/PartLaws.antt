@@ -26,11 +26,9 @@ use Rattle.limits.proofs.ChainLaws.{fails, goes_on}
 use Rattle.tables.specs.Places.{rows, row_at}
 use Rattle.tables.specs.Notices.{notice_of}
 use Rattle.tables.proofs.PlacesLaws.{rows_from}
-use Rattle.shares.specs.Shares.{share_at, shares_in}
-use Rattle.shares.proofs.ShareLaws.{share_is}
+use Rattle.shares.specs.Shares.{shares_in}
 use Rattle.line_tests.proofs.LineLaws.{row_holds}
-use Rattle.framed_state.specs.declared.Frames.{Frames}
-use Rattle.framed_state.specs.View.{Tables, view}
+use Rattle.framed_state.specs.View.{Frames, Tables, view}
 use Rattle.framed_sound.specs.Parts.{unused, Measured}
 use Rattle.frames.proofs.Names.{all_units}
 
@@ -102,15 +100,6 @@ module _ (l : Framing) (cs : List Share) (t : ℕ) (places : List ℕ) (ok : eac
     short_silence = (framing_facts l f).silence_max;
   }
 
--- ---- a loop that tests each connection
-
-module _ (f : ℕ → Bool) where
-  pub every_done : (n i : ℕ) → i ≡ n → every i f ≡ true → true ≡ every n f
-  every_done n i e h = sym (ap (λ (k : ℕ). every k f) (sym e) ∙ h)
-
-pub within_at : (t : List ℕ) (c : ℕ) {x : Share} {r : Bool} → c < length (shares_in t) → x ≡ share_at t c → r ≡ share_within x → r ≡ share_within (nth (shares_in t) c)
-within_at t c l is e = e ∙ ap share_within (is ∙ sym (share_is t c l))
-
 -- ---- the start of the next frame: no more frames than ticks, and it fits 64 bits
 
 pub frames_few : (T t : ℕ) → 1 ≤ T → t / T ≤ t
@@ -168,26 +157,26 @@ module _ (h : Frames) (t : Tables) where
 -- ---- a packet in service is the first row
 
 module _ (h : Frames) (t : Tables) where
-  pub turn_idle : h.to_go ≡ 0 → true ≡ in_turn_sound (view h t)
+  pub turn_idle : h.wire.to_go ≡ 0 → true ≡ in_turn_sound (view h t)
   unfolding in_turn_sound
-  turn_idle e = rw (eq-eqb h.to_go 0 e)
+  turn_idle e = rw (eq-eqb h.wire.to_go 0 e)
 
-  module _ (n : h.to_go ≡ 0 → ⊥) where
-    pub turn_notice : h.serving ≡ notice_number → true ≡ in_turn_sound (view h t)
+  module _ (n : h.wire.to_go ≡ 0 → ⊥) where
+    pub turn_notice : h.wire.serving ≡ notice_number → true ≡ in_turn_sound (view h t)
     unfolding in_turn_sound
-    turn_notice e = rw (ne_eqb h.to_go 0 n, eq-eqb h.serving notice_number e)
+    turn_notice e = rw (ne_eqb h.wire.to_go 0 n, eq-eqb h.wire.serving notice_number e)
 
-    module _ (m : h.serving ≡ notice_number → ⊥) where
+    module _ (m : h.wire.serving ≡ notice_number → ⊥) where
       pub turn_nobody : length (rows t.places) ≡ 0 → false ≡ in_turn_sound (view h t)
       unfolding in_turn_sound
-      turn_nobody z = rw (ne_eqb h.to_go 0 n, ne_eqb h.serving notice_number m) (go (rows t.places) z)
+      turn_nobody z = rw (ne_eqb h.wire.to_go 0 n, ne_eqb h.wire.serving notice_number m) (go (rows t.places) z)
         where
-          go : (ps : List Packet) → length ps ≡ 0 → false ≡ heads h.serving ps
+          go : (ps : List Packet) → length ps ≡ 0 → false ≡ heads h.wire.serving ps
           go [] e = refl
           go (p ∷ ps) e = absurd (omega arith)
 
-      pub turn_first : 0 < length (rows t.places) → {p : Packet} → p ≡ row_at t.places 0 → eqb p.connection h.serving ≡ in_turn_sound (view h t)
+      pub turn_first : 0 < length (rows t.places) → {p : Packet} → p ≡ row_at t.places 0 → eqb p.connection h.wire.serving ≡ in_turn_sound (view h t)
       unfolding in_turn_sound
       turn_first l is =
-          rw (ne_eqb h.to_go 0 n, ne_eqb h.serving notice_number m)
-          (ap (λ (p : Packet). eqb p.connection h.serving) is ∙ sym (ap (heads h.serving) (rows_from t.places 0 l)))
+          rw (ne_eqb h.wire.to_go 0 n, ne_eqb h.wire.serving notice_number m)
+          (ap (λ (p : Packet). eqb p.connection h.wire.serving) is ∙ sym (ap (heads h.wire.serving) (rows_from t.places 0 l)))

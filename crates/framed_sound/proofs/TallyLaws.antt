@@ -20,8 +20,7 @@ use Rattle.tables.specs.Places.{rows, row_at}
 use Rattle.shares.specs.Shares.{shares_in}
 use Rattle.line_tests.specs.Counts.{Counts, raised}
 use Rattle.line_tests.proofs.CountLaws.{known_here}
-use Rattle.framed_state.specs.declared.Frames.{Frames}
-use Rattle.framed_state.specs.View.{Tables, view}
+use Rattle.framed_state.specs.View.{Frames, Tables, view}
 use Rattle.framed_sound.specs.Parts.{Measured, share_with}
 
 -- a list of numbers of which none is above `most`

@@ -8,14 +8,14 @@ use Rattle.frames.specs.SoundTest.{admissions_sound, rows_sound, in_turn_sound}
 use Rattle.tables.specs.Places.{rows, row_at}
 use Rattle.shares.specs.Shares.{shares_in}
 use Rattle.line_tests.specs.Counts.{Countable}
-use Rattle.framed_state.specs.declared.Frames.{Frames}
+use Rattle.framed_state.specs.View.{Frames}
 
 -- with no link set, everything is zero: the rest of the link, the connections that stand, the clock, the packets and notices that there are, the line
 abbrev pub unused : Frames → ℕ → ℕ → ℕ → Bool
 unused h standing held waiting =
     (eqb h.link.largest 0 && eqb h.link.silence 0)
     && (eqb standing 0
-    && (eqb h.clock 0 && (eqb held 0 && (eqb waiting 0 && (eqb h.serving 0 && (eqb h.to_go 0 && eqb h.silent 0))))))
+    && (eqb h.clock 0 && (eqb held 0 && (eqb waiting 0 && (eqb h.wire.serving 0 && (eqb h.wire.to_go 0 && eqb h.wire.silent 0))))))
 
 -- with one, the clauses of the rules
 abbrev pub linked_sound : State → Bool

@@ -15,6 +15,8 @@ use frames::Framing;
 use limits::MAX_CONNECTIONS;
 use line_tests::{count_rows, raise};
 use rules::Packet;
+use shares::counted::Shares;
+use tables::rows::Rows;
 
 // What a row counts against the units of this frame: its length and the silence, while it is not eligible.
 pub fn newly(l: Framing, clock: u32, p: Packet) -> u32
@@ -28,56 +30,41 @@ pub fn newly(l: Framing, clock: u32, p: Packet) -> u32
 }
 
 // The units that each connection has used in this frame.
-fn count_units(h: Frames, places: &[u32], held: usize, taken: &mut [u32])
-    requires { (held ≡ length (rows places.now)) × Measured h.link places.now × Counts (total (newly h.link h.clock)) taken.old [] }
-    ensures { Counts (total (newly h.link h.clock)) taken.new (rows places.now) }
+fn count_units(h: Frames, places: Rows, taken: &mut [u32])
+    requires { Measured h.link places.table.now × Counts (total (newly h.link h.clock)) taken.old [] }
+    ensures { Counts (total (newly h.link h.clock)) taken.new (rows places.entry.table.now) }
 {
-    let mut i: usize = 0;
-    while i < held {
-        let p = tables::row(places, i);
+    for i in 0..places.len() {
+        let p = places.at(i);
         raise(taken, p.connection as usize, newly(h.link, h.clock, p));
-        i += 1;
     }
 }
 
 // Number c, of which n packets are held and m units are used: within its places and its units.
-fn share_holds(shares: &[u32], c: usize, n: u32, m: u32) -> bool
-    requires { c < length (shares_in shares.now) }
-    ensures { result ≡ share_with shares.now n m c }
+fn share_holds(shares: Shares, c: usize, n: u32, m: u32) -> bool
+    requires { c < length (shares_in shares.table.now) }
+    ensures { result ≡ share_with shares.entry.table.now n m c }
 {
-    let x = shares::share_at(shares, c);
+    let x = shares.at(c);
     (n <= x.places) & (m <= x.units)
 }
 
 // All that stand, with what was counted.
-fn each_holds(shares: &[u32], standing: usize, seen: &[u32], taken: &[u32]) -> bool
-    requires { (standing ≡ length (shares_in shares.now)) × (standing ≤ max_connections) × (length seen.now ≡ max_connections) × (length taken.now ≡ max_connections) }
-    ensures { result ≡ every (length (shares_in shares.now)) (λ c. share_with shares.now (get_or seen.now c 0) (get_or taken.now c 0) c) }
+fn each_holds(shares: Shares, seen: &[u32], taken: &[u32]) -> bool
+    requires { (length (shares_in shares.table.now) ≤ max_connections) × (length seen.now ≡ max_connections) × (length taken.now ≡ max_connections) }
+    ensures { result ≡ every (length (shares_in shares.entry.table.now)) (λ c. share_with shares.entry.table.now (get_or seen.now c 0) (get_or taken.now c 0) c) }
 {
-    let mut c: usize = 0;
-    while c < standing {
-        if !share_holds(shares, c, seen[c], taken[c]) {
-            return false;
-        }
-        c += 1;
-    }
-    true
+    (0..shares.len()).all(|c| share_holds(shares, c, seen[c], taken[c]))
 }
 
 // No connection holds more than its places, and none has used more than its units.
-pub(crate) fn shares_ok(
-    h: Frames,
-    shares: &[u32],
-    standing: usize,
-    places: &[u32],
-    held: usize,
-) -> bool
-    requires { (standing ≡ length (shares_in shares.now)) × (standing ≤ max_connections) × (held ≡ length (rows places.now)) × Measured h.link places.now }
-    ensures { (q : List ℕ) → result ≡ every (length (shares_in shares.now)) (share_sound (view h (tables shares.now places.now q))) }
+pub(crate) fn shares_ok(h: Frames, shares: Shares, places: Rows) -> bool
+    requires { (length (shares_in shares.table.now) ≤ max_connections) × Measured h.link places.table.now }
+    ensures { (q : List ℕ) → result ≡ every (length (shares_in shares.entry.table.now)) (share_sound (view h (tables shares.entry.table.now places.entry.table.now q))) }
 {
     let mut seen = [0u32; MAX_CONNECTIONS];
     let mut taken = [0u32; MAX_CONNECTIONS];
-    count_rows(places, held, &mut seen);
-    count_units(h, places, held, &mut taken);
-    each_holds(shares, standing, &seen, &taken)
+    count_rows(places, &mut seen);
+    count_units(h, places, &mut taken);
+    each_holds(shares, &seen, &taken)
 }

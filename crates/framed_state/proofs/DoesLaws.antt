@@ -1,20 +1,17 @@
 -- The laws of the discipline of frames, as the shared proofs ask for them; how a refusal and a call done meet the contract.
 use mathlib.Core.Path.{refl}
-use mathlib.Core.Bool.{false}
+use Rattle.std.specs.Prelude.{None}
 use Rattle.frames.specs.Model.{State, Call}
 use Rattle.frames.specs.SoundState.{Sound}
 use Rattle.frames.specs.Calls.{verdict, refused_number, refused_short, settle, answer}
 use Rattle.frames.proofs.SoundKept.{kept}
 use Rattle.frames.proofs.Results.{refusals_change_nothing, verdict_1_exactly}
-use Rattle.tables.specs.Places.{no_packet}
 use Rattle.tables.proofs.CallLaws.{Ruled}
 use Rattle.faces.proofs.Discipline.{Discipline}
 use Rattle.faces.proofs.CallLaws as C
-use Rattle.faces.proofs.Results.{departed_back}
-use Rattle.framed_state.specs.declared.Frames.{Frames}
-use Rattle.framed_state.specs.declared.Said.{Said}
-use Rattle.framed_state.specs.View.{Tables, view, frames_of, written, sound_frames}
-use Rattle.framed_state.specs.Said.{said_of, refusal}
+use Rattle.faces.proofs.Results.{option_back}
+use Rattle.framed_state.specs.View.{Frames, Tables, view, frames_of, written, sound_frames}
+use Rattle.framed_state.specs.Said.{Said, said_of, refusal}
 use Rattle.framed_state.specs.Does.{tells, leaves}
 use Rattle.framed_state.proofs.WrittenLaws.{writable, read_written, written_sound}
 use Rattle.framed_state.proofs.SoundLaws.{is_sound, tables_kept}
@@ -33,12 +30,11 @@ frames = record {
   refused_number = refused_number;
   Kept = Frames;
   Told = Said;
-  verdict = Said.verdict;
-  number = Said.number;
-  short = Said.short;
-  gone = Said.gone;
-  packet = Said.packet;
-  kept = Said.frames;
+  verdict = λ r. r.verdict;
+  number = λ r. r.number;
+  short = λ r. r.short;
+  departed = λ r. r.departed;
+  kept = λ r. r.kept;
   view = view;
   kept_of = frames_of;
   written = written;
@@ -48,7 +44,7 @@ frames = record {
   tells = tells;
   leaves = leaves;
   ruled = ruled;
-  told_back = λ a. (refl, refl, refl, departed_back a.departed);
+  told_back = λ a. (refl, refl, refl, option_back a.departed);
   kept_told = λ a. refl;
   kept_back = λ h t. refl;
   refused_as = λ h v n. (refl, refl, refl, refl);
@@ -65,7 +61,7 @@ abbrev pub settled : C.Settled frames
 settled = record {
   rule = verdict;
   settle = settle;
-  refusal_short = λ h verdict number short. record { verdict = verdict; number = number; short = short; gone = false; packet = no_packet; frames = h };
+  refusal_short = λ h verdict number short. record { verdict = verdict; number = number; short = short; departed = None; kept = h };
   refused_short = refused_short;
   answer_is = λ k s. refl;
   told_is = λ k h t w. refl;

@@ -16,8 +16,7 @@ use Rattle.tables.specs.Lent.{formed_with}
 use Rattle.tables.proofs.LentLaws as L
 use Rattle.shares.specs.Shares.{shares_length, shares_in, shares_formed}
 use Rattle.shares.proofs.ShareLaws.{shares_back, shares_long}
-use Rattle.framed_state.specs.declared.Frames.{Frames}
-use Rattle.framed_state.specs.View.{Tables, view, written, tables_formed, sound_frames}
+use Rattle.framed_state.specs.View.{Frames, Tables, view, written, tables_formed, sound_frames}
 
 -- ---- formed tables
 

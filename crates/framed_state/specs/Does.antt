@@ -3,10 +3,8 @@ use Rattle.std.specs.Prelude.{cond}
 use Rattle.frames.specs.Model.{Call}
 use Rattle.frames.specs.Calls.{refused_number, answer}
 use Rattle.tables.specs.Calls.{DoesBy}
-use Rattle.framed_state.specs.declared.Frames.{Frames}
-use Rattle.framed_state.specs.declared.Said.{Said}
-use Rattle.framed_state.specs.View.{Tables, view, written, sound_frames}
-use Rattle.framed_state.specs.Said.{said_of, refusal}
+use Rattle.framed_state.specs.View.{Frames, Tables, view, written, sound_frames}
+use Rattle.framed_state.specs.Said.{Said, said_of, refusal}
 
 -- what a call answers, and the tables that it leaves: number 1 and nothing changed ("Verdict numbers"), or what the rules' answer says, written back
 unfoldable pub tells : Call → Frames → Tables → Said

@@ -6,8 +6,14 @@ use Rattle.tables.specs.Places.{places_length, rows, table_of}
 use Rattle.tables.specs.Notices.{notices_length, notices_in, written_notices}
 use Rattle.tables.specs.Lent.{formed_with}
 pub use Rattle.tables.specs.Lent.{Tables, tables}
+use Rattle.line.specs.Wires.{on_wire}
 use Rattle.shares.specs.Shares.{shares_length, shares_in, written_shares, shares_formed}
-use Rattle.framed_state.specs.declared.Frames.{Frames}
+use Rattle.frames.specs.declared.Framing.{Framing}
+use Rattle.line.specs.declared.Hub as line
+
+-- the part of the state that no table holds
+abbrev pub Frames : Type 0
+Frames = line.Hub Framing
 
 -- as every line starts
 abbrev pub zero_tables : Tables
@@ -21,14 +27,14 @@ view h t = record {
   clock = h.clock;
   held = rows t.places;
   notices = notices_in t.notices;
-  serving = h.serving;
-  to_go = h.to_go;
-  silent = h.silent;
+  serving = h.wire.serving;
+  to_go = h.wire.to_go;
+  silent = h.wire.silent;
 }
 
 -- a state written back: the part that no table holds, and the tables
 abbrev pub frames_of : State → Frames
-frames_of s = record { link = s.link; clock = s.clock; serving = s.serving; to_go = s.to_go; silent = s.silent }
+frames_of s = record { link = s.link; clock = s.clock; wire = on_wire s.serving s.to_go s.silent }
 
 abbrev pub written : State → Tables
 written s = tables (written_shares s.connections) (table_of places_length s.held) (written_notices s.notices)

@@ -3,7 +3,7 @@
 #![tactic(auto)]
 
 // One frame length T in ticks, the largest packet S in units, and R-4's silence after each packet in ticks.
-#[derive(Clone, Copy)]
+#[derive(Clone, Copy, Default, PartialEq, Eq)]
 pub struct Framing {
     pub frame: u32,
     pub largest: u32,
@@ -11,7 +11,7 @@ pub struct Framing {
 }
 
 // A connection as it was admitted: r units per frame, p places.
-#[derive(Clone, Copy)]
+#[derive(Clone, Copy, Default, PartialEq, Eq)]
 pub struct Share {
     pub units: u32,
     pub places: u32,

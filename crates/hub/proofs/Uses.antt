@@ -22,21 +22,20 @@ use Rattle.rules.proofs.LevelTest.{test_holds, holds_test}
 use Rattle.rules.proofs.Results.{answer_verdict, runs_are_sound, finer_test_says, demand_3_first, demand_3_second, closing_frees, lowest_number_is_given, verdicts_of_an_offer}
 use Rattle.faces.specs.Promises as F
 use Rattle.faces.specs.Promises.{Account}
-use Rattle.state.specs.declared.Hub.{Hub}
-use Rattle.state.specs.declared.Told.{Told}
-use Rattle.state.specs.View.{Tables, zero_tables, view, hub_of, written, sound_hub}
-use Rattle.state.specs.Told.{told_of}
+use Rattle.line.specs.declared.Told as line
+use Rattle.state.specs.View.{Hub, Tables, zero_tables, view, hub_of, written, sound_hub}
+use Rattle.state.specs.Told.{Told, told_of}
 use Rattle.state.specs.Does.{tells, leaves, Does}
 use Rattle.hub.proofs.Results.{the_hub_keeps_to_the_rules}
 
 -- the rules' answer, read off what a call told and the tables that it left; the account of any calls, and the state that it stands for
 abbrev answer_read : Told → Tables → Answer
 answer_read =
-    F.answer_read Sound answer refused_number logged run History.now view hub_of written sound_hub (hub_of fresh) zero_tables tells leaves told_of Told.verdict Told.number Told.short Told.gone Told.packet Told.hub
+    F.answer_read Sound answer refused_number logged run History.now view hub_of written sound_hub (hub_of fresh) zero_tables tells leaves told_of line.Told.verdict line.Told.number line.Told.short line.Told.departed line.Told.kept
 
 abbrev calls : List Call → Account History Hub
 calls =
-    F.calls Sound answer refused_number logged run History.now view hub_of written sound_hub (hub_of fresh) zero_tables tells leaves told_of Told.verdict Told.number Told.short Told.gone Told.packet Told.hub
+    F.calls Sound answer refused_number logged run History.now view hub_of written sound_hub (hub_of fresh) zero_tables tells leaves told_of line.Told.verdict line.Told.number line.Told.short line.Told.departed line.Told.kept
 
 abbrev state_of : Account History Hub → State
 state_of g = view g.kept g.tables
@@ -70,10 +69,10 @@ ten_exactly_of_the_code c len tag st =
 
 -- `LowestNumberIsGiven`, which asks for verdict 0 in place of a sound hub: on any other the verdict is 1
 lowest_number_is_given_of_the_code : (x : Connection) (h : Hub) (before : Tables) (told : Told) (after : Tables) → Does (admit x) h before told after
-    → told.verdict ≡ 0 → LowestFree (view h before) x told.number (view told.hub after)
+    → told.verdict ≡ 0 → LowestFree (view h before) x told.number (view told.kept after)
 lowest_number_is_given_of_the_code x h before told after D z = go (sound_hub h before) refl
   where
-    go : (b : Bool) → sound_hub h before ≡ b → LowestFree (view h before) x told.number (view told.hub after)
+    go : (b : Bool) → sound_hub h before ≡ b → LowestFree (view h before) x told.number (view told.kept after)
     go true e = holds (admit x) (λ s a. a.verdict ≡ 0 → LowestFree s x a.number a.next) (λ s S. lowest_number_is_given x s) h before told after D e z
     go false e = absurd (omega (arith, z, ap (λ (r : Told). r.verdict) D.answers ∙ (the_hub_keeps_to_the_rules.verdict_1_exactly (admit x) h before).1 e))
 

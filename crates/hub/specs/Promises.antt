@@ -4,7 +4,7 @@ use Rattle.rules.specs.SoundState.{Sound}
 use Rattle.rules.specs.Calls.{refused_number, answer}
 use Rattle.rules.specs.Runs.{History, logged, run}
 use Rattle.faces.specs.Promises.{KeepsToTheRules}
-use Rattle.state.specs.declared.Told.{Told}
+use Rattle.line.specs.declared.Told as line
 use Rattle.state.specs.View.{zero_tables, view, hub_of, written, sound_hub}
 use Rattle.state.specs.Told.{told_of}
 use Rattle.state.specs.Does.{tells, leaves}
@@ -16,4 +16,4 @@ abbrev pub TheHubKeepsToTheRules : Type 1
 TheHubKeepsToTheRules =
     KeepsToTheRules Sound answer refused_number logged run History.now
     view hub_of written sound_hub (hub_of fresh) zero_tables
-    tells leaves told_of Told.verdict Told.number Told.short Told.gone Told.packet Told.hub
+    tells leaves told_of line.Told.verdict line.Told.number line.Told.short line.Told.departed line.Told.kept

@@ -9,7 +9,8 @@ ghost use Rattle.rules.specs.Model.{fresh, link, admit, offer, notice, close, ti
 ghost use Rattle.state.specs.View.{tables, hub_of};
 ghost use Rattle.state.specs.Does.{Does};
 
-use limits::{MAX_LEVELS, NO_CONNECTION};
+use limits::NO_CONNECTION;
+use line::Wire;
 use rules::{Connection, Link};
 use state::{Hub, Told, say};
 
@@ -25,20 +26,13 @@ pub fn fresh_hub() -> Hub
     ensures { result ≡ hub_of fresh }
 {
     Hub {
-        link: Link {
-            levels: 0,
-            largest: 0,
-            silence: 0,
-            early: 0,
-            bounds: [0; MAX_LEVELS as usize],
-            windows: [0; MAX_LEVELS as usize],
-        },
+        link: Link::default(),
         clock: 0,
-        serving: 0,
-        to_go: 0,
-        silent: 0,
+        wire: Wire::default(),
     }
 }
+
+// kept: what may not change: that a call leaves a table is said by its `&`, and `Does` names the same slice before and after, so the tables are three parameters
 
 // Set the link: levels, the largest packet, the silence after each packet, whether packets may go early (0 or 1), a delay bound for each level, and for the finer test a window for each level or none (all 0). Verdicts 0, 1, 3, 4.
 pub fn link(h: Hub, members: &[u32], places: &[u32], notices: &[u32], l: Link) -> Told
@@ -75,7 +69,7 @@ pub fn offer(
     if !sound::is_sound(h, members, places, notices) {
         return say(h, 1, 0);
     }
-    calls::offer_tested(h, members, places, notices, c, len, tag, false, 0)
+    calls::offer_tested(h, members, places, notices, c, len, tag, None)
 }
 
 // Offer a packet of a connection by stamps, with its eligibility at the hub before: its eligibility here, or 0. Verdicts 0, 1, 2, 10 to 13, 17.
@@ -94,7 +88,7 @@ pub fn offer_stamped(
     if !sound::is_sound(h, members, places, notices) {
         return say(h, 1, 0);
     }
-    calls::offer_tested(h, members, places, notices, c, len, tag, true, stamp)
+    calls::offer_tested(h, members, places, notices, c, len, tag, Some(stamp))
 }
 
 // Offer a notice: its eligibility, which is its arrival, or 0. Verdicts 0, 1, 2, 11, 13, 15.

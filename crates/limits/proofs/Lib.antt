@@ -1,4 +1,5 @@
 pub mod ChainLaws
 pub mod EveryLaws
+pub mod AllLaws
 pub mod ZeroLaws
 pub mod LimitLaws

@@ -1,14 +1,14 @@
 -- The limits of links and connections, test by test in the order of the code.
-use Prim.Native.Nat.{ℕ, suc, ◌+◌, ◌-◌, ◌/◌, ◌%◌, ◌≤◌, ◌<◌}
+use Prim.Native.Nat.{ℕ, zero, suc, ◌+◌, ◌-◌, ◌/◌, ◌%◌, ◌≤◌, ◌<◌}
 use native.Mathlib.Omega.{arith}
 use native.Mathlib.Numerals.{add-one}
 use mathlib.Core.Path.{◌≡◌, refl, sym, ap, ◌∙◌}
 use native.Mathlib.Nat.{zero-div}
-use mathlib.Core.Bool.{Bool, true, false, ◌&&◌, ◌||◌}
+use mathlib.Core.Bool.{and_assoc, Bool, true, false, ◌&&◌, ◌||◌}
 use mathlib.Core.List.{List, [], ◌∷◌}
 use lib.Dec.{leb, eqb}
-use lib.ListN.{length, get_or, drop}
-use lib.Seq.{drop-cons}
+use lib.ListN.{length, get_or, drop, take, length-take}
+use lib.Seq.{get_or-take, drop-cons}
 use borrow.Author.Tests.{le-leb, lt-leb, eq-eqb, ne_eqb, le-ltb, lt-ltb}
 use Rattle.rules.specs.declared.Link.{Link}
 use Rattle.rules.specs.declared.Connection.{Connection}
@@ -16,6 +16,7 @@ use Rattle.rules.specs.Words.{within}
 use Rattle.rules.specs.Limits.{max_levels, max_largest, max_silence, max_bound, max_level_window, max_gap, max_window, max_allowance, max_remembered}
 use Rattle.rules.specs.Admission.{rising, windowed, windows_from, windows_within, cost, link_within, level_within, burst, average_within, kind_within, figures_within}
 use Rattle.rules.proofs.Tests.{within_intro}
+use Rattle.std.specs.List.{list_all, zip}
 use Rattle.limits.specs.Zeros.{zeros}
 use Rattle.limits.proofs.ChainLaws.{fails, goes_on, and_false, too_low, too_high}
 
@@ -167,30 +168,29 @@ module _ (l : Link) where
           pub windows_rest : rising (l.largest + l.silence) l.levels l.bounds ≡ true → (r : Bool) → r ≡ windows_within l → r ≡ link_within l
           windows_rest e r h = behind_early r (goes_on (rising (l.largest + l.silence) l.levels l.bounds) _ r e h)
 
+-- ---- bounds
+
 -- past the n-th bound: zeros, whatever came before
 rising_zeros : (low : ℕ) (ds : List ℕ) → rising low 0 ds ≡ zeros ds
 rising_zeros low [] = refl
 rising_zeros low (d ∷ ds) = ap (λ (b : Bool). eqb d 0 && b) (rising_zeros low ds)
 
-module _ (low n i : ℕ) (ds : List ℕ) (h : i < n) (k : i < length ds) where
-  here : rising low (n - i) (drop i ds) ≡ (leb low (get_or ds i 0) && (leb (get_or ds i 0) max_bound && rising (suc (get_or ds i 0)) (n - (i + 1)) (drop (i + 1) ds)))
+-- the i-th of them, looked at among the first n
+module _ (low n i : ℕ) (ds : List ℕ) (h : i < length (take n ds)) where
+  abbrev it : ℕ
+  it = get_or (take n ds) i 0
+
+  here : rising low (n - i) (drop i ds) ≡ (within low max_bound it && rising (it + 1) (n - (i + 1)) (drop (i + 1) ds))
   here =
-      let e : n - i ≡ suc (n - (i + 1)) = omega arith in
-      rw (e, drop-cons ds i 0 k) (rw (add-one i))
+      let e : n - i ≡ suc (n - (i + 1)) = omega (arith, length-take n ds) in
+      let l : i < n = omega (arith, length-take n ds) in
+      rw (get_or-take n ds i 0 l, e, drop-cons ds i 0 (omega (arith, length-take n ds)), and_assoc (leb low (get_or ds i 0)), add-one i, add-one (get_or ds i 0)) refl
 
-  pub bound_low : get_or ds i 0 < low → false ≡ rising low (n - i) (drop i ds)
-  bound_low l = fails (leb low (get_or ds i 0)) _ (lt-leb low (get_or ds i 0) l) ∙ sym here
+  pub bound_out : within low max_bound it ≡ false → false ≡ rising low (n - i) (drop i ds)
+  bound_out e = fails (within low max_bound it) _ e ∙ sym here
 
-  pub bound_high : low ≤ get_or ds i 0 → max_bound < get_or ds i 0 → false ≡ rising low (n - i) (drop i ds)
-  bound_high l m = goes_on (leb low (get_or ds i 0)) _ false (le-leb low (get_or ds i 0) l) (fails (leb (get_or ds i 0) max_bound) _ (lt-leb (get_or ds i 0) max_bound m)) ∙ sym here
-
-  pub bound_next : low ≤ get_or ds i 0 → get_or ds i 0 ≤ max_bound → rising (get_or ds i 0 + 1) (n - (i + 1)) (drop (i + 1) ds) ≡ rising low (n - i) (drop i ds)
-  bound_next l m =
-      goes_on (leb low (get_or ds i 0)) _ _ (le-leb low (get_or ds i 0) l) (goes_on (leb (get_or ds i 0) max_bound) _ _ (le-leb (get_or ds i 0) max_bound m) (ap (λ (j : ℕ). rising j (n - (i + 1)) (drop (i + 1) ds)) (add-one (get_or ds i 0))))
-      ∙ sym here
-
-pub bounds_start : (low n : ℕ) (ds : List ℕ) → rising low (n - 0) (drop 0 ds) ≡ rising low n ds
-bounds_start low n ds = let e : n - 0 ≡ n = omega arith in rw e
+  pub bound_next : within low max_bound it ≡ true → rising (it + 1) (n - (i + 1)) (drop (i + 1) ds) ≡ rising low (n - i) (drop i ds)
+  bound_next e = goes_on (within low max_bound it) _ _ e refl ∙ sym here
 
 pub bounds_end : (low n i : ℕ) (ds : List ℕ) → i ≡ n → zeros (drop n ds) ≡ rising low (n - i) (drop i ds)
 bounds_end low n i ds e =
@@ -199,36 +199,26 @@ bounds_end low n i ds e =
 
 -- ---- windows
 
-windows_zeros : (ds ws : List ℕ) → windows_from 0 ds ws ≡ zeros ws
-windows_zeros ds [] = refl
-windows_zeros ds (w ∷ ws) = ap (λ (b : Bool). eqb w 0 && b) (windows_zeros ds ws)
+-- a window is within its limits: not below its bound
+abbrev pub window_fits : ℕ × ℕ → Bool
+window_fits p = within p.0 max_level_window p.1
 
-module _ (n i : ℕ) (ds ws : List ℕ) (h : i < n) (k : i < length ds) (m : i < length ws) where
-  window_here : windows_from (n - i) (drop i ds) (drop i ws) ≡ (leb (get_or ds i 0) (get_or ws i 0) && (leb (get_or ws i 0) max_level_window && windows_from (n - (i + 1)) (drop (i + 1) ds) (drop (i + 1) ws)))
-  window_here =
-      let e : n - i ≡ suc (n - (i + 1)) = omega arith in
-      rw (e, drop-cons ds i 0 k, drop-cons ws i 0 m) (rw (add-one i))
+-- the first n of each fit, and the windows behind them are zeros
+windows_fit : (n : ℕ) (ds ws : List ℕ) → n ≤ length ds → n ≤ length ws → (list_all window_fits (zip (take n ds) (take n ws)) && zeros (drop n ws)) ≡ windows_from n ds ws
+windows_fit zero ds [] h k = refl
+windows_fit zero ds (w ∷ ws) h k = ap (λ (b : Bool). eqb w 0 && b) (windows_fit zero ds ws (omega arith) (omega arith))
+windows_fit (suc n) [] ws h k = absurd (omega arith)
+windows_fit (suc n) (d ∷ ds) [] h k = absurd (omega arith)
+windows_fit (suc n) (d ∷ ds) (w ∷ ws) h k =
+    let ih = windows_fit n ds ws (omega arith) (omega arith) in
+    rw (and_assoc (window_fits (d, w)), ih, and_assoc (leb d w)) refl
 
-  pub window_low : get_or ws i 0 < get_or ds i 0 → false ≡ windows_from (n - i) (drop i ds) (drop i ws)
-  window_low l = fails (leb (get_or ds i 0) (get_or ws i 0)) _ (lt-leb (get_or ds i 0) (get_or ws i 0) l) ∙ sym window_here
+module _ (n : ℕ) (ds ws : List ℕ) (h : n ≤ length ds) (k : n ≤ length ws) where
+  pub all_fit : list_all window_fits (zip (take n ds) (take n ws)) ≡ true → zeros (drop n ws) ≡ windows_from n ds ws
+  all_fit e = rw e at (windows_fit n ds ws h k)
 
-  pub window_above : get_or ds i 0 ≤ get_or ws i 0 → max_level_window < get_or ws i 0 → false ≡ windows_from (n - i) (drop i ds) (drop i ws)
-  window_above l g =
-      goes_on (leb (get_or ds i 0) (get_or ws i 0)) _ false (le-leb (get_or ds i 0) (get_or ws i 0) l) (fails (leb (get_or ws i 0) max_level_window) _ (lt-leb (get_or ws i 0) max_level_window g))
-      ∙ sym window_here
-
-  pub window_next : get_or ds i 0 ≤ get_or ws i 0 → get_or ws i 0 ≤ max_level_window → windows_from (n - (i + 1)) (drop (i + 1) ds) (drop (i + 1) ws) ≡ windows_from (n - i) (drop i ds) (drop i ws)
-  window_next l g =
-      goes_on (leb (get_or ds i 0) (get_or ws i 0)) _ _ (le-leb (get_or ds i 0) (get_or ws i 0) l) (goes_on (leb (get_or ws i 0) max_level_window) _ _ (le-leb (get_or ws i 0) max_level_window g) refl)
-      ∙ sym window_here
-
-pub windows_start : (n : ℕ) (ds ws : List ℕ) → windows_from (n - 0) (drop 0 ds) (drop 0 ws) ≡ windows_from n ds ws
-windows_start n ds ws = let e : n - 0 ≡ n = omega arith in rw e
-
-pub windows_end : (n i : ℕ) (ds ws : List ℕ) → i ≡ n → zeros (drop n ws) ≡ windows_from (n - i) (drop i ds) (drop i ws)
-windows_end n i ds ws e =
-    let z : n - i ≡ 0 = omega arith in
-    rw (z, e) (sym (windows_zeros (drop n ds) (drop n ws)))
+  pub one_not : list_all window_fits (zip (take n ds) (take n ws)) ≡ false → false ≡ windows_from n ds ws
+  one_not e = rw e at (windows_fit n ds ws h k)
 
 module _ (l : Link) where
   -- the first window tells whether there are any

@@ -1,15 +1,19 @@
 -- Laws of numbers that are all 0.
-use Prim.Native.Nat.{ℕ, zero, suc, ◌+◌, ◌-◌, ◌<◌, ◌≤◌}
+use Prim.Native.Nat.{ℕ, zero, suc, ◌+◌, ◌*◌, ◌-◌}
 use native.Mathlib.Omega.{arith}
-use native.Mathlib.Numerals.{add-one}
 use mathlib.Core.Path.{◌≡◌, refl, sym, ap, ◌∙◌}
-use mathlib.Core.Bool.{Bool, true, false, ◌&&◌}
+use mathlib.Core.Bool.{and_assoc, Bool, true, false, ◌&&◌}
 use mathlib.Core.List.{List, [], ◌∷◌, ◌++◌}
 use lib.Dec.{eqb}
-use borrow.Author.Tests.{eqb-true, eq-eqb, ne_eqb}
+use borrow.Author.Tests.{eqb-true}
 use lib.ListN.{length, get_or, take, drop, replicate, replicate-append-replicate, take-append-drop}
-use lib.Seq.{drop-cons, drop-length, drop-drop, take-add}
+use lib.Seq.{drop-drop}
 use Rattle.rules.proofs.Tests.{and_true, and_intro}
+use Rattle.std.specs.Cmp.Lexicographic.{pointwise}
+use Rattle.std.specs.List.{list_all}
+use Rattle.std.proofs.lemmas.List.{take_rest}
+use Rattle.std.proofs.lemmas.List.Folds.{list_all-append}
+use Rattle.std.specs.Simd.{first_chunks}
 use Rattle.limits.specs.Zeros.{zeros}
 
 pub zeros_are : (t : List ℕ) → zeros t ≡ true → t ≡ replicate (length t) 0
@@ -50,63 +54,33 @@ zeros_parts (suc k) (x ∷ l) h =
     let b = zeros_parts k l a.1 in
     (and_intro (eqb x 0) (zeros (take k l)) a.0 b.0, b.1)
 
--- ---- one by one, from the i-th on
+-- ---- in blocks
 
-pub zeros_stop : (t : List ℕ) (i : ℕ) → i < length t → (get_or t i 0 ≡ 0 → ⊥) → false ≡ zeros (drop i t)
-zeros_stop t i h n = rw (drop-cons t i 0 h, ne_eqb (get_or t i 0) 0 n)
+all_zeros : (xs : List ℕ) → pointwise eqb xs (replicate (length xs) 0) ≡ zeros xs
+all_zeros [] = refl
+all_zeros (x ∷ xs) = ap (λ (b : Bool). eqb x 0 && b) (all_zeros xs)
 
-pub zeros_next : (t : List ℕ) (i : ℕ) → i < length t → get_or t i 0 ≡ 0 → zeros (drop (i + 1) t) ≡ zeros (drop i t)
-zeros_next t i h n = rw (add-one i, drop-cons t i 0 h, eq-eqb (get_or t i 0) 0 n)
+pub is_zeros : (n : ℕ) (xs : List ℕ) → length xs ≡ n → pointwise eqb xs (replicate n 0) ≡ zeros xs
+is_zeros n xs e = ap (λ (k : ℕ). pointwise eqb xs (replicate k 0)) (sym e) ∙ all_zeros xs
 
-pub zeros_end : (t : List ℕ) → true ≡ zeros (drop (length t) t)
-zeros_end t = rw (drop-length t)
+-- sixteen numbers, so many times, and what is left
+pub zeros_chunks : (n : ℕ) (xs : List ℕ) → (list_all zeros (first_chunks 16 n xs) && zeros (drop (n * 16) xs)) ≡ zeros xs
+zeros_chunks zero xs = refl
+zeros_chunks (suc n) xs =
+    let more : suc n * 16 ≡ 16 + n * 16 = omega arith in
+    let left : drop (suc n * 16) xs ≡ drop (n * 16) (drop 16 xs) = ap (λ (k : ℕ). drop k xs) more ∙ sym (drop-drop (n * 16) 16 xs) in
+    rw (left, and_assoc (zeros (take 16 xs))) (ap (λ (b : Bool). zeros (take 16 xs) && b) (zeros_chunks n (drop 16 xs)) ∙ sym (list_all-append (λ x. eqb x 0) (take 16 xs) (drop 16 xs)) ∙ ap zeros (take-append-drop 16 xs))
 
--- ---- some at a time
-
-zeros_append : (a b : List ℕ) → zeros (a ++ b) ≡ (zeros a && zeros b)
-zeros_append [] b = refl
-zeros_append (x ∷ a) b = go (eqb x 0) (zeros_append a b)
-  where
-    go : (h : Bool) → zeros (a ++ b) ≡ (zeros a && zeros b) → (h && zeros (a ++ b)) ≡ ((h && zeros a) && zeros b)
-    go true e = e
-    go false e = refl
-
+-- .. from the i-th on: all blocks of zeros, or one that is not
 module _ (t : List ℕ) (i : ℕ) where
-  pub zeros_four : i + 4 ≤ length t → (eqb (get_or t i 0) 0 && (eqb (get_or t (i + 1) 0) 0 && (eqb (get_or t (i + 2) 0) 0 && eqb (get_or t (i + 3) 0) 0))) ≡ zeros (take 4 (drop i t))
-  zeros_four h =
-      let one : i + 1 ≡ suc i = omega arith in
-      let two : i + 2 ≡ suc (suc i) = omega arith in
-      let three : i + 3 ≡ suc (suc (suc i)) = omega arith in
-      rw (one, two, three, drop-cons t i 0 (omega arith), drop-cons t (suc i) 0 (omega arith), drop-cons t (suc (suc i)) 0 (omega arith), drop-cons t (suc (suc (suc i))) 0 (omega arith), last (get_or t (suc (suc (suc i))) 0))
-    where
-      last : (x : ℕ) → (eqb x 0 && true) ≡ eqb x 0
-      last x = go (eqb x 0)
-        where
-          go : (b : Bool) → (b && true) ≡ b
-          go true = refl
-          go false = refl
+  abbrev from_there : List ℕ
+  from_there = take (length t - i) (drop i t)
 
-  zeros_block : (k n : ℕ) → zeros (take (k + n) (drop i t)) ≡ (zeros (take k (drop i t)) && zeros (take n (drop (i + k) t)))
-  zeros_block k n =
-      ap zeros (take-add k n (drop i t))
-      ∙ zeros_append (take k (drop i t)) (take n (drop k (drop i t)))
-      ∙ ap (λ (l : List ℕ). zeros (take k (drop i t)) && zeros (take n l)) (drop-drop k i t)
+  there : zeros from_there ≡ zeros (drop i t)
+  there = ap zeros (take_rest t i)
 
-  zeros_on : (k : ℕ) → zeros (drop i t) ≡ (zeros (take k (drop i t)) && zeros (drop (i + k) t))
-  zeros_on k =
-      ap zeros (sym (take-append-drop k (drop i t)))
-      ∙ zeros_append (take k (drop i t)) (drop k (drop i t))
-      ∙ ap (λ (l : List ℕ). zeros (take k (drop i t)) && zeros l) (drop-drop k i t)
+  pub blocks_zero : (n : ℕ) → list_all zeros (first_chunks 16 n from_there) ≡ true → zeros (drop (n * 16) from_there) ≡ zeros (drop i t)
+  blocks_zero n e = rw e at (zeros_chunks n from_there) ∙ there
 
-  -- k of them: one that is not 0, or none
-  pub block_stop : (k : ℕ) → zeros (take k (drop i t)) ≡ false → false ≡ zeros (drop i t)
-  block_stop k e = sym (zeros_on k ∙ ap (λ (b : Bool). b && zeros (drop (i + k) t)) e)
-
-  pub block_next : (k : ℕ) → zeros (take k (drop i t)) ≡ true → zeros (drop (i + k) t) ≡ zeros (drop i t)
-  block_next k e = sym (zeros_on k ∙ ap (λ (b : Bool). b && zeros (drop (i + k) t)) e)
-
-pub zeros_sixteen : (t : List ℕ) (i : ℕ) → (zeros (take 4 (drop i t)) && (zeros (take 4 (drop (i + 4) t)) && (zeros (take 4 (drop (i + 8) t)) && zeros (take 4 (drop (i + 12) t))))) ≡ zeros (take 16 (drop i t))
-zeros_sixteen t i =
-    let two : i + 4 + 4 ≡ i + 8 = omega arith in
-    let three : i + 8 + 4 ≡ i + 12 = omega arith in
-    rw (zeros_block t i 4 12, zeros_block t (i + 4) 4 8, two, zeros_block t (i + 8) 4 4, three)
+  pub block_stop : (n : ℕ) → list_all zeros (first_chunks 16 n from_there) ≡ false → false ≡ zeros (drop i t)
+  block_stop n e = rw e at (zeros_chunks n from_there) ∙ there

@@ -2,8 +2,6 @@
 // `crates/rules/specs/Limits.antt` and `crates/frames/specs/Limits.antt`; the contracts of the code tie these to those.
 #![tactic(auto)]
 
-pub mod numbers; // numbers.rt: the smaller of two, and a difference
-
 ghost use Rattle.std.specs.Prelude.{◌≡◌, ◌+◌, ◌≤◌, length, take, drop};
 ghost use Rattle.rules.specs.Words.{within};
 ghost use Rattle.rules.specs.Limits.{max_levels};
@@ -97,35 +95,11 @@ pub const SHARE_WIDTH: usize = 2;
 
 pub const SHARES: usize = SHARE_WIDTH * MAX_CONNECTIONS;
 
-// The four numbers from i on are 0.
-fn four_zero(t: &[u32], i: usize) -> bool
-    requires { i + 4 ≤ length t.now }
-    ensures { result ≡ zeros (take 4 (drop i t.now)) }
+// Sixteen numbers are all 0.
+fn zero_block(block: &[u32; 16]) -> bool
+    ensures { result ≡ zeros block.now }
 {
-    (t[i] == 0) & ((t[i + 1] == 0) & ((t[i + 2] == 0) & (t[i + 3] == 0)))
-}
-
-// The sixteen numbers from i on are 0.
-fn sixteen_zero(t: &[u32], i: usize) -> bool
-    requires { i + 16 ≤ length t.now }
-    ensures { result ≡ zeros (take 16 (drop i t.now)) }
-{
-    four_zero(t, i) & (four_zero(t, i + 4) & (four_zero(t, i + 8) & four_zero(t, i + 12)))
-}
-
-// All numbers from `from` on are 0, looked at one by one.
-fn zero_one_by_one(t: &[u32], from: usize) -> bool
-    requires { from ≤ length t.now }
-    ensures { result ≡ zeros (drop from t.now) }
-{
-    let mut i: usize = from;
-    while i < t.len() {
-        if t[i] != 0 {
-            return false;
-        }
-        i += 1;
-    }
-    true
+    *block == [0; 16]
 }
 
 // All numbers from `from` on are 0: sixteen at a time, and one by one where fewer are left.
@@ -133,14 +107,8 @@ pub fn zero_from(t: &[u32], from: usize) -> bool
     requires { from ≤ length t.now }
     ensures { result ≡ zeros (drop from t.now) }
 {
-    let mut i: usize = from;
-    while 16 <= t.len() - i {
-        if !sixteen_zero(t, i) {
-            return false;
-        }
-        i += 16;
-    }
-    zero_one_by_one(t, i)
+    let (blocks, rest) = t[from..].as_chunks();
+    blocks.iter().all(zero_block) && rest.iter().all(|&x| x == 0)
 }
 
 // ---- a link and a connection within their limits
@@ -151,17 +119,11 @@ fn bounds_ok(lowest: u32, n: usize, bounds: [u32; MAX_LEVELS as usize]) -> bool
     ensures { result ≡ rising lowest n bounds }
 {
     let mut low = lowest;
-    let mut i: usize = 0;
-    while i < n {
-        let d = bounds[i];
-        if d < low {
-            return false;
-        }
-        if MAX_BOUND < d {
+    for &d in &bounds[..n] {
+        if !is_within(low, MAX_BOUND, d) {
             return false;
         }
         low = d + 1;
-        i += 1;
     }
     zero_from(&bounds, n)
 }
@@ -175,18 +137,8 @@ fn windows_ok(
     requires { n ≤ max_levels }
     ensures { result ≡ windows_from n bounds windows }
 {
-    let mut i: usize = 0;
-    while i < n {
-        let w = windows[i];
-        if w < bounds[i] {
-            return false;
-        }
-        if MAX_LEVEL_WINDOW < w {
-            return false;
-        }
-        i += 1;
-    }
-    zero_from(&windows, n)
+    let mut pairs = bounds[..n].iter().zip(&windows[..n]);
+    pairs.all(|(&d, &w)| is_within(d, MAX_LEVEL_WINDOW, w)) && zero_from(&windows, n)
 }
 
 // A window for each level, or none: the first tells.

@@ -2,7 +2,7 @@
 use Prim.Native.Nat.{ℕ, zero, suc, ◌-◌, ◌<◌}
 use native.Mathlib.Omega.{arith}
 use mathlib.Core.Path.{◌≡◌, refl, sym, ap, ◌∙◌, subst}
-use mathlib.Core.Bool.{Bool, true, false, cond, ◌&&◌}
+use mathlib.Core.Bool.{Bool, true, false, ◌&&◌}
 use mathlib.Core.List.{List, [], ◌∷◌, map}
 use mathlib.Core.Logic.{◌⊎◌, ⊎_elim}
 use mathlib.Core.Option.{Option, none, some}
@@ -18,7 +18,7 @@ use Rattle.rules.specs.Model.{first_notice}
 use Rattle.rules.specs.SoundLine.{WireIdle, PacketOn, NoticeOn}
 use Rattle.rules.proofs.Sums.{cond_is, cond_ind}
 use Rattle.rules.proofs.Tests.{never, and_true}
-use Rattle.rules.proofs.Rows.{none_some, nil_of, first_all, first_of}
+use Rattle.rules.proofs.Rows.{none_some, first_all, first_of}
 use Rattle.tables.specs.Table.{formed}
 use Rattle.tables.specs.Places.{packet_width, places_length, rows, written_places, table_of, place, row_at, cut}
 use Rattle.tables.specs.Notices.{notices_length, notice_of, notices_in, written_notices, marked, notices_formed}
@@ -26,9 +26,8 @@ use Rattle.tables.proofs.TableLaws.{formed_length}
 use Rattle.tables.proofs.PlacesLaws.{without_cut, first_place, first_held, row_is, rows_from, table_back}
 use Rattle.tables.proofs.NoticeLaws.{marked_row, marked_rows, first_row, notices_length_is, rows_marked, notices_back}
 use Rattle.line.specs.declared.Wire.{Wire}
-use Rattle.line.specs.declared.Best.{Best}
 use Rattle.line.specs.declared.Sent.{Sent}
-use Rattle.line.specs.Wires.{line_in, wire_of, takes_up, idle, option, sent_of, Leaves, InPlace}
+use Rattle.line.specs.Wires.{line_in, wire_of, takes_up, idle, sent_of, Leaves, InPlace}
 
 -- ---- step 1
 
@@ -65,35 +64,10 @@ module _ (w : Wire) (o b : Option Packet) (t q : List ℕ) where
       let y : w.silent ≡ 0 = eqb-true w.silent 0 k.1 in
       rw (z, y)
 
-module _ (w : Wire) (c e : Best) (t q : List ℕ) (i : idle w ≡ true) where
-  abbrev Taken : ℕ × ℕ → Type 0
-  Taken l = takes_up l ≡ wire_of (begun (option c) (option e) (line_in w t q))
-
-  -- given whether a packet is chosen
-  abbrev with_chosen : Bool → ℕ × ℕ
-  with_chosen f = takes (cond f (some c.packet) none) (notices_in q) (option e)
-
-  pub takes_chosen : c.found ≡ true → Taken (c.packet.connection, c.packet.len)
-  takes_chosen f = ap (λ (x : Bool). takes_up (with_chosen x)) (sym f) ∙ takes_next w (option c) (option e) t q i
-
-  module _ (f : c.found ≡ false) where
-    none_chosen : Taken (takes none (notices_in q) (option e))
-    none_chosen = ap (λ (x : Bool). takes_up (with_chosen x)) (sym f) ∙ takes_next w (option c) (option e) t q i
-
-    -- then the first notice
-    pub takes_notice : notices_formed q ≡ true → 0 < length (rows q) → Taken ((row_at q 0).connection, (row_at q 0).len)
-    takes_notice n l = ap takes_up (sym (first_taken q (option e) n l)) ∙ none_chosen
-
-    module _ (n : length (rows q) ≡ 0) where
-      none_waits : Taken (takes none [] (option e))
-      none_waits = ap (λ (ps : List Packet). takes_up (takes none (map notice_of ps) (option e))) (sym (nil_of (rows q) n)) ∙ none_chosen
-
-      -- where there is none, the packet that stands by; where none does, nothing
-      pub takes_early : e.found ≡ true → Taken (e.packet.connection, e.packet.len)
-      takes_early g = ap (λ (x : Bool). takes_up (takes none [] (cond x (some e.packet) none))) (sym g) ∙ none_waits
-
-      pub takes_nothing : e.found ≡ false → Taken (0, 0)
-      takes_nothing g = ap (λ (x : Bool). takes_up (takes none [] (cond x (some e.packet) none))) (sym g) ∙ none_waits
+-- then the first notice
+module _ (w : Wire) (t q : List ℕ) (o : Option Packet) (i : idle w ≡ true) where
+  pub takes_notice : notices_formed q ≡ true → 0 < length (rows q) → takes_up ((row_at q 0).connection, (row_at q 0).len) ≡ wire_of (begun none o (line_in w t q))
+  takes_notice n l = ap takes_up (sym (first_taken q o n l)) ∙ takes_next w none o t q i
 
 -- ---- what step 2 needs is there where the line is sound
 
@@ -171,7 +145,7 @@ gone_with silence p = sent_of (some p) (free_line [] [] silence)
 
 -- .. from its parts
 abbrev gone_as : Packet → Wire → Sent
-gone_as p w = record { gone = true; packet = p; wire = w }
+gone_as p w = sent_of (some p) (line_in w [] [])
 
 pub leaves_with : {p q : Packet} {v w : Wire} → p ≡ q → v ≡ w → gone_as p v ≡ gone_as q w
 leaves_with {p} {q} {v} {w} e f = ap (λ (x : Packet). gone_as x v) e ∙ ap (gone_as q) f

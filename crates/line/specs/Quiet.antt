@@ -1,12 +1,13 @@
 -- HOW LONG A LINE IS QUIET, whatever the discipline: the ticks in which nothing starts and nothing departs. Document 01, "One tick"; document 02, R-1, R-4, R-11 and
 -- R-13.
-use Rattle.std.specs.Prelude.{ℕ, zero, suc, ◌-◌, min, Bool, not, cond, ◌&&◌, List, [], ◌∷◌, eqb, length}
+use Rattle.std.specs.Prelude.{ℕ, zero, suc, ◌+◌, ◌-◌, min, Bool, not, cond, ◌&&◌, List, [], ◌∷◌, eqb, length}
 use Rattle.std.proofs.Math.Option.{Option, none, some}
 use Rattle.rules.specs.declared.Packet.{Packet}
 use Rattle.rules.specs.declared.Notice.{Notice}
 use Rattle.rules.specs.Limits.{clock_end}
 use Rattle.rules.specs.Service.{Wire as Line, passed_wire}
 use Rattle.tables.specs.Places.{rows}
+use Rattle.line.specs.declared.Hub.{Hub}
 use Rattle.line.specs.declared.Wire.{Wire}
 use Rattle.line.specs.Wires.{line_in, wire_of, idle}
 
@@ -43,3 +44,7 @@ taken_for w = cond (eqb w.to_go 0) w.silent (w.to_go - 1)
 -- the wire k ticks on
 abbrev pub wire_passed : Wire → ℕ → Wire
 wire_passed w k = wire_of (passed_wire (line_in w [] []) k)
+
+-- what is kept k ticks on
+abbrev pub hub_passed : {L : Type 0} → Hub L → ℕ → Hub L
+hub_passed h k = record { link = h.link; clock = h.clock + k; wire = wire_passed h.wire k }

@@ -1,13 +1,13 @@
 -- The line of the rules that a wire and its two tables stand for, and what a unit leaves of them. Document 01, "One tick"; document 02, R-13.
-use Rattle.std.specs.Prelude.{ℕ, ◌<◌, ◌≡◌, Bool, true, false, cond, ◌&&◌, List, eqb, length}
-use Rattle.std.proofs.Math.Option.{Option, none, some}
+use Rattle.std.specs.Prelude.{ℕ, ◌<◌, ◌≡◌, Bool, true, ◌&&◌, List, eqb, length}
+use Rattle.std.proofs.Math.Option.{Option}
 use Rattle.rules.specs.declared.Packet.{Packet}
 use Rattle.rules.specs.Limits.{notice_number}
 use Rattle.rules.specs.Service.{Wire as Line, Sent as After}
-use Rattle.tables.specs.Places.{rows, written_places, places_length, place, no_packet}
+use Rattle.tables.specs.Places.{rows, written_places, places_length, place}
+use Rattle.tables.specs.Options.{option_of}
 use Rattle.tables.specs.Notices.{notices_in, written_notices, notices_formed}
 use Rattle.line.specs.declared.Wire.{Wire}
-use Rattle.line.specs.declared.Best.{Best}
 use Rattle.line.specs.declared.Sent.{Sent}
 
 -- the wire of three numbers
@@ -29,14 +29,9 @@ takes_up l = on_wire l.0 l.1 0
 abbrev pub idle : Wire → Bool
 idle w = eqb w.to_go 0 && eqb w.silent 0
 
--- a packet or nothing, as it is read
-abbrev pub option : Best → Option Packet
-option b = cond b.found (some b.packet) none
-
 -- the packet that departs, if one does, and the line then, as the code gives them
 abbrev pub sent_of : Option Packet → Line → Sent
-sent_of none l = record { gone = false; packet = no_packet; wire = wire_of l }
-sent_of (some p) l = record { gone = true; packet = p; wire = wire_of l }
+sent_of o l = record { departed = option_of o; wire = wire_of l }
 
 -- what is told, and both tables then, are those of step 2 of the rules
 abbrev pub Leaves : After → Sent → List ℕ → List ℕ → Type 0

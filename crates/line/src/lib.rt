@@ -1,7 +1,8 @@
-// The line that both disciplines share: what an idle line takes, and a unit of what is in service. Document 01, "One tick", steps 1 and 2; document 02, R-1, R-4,
-// R-11 and R-13.
+// The line that both disciplines share: what a caller keeps of it between the calls, what a call answers, what an idle line takes, and a unit of what is in
+// service. Document 01, "One tick", steps 1 and 2; document 02, R-1, R-4, R-11 and R-13.
 #![tactic(auto)]
 
+pub mod answers; // answers.rt: an answer with no packet, and the answer of a tick
 pub mod quiet; // quiet.rt: how long nothing starts and nothing departs
 
 ghost use Rattle.std.specs.Prelude.{◌≡◌, true, List, [], ℕ};
@@ -9,43 +10,53 @@ ghost use Rattle.std.proofs.Math.Option.{none};
 ghost use Rattle.rules.specs.Limits.{notice_number};
 ghost use Rattle.rules.specs.Service.{free_line, begun, sends, sent};
 ghost use Rattle.tables.specs.Notices.{notices_formed};
-ghost use Rattle.line.specs.Wires.{line_in, on_wire, wire_of, takes_up, idle, option, sent_of, Leaves, InPlace};
+ghost use Rattle.tables.specs.Options.{option_in};
+ghost use Rattle.line.specs.Wires.{line_in, on_wire, wire_of, takes_up, idle, sent_of, Leaves, InPlace};
 
 use limits::NOTICE_NUMBER;
-use limits::numbers::without;
-use rules::Packet;
+use rules::{Packet, Short};
 
-// What is on the line: the number in service, its units to go, and the silence still to run. While `to_go` is 0 nothing is in service.
-#[derive(Clone, Copy)]
+// What is on the line: the number in service, its units to go, and the silence still to run. While `to_go` is 0 nothing is in service, and `serving` is 0 too.
+#[derive(Clone, Copy, Default)]
 pub struct Wire {
     pub serving: u32,
     pub to_go: u32,
     pub silent: u32,
 }
 
-// A packet, where one is found; else an unused row.
+// The part of a state that no table holds, whatever the discipline: its link, its clock, and what is on its line.
 #[derive(Clone, Copy)]
-pub struct Best {
-    pub found: bool,
-    pub packet: Packet,
+pub struct Hub<L> {
+    pub link: L,
+    pub clock: u32,
+    pub wire: Wire,
 }
 
-// What a unit leaves: the departed packet where `gone` says so, else an unused row, and the line then.
+// The answer of a call, and what is kept after it. `short` is by how much an admission refused for it is over, else zeros.
+#[derive(Clone, Copy)]
+pub struct Told<H> {
+    pub verdict: u32,
+    pub number: u32,
+    pub short: Short,
+    pub departed: Option<Packet>,
+    pub kept: H,
+}
+
+// What a unit leaves: the departed packet, if one is, and the line then.
 #[derive(Clone, Copy)]
 pub struct Sent {
-    pub gone: bool,
-    pub packet: Packet,
+    pub departed: Option<Packet>,
     pub wire: Wire,
 }
 
 // The wire of three numbers.
-pub fn on_wire(serving: u32, units: u32, silent: u32) -> Wire
-    ensures { result ≡ on_wire serving units silent }
+pub fn on_wire(serving: u32, to_go: u32, silent: u32) -> Wire
+    ensures { result ≡ on_wire serving to_go silent }
 {
     Wire {
-        serving: serving,
-        to_go: units,
-        silent: silent,
+        serving,
+        to_go,
+        silent,
     }
 }
 
@@ -72,24 +83,24 @@ fn free(silent: u32) -> Wire
 
 // Step 1: an idle line takes the chosen packet, else the first notice, else the packet that stands by. Nothing interrupts what is in service, and nothing
 // starts before the silence has run.
-pub fn begin(w: Wire, chosen: Best, early: Best, notices: &[u32]) -> Wire
+pub fn begin(w: Wire, chosen: Option<Packet>, early: Option<Packet>, notices: &[u32]) -> Wire
     requires { notices_formed notices.now ≡ true }
-    ensures { (t : List ℕ) → result ≡ wire_of (begun (option chosen) (option early) (line_in w t notices.now)) }
+    ensures { (t : List ℕ) → result ≡ wire_of (begun (option_in chosen) (option_in early) (line_in w t notices.now)) }
 {
     if !is_idle(w) {
         return w;
     }
-    if chosen.found {
-        return taken(chosen.packet);
+    if let Some(p) = chosen {
+        return taken(p);
     }
     if !tables::none(notices) {
         let first = tables::row(notices, 0);
         return taken(first);
     }
-    if early.found {
-        return taken(early.packet);
+    match early {
+        Some(p) => taken(p),
+        None => free(0),
     }
-    free(0)
 }
 
 // Step 2 at a last unit of a notice: it departs, its row is removed, and the link's silence is still to run.
@@ -102,8 +113,7 @@ fn depart_notice(w: Wire, silence: u32, places: &[u32], notices: &mut [u32]) -> 
     tables::remove(notices, waiting, 0);
     let idle = free(silence);
     Sent {
-        gone: true,
-        packet: p,
+        departed: Some(p),
         wire: idle,
     }
 }
@@ -119,20 +129,18 @@ fn depart(w: Wire, silence: u32, places: &mut [u32], notices: &[u32]) -> Sent
     tables::remove(places, held, i);
     let freed = free(silence);
     Sent {
-        gone: true,
-        packet: p,
+        departed: Some(p),
         wire: freed,
     }
 }
 
 // Nothing departs.
-fn none_gone(w: Wire) -> Sent
-    ensures { result ≡ sent_of none (line_in w [] []) }
+fn none_gone(wire: Wire) -> Sent
+    ensures { result ≡ sent_of none (line_in wire [] []) }
 {
     Sent {
-        gone: false,
-        packet: tables::no_packet(),
-        wire: w,
+        departed: None,
+        wire,
     }
 }
 
@@ -142,7 +150,7 @@ pub fn send(w: Wire, silence: u32, places: &mut [u32], notices: &mut [u32]) -> S
     ensures { Leaves (sends silence sent (line_in w places.old notices.old) w.to_go) result places.new notices.new }
 {
     if w.to_go == 0 {
-        return none_gone(free(without(w.silent, 1)));
+        return none_gone(free(w.silent.saturating_sub(1)));
     }
     if w.to_go == 1 {
         if w.serving == NOTICE_NUMBER {
@@ -150,10 +158,8 @@ pub fn send(w: Wire, silence: u32, places: &mut [u32], notices: &mut [u32]) -> S
         }
         return depart(w, silence, places, notices);
     }
-    let left = w.to_go - 1;
     none_gone(Wire {
-        serving: w.serving,
-        to_go: left,
-        silent: w.silent,
+        to_go: w.to_go - 1,
+        ..w
     })
 }

@@ -8,7 +8,7 @@ use mathlib.Core.Logic.{◌⊎◌, inl, inr}
 use mathlib.Core.List.{List, [], ◌∷◌, ◌++◌}
 use lib.Dec.{eqb}
 use lib.ListN.{length, get_or, take, replicate, length-set, length-take, get_or-replicate}
-use lib.Seq.{get_or-set_same, get_or-set_other, take-suc, take-length}
+use lib.Seq.{get_or-set_same, get_or-set_other, take-suc}
 use Rattle.rules.specs.declared.Packet.{Packet}
 use Rattle.rules.specs.Limits.{max_connections, beyond_32_bits}
 use Rattle.rules.specs.Service.{of}
@@ -74,6 +74,3 @@ module _ (f : List Packet → ℕ) where
       (subst (λ (q : Packet). Counts f after (take i (rows places) ++ q ∷ [])) e
       (subst (λ (s : List ℕ). Counts f s (take i (rows places) ++ p ∷ [])) (sym g)
       (counts_more seen (take i (rows places)) p n more (known_here places i h K e) T)))
-
-  pub counts_all : (seen : List ℕ) (places : List ℕ) (i : ℕ) → i ≡ length (rows places) → Counts f seen (take i (rows places)) → Counts f seen (rows places)
-  counts_all seen places i e T = subst (λ (ps : List Packet). Counts f seen ps) (ap (λ (k : ℕ). take k (rows places)) e ∙ take-length (rows places)) T

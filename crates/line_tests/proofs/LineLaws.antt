@@ -1,19 +1,19 @@
 -- Laws of the tests of a line, in the order of the code.
-use Prim.Native.Nat.{ℕ, zero, suc, ◌+◌, ◌≤◌, ◌<◌}
+use Prim.Native.Nat.{ℕ, zero, suc, ◌≤◌, ◌<◌}
 use native.Mathlib.Omega.{arith}
-use native.Mathlib.Numerals.{add-one}
 use mathlib.Core.Path.{◌≡◌, refl, sym, ap, ◌∙◌}
 use mathlib.Core.Bool.{Bool, true, false, not, cond, ◌&&◌}
 use mathlib.Core.List.{List, [], ◌∷◌, map}
 use mathlib.Core.Option.{Option, some}
 use lib.Dec.{leb, eqb}
-use lib.ListN.{length, get_or, drop, length-map}
-use lib.Seq.{drop-length}
+use lib.ListN.{length, get_or, length-map}
+use Rattle.std.specs.List.{position}
+use Rattle.std.specs.Prelude.{Some, None}
 use borrow.Author.Tests.{not-true, not-false, le-leb, eq-eqb, ne_eqb}
 use Rattle.rules.specs.declared.Packet.{Packet}
 use Rattle.rules.specs.declared.Notice.{Notice}
 use Rattle.rules.specs.Words.{within, each}
-use Rattle.rules.specs.Limits.{max_notices, notice_number}
+use Rattle.rules.specs.Limits.{max_reserved, max_notices, notice_number}
 use Rattle.rules.specs.Model.{first_notice}
 use Rattle.rules.specs.Service.{first}
 use Rattle.rules.specs.SoundTest.{serves, serves_notice}
@@ -22,13 +22,14 @@ use Rattle.rules.proofs.Sums.{cond_is}
 use Rattle.rules.proofs.Tests.{and_true}
 use Rattle.limits.proofs.ChainLaws.{fails, goes_on}
 use Rattle.tables.specs.Table.{formed}
-use Rattle.tables.specs.Places.{packet_width, places_length, rows, row_at, place, no_packet}
+use Rattle.tables.specs.Places.{packet_width, places_length, rows, row_at, no_packet}
 use Rattle.tables.specs.Notices.{notice_of, notices_in, notices_formed}
 use Rattle.tables.proofs.TableLaws.{formed_length}
-use Rattle.tables.proofs.PlacesLaws.{row_is, rows_end, rows_from, first_place, first_none}
-use Rattle.tables.proofs.NoticeLaws.{notices_few, first_row, no_rows}
+use Rattle.tables.proofs.PlacesLaws.{row_is, rows_end, first_place, first_none}
+use Rattle.tables.proofs.RowsLaws.{none_found, one_found}
+use Rattle.tables.proofs.NoticeLaws.{notices_few as few_notices, first_row, no_rows}
 use Rattle.line_tests.specs.declared.Service.{Service}
-use Rattle.line_tests.specs.Lines.{Held, Waiting, wire_of}
+use Rattle.line_tests.specs.Lines.{wire_of}
 
 -- ---- a test that another function has made, with the answer r
 
@@ -45,6 +46,13 @@ stops {r} {a} b e n = fails a b (falls e n)
 pub passes_on : {r a s b : Bool} → r ≡ a → not r ≡ false → s ≡ b → s ≡ (a && b)
 passes_on {r} {a} {s} {b} e n k = goes_on a b s (holds e n) k
 
+-- .. as `&&` has it
+pub both_stop : {r a : Bool} (b : Bool) → r ≡ a → r ≡ false → r ≡ (a && b)
+both_stop {r} {a} b e n = n ∙ fails a b (sym e ∙ n)
+
+pub both_go : {r a s b : Bool} → r ≡ a → r ≡ true → s ≡ b → s ≡ (a && b)
+both_go {r} {a} {s} {b} e n k = goes_on a b s (sym e ∙ n) k
+
 -- by the number of the link that is 0 where none is set: a without a link, b with one
 module _ (n : ℕ) (a b : Bool) {r : Bool} where
   pub without_link : n ≡ 0 → r ≡ a → r ≡ cond (eqb n 0) a b
@@ -53,34 +61,8 @@ module _ (n : ℕ) (a b : Bool) {r : Bool} where
   pub with_link : (n ≡ 0 → ⊥) → r ≡ b → r ≡ cond (eqb n 0) a b
   with_link z e = e ∙ sym (cond_is a b (ne_eqb n 0 z))
 
--- ---- a test of each element, one by one
+-- ---- a test of each row: each passes where all do
 
-module _ {A : Type 0} (f : A → Bool) (l : List A) (x : A) (xs : List A) (e : l ≡ x ∷ xs) where
-  pub each_stop : f x ≡ false → false ≡ each f l
-  each_stop h = rw e (fails (f x) (each f xs) h)
-
-  pub each_pass : f x ≡ true → each f xs ≡ each f l
-  each_pass h = rw e (goes_on (f x) (each f xs) (each f xs) h refl)
-
-pub each_end : {A : Type 0} (f : A → Bool) (l : List A) → true ≡ each f (drop (length l) l)
-each_end f l = rw (drop-length l)
-
--- .. of the rows of a table, where the rows before row i passed
-module _ (f : Packet → Bool) (t : List ℕ) (i : ℕ) (l : i < length (rows t)) (p : Packet) (is : p ≡ row_at t i)
-    (all : each f (drop i (rows t)) ≡ each f (rows t)) where
-  pub row_stops : f p ≡ false → false ≡ each f (rows t)
-  row_stops h = each_stop f (drop i (rows t)) (row_at t i) (drop (suc i) (rows t)) (rows_from t i l) (ap f (sym is) ∙ h) ∙ all
-
-  pub row_passes : f p ≡ true → each f (drop (i + 1) (rows t)) ≡ each f (rows t)
-  row_passes h =
-      ap (λ (j : ℕ). each f (drop j (rows t))) (add-one i)
-      ∙ each_pass f (drop i (rows t)) (row_at t i) (drop (suc i) (rows t)) (rows_from t i l) (ap f (sym is) ∙ h)
-      ∙ all
-
-pub rows_done : (f : Packet → Bool) (t : List ℕ) (i : ℕ) → i ≡ length (rows t) → each f (drop i (rows t)) ≡ each f (rows t) → true ≡ each f (rows t)
-rows_done f t i e all = each_end f (rows t) ∙ ap (λ (j : ℕ). each f (drop j (rows t))) (sym e) ∙ all
-
--- .. each row passes where all do
 pub row_holds : (f : Packet → Bool) (t : List ℕ) → each f (rows t) ≡ true → (k : ℕ) → k < length (rows t) → f (row_at t k) ≡ true
 row_holds f t ok k l = ap f (sym (row_is t k l)) ∙ each_at (rows t) ok k l
   where
@@ -91,13 +73,11 @@ row_holds f t ok k l = ap f (sym (row_is t k l)) ∙ each_at (rows t) ok k l
 
 -- ---- formed tables have no more rows than they have room for
 
-pub counted : (places notices : List ℕ) → formed packet_width places_length places ≡ true → notices_formed notices ≡ true
-    → {held waiting : ℕ} → held ≡ length (rows places) → waiting ≡ length (rows notices) → Held places held × Waiting notices waiting
-counted places notices f g b c =
-    let l = formed_length packet_width places_length places f in (
-      record { count = b; few = omega (arith, rows_end places) },
-      record { count = c; few = omega (arith, notices_few notices g, length-map (rows notices) notice_of) },
-    )
+pub places_few : (places : List ℕ) → formed packet_width places_length places ≡ true → length (rows places) ≤ max_reserved
+places_few places f = let l = formed_length packet_width places_length places f in omega (arith, rows_end places)
+
+pub notices_few : (notices : List ℕ) → notices_formed notices ≡ true → length (rows notices) ≤ max_notices
+notices_few notices g = omega (arith, few_notices notices g, length-map (rows notices) notice_of)
 
 -- ---- the notices: the test of all is that of each row of their table
 
@@ -112,9 +92,9 @@ notices_read largest clock q = each_map (rows q)
     each_map (p ∷ ps) = ap (λ (b : Bool). row_waits largest clock p && b) (each_map ps)
 
 -- .. with few enough of them
-pub notices_all : (q : List ℕ) {n : ℕ} → Waiting q n → {r b : Bool} → r ≡ b → r ≡ (leb (length (notices_in q)) max_notices && b)
-notices_all q k {r} {b} e =
-    goes_on (leb (length (notices_in q)) max_notices) b r (le-leb (length (notices_in q)) max_notices (omega (arith, length-map (rows q) notice_of, k.count, k.few))) e
+pub notices_all : (q : List ℕ) → length (rows q) ≤ max_notices → {r b : Bool} → r ≡ b → r ≡ (leb (length (notices_in q)) max_notices && b)
+notices_all q few {r} {b} e =
+    goes_on (leb (length (notices_in q)) max_notices) b r (le-leb (length (notices_in q)) max_notices (omega (arith, length-map (rows q) notice_of))) e
 
 -- ---- what is in service
 
@@ -140,12 +120,15 @@ module _ (x : Service) (early : Bool) (places notices : List ℕ) where
     serving : busy ≡ serves early (first x.serving (rows places)) x.to_go x.clock
     serving = cond_is _ _ (ne_eqb x.serving notice_number ne)
 
-    pub no_row : length (rows places) ≤ place x.serving (rows places) → false ≡ busy
-    no_row l = sym (serving ∙ ap (λ (o : Option Packet). serves early o x.to_go x.clock) (first_none x.serving (rows places) l))
+    pub no_row : position (λ p. eqb p.connection x.serving) (rows places) ≡ None → false ≡ busy
+    no_row z =
+        sym (serving ∙ ap (λ (o : Option Packet). serves early o x.to_go x.clock) (first_none x.serving (rows places) (none_found x.serving (rows places) z)))
 
-    pub row_served : {i : ℕ} → i ≡ place x.serving (rows places) → i < length (rows places) → {p : Packet} → p ≡ row_at places i
+    pub row_served : {i : ℕ} → position (λ p. eqb p.connection x.serving) (rows places) ≡ Some i → {p : Packet} → p ≡ row_at places i
         → serves early (some p) x.to_go x.clock ≡ busy
-    row_served {i} at l {p} is =
+    row_served {i} z {p} is =
+        let (at, below) = one_found x.serving (rows places) i z in
+        let l : i < length (rows places) = omega arith in
         let found : first x.serving (rows places) ≡ some p =
         first_place x.serving (rows places) (omega arith)
         ∙ ap (λ (j : ℕ). some (get_or (rows places) j no_packet)) (sym at)

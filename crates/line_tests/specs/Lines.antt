@@ -1,24 +1,11 @@
--- What the tests of a sound line speak of, whatever the discipline: how many rows the tables have, the line and what waits for it, and the line's part of the test of a wire.
+-- What the tests of a sound line speak of, whatever the discipline: the line and what waits for it, and the line's part of the test of a wire.
 -- Document 01, "A sound state"; docs/RULES.md, R-1 and R-4.
-use Rattle.std.specs.Prelude.{ℕ, ◌≤◌, ◌≡◌, Bool, cond, ◌&&◌, List, leb, eqb, length}
-use Rattle.rules.specs.Limits.{max_reserved, max_notices}
+use Rattle.std.specs.Prelude.{ℕ, Bool, cond, ◌&&◌, List, leb, eqb}
 use Rattle.rules.specs.Service.{Wire}
 use Rattle.rules.specs.SoundLine.{busy_line}
 use Rattle.tables.specs.Places.{rows}
 use Rattle.tables.specs.Notices.{notices_in}
 use Rattle.line_tests.specs.declared.Service.{Service}
-
--- xs has n elements, and no more than `most`
-pub record Counted {A : Type 0} (xs : List A) (most n : ℕ) : Type 0 where
-  pub count : n ≡ length xs
-  pub few : n ≤ most
-
--- .. the packets held in the places table, the notices waiting in theirs
-abbrev pub Held : List ℕ → ℕ → Type 0
-Held places held = Counted (rows places) max_reserved held
-
-abbrev pub Waiting : List ℕ → ℕ → Type 0
-Waiting notices waiting = Counted (rows notices) max_notices waiting
 
 -- the line with the packets and the notices of two tables
 abbrev pub wire_of : Service → List ℕ → List ℕ → Wire

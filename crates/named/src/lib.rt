@@ -2,7 +2,7 @@
 // get them through these.
 #![tactic(auto)]
 
-ghost use Rattle.std.specs.Prelude.{◌≡◌, [], ◌∷◌};
+ghost use Rattle.std.specs.Prelude.{◌≡◌, [], ◌∷◌, ◌++◌};
 ghost use Rattle.rules.specs.Model.{no_link};
 ghost use Rattle.named.specs.Named.{link_named, framing_named, connection_named, stamped_named, share_named};
 
@@ -10,54 +10,35 @@ use frames::{Framing, Share};
 use limits::MAX_LEVELS;
 use rules::{Connection, Link};
 
+// Eight numbers, each in four bytes.
+fn wide(numbers: [u16; 8]) -> [u32; 8]
+    ensures { result ≡ numbers }
+{
+    numbers.map(u32::from)
+}
+
 // The link of an `LK`: its stand-by queue is off, and it has no windows.
-pub fn link_named(
-    levels: u8,
-    largest: u16,
-    silence: u8,
-    d1: u16,
-    d2: u16,
-    d3: u16,
-    d4: u16,
-    d5: u16,
-    d6: u16,
-    d7: u16,
-    d8: u16,
-) -> Link
-    ensures { result ≡ link_named (levels ∷ largest ∷ silence ∷ 0 ∷ d1 ∷ d2 ∷ d3 ∷ d4 ∷ d5 ∷ d6 ∷ d7 ∷ d8 ∷ []) }
+pub fn link_named(levels: u8, largest: u16, silence: u8, bounds: [u16; 8]) -> Link
+    ensures { result ≡ link_named (levels ∷ largest ∷ silence ∷ 0 ∷ bounds) }
 {
     Link {
         levels: levels as u32,
         largest: largest as u32,
         silence: silence as u32,
         early: 0,
-        bounds: [
-            d1 as u32, d2 as u32, d3 as u32, d4 as u32, d5 as u32, d6 as u32, d7 as u32, d8 as u32,
-        ],
+        bounds: wide(bounds),
         windows: [0; MAX_LEVELS as usize],
     }
 }
 
 // The link of an `LE`: the same with its setting.
-pub fn stand_by_named(
-    levels: u8,
-    largest: u16,
-    silence: u8,
-    early: u8,
-    d1: u16,
-    d2: u16,
-    d3: u16,
-    d4: u16,
-    d5: u16,
-    d6: u16,
-    d7: u16,
-    d8: u16,
-) -> Link
-    ensures { result ≡ link_named (levels ∷ largest ∷ silence ∷ early ∷ d1 ∷ d2 ∷ d3 ∷ d4 ∷ d5 ∷ d6 ∷ d7 ∷ d8 ∷ []) }
+pub fn stand_by_named(levels: u8, largest: u16, silence: u8, early: u8, bounds: [u16; 8]) -> Link
+    ensures { result ≡ link_named (levels ∷ largest ∷ silence ∷ early ∷ bounds) }
 {
-    let mut l = link_named(levels, largest, silence, d1, d2, d3, d4, d5, d6, d7, d8);
-    l.early = early as u32;
-    l
+    Link {
+        early: early as u32,
+        ..link_named(levels, largest, silence, bounds)
+    }
 }
 
 // The link of an `LW`: the same with its windows.
@@ -66,32 +47,15 @@ pub fn windows_named(
     largest: u16,
     silence: u8,
     early: u8,
-    d1: u16,
-    d2: u16,
-    d3: u16,
-    d4: u16,
-    d5: u16,
-    d6: u16,
-    d7: u16,
-    d8: u16,
-    w1: u16,
-    w2: u16,
-    w3: u16,
-    w4: u16,
-    w5: u16,
-    w6: u16,
-    w7: u16,
-    w8: u16,
+    bounds: [u16; 8],
+    windows: [u16; 8],
 ) -> Link
-    ensures { result ≡ link_named (levels ∷ largest ∷ silence ∷ early ∷ d1 ∷ d2 ∷ d3 ∷ d4 ∷ d5 ∷ d6 ∷ d7 ∷ d8 ∷ w1 ∷ w2 ∷ w3 ∷ w4 ∷ w5 ∷ w6 ∷ w7 ∷ w8 ∷ []) }
+    ensures { result ≡ link_named (levels ∷ largest ∷ silence ∷ early ∷ bounds ++ windows) }
 {
-    let mut l = stand_by_named(
-        levels, largest, silence, early, d1, d2, d3, d4, d5, d6, d7, d8,
-    );
-    l.windows = [
-        w1 as u32, w2 as u32, w3 as u32, w4 as u32, w5 as u32, w6 as u32, w7 as u32, w8 as u32,
-    ];
-    l
+    Link {
+        windows: wide(windows),
+        ..stand_by_named(levels, largest, silence, early, bounds)
+    }
 }
 
 // The framing of an `LF`.
@@ -124,10 +88,11 @@ pub fn connection_named(level: u8, gap: u16, size: u16, window: u16, average: u1
 pub fn stamped_named(level: u8, gap: u16, size: u16, allowance: u16) -> Connection
     ensures { result ≡ stamped_named (level ∷ gap ∷ size ∷ allowance ∷ []) }
 {
-    let mut x = connection_named(level, gap, size, 0, 0);
-    x.kind = 1;
-    x.allowance = allowance as u32;
-    x
+    Connection {
+        kind: 1,
+        allowance: allowance as u32,
+        ..connection_named(level, gap, size, 0, 0)
+    }
 }
 
 // The share of a `CF`.

@@ -1,210 +1,147 @@
 // Records and answers made of the numbers of a request: any numbers, also those of which nothing is to be written.
+ghost use Rattle.std.specs.Prelude.{◌+◌, ◌≤◌};
+
 use answers::Reply;
 use fields::read::{four, one, two};
 use traces::Record;
 
-// A mark as a number, its first letter low, and the fields behind it: those of one byte, those of two and those of four, each in the record's order.
+// A mark, and the fields behind it: those of one byte, those of two and those of four, each in the record's order.
 #[derive(Clone, Copy)]
 pub struct Fields {
-    mark: u16,
-    b1: u8,
-    b2: u8,
-    b3: u8,
-    h1: u16,
-    h2: u16,
-    h3: u16,
-    h4: u16,
-    h5: u16,
-    h6: u16,
-    h7: u16,
-    h8: u16,
-    h9: u16,
-    h10: u16,
-    h11: u16,
-    h12: u16,
-    h13: u16,
-    h14: u16,
-    h15: u16,
-    h16: u16,
-    h17: u16,
-    w1: u32,
-    w2: u32,
-    w3: u32,
-    w4: u32,
+    mark: [u8; 2],
+    bytes: [u8; 3],
+    pairs: [u16; 17],
+    fours: [u32; 4],
 }
 
 // The numbers of a request: they stand from 5 on.
 pub fn numbers(s: &[u8]) -> Fields {
     Fields {
-        mark: two(s, 5),
-        b1: one(s, 7),
-        b2: one(s, 8),
-        b3: one(s, 9),
-        h1: two(s, 10),
-        h2: two(s, 12),
-        h3: two(s, 14),
-        h4: two(s, 16),
-        h5: two(s, 18),
-        h6: two(s, 20),
-        h7: two(s, 22),
-        h8: two(s, 24),
-        h9: two(s, 26),
-        h10: two(s, 28),
-        h11: two(s, 30),
-        h12: two(s, 32),
-        h13: two(s, 34),
-        h14: two(s, 36),
-        h15: two(s, 38),
-        h16: two(s, 40),
-        h17: two(s, 42),
-        w1: four(s, 44),
-        w2: four(s, 48),
-        w3: four(s, 52),
-        w4: four(s, 56),
+        mark: [one(s, 5), one(s, 6)],
+        bytes: std::array::from_fn(|k| one(s, 7 + k)),
+        pairs: std::array::from_fn(|k| two(s, 10 + 2 * k)),
+        fours: std::array::from_fn(|k| four(s, 44 + 4 * k)),
     }
 }
 
-// The three links: eight bounds, and eight windows, whatever `levels` is.
-fn link(s: Fields) -> Record {
-    Record::Link {
-        levels: s.b1,
-        largest: s.h1,
-        silence: s.b2,
-        d1: s.h2,
-        d2: s.h3,
-        d3: s.h4,
-        d4: s.h5,
-        d5: s.h6,
-        d6: s.h7,
-        d7: s.h8,
-        d8: s.h9,
+// Eight of the numbers of two bytes, from the k-th on: the bounds of a link, or its windows.
+fn eight(s: &Fields, k: usize) -> [u16; 8]
+    requires { k + 8 ≤ 17 }
+{
+    std::array::from_fn(|i| s.pairs[k + i])
+}
+
+// A link, whatever `levels` is.
+fn link(s: &Fields) -> Record {
+    let [levels, silence, early] = s.bytes;
+    let largest = s.pairs[0];
+    match &s.mark {
+        b"LK" => Record::Link {
+            levels,
+            largest,
+            silence,
+            bounds: eight(s, 1),
+        },
+        b"LE" => Record::LinkStandBy {
+            levels,
+            largest,
+            silence,
+            early,
+            bounds: eight(s, 1),
+        },
+        _ => Record::LinkWindows {
+            levels,
+            largest,
+            silence,
+            early,
+            bounds: eight(s, 1),
+            windows: eight(s, 9),
+        },
     }
 }
 
-fn stand_by(s: Fields) -> Record {
-    Record::LinkStandBy {
-        levels: s.b1,
-        largest: s.h1,
-        silence: s.b2,
-        early: s.b3,
-        d1: s.h2,
-        d2: s.h3,
-        d3: s.h4,
-        d4: s.h5,
-        d5: s.h6,
-        d6: s.h7,
-        d7: s.h8,
-        d8: s.h9,
-    }
+// The trace record with a mark; none with a mark of no trace record.
+pub fn record(s: &Fields) -> Option<Record> {
+    let [first, _, _] = s.bytes;
+    let tag = s.fours[0];
+    Some(match &s.mark {
+        b"LK" | b"LE" | b"LW" => link(s),
+        b"LF" => Record::LinkFrames {
+            frame: s.pairs[0],
+            largest: s.pairs[1],
+            silence: first,
+        },
+        b"CN" => Record::Admit {
+            level: first,
+            gap: s.pairs[0],
+            size: s.pairs[1],
+            window: s.pairs[2],
+            average: s.pairs[3],
+        },
+        b"CS" => Record::AdmitStamped {
+            level: first,
+            gap: s.pairs[0],
+            size: s.pairs[1],
+            allowance: s.pairs[2],
+        },
+        b"CF" => Record::AdmitShare {
+            units: s.pairs[0],
+            places: s.pairs[1],
+        },
+        b"CL" => Record::Close { connection: first },
+        b"PK" => Record::Offer {
+            connection: first,
+            len: s.pairs[0],
+            tag,
+        },
+        b"PS" => Record::OfferStamped {
+            connection: first,
+            len: s.pairs[0],
+            tag,
+            stamp: s.fours[1],
+        },
+        b"NQ" => Record::Notice {
+            len: s.pairs[0],
+            tag,
+        },
+        b"TK" => Record::Ticks { ticks: s.pairs[0] },
+        _ => return None,
+    })
 }
 
-fn windows(s: Fields) -> Record {
-    Record::LinkWindows {
-        levels: s.b1,
-        largest: s.h1,
-        silence: s.b2,
-        early: s.b3,
-        d1: s.h2,
-        d2: s.h3,
-        d3: s.h4,
-        d4: s.h5,
-        d5: s.h6,
-        d6: s.h7,
-        d7: s.h8,
-        d8: s.h9,
-        w1: s.h10,
-        w2: s.h11,
-        w3: s.h12,
-        w4: s.h13,
-        w5: s.h14,
-        w6: s.h15,
-        w7: s.h16,
-        w8: s.h17,
-    }
-}
-
-// The trace record with a mark: LK, LE, LW, LF, CN, CS, CF, CL, PK, PS, NQ and TK as numbers; malformed with any other.
-pub fn record(s: Fields) -> Record {
-    let mark = s.mark;
-    match mark {
-        0x4B4C => link(s),
-        0x454C => stand_by(s),
-        0x574C => windows(s),
-        0x464C => Record::LinkFrames {
-            frame: s.h1,
-            largest: s.h2,
-            silence: s.b1,
+// The answer with a mark; none with a mark of no answer.
+pub fn reply(s: &Fields) -> Option<Reply> {
+    let [first, second, third] = s.bytes;
+    let [number, arrival, eligibility, finish] = s.fours;
+    Some(match &s.mark {
+        b"LA" => Reply::Linked { verdict: first },
+        b"CA" => Reply::Admitted {
+            verdict: first,
+            connection: second,
+            level: third,
+            units: number,
         },
-        0x4E43 => Record::Admit {
-            level: s.b1,
-            gap: s.h1,
-            size: s.h2,
-            window: s.h3,
-            average: s.h4,
+        b"CD" => Reply::Closed { verdict: first },
+        b"PA" => Reply::Offered {
+            verdict: first,
+            eligibility: number,
         },
-        0x5343 => Record::AdmitStamped {
-            level: s.b1,
-            gap: s.h1,
-            size: s.h2,
-            allowance: s.h3,
+        b"NA" => Reply::Noticed {
+            verdict: first,
+            eligibility: number,
         },
-        0x4643 => Record::AdmitShare {
-            units: s.h1,
-            places: s.h2,
+        b"DP" => Reply::Departed {
+            connection: first,
+            tag: number,
+            arrival,
+            eligibility,
+            finish,
         },
-        0x4C43 => Record::Close { connection: s.b1 },
-        0x4B50 => Record::Offer {
-            connection: s.b1,
-            len: s.h1,
-            tag: s.w1,
+        b"TA" => Reply::Ticked {
+            verdict: first,
+            ticks: s.pairs[0],
         },
-        0x5350 => Record::OfferStamped {
-            connection: s.b1,
-            len: s.h1,
-            tag: s.w1,
-            stamp: s.w2,
-        },
-        0x514E => Record::Notice {
-            len: s.h1,
-            tag: s.w1,
-        },
-        0x4B54 => Record::Ticks { ticks: s.h1 },
-        _ => Record::Malformed,
-    }
-}
-
-// The answer with a mark: LA, CA, CD, PA, NA, DP, TA and ER as numbers; malformed with any other.
-pub fn reply(s: Fields) -> Reply {
-    let mark = s.mark;
-    match mark {
-        0x414C => Reply::Linked { verdict: s.b1 },
-        0x4143 => Reply::Admitted {
-            verdict: s.b1,
-            connection: s.b2,
-            level: s.b3,
-            units: s.w1,
-        },
-        0x4443 => Reply::Closed { verdict: s.b1 },
-        0x4150 => Reply::Offered {
-            verdict: s.b1,
-            eligibility: s.w1,
-        },
-        0x414E => Reply::Noticed {
-            verdict: s.b1,
-            eligibility: s.w1,
-        },
-        0x5044 => Reply::Departed {
-            connection: s.b1,
-            tag: s.w1,
-            arrival: s.w2,
-            eligibility: s.w3,
-            finish: s.w4,
-        },
-        0x4154 => Reply::Ticked {
-            verdict: s.b1,
-            ticks: s.h1,
-        },
-        0x5245 => Reply::Broken { offset: s.w1 },
-        _ => Reply::Malformed,
-    }
+        b"ER" => Reply::Broken { offset: number },
+        _ => return None,
+    })
 }

@@ -12,32 +12,35 @@ ghost use Rattle.std.specs.Prelude.{◌≡◌, length};
 use fields::read::one;
 use std::io::{Read, Write};
 
+// How many bytes reading took, and how many were written, each by its low byte.
+fn told(taken: usize, written: usize) -> [u8; 2] {
+    [(taken % 256) as u8, (written % 256) as u8]
+}
+
 // `t`: the trace record at a place is read, and what was read is written.
 fn trace(bytes: &[u8], place: usize, room: &mut [u8]) -> [u8; 2] {
-    let found = traces::read_at(bytes, place);
-    let what = found.what;
-    let written = traces::write(what, room);
-    [(found.taken % 256) as u8, (written % 256) as u8]
+    match traces::read_at(bytes, place) {
+        Some((what, taken)) => told(taken, traces::write(Some(what), room)),
+        None => told(0, traces::write(None, room)),
+    }
 }
 
 // `a`: the same of the answer that the bytes start with.
 fn answer(bytes: &[u8], room: &mut [u8]) -> [u8; 2] {
-    let found = answers::read(bytes);
-    let what = found.what;
-    let written = answers::write(what, room);
-    [(found.taken % 256) as u8, (written % 256) as u8]
+    match answers::read(bytes) {
+        Some((what, taken)) => told(taken, answers::write(Some(what), room)),
+        None => told(0, answers::write(None, room)),
+    }
 }
 
 // `T`: a trace record is made, and written.
 fn made_trace(asked: &[u8], room: &mut [u8]) -> [u8; 2] {
-    let written = traces::write(made::record(made::numbers(asked)), room);
-    [0, (written % 256) as u8]
+    told(0, traces::write(made::record(&made::numbers(asked)), room))
 }
 
 // `A`: an answer is made, and written.
 fn made_answer(asked: &[u8], room: &mut [u8]) -> [u8; 2] {
-    let written = answers::write(made::reply(made::numbers(asked)), room);
-    [0, (written % 256) as u8]
+    told(0, answers::write(made::reply(&made::numbers(asked)), room))
 }
 
 // What a request asks, with the bytes and the room that it names.
@@ -77,11 +80,8 @@ fn serve(asked: &[u8], room: &mut [u8])
 fn block(asked: &[u8], rooms: &mut [u8])
     requires { (length asked.now ≡ 65536) × (length rooms.old ≡ 65536) }
 {
-    let mut k: usize = 0;
-    while k < 512 {
-        let at = 128 * k;
-        serve(&asked[at..at + 128], &mut rooms[at..at + 128]);
-        k += 1;
+    for (request, room) in asked.chunks_exact(128).zip(rooms.chunks_exact_mut(128)) {
+        serve(request, room);
     }
 }
 
@@ -94,15 +94,16 @@ fn turn<R: Read, W: Write>(from: &mut R, to: &mut W) -> bool {
         return false;
     }
     block(&asked, &mut rooms);
-    streams::write_all(to, &rooms)
+    streams::write_all(to, &rooms).is_ok()
 }
 
-// Nothing says that the input ends, and a proved loop has to: so its turns are counted, from more than any input has.
+// Nothing says that the input ends, and a proved loop has to: so its turns are counted, to more than any input has.
 fn main(rt: HostRuntime) {
     let mut from = rt.stdin();
     let mut to = rt.stdout();
-    let mut turns: u64 = 1000000;
-    while turns > 0 && turn(&mut from, &mut to) {
-        turns -= 1;
+    for _ in 0..1000000 {
+        if !turn(&mut from, &mut to) {
+            break;
+        }
     }
 }

@@ -47,9 +47,6 @@ pub record Made (c : Cursor) (t : Tables) (w : List ℕ) (last : Bool) (o : List
   pub taken : used ≡ (steps i (point_of c t) w last).used
   pub count : wrote ≡ length (steps i (point_of c t) w last).bytes
   pub bytes : o2 ≡ over (steps i (point_of c t) w last).bytes o
-  pub same_members : length t2.members ≡ length t.members
-  pub same_table : length t2.places ≡ length t.places
-  pub same_queue : length t2.notices ≡ length t.notices
   pub same_room : length o2 ≡ length o
   pub in_window : used ≤ length w
   pub in_room : wrote ≤ 19 * i
@@ -57,12 +54,12 @@ pub record Made (c : Cursor) (t : Tables) (w : List ℕ) (last : Bool) (o : List
 over_over : (bs cs l : List ℕ) → take (length bs) (over bs l) ++ over cs (drop (length bs) (over bs l)) ≡ over (bs ++ cs) l
 over_over bs cs l = rw (take-append_seam, drop-append_seam, append_assoc, drop-drop, length-append)
 
-go_true : (k : Status) → is_go k ≡ true → k ≡ GoOn
-go_true GoOn e = refl
-go_true MoreBytes e = cc
-go_true MoreRoom e = cc
-go_true NotSound e = cc
-go_true Done e = cc
+pub go_false : (k : Status) → (k ≡ GoOn → ⊥) → is_go k ≡ false
+go_false GoOn e = absurd (e refl)
+go_false MoreBytes e = refl
+go_false MoreRoom e = refl
+go_false NotSound e = refl
+go_false Done e = refl
 
 module _ (c : Cursor) (t : Tables) (w : List ℕ) (last : Bool) (o : List ℕ) (ok : sound_kept c.line t ≡ true) where
   -- the place reached stands for the rules' point
@@ -89,9 +86,6 @@ module _ (c : Cursor) (t : Tables) (w : List ℕ) (last : Bool) (o : List ℕ) (
         taken = refl;
         count = refl;
         bytes = refl;
-        same_members = refl;
-        same_table = refl;
-        same_queue = refl;
         same_room = refl;
         in_window = omega arith;
         in_room = omega arith;
@@ -105,9 +99,9 @@ module _ (c : Cursor) (t : Tables) (w : List ℕ) (last : Bool) (o : List ℕ) (
 
   pub made_more : (i : ℕ) (cur : Cursor) (t2 : Tables) (o2 : List ℕ) (used wrote : ℕ) → Made c t w last o i GoOn cur t2 o2 used wrote
       → (s : Stepped) (t3 : Tables) (o3 : List ℕ) → Makes (next (point_of cur t2) (drop used w) last) s t3 wrote o2 o3
-      → length t3.members ≡ length t2.members → length t3.places ≡ length t2.places → length t3.notices ≡ length t2.notices → length o3 ≡ length o2
+      → length o3 ≡ length o2
       → Made c t w last o (i + 1) s.status s.cursor t3 o3 (used + s.used) (wrote + s.wrote)
-  made_more i cur t2 o2 used wrote R s t3 o3 d lc lt lq lo =
+  made_more i cur t2 o2 used wrote R s t3 o3 d lo =
       let e = one_more i cur t2 o2 used wrote R in
       let n = next (point_of cur t2) (drop used w) last in
       let f = step_fits (point_of cur t2) w last used s t3 wrote o2 o3 d in
@@ -118,9 +112,6 @@ module _ (c : Cursor) (t : Tables) (w : List ℕ) (last : Bool) (o : List ℕ) (
         taken = rw (e, d.answers, R.taken);
         count = rw (e, d.answers, R.count, length-append);
         bytes = rw e (d.room ∙ rw (R.count, R.bytes) (over_over (steps i (point_of c t) w last).bytes n.bytes o));
-        same_members = omega (arith, R.same_members);
-        same_table = omega (arith, R.same_table);
-        same_queue = omega (arith, R.same_queue);
         same_room = omega (arith, R.same_room);
         in_window = omega (arith, R.in_window, f.0);
         in_room = omega (arith, R.in_room, f.1);
@@ -150,6 +141,6 @@ module _ (c : Cursor) (t : Tables) (w : List ℕ) (last : Bool) (o : List ℕ) (
         → Makes (steps (length o / longest_answer) (point_of c t) w last) (record { cursor = cur; used = used; wrote = wrote; status = k }) t2 0 o o2
     run_ended e = ends (length o / 19) (ap (λ m. steps m (point_of c t) w last) (sym e))
 
-  pub made_on : (i : ℕ) (k : Status) (cur : Cursor) (t2 : Tables) (o2 : List ℕ) (used wrote : ℕ) → Made c t w last o i k cur t2 o2 used wrote → is_go k ≡ true
+  pub made_on : (i : ℕ) (k : Status) (cur : Cursor) (t2 : Tables) (o2 : List ℕ) (used wrote : ℕ) → Made c t w last o i k cur t2 o2 used wrote → k ≡ GoOn
       → Made c t w last o i GoOn cur t2 o2 used wrote
-  made_on i k cur t2 o2 used wrote M g = subst (λ (j : Status). Made c t w last o i j cur t2 o2 used wrote) (go_true k g) M
+  made_on i k cur t2 o2 used wrote M g = subst (λ (j : Status). Made c t w last o i j cur t2 o2 used wrote) g M

@@ -3,6 +3,7 @@ use Prim.Native.Nat.{ℕ, ◌≤◌, ◌<◌}
 use mathlib.Core.Path.{◌≡◌, refl, sym, ap, ◌∙◌}
 use mathlib.Core.Bool.{Bool, true, false, cond}
 use mathlib.Core.List.{List}
+use Rattle.std.specs.Prelude.{None, Some}
 use lib.Dec.{ltb}
 use lib.ListN.{length}
 use borrow.Author.Tests.{lt-ltb, le-ltb, ltb-false}
@@ -14,13 +15,12 @@ use Rattle.both.specs.View.{written, sound_kept}
 use Rattle.both.proofs.SoundLaws.{is_sound, tables_kept, kept_back}
 use Rattle.both.proofs.WrittenLaws.{written_reads_back}
 use Rattle.steps.specs.declared.Cursor.{Cursor}
-use Rattle.steps.specs.declared.Status.{Status}
-use Rattle.steps.specs.declared.Status.TheVariants.{GoOn, MoreRoom, NotSound}
+use Rattle.steps.specs.declared.Status.TheVariants.{MoreRoom, NotSound}
 use Rattle.steps.specs.declared.Stepped.{Stepped}
 use Rattle.answers.specs.Answers.{longest_answer}
-use Rattle.steps.specs.Steps.{Point, point, Next, still, is_go}
+use Rattle.steps.specs.Steps.{Point, point, Next, still}
 use Rattle.steps.specs.Tie.{point_of, cursor_of, Makes, MakesIfSound, cursor_at, nothing_done}
-use Rattle.replay.specs.Sessions.{readiness}
+use Rattle.replay.specs.Sessions.{refusal}
 
 -- a room of r bytes must hold the longest answer
 abbrev pub in_room : ℕ → Point → Next → Next
@@ -52,48 +52,52 @@ stands_then n a t o o' S D =
 -- ---- a call of `step` or `pump`, which tests first
 
 module _ (c : Cursor) (t : Tables) (r : ℕ) where
-  pub not_sound : (b : Bool) → b ≡ sound_kept c.line t → b ≡ false → NotSound ≡ readiness c t r
-  unfolding readiness
-  not_sound b e f = rw (sym e ∙ f)
+  pub not_sound : sound_kept c.line t ≡ false → Some (nothing_done c NotSound) ≡ refusal c t r
+  unfolding refusal
+  not_sound f = rw f
 
-  pub no_room : (b : Bool) → b ≡ sound_kept c.line t → b ≡ true → r < longest_answer → MoreRoom ≡ readiness c t r
-  unfolding readiness
-  no_room b e f l = rw (sym e ∙ f, lt-ltb r longest_answer l)
+  pub no_room : sound_kept c.line t ≡ true → r < longest_answer → Some (nothing_done c MoreRoom) ≡ refusal c t r
+  unfolding refusal
+  no_room f l = rw (f, lt-ltb r longest_answer l)
 
-  pub is_ready : (b : Bool) → b ≡ sound_kept c.line t → b ≡ true → longest_answer ≤ r → GoOn ≡ readiness c t r
-  unfolding readiness
-  is_ready b e f l = rw (sym e ∙ f, le-ltb r longest_answer l)
+  pub not_refused : sound_kept c.line t ≡ true → longest_answer ≤ r → None ≡ refusal c t r
+  unfolding refusal
+  not_refused f l = rw (f, le-ltb r longest_answer l)
 
--- what follows where `ready` has answered k, and `goes_on` b of it
-module _ (c : Cursor) (t : Tables) (o : List ℕ) {k : Status} {b : Bool} (asked : k ≡ readiness c t (length o)) (told : b ≡ is_go k) where
-  pub may_go : b ≡ true → (sound_kept c.line t ≡ true) × (longest_answer ≤ length o)
-  unfolding readiness
-  may_go g = go (sound_kept c.line t) refl (ltb (length o) longest_answer) refl (ap is_go (sym asked) ∙ (sym told ∙ g))
+-- what follows where the test has answered
+module _ (c : Cursor) (t : Tables) (o : List ℕ) where
+  pub may_go : None ≡ refusal c t (length o) → (sound_kept c.line t ≡ true) × (longest_answer ≤ length o)
+  unfolding refusal
+  may_go g = go (sound_kept c.line t) refl (ltb (length o) longest_answer) refl g
     where
-      go : (s : Bool) → sound_kept c.line t ≡ s → (d : Bool) → ltb (length o) longest_answer ≡ d → is_go (cond s (cond d MoreRoom GoOn) NotSound) ≡ true
+      go : (s : Bool) → sound_kept c.line t ≡ s → (d : Bool) → ltb (length o) longest_answer ≡ d
+          → None ≡ cond s (cond d (Some (nothing_done c MoreRoom)) None) (Some (nothing_done c NotSound))
           → (sound_kept c.line t ≡ true) × (longest_answer ≤ length o)
-      go false e d f z = never z
-      go true e true f z = never z
+      go false e d f z = never cc
+      go true e true f z = never cc
       go true e false f z = (e, ltb-false _ _ f)
 
   -- nothing is done
-  pub does_nothing : (n : Next) → b ≡ false → MakesIfSound (in_room (length o) (point_of c t) n) c t o (nothing_done c k) t o
-  unfolding readiness
-  does_nothing n g = rw asked (go (sound_kept c.line t) refl (ltb (length o) longest_answer) refl (ap is_go (sym asked) ∙ (sym told ∙ g)))
+  pub does_nothing : (n : Next) (a : Stepped) → Some a ≡ refusal c t (length o) → MakesIfSound (in_room (length o) (point_of c t) n) c t o a t o
+  unfolding refusal
+  does_nothing n a g = go (sound_kept c.line t) refl (ltb (length o) longest_answer) refl g
     where
-      go : (s : Bool) → sound_kept c.line t ≡ s → (d : Bool) → ltb (length o) longest_answer ≡ d → is_go (cond s (cond d MoreRoom GoOn) NotSound) ≡ false
-          → MakesIfSound (cond d (still (point_of c t) MoreRoom) n) c t o (nothing_done c (cond s (cond d MoreRoom GoOn) NotSound)) t o
-      go false e d f z = record { where_sound = λ j. never (sym e ∙ j); where_not = λ _. (refl, refl, refl) }
+      go : (s : Bool) → sound_kept c.line t ≡ s → (d : Bool) → ltb (length o) longest_answer ≡ d
+          → Some a ≡ cond s (cond d (Some (nothing_done c MoreRoom)) None) (Some (nothing_done c NotSound))
+          → MakesIfSound (cond d (still (point_of c t) MoreRoom) n) c t o a t o
+      go false e d f z = let i : a ≡ nothing_done c NotSound = cc in record { where_sound = λ j. never (sym e ∙ j); where_not = λ _. (i, refl, refl) }
       go true e true f z =
           let S = stands_of c t e in
+          let i : a ≡ nothing_done c MoreRoom = cc in
           record {
-            where_sound = λ _. record { answers = ap (λ (x : Cursor). nothing_done x MoreRoom) S.cursor; tables = S.tables; room = refl };
+            where_sound = λ _. record { answers = i ∙ ap (λ (x : Cursor). nothing_done x MoreRoom) S.cursor; tables = S.tables; room = refl };
             where_not = λ j. never (sym j ∙ e);
           }
-      go true e false f z = never (sym z)
+      go true e false f z = never cc
 
   -- all is done
-  pub does_all : {n : Next} {a : Stepped} {t' : Tables} {o' : List ℕ} → b ≡ true → Makes n a t' 0 o o' → MakesIfSound (in_room (length o) (point_of c t) n) c t o a t' o'
-  does_all g D =
+  pub does_all : (n : Next) (a : Stepped) (t' : Tables) (o' : List ℕ) → None ≡ refusal c t (length o) → Makes n a t' 0 o o'
+      → MakesIfSound (in_room (length o) (point_of c t) n) c t o a t' o'
+  does_all n a t' o' g D =
       let m = may_go g in
       rw (le-ltb (length o) longest_answer m.1) (record { where_sound = λ _. D; where_not = λ j. never (sym j ∙ m.0) })

@@ -1,19 +1,18 @@
 -- A session: any run of the library's public functions on a trace that comes in pieces.
-use Rattle.std.specs.Prelude.{ℕ, ◌≡◌, Bool, true, cond, List, [], ◌++◌, ltb, length, take, drop}
+use Rattle.std.specs.Prelude.{ℕ, ◌≡◌, Bool, true, cond, List, [], ◌++◌, ltb, length, take, drop, Option, Some, None}
 use Rattle.tables.specs.Lent.{Tables}
 use Rattle.state.specs.View.{zero_tables}
 use Rattle.both.specs.View.{sound_kept}
 use Rattle.steps.specs.declared.Cursor.{Cursor}
-use Rattle.steps.specs.declared.Status.{Status}
-use Rattle.steps.specs.declared.Status.TheVariants.{GoOn, MoreRoom, NotSound}
+use Rattle.steps.specs.declared.Status.TheVariants.{MoreRoom, NotSound}
 use Rattle.steps.specs.declared.Stepped.{Stepped}
 use Rattle.answers.specs.Answers.{longest_answer}
 use Rattle.steps.specs.Steps.{beginning, still, steps}
-use Rattle.steps.specs.Tie.{point_of, cursor_of, MakesIfSound}
+use Rattle.steps.specs.Tie.{point_of, cursor_of, MakesIfSound, nothing_done}
 
--- whether a step can be made, with a room of r bytes
-unfoldable pub readiness : Cursor → Tables → ℕ → Status
-readiness c t r = cond (sound_kept c.line t) (cond (ltb r longest_answer) MoreRoom GoOn) NotSound
+-- the answer where no step can be made, with a room of r bytes; none where one can
+unfoldable pub refusal : Cursor → Tables → ℕ → Option Stepped
+refusal c t r = cond (sound_kept c.line t) (cond (ltb r longest_answer) (Some (nothing_done c MoreRoom)) None) (Some (nothing_done c NotSound))
 
 -- what the contract of a call that makes k steps allows, of `step` with 1 and of `pump` with as many as the room surely holds: the cursor c, the tables t, the window w,
 -- the room o, which must hold the longest answer; the answer a, the tables and the room then

@@ -13,16 +13,9 @@ use borrow.Author.Tests.{ltb-true, ltb-false, eqb-true, eqb-false, leb-true, leb
 use Rattle.rules.specs.declared.Packet.{Packet}
 use Rattle.rules.specs.Service.{goes_first, better, choice}
 use Rattle.rules.proofs.Tests.{and_true, and_cases, or_cases, or_false, not_true_false, not_false_true}
-use Rattle.tables.specs.Places.{rows, row_at, no_packet}
+use Rattle.tables.specs.Places.{rows, row_at}
 use Rattle.tables.proofs.PlacesLaws.{rows_from}
-use Rattle.line.specs.declared.Best.{Best}
-use Rattle.line.specs.Wires.{option}
-use Rattle.service.specs.Candidates.{best_of, candidate, leader, NotEligible}
-
--- what was given is read back
-pub option_back : (o : Option Packet) → option (best_of o) ≡ o
-option_back none = refl
-option_back (some p) = refl
+use Rattle.service.specs.Candidates.{candidate, leader, NotEligible}
 
 module _ (level : ℕ → ℕ) where
   -- p has the lower level number, or the same and an eligibility earlier by k or more
@@ -87,25 +80,18 @@ module _ (level : ℕ → ℕ) where
         go false = refl
 
     -- the best of the rows before i, against the choice of the rows from i on
-    abbrev pub Walked : List ℕ → ℕ → Best → Type 0
-    Walked t i b = (b ≡ best_of (option b)) × (leader level (option b) (choice level clock (drop i (rows t))) ≡ choice level clock (rows t))
-
-    -- no row is walked yet
-    pub walk_start : (t : List ℕ) (p : Packet) → p ≡ no_packet → Walked t 0 (record { found = false; packet = p })
-    walk_start t p e = (ap (λ (q : Packet). record { found = false; packet = q }) e, refl)
+    abbrev pub Walked : List ℕ → ℕ → Option Packet → Type 0
+    Walked t i o = leader level o (choice level clock (drop i (rows t))) ≡ choice level clock (rows t)
 
     -- p, which is row i, is taken in
-    pub walk : (t : List ℕ) (i : ℕ) (b d : Best) (p : Packet) → i < length (rows t) → p ≡ row_at t i → d ≡ best_of (leader level (option b) (candidate clock p)) → Walked t i b → Walked t (i + 1) d
+    pub walk : (t : List ℕ) (i : ℕ) (b d : Option Packet) (p : Packet) → i < length (rows t) → p ≡ row_at t i → d ≡ leader level b (candidate clock p) → Walked t i b → Walked t (i + 1) d
     walk t i b d p l e f w =
         let rest : List Packet = drop (suc i) (rows t) in
-        let o : option d ≡ leader level (option b) (candidate clock p) = ap option f ∙ option_back _ in (
-          f ∙ ap best_of (sym o),
-          rw (add-one i)
-              (ap (λ (v : Option Packet). leader level v (choice level clock rest)) o
-              ∙ leader_assoc (option b) (candidate clock p) (choice level clock rest)
-              ∙ ap (leader level (option b)) (sym (choice_cons p rest) ∙ ap (λ (q : Packet). choice level clock (q ∷ rest)) e ∙ ap (choice level clock) (sym (rows_from t i l)))
-              ∙ w.1),
-        )
+        rw (add-one i)
+        (ap (λ (v : Option Packet). leader level v (choice level clock rest)) f
+        ∙ leader_assoc b (candidate clock p) (choice level clock rest)
+        ∙ ap (leader level b) (sym (choice_cons p rest) ∙ ap (λ (q : Packet). choice level clock (q ∷ rest)) e ∙ ap (choice level clock) (sym (rows_from t i l)))
+        ∙ w)
 
     -- a row that is not eligible changes no choice, and neither do rows of which none is
     passed_row : (t : List ℕ) (i : ℕ) → i < length (rows t) → clock < (row_at t i).eligibility → choice level clock (drop i (rows t)) ≡ choice level clock (drop (suc i) (rows t))
@@ -120,53 +106,42 @@ module _ (level : ℕ → ℕ) where
         let e : i + suc k ≡ suc (i + k) = omega arith in
         rw e (passed_rows t i k (omega arith) (λ j a b. h j a (omega arith)) ∙ passed_row t (i + k) (omega arith) (h (i + k) (omega arith) (omega arith)))
 
-    pub pass : (t : List ℕ) (i r : ℕ) (b : Best) → i ≤ r → r ≤ length (rows t) → NotEligible t clock i r → Walked t i b → Walked t r b
+    pub pass : (t : List ℕ) (i r : ℕ) (b : Option Packet) → i ≤ r → r ≤ length (rows t) → NotEligible t clock i r → Walked t i b → Walked t r b
     pass t i r b a l h w =
         let e : i + (r - i) ≡ r = omega arith in
-        (w.0, ap (leader level (option b)) (sym (subst (λ (j : ℕ). choice level clock (drop i (rows t)) ≡ choice level clock (drop j (rows t))) e (passed_rows t i (r - i) (omega arith) (λ j u v. h j u (omega arith))))) ∙ w.1)
+        ap (leader level b) (sym (subst (λ (j : ℕ). choice level clock (drop i (rows t)) ≡ choice level clock (drop j (rows t))) e (passed_rows t i (r - i) (omega arith) (λ j u v. h j u (omega arith))))) ∙ w
 
     -- no row is left
-    pub walked : (t : List ℕ) (i : ℕ) (b : Best) → i ≡ length (rows t) → Walked t i b → b ≡ best_of (choice level clock (rows t))
+    pub walked : (t : List ℕ) (i : ℕ) (b : Option Packet) → i ≡ length (rows t) → Walked t i b → b ≡ choice level clock (rows t)
     walked t i b e w =
-        w.0
-        ∙ ap best_of
-        (sym (leader_none (option b))
-        ∙ ap (λ (ps : List Packet). leader level (option b) (choice level clock ps)) (sym (drop-length (rows t)) ∙ ap (λ (j : ℕ). drop j (rows t)) (sym e))
-        ∙ w.1)
+        sym (leader_none b)
+        ∙ ap (λ (ps : List Packet). leader level b (choice level clock ps)) (sym (drop-length (rows t)) ∙ ap (λ (j : ℕ). drop j (rows t)) (sym e))
+        ∙ w
 
     -- ---- one row: what is best with p
 
-    module _ (p : Packet) (b : Best) where
-      abbrev with_it : Best
-      with_it = best_of (leader level (option b) (candidate clock p))
+    pub not_eligible : (p : Packet) (b : Option Packet) → clock < p.eligibility → b ≡ leader level b (candidate clock p)
+    not_eligible p b h = rw (lt-leb p.eligibility clock h) (sym (leader_none b))
 
-      abbrev it : Best
-      it = record { found = true; packet = p }
+    pub none_yet : (p : Packet) → p.eligibility ≤ clock → some p ≡ leader level none (candidate clock p)
+    none_yet p h = rw (le-leb p.eligibility clock h) refl
 
-      pub not_eligible : b ≡ best_of (option b) → clock < p.eligibility → b ≡ with_it
-      not_eligible k h =
-          let e : option b ≡ leader level (option b) (candidate clock p) = rw (lt-leb p.eligibility clock h) (sym (leader_none (option b))) in
-          k ∙ ap best_of e
+    -- p is eligible and q the best so far: x its level, y that of p
+    module _ (p q : Packet) (h : p.eligibility ≤ clock) {x y : ℕ} (ex : x ≡ level q.connection) (ey : y ≡ level p.connection) where
+      stays : AheadBy 0 q p → some q ≡ leader level (some q) (candidate clock p)
+      stays k = rw (le-leb p.eligibility clock h, is_before q p k) refl
 
-      pub none_yet : p.eligibility ≤ clock → b.found ≡ false → it ≡ with_it
-      none_yet h f = rw (le-leb p.eligibility clock h, f)
+      gives_way : AheadBy 1 p q → some p ≡ leader level (some q) (candidate clock p)
+      gives_way k = rw (le-leb p.eligibility clock h, is_behind q p k) refl
 
-      -- p is eligible and there is a best so far: x its level, y that of p
-      module _ (h : p.eligibility ≤ clock) (f : b.found ≡ true) {x y : ℕ} (ex : x ≡ level b.packet.connection) (ey : y ≡ level p.connection) where
-        stays : AheadBy 0 b.packet p → b ≡ with_it
-        stays k = rw (le-leb p.eligibility clock h, f, is_before b.packet p k)
+      pub lower_stays : x < y → some q ≡ leader level (some q) (candidate clock p)
+      lower_stays l = stays (omega arith, λ e. absurd (omega arith))
 
-        gives_way : AheadBy 1 p b.packet → it ≡ with_it
-        gives_way k = rw (le-leb p.eligibility clock h, f, is_behind b.packet p k)
+      pub lower_comes : y < x → some p ≡ leader level (some q) (candidate clock p)
+      lower_comes l = gives_way (omega arith, λ e. absurd (omega arith))
 
-        pub lower_stays : x < y → b ≡ with_it
-        lower_stays l = stays (omega arith, λ e. absurd (omega arith))
+      pub as_early_stays : x ≡ y → q.eligibility ≤ p.eligibility → some q ≡ leader level (some q) (candidate clock p)
+      as_early_stays e l = stays (omega arith, λ _. omega arith)
 
-        pub lower_comes : y < x → it ≡ with_it
-        lower_comes l = gives_way (omega arith, λ e. absurd (omega arith))
-
-        pub as_early_stays : x ≡ y → b.packet.eligibility ≤ p.eligibility → b ≡ with_it
-        as_early_stays e l = stays (omega arith, λ _. omega arith)
-
-        pub earlier_comes : x ≡ y → p.eligibility < b.packet.eligibility → it ≡ with_it
-        earlier_comes e l = gives_way (omega arith, λ _. omega arith)
+      pub earlier_comes : x ≡ y → p.eligibility < q.eligibility → some p ≡ leader level (some q) (candidate clock p)
+      earlier_comes e l = gives_way (omega arith, λ _. omega arith)

@@ -2,77 +2,73 @@
 use Prim.Native.Nat.{ℕ, ◌+◌, ◌*◌, ◌≤◌, ◌<◌}
 use native.Mathlib.Omega.{arith}
 use mathlib.Core.Path.{◌≡◌, refl, sym, ap, subst}
-use mathlib.Core.Bool.{Bool, true, false, cond}
+use mathlib.Core.Bool.{Bool, true, false}
 use mathlib.Core.List.{List}
-use mathlib.Core.Option.{none, some}
 use lib.Dec.{ltb}
 use lib.ListN.{length, get_or}
 use borrow.Author.Tests.{ltb-true, ltb-false}
 use Rattle.rules.specs.declared.Packet.{Packet}
-use Rattle.rules.proofs.Tests.{never}
 use Rattle.tables.specs.Places.{row_at}
-use Rattle.line.specs.declared.Best.{Best}
 use Rattle.service.specs.declared.Lead.{Lead}
-use Rattle.line.specs.Wires.{option}
-use Rattle.service.specs.Candidates.{best_of, candidate, leader, level_in, named, Leads, LeadsWith, NotEligible}
+use Rattle.std.specs.Prelude.{Option, Some, None, unwrap_or}
+use Rattle.std.proofs.lemmas.Option.{none-some}
+use mathlib.Core.Option.{some}
+use Rattle.service.specs.Candidates.{candidate, leader, level_in, named, LeadIs, Leads, LeadsWith, NotEligible}
 use Rattle.service.proofs.ChoiceLaws as L
 
-module _ (t : List ℕ) (l : Lead) where
-  named_back : named t l ≡ best_of (option (named t l))
-  named_back = ap best_of (sym (L.option_back (cond l.found (some (row_at t l.place)) none)))
+-- one that leads is the one that is noted
+pub leads_as : (cs t : List ℕ) (l : Lead) → LeadIs cs t l → Leads cs t (Some l)
+leads_as cs t l k m e = subst (LeadIs cs t) (ap (λ (o : Option Lead). unwrap_or o l) e) k
 
-  pub named_one : l.found ≡ true → named t l ≡ record { found = true; packet = row_at t l.place }
-  named_one f = rw f
+-- none leads yet
+pub leads_none : (cs t : List ℕ) → Leads cs t None
+leads_none cs t l e = absurd (none-some l e)
 
-  pub named_none : l.found ≡ false → named t l ≡ best_of none
-  named_none f = rw f
-
--- no row leads yet
-pub nothing_leads : (cs t : List ℕ) → Leads cs t (record { found = false; place = 0; level = 0; eligibility = 0 })
-nothing_leads cs t = record { inside = λ e. never e; level = λ e. never e; eligibility = λ e. never e }
-
-module _ (cs t : List ℕ) (clock : ℕ) (l : Lead) (i : ℕ) (W : Leads cs t l) (room : 5 * i + 5 ≤ length t) where
+module _ (cs t : List ℕ) (clock : ℕ) (i : ℕ) (room : 5 * i + 5 ≤ length t) where
   abbrev p : Packet
   p = row_at t i
 
-  pub not_eligible : clock < p.eligibility → LeadsWith cs t clock l i l
-  not_eligible h = (L.not_eligible (level_in cs) clock p (named t l) (named_back t l) h, W)
+  pub not_eligible : (o : Option Lead) → Leads cs t o → clock < p.eligibility → LeadsWith cs t clock o i o
+  not_eligible o W h = (L.not_eligible (level_in cs) clock p (named t o) h, W)
 
   -- p is eligible, y its level
   module _ (h : p.eligibility ≤ clock) (y : ℕ) (ey : y ≡ level_in cs p.connection) where
     abbrev it : Lead
-    it = record { found = true; place = i; level = y; eligibility = p.eligibility }
+    it = record { place = i; level = y; eligibility = p.eligibility }
 
-    it_leads : Leads cs t it
-    it_leads = record { inside = λ _. room; level = λ _. ey; eligibility = λ _. refl }
+    it_leads : Leads cs t (Some it)
+    it_leads = leads_as cs t it (record { inside = room; level = ey; eligibility = refl })
 
-    abbrev BestWith : Best → Best → Type 0
-    BestWith a b = a ≡ best_of (leader (level_in cs) (option b) (candidate clock p))
+    pub none_yet : LeadsWith cs t clock None i (Some it)
+    none_yet = (L.none_yet (level_in cs) clock p h, it_leads)
 
-    pub none_yet : l.found ≡ false → LeadsWith cs t clock l i it
-    none_yet f = (subst (λ (b : Best). BestWith (named t it) b) (sym (named_none t l f)) (L.none_yet (level_in cs) clock p (best_of none) h refl), it_leads)
+    module _ (o : Option Lead) (l : Lead) (e : o ≡ Some l) (W : Leads cs t o) where
+      abbrev best : Packet
+      best = row_at t l.place
 
-    module _ (f : l.found ≡ true) where
-      abbrev best : Best
-      best = record { found = true; packet = row_at t l.place }
+      abbrev is : LeadIs cs t l
+      is = W l e
 
-      stays : BestWith best best → LeadsWith cs t clock l i l
-      stays e = (subst (λ (b : Best). BestWith b b) (sym (named_one t l f)) e, W)
+      abbrev With : Packet → Type 0
+      With q = some q ≡ leader (level_in cs) (some best) (candidate clock p)
 
-      comes : BestWith (named t it) best → LeadsWith cs t clock l i it
-      comes e = (subst (λ (b : Best). BestWith (named t it) b) (sym (named_one t l f)) e, it_leads)
+      stays : With best → LeadsWith cs t clock o i (Some l)
+      stays k = subst (λ (x : Option Lead). LeadsWith cs t clock x i (Some l)) (sym e) (k, leads_as cs t l is)
 
-      pub lower_stays : l.level < y → LeadsWith cs t clock l i l
-      lower_stays u = stays (L.lower_stays (level_in cs) clock p best h refl (W.level f) ey u)
+      comes : With p → LeadsWith cs t clock o i (Some it)
+      comes k = subst (λ (x : Option Lead). LeadsWith cs t clock x i (Some it)) (sym e) (k, it_leads)
 
-      pub lower_comes : y < l.level → LeadsWith cs t clock l i it
-      lower_comes u = comes (L.lower_comes (level_in cs) clock p best h refl (W.level f) ey u)
+      pub lower_stays : l.level < y → LeadsWith cs t clock o i (Some l)
+      lower_stays u = stays (L.lower_stays (level_in cs) clock p best h is.level ey u)
 
-      pub as_early_stays : l.level ≡ y → l.eligibility ≤ p.eligibility → LeadsWith cs t clock l i l
-      as_early_stays u v = stays (L.as_early_stays (level_in cs) clock p best h refl (W.level f) ey u (omega (arith, W.eligibility f)))
+      pub lower_comes : y < l.level → LeadsWith cs t clock o i (Some it)
+      lower_comes u = comes (L.lower_comes (level_in cs) clock p best h is.level ey u)
 
-      pub earlier_comes : l.level ≡ y → p.eligibility < l.eligibility → LeadsWith cs t clock l i it
-      earlier_comes u v = comes (L.earlier_comes (level_in cs) clock p best h refl (W.level f) ey u (omega (arith, W.eligibility f)))
+      pub as_early_stays : l.level ≡ y → l.eligibility ≤ p.eligibility → LeadsWith cs t clock o i (Some l)
+      as_early_stays u v = stays (L.as_early_stays (level_in cs) clock p best h is.level ey u (omega (arith, is.eligibility)))
+
+      pub earlier_comes : l.level ≡ y → p.eligibility < l.eligibility → LeadsWith cs t clock o i (Some it)
+      earlier_comes u v = comes (L.earlier_comes (level_in cs) clock p best h is.level ey u (omega (arith, is.eligibility)))
 
 -- ---- rows that are passed over
 

@@ -19,7 +19,9 @@ use Rattle.rules.proofs.Tests.{never}
 use Rattle.rules.proofs.Figures.{charge_le}
 use Rattle.rules.proofs.SoundExact.{exact}
 use Rattle.connections.specs.Members.{first_closed}
-use Rattle.tables.specs.Places.{rows, row_at, is_some}
+use Rattle.tables.specs.Places.{rows, row_at}
+use Rattle.tables.specs.Options.{option_of}
+use Rattle.std.specs.Prelude.{is_some}
 use Rattle.tables.proofs.PlacesLaws.{rows_stop, rows_more, rows_from}
 use Rattle.line.specs.Quiet.{eligible_from, quiet_for, quiet_line}
 use Rattle.line.proofs.QuietLaws.{eligible_from_le, without_link, with_link}
@@ -114,11 +116,11 @@ module _ (held : List Packet) (clock : ℕ) where
   packet_waits (some p) e = refl
 
   -- .. and so does one that stands by
-  pub stands_by_now : (o : Option Packet) → is_some o ≡ true → 0 ≡ quiet_for 0 0 held [] o clock
+  pub stands_by_now : (o : Option Packet) → is_some (option_of o) ≡ true → 0 ≡ quiet_for 0 0 held [] o clock
   stands_by_now none e = never e
   stands_by_now (some p) e = refl
 
-  pub idle_for : (o : Option Packet) → is_some o ≡ false → eligible_from held - clock ≡ quiet_for 0 0 held [] o clock
+  pub idle_for : (o : Option Packet) → is_some (option_of o) ≡ false → eligible_from held - clock ≡ quiet_for 0 0 held [] o clock
   idle_for none e = refl
   idle_for (some p) e = never (sym e)
 
@@ -151,5 +153,5 @@ charge_ends zero time clock k n e = absurd (n refl)
 charge_ends (suc f) time clock k n e = e
 
 -- the smallest of the line's quiet, the clock's rest and the charges', where the code has them as q, m, w and r
-pub quiet_parts : (line end charge q m w r left k : ℕ) → q ≡ line → m ≡ min q end → w ≡ charge → r ≡ min m w → k ≡ min r left → k ≡ min (min (min line end) charge) left
+pub quiet_parts : (line end charge q m w r left k : ℕ) → q ≡ line → m ≡ min q end → w ≡ charge → r ≡ min w m → k ≡ min r left → k ≡ min (min (min line end) charge) left
 quiet_parts line end charge q m w r left k a b d e f = omega arith

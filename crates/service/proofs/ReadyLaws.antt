@@ -12,13 +12,12 @@ use Rattle.tables.specs.Table.{formed}
 use Rattle.tables.specs.Places.{rows, packet_width, places_length}
 use Rattle.tables.specs.Notices.{notices_formed}
 use Rattle.line.proofs.LineLaws.{in_place_of}
-use Rattle.state.specs.declared.Hub.{Hub}
-use Rattle.state.specs.View.{tables, view}
-use Rattle.service.specs.Ready.{wire_in, Ready}
+use Rattle.state.specs.View.{Hub, tables, view}
+use Rattle.service.specs.Ready.{Ready}
 
 module _ (h : Hub) (cs t q : List ℕ) where
   pub ready : formed packet_width places_length t ≡ true → notices_formed q ≡ true
       → All (λ p. p.connection ≡ notice_number → ⊥) (rows t)
       → Idle (view h (tables cs t q)) ⊎ (InService (view h (tables cs t q)) ⊎ NoticeInService (view h (tables cs t q)))
       → h.clock < clock_end → Ready h t q
-  ready p n o l c = record { others = o; time = c; in_place = in_place_of (early_at (view h (tables cs t q))) h.clock (wire_in h) t q o p n l }
+  ready p n o l c = record { others = o; time = c; in_place = in_place_of (early_at (view h (tables cs t q))) h.clock h.wire t q o p n l }

@@ -2,7 +2,7 @@
 use Prim.Native.Nat.{ℕ, ◌<◌}
 use native.Mathlib.Omega.{arith}
 use mathlib.Core.Path.{◌≡◌, refl, sym, ap, ◌∙◌, subst}
-use mathlib.Core.Bool.{Bool, true, cond}
+use mathlib.Core.Bool.{Bool, true}
 use mathlib.Core.List.{List, [], ◌∷◌, map}
 use mathlib.Core.Option.{Option, none, some}
 use lib.Dec.{leb}
@@ -18,52 +18,52 @@ use Rattle.rules.proofs.WireLaws.{told_by}
 use Rattle.tables.specs.Places.{rows}
 use Rattle.tables.specs.Notices.{notice_of, notices_in}
 use Rattle.line.specs.declared.Wire.{Wire}
-use Rattle.line.specs.declared.Best.{Best}
+use Rattle.tables.specs.Options.{option_in, option_of}
+use Rattle.std.specs.Prelude as code
+use Rattle.tables.proofs.OptionLaws.{read_back}
+use Rattle.line.specs.Told.{passed_on}
 use Rattle.line.specs.declared.Sent.{Sent}
-use Rattle.line.specs.Wires.{line_in, wire_of, takes_up, idle, option, sent_of, Leaves, InPlace}
+use Rattle.line.specs.Wires.{line_in, wire_of, takes_up, idle, Leaves, InPlace}
 use Rattle.line.proofs.LineLaws.{takes_next, Held, here, behind, in_place_then}
-use Rattle.state.specs.declared.Hub.{Hub}
-use Rattle.state.specs.declared.Told.{Told}
-use Rattle.state.specs.View.{tables, view}
-use Rattle.state.specs.Told.{told_of}
-use Rattle.service.specs.Candidates.{best_of, level_in, early_in, StandsIn}
-use Rattle.service.specs.Gives.{begun_wire, passed_on, Gives}
-use Rattle.service.specs.Ready.{wire_in, Ready}
-use Rattle.service.proofs.ChoiceLaws.{option_back}
+use Rattle.state.specs.View.{Hub, tables, view}
+use Rattle.state.specs.Told.{Told}
+use Rattle.service.specs.Candidates.{level_in, early_in, StandsIn}
+use Rattle.service.specs.Gives.{begun_wire, Gives}
+use Rattle.service.specs.Ready.{Ready}
 
 -- ---- step 1: what stands by, where the line would take it
 
-module _ (c : Best) (q : List ℕ) (o : Option Packet) (d : Best) where
+module _ (c : code.Option Packet) (q : List ℕ) (o : Option Packet) (d : code.Option Packet) where
   -- a packet is chosen
-  pub behind_chosen : c.found ≡ true → StandsIn c q o d
-  behind_chosen f =
+  pub behind_chosen : (p : Packet) → c ≡ code.Some p → StandsIn c q o d
+  behind_chosen p f =
       subst
-      (λ (x : Bool). ◌≡◌ {A = ℕ × ℕ} (takes (cond x (some c.packet) none) (notices_in q) (option d)) (takes (cond x (some c.packet) none) (notices_in q) o))
+      (λ (x : code.Option Packet). ◌≡◌ {A = ℕ × ℕ} (takes (option_in x) (notices_in q) (option_in d)) (takes (option_in x) (notices_in q) o))
       (sym f) refl
 
   -- a notice waits
   pub behind_notice : 0 < length (rows q) → StandsIn c q o d
-  behind_notice l = go (option c) (rows q) l
+  behind_notice l = go (option_in c) (rows q) l
     where
-      go : (x : Option Packet) (ps : List Packet) → 0 < length ps → ◌≡◌ {A = ℕ × ℕ} (takes x (map notice_of ps) (option d)) (takes x (map notice_of ps) o)
+      go : (x : Option Packet) (ps : List Packet) → 0 < length ps → ◌≡◌ {A = ℕ × ℕ} (takes x (map notice_of ps) (option_in d)) (takes x (map notice_of ps) o)
       go (some p) ps k = refl
       go none [] k = absurd (omega arith)
       go none (p ∷ ps) k = refl
 
   -- else it is looked for
-  pub looked_for : d ≡ best_of o → StandsIn c q o d
-  looked_for e = ap (λ (x : Option Packet). takes (option c) (notices_in q) x) (ap option e ∙ option_back o)
+  pub looked_for : d ≡ option_of o → StandsIn c q o d
+  looked_for e = ap (λ (x : Option Packet). takes (option_in c) (notices_in q) x) (read_back o d e)
 
 -- what an idle line begins with them
-pub begins_with : (h : Hub) (cs t q : List ℕ) (c d : Best) (v : Wire) → idle (wire_in h) ≡ true → c ≡ best_of (choice (level_in cs) h.clock (rows t))
-    → StandsIn c q (first_early (early_in h.link cs) (rows t)) d → v ≡ wire_of (begun (option c) (option d) (line_in (wire_in h) t q))
+pub begins_with : (h : Hub) (cs t q : List ℕ) (c d : code.Option Packet) (v : Wire) → idle h.wire ≡ true → c ≡ option_of (choice (level_in cs) h.clock (rows t))
+    → StandsIn c q (first_early (early_in h.link cs) (rows t)) d → v ≡ wire_of (begun (option_in c) (option_in d) (line_in h.wire t q))
     → v ≡ begun_wire (view h (tables cs t q))
 begins_with h cs t q c d v i e s k =
     let o = choice (level_in cs) h.clock (rows t) in
     let b = first_early (early_in h.link cs) (rows t) in
-    k ∙ sym (takes_next (wire_in h) (option c) (option d) t q i)
-    ∙ ap takes_up (s ∙ ap (λ (x : Option Packet). takes x (notices_in q) b) (ap option e ∙ option_back o))
-    ∙ takes_next (wire_in h) o b t q i
+    k ∙ sym (takes_next h.wire (option_in c) (option_in d) t q i)
+    ∙ ap takes_up (s ∙ ap (λ (x : Option Packet). takes x (notices_in q) b) (read_back o c e))
+    ∙ takes_next h.wire o b t q i
 
 -- ---- what the next steps need is there after step 1
 
@@ -88,17 +88,13 @@ pub ready_then : (h : Hub) (cs t q : List ℕ) → Ready h t q → (v : Wire) �
 ready_then h cs t q r v e =
     let o = choice (level_in cs) h.clock (rows t) in
     let b = first_early (early_in h.link cs) (rows t) in
-    in_place_then (wire_in h) o b t q r.in_place (choice_held (level_in cs) h.clock (rows t) r.others) (early_held (early_in h.link cs) (rows t) r.others) v e
+    in_place_then h.wire o b t q r.in_place (choice_held (level_in cs) h.clock (rows t) r.others) (early_held (early_in h.link cs) (rows t) r.others) v e
 
 -- ---- a whole tick
 
 -- what the line gives, with the clock moved on
 gives : (h : Hub) (cs t q : List ℕ) (o : Option Packet) (l : Line) (x : Sent) (s n : List ℕ) → Leaves (sent o l) x s n → Gives (moves_on (started_state (view h (tables cs t q))) o l) (passed_on h x) s n
-gives h cs t q o l x s n k = (ap (passed_on h) k.0 ∙ go o, k.1, k.2)
-  where
-    go : (p : Option Packet) → passed_on h (sent_of p l) ≡ told_of (moves_on (started_state (view h (tables cs t q))) p l)
-    go none = refl
-    go (some p) = refl
+gives h cs t q o l x s n k = (ap (λ (y : Sent). passed_on h y) k.0, k.1, k.2)
 
 pub ticks : (h : Hub) (cs t q : List ℕ) (v : Wire) (x : Sent) (r : Told) (s n : List ℕ) → v ≡ begun_wire (view h (tables cs t q))
     → Leaves (sends h.link.silence sent (line_in v t q) v.to_go) x s n → r ≡ passed_on h x → Gives (ticked (view h (tables cs t q))) r s n

@@ -9,9 +9,8 @@ use Rattle.rules.specs.Service.{better, takes}
 use Rattle.tables.specs.Places.{row_at}
 use Rattle.tables.specs.Notices.{notices_in}
 use Rattle.connections.specs.Members.{connections_in}
-use Rattle.state.specs.Told.{is_some, packet_or_unused}
-use Rattle.line.specs.declared.Best.{Best}
-use Rattle.line.specs.Wires.{option}
+use Rattle.tables.specs.Options.{option_in}
+use Rattle.std.specs.Prelude as code
 use Rattle.service.specs.declared.Lead.{Lead}
 
 -- the level of connection c, by the table of connections
@@ -22,13 +21,9 @@ level_in cs c = (nth (connections_in cs) c).level
 abbrev pub early_in : Link → List ℕ → ℕ → Bool
 early_in l cs c = goes_early l (nth (connections_in cs) c)
 
--- a packet or nothing, as the code gives it
-abbrev pub best_of : Option Packet → Best
-best_of o = record { found = is_some o; packet = packet_or_unused o }
-
 -- with d in the place of o, the packet that stands by, the line takes the same
-abbrev pub StandsIn : Best → List ℕ → Option Packet → Best → Type 0
-StandsIn chosen q o d = ◌≡◌ {A = ℕ × ℕ} (takes (option chosen) (notices_in q) (option d)) (takes (option chosen) (notices_in q) o)
+abbrev pub StandsIn : code.Option Packet → List ℕ → Option Packet → code.Option Packet → Type 0
+StandsIn chosen q o d = ◌≡◌ {A = ℕ × ℕ} (takes (option_in chosen) (notices_in q) (option_in d)) (takes (option_in chosen) (notices_in q) o)
 
 -- p among "held packets with eligibility at most t"
 abbrev pub candidate : ℕ → Packet → Option Packet
@@ -42,18 +37,22 @@ leader level (some p) o = better level p o
 -- ---- the best row so far, by its place
 
 -- the packet that is named, if one is
-abbrev pub named : List ℕ → Lead → Best
-named t l = best_of (cond l.found (some (row_at t l.place)) none)
+abbrev pub named : List ℕ → code.Option Lead → Option Packet
+named t code.None = none
+named t (code.Some l) = some (row_at t l.place)
 
 -- .. whose level and eligibility are as they are noted
-pub record Leads (cs t : List ℕ) (l : Lead) : Type 0 where
-  pub inside : l.found ≡ true → 5 * l.place + 5 ≤ length t
-  pub level : l.found ≡ true → l.level ≡ level_in cs (row_at t l.place).connection
-  pub eligibility : l.found ≡ true → l.eligibility ≡ (row_at t l.place).eligibility
+pub record LeadIs (cs t : List ℕ) (l : Lead) : Type 0 where
+  pub inside : 5 * l.place + 5 ≤ length t
+  pub level : l.level ≡ level_in cs (row_at t l.place).connection
+  pub eligibility : l.eligibility ≡ (row_at t l.place).eligibility
+
+abbrev pub Leads : List ℕ → List ℕ → code.Option Lead → Type 0
+Leads cs t o = (l : Lead) → o ≡ code.Some l → LeadIs cs t l
 
 -- what is named once row i, which was offered later, is taken in
-abbrev pub LeadsWith : List ℕ → List ℕ → ℕ → Lead → ℕ → Lead → Type 0
-LeadsWith cs t clock l i r = (named t r ≡ best_of (leader (level_in cs) (option (named t l)) (candidate clock (row_at t i)))) × Leads cs t r
+abbrev pub LeadsWith : List ℕ → List ℕ → ℕ → code.Option Lead → ℕ → code.Option Lead → Type 0
+LeadsWith cs t clock l i r = (named t r ≡ leader (level_in cs) (named t l) (candidate clock (row_at t i))) × Leads cs t r
 
 -- of the rows from row i on, those before row r are not eligible
 abbrev pub NotEligible : List ℕ → ℕ → ℕ → ℕ → Type 0

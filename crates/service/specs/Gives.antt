@@ -1,29 +1,15 @@
 -- What a tick gives. Document 01, "One tick", step 3.
-use Rattle.std.specs.Prelude.{ℕ, ◌+◌, ◌≡◌, List}
-use Rattle.rules.specs.Model.{State, no_short, Answer}
+use Rattle.std.specs.Prelude.{ℕ, ◌≡◌, List}
+use Rattle.rules.specs.Model.{State, Answer}
 use Rattle.rules.specs.Service.{chosen, stand_by, wire, begun}
 use Rattle.line.specs.declared.Wire.{Wire}
-use Rattle.line.specs.declared.Sent.{Sent}
 use Rattle.line.specs.Wires.{wire_of}
-use Rattle.state.specs.declared.Hub.{Hub}
-use Rattle.state.specs.declared.Told.{Told}
 use Rattle.state.specs.View.{written}
-use Rattle.state.specs.Told.{told_of}
+use Rattle.state.specs.Told.{Told, told_of}
 
 -- the line after step 1, with the hub's choice and the packet that stands by
 abbrev pub begun_wire : State → Wire
 begun_wire s = wire_of (begun (chosen s) (stand_by s) (wire s))
-
--- "the clock becomes t + 1. The answer is the departed packet or nothing"
-abbrev pub passed_on : Hub → Sent → Told
-passed_on h x = record {
-  verdict = 0;
-  number = 0;
-  short = no_short;
-  gone = x.gone;
-  packet = x.packet;
-  hub = record { link = h.link; clock = h.clock + 1; serving = x.wire.serving; to_go = x.wire.to_go; silent = x.wire.silent };
-}
 
 -- what is told, and the places table and the table of notices then, are those of an answer of the rules
 abbrev pub Gives : Answer → Told → List ℕ → List ℕ → Type 0

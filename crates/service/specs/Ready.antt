@@ -3,13 +3,8 @@ use Rattle.std.specs.Prelude.{ℕ, ◌<◌, ◌≡◌, List}
 use Rattle.rules.specs.Words.{All}
 use Rattle.rules.specs.Limits.{clock_end, notice_number}
 use Rattle.tables.specs.Places.{rows}
-use Rattle.line.specs.declared.Wire.{Wire}
-use Rattle.line.specs.Wires.{on_wire, InPlace}
-use Rattle.state.specs.declared.Hub.{Hub}
-
--- the hub's line
-abbrev pub wire_in : Hub → Wire
-wire_in h = on_wire h.serving h.to_go h.silent
+use Rattle.line.specs.Wires.{InPlace}
+use Rattle.state.specs.View.{Hub}
 
 pub record Ready (h : Hub) (t q : List ℕ) : Type 0 where
   -- each row names a connection, which has another number than the notices
@@ -17,4 +12,4 @@ pub record Ready (h : Hub) (t q : List ℕ) : Type 0 where
   -- the clock has not ended
   pub time : h.clock < clock_end
   -- the tables, and what is in service
-  pub in_place : InPlace (wire_in h) t q
+  pub in_place : InPlace h.wire t q

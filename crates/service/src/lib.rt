@@ -5,32 +5,37 @@
 pub mod quiet; // quiet.rt: ticks in which nothing starts, nothing departs and no charge ends
 
 ghost use Rattle.std.specs.Prelude.{◌≡◌, true, ℕ, ◌+◌, ◌*◌, ◌<◌, ◌≤◌, length};
-ghost use Rattle.rules.specs.Limits.{clock_end};
 ghost use Rattle.rules.specs.Service.{choice, first_early, ticked};
 ghost use Rattle.tables.specs.Places.{rows, written_places, places_length};
 ghost use Rattle.connections.specs.Members.{members_length};
-ghost use Rattle.service.specs.Candidates.{best_of, level_in, early_in, StandsIn, Leads, LeadsWith, NotEligible};
+ghost use Rattle.service.specs.Candidates.{level_in, early_in, StandsIn, Leads, LeadsWith, NotEligible};
 ghost use Rattle.state.specs.View.{tables, view};
-ghost use Rattle.service.specs.Gives.{begun_wire, passed_on, Gives};
+ghost use Rattle.service.specs.Gives.{begun_wire, Gives};
+ghost use Rattle.tables.specs.Options.{option_of};
 ghost use Rattle.service.specs.Ready.{Ready};
 ghost use Rattle.tables.specs.Notices.{notices_formed};
 
 use limits::PACKET_WIDTH;
-use line::{Best, Sent, Wire};
+use line::Wire;
 use rules::{Link, Packet};
 use state::{Hub, Told};
 
-// The best row of those walked so far, once one is found: its place, its connection's level and its eligibility, so that no row is read twice.
+// The best row of those walked so far: its place, its connection's level and its eligibility, so that no row is read twice.
 #[derive(Clone, Copy)]
 pub struct Lead {
-    pub found: bool,
     pub place: usize,
     pub level: u32,
     pub eligibility: u32,
 }
 
 // The best so far, or row i, which was offered later: row i only if it is eligible and goes strictly before the best.
-fn lead_with(members: &[u32], places: &[u32], lead: Lead, i: usize, clock: u32) -> Lead
+fn lead_with(
+    members: &[u32],
+    places: &[u32],
+    lead: Option<Lead>,
+    i: usize,
+    clock: u32,
+) -> Option<Lead>
     requires { (5 * i + 5 ≤ length places.now) × Leads members.now places.now lead × (length members.now ≡ members_length) }
     ensures { LeadsWith members.now places.now clock lead i result }
 {
@@ -40,24 +45,23 @@ fn lead_with(members: &[u32], places: &[u32], lead: Lead, i: usize, clock: u32) 
     }
     let level = connections::level_of(members, places[PACKET_WIDTH * i]);
     let next = Lead {
-        found: true,
         place: i,
-        level: level,
-        eligibility: eligibility,
+        level,
+        eligibility,
     };
-    if !lead.found {
-        return next;
-    }
-    if lead.level < level {
+    let Some(best) = lead else {
+        return Some(next);
+    };
+    if best.level < level {
         return lead;
     }
-    if level < lead.level {
-        return next;
+    if level < best.level {
+        return Some(next);
     }
-    if lead.eligibility <= eligibility {
+    if best.eligibility <= eligibility {
         return lead;
     }
-    next
+    Some(next)
 }
 
 // The next of n rows, from row i on, that is to be looked at: those from i to there are not eligible. Four rows a turn; the last three at most are left.
@@ -66,6 +70,7 @@ fn passed_over(places: &[u32], n: usize, i: usize, clock: u32) -> usize
     ensures { (i ≤ result) × (result ≤ n) × NotEligible places.now clock i result }
 {
     let mut j = i;
+    // kept: one row a turn misses the bar of speed: with 2,048 rows held that walk took 43 in a hundred of a run (docs/BENCHMARKS.md)
     while j + 4 <= n {
         let at = PACKET_WIDTH * j;
         if places[at + 4] <= clock {
@@ -86,73 +91,57 @@ fn passed_over(places: &[u32], n: usize, i: usize, clock: u32) -> usize
 }
 
 // The packet that the line takes next, if one is eligible. One pass upward over the held rows.
-pub fn choose(members: &[u32], places: &[u32], clock: u32) -> Best
+pub fn choose(members: &[u32], places: &[u32], clock: u32) -> Option<Packet>
     requires { (places.now ≡ written_places (rows places.now)) × (length places.now ≡ places_length) × (length members.now ≡ members_length) }
-    ensures { result ≡ best_of (choice (level_in members.now) clock (rows places.now)) }
+    ensures { result ≡ option_of (choice (level_in members.now) clock (rows places.now)) }
 {
     let n = tables::count(places);
-    let mut lead = Lead {
-        found: false,
-        place: 0,
-        level: 0,
-        eligibility: 0,
-    };
+    let mut lead: Option<Lead> = None;
     let mut i = passed_over(places, n, 0, clock);
+    // kept: the new form is no plainer: the next row is not the one behind, but the one that `passed_over` answers
     while i < n {
         lead = lead_with(members, places, lead, i, clock);
         i = passed_over(places, n, i + 1, clock);
     }
-    if !lead.found {
-        return Best {
-            found: false,
-            packet: tables::no_packet(),
-        };
-    }
-    Best {
-        found: true,
-        packet: tables::row(places, lead.place),
+    match lead {
+        Some(best) => Some(tables::row(places, best.place)),
+        None => None,
     }
 }
 
 // The packet that stands by: the first row, in the order offered, whose connection may send early. Where the queue is off no row is looked at.
-fn stand_by(l: Link, members: &[u32], places: &[u32]) -> Best
+fn stand_by(l: Link, members: &[u32], places: &[u32]) -> Option<Packet>
     requires { (places.now ≡ written_places (rows places.now)) × (length places.now ≡ places_length) × (length members.now ≡ members_length) }
-    ensures { result ≡ best_of (first_early (early_in l members.now) (rows places.now)) }
+    ensures { result ≡ option_of (first_early (early_in l members.now) (rows places.now)) }
 {
     if !connections::stand_by::is_on(l) {
-        return Best {
-            found: false,
-            packet: tables::no_packet(),
-        };
+        return None;
     }
-    let n = tables::count(places);
-    let mut i: usize = 0;
-    while i < n {
+    for i in 0..tables::count(places) {
         let x = connections::figures_of(members, places[PACKET_WIDTH * i]);
         if connections::stand_by::goes_early(l, x) {
-            return Best {
-                found: true,
-                packet: tables::row(places, i),
-            };
+            return Some(tables::row(places, i));
         }
-        i += 1;
     }
-    Best {
-        found: false,
-        packet: tables::no_packet(),
-    }
+    None
 }
 
 // The packet that stands by, looked for only where the line would take it: no packet is chosen and no notice waits.
-fn early_next(chosen: Best, l: Link, members: &[u32], places: &[u32], notices: &[u32]) -> Best
+fn early_next(
+    chosen: Option<Packet>,
+    l: Link,
+    members: &[u32],
+    places: &[u32],
+    notices: &[u32],
+) -> Option<Packet>
     requires { (places.now ≡ written_places (rows places.now)) × (length places.now ≡ places_length) × (length members.now ≡ members_length) }
     ensures { StandsIn chosen notices.now (first_early (early_in l members.now) (rows places.now)) result }
 {
-    if chosen.found {
-        return chosen;
+    if let Some(_) = chosen {
+        return None;
     }
     if !tables::none(notices) {
-        return chosen;
+        return None;
     }
     stand_by(l, members, places)
 }
@@ -163,35 +152,12 @@ fn start(h: Hub, members: &[u32], places: &[u32], notices: &[u32]) -> Wire
     requires { (places.now ≡ written_places (rows places.now)) × (length places.now ≡ places_length) × (notices_formed notices.now ≡ true) × (length members.now ≡ members_length) }
     ensures { result ≡ begun_wire (view h (tables members.now places.now notices.now)) }
 {
-    let w = line::on_wire(h.serving, h.to_go, h.silent);
-    if !line::is_idle(w) {
-        return w;
+    if !line::is_idle(h.wire) {
+        return h.wire;
     }
     let chosen = choose(members, places, h.clock);
     let early = early_next(chosen, h.link, members, places, notices);
-    line::begin(w, chosen, early, notices)
-}
-
-// Step 3: the clock moves on. The answer is the departed packet or nothing.
-fn pass(h: Hub, x: Sent) -> Told
-    requires { h.clock < clock_end }
-    ensures { result ≡ passed_on h x }
-{
-    let w = x.wire;
-    let packet = x.packet;
-    let mut later = h;
-    later.clock = h.clock + 1;
-    later.serving = w.serving;
-    later.to_go = w.to_go;
-    later.silent = w.silent;
-    Told {
-        verdict: 0,
-        number: 0,
-        short: connections::no_short(),
-        gone: x.gone,
-        packet: packet,
-        hub: later,
-    }
+    line::begin(h.wire, chosen, early, notices)
 }
 
 // The three steps of a tick, on a hub that is ready for them.
@@ -201,5 +167,5 @@ pub fn run_tick(h: Hub, members: &[u32], places: &mut [u32], notices: &mut [u32]
 {
     let w = start(h, members, places, notices);
     let x = line::send(w, h.link.silence, places, notices);
-    pass(h, x)
+    line::answers::pass(h, x)
 }

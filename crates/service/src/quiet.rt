@@ -13,7 +13,6 @@ ghost use Rattle.line.specs.Quiet.{eligible_from, quiet_for};
 ghost use Rattle.service.specs.Quiet.{passed, least_of_four, Waits, first_starts, charged_for, quiet_ticks};
 
 use super::stand_by;
-use limits::numbers::{least, least_short, without};
 use limits::{CLOCK_END, PACKET_WIDTH};
 use state::Hub;
 
@@ -23,9 +22,9 @@ fn least_of_four(places: &[u32], i: usize) -> u32
     ensures { result ≡ least_of_four places.now i }
 {
     let at = PACKET_WIDTH * i;
-    let a = least(places[at + 4], places[at + 9]);
-    let b = least(places[at + 14], places[at + 19]);
-    least(a, b)
+    let a = places[at + 4].min(places[at + 9]);
+    let b = places[at + 14].min(places[at + 19]);
+    a.min(b)
 }
 
 // The least eligibility of the first 4 * q rows, or the clock's end where that is less; one that is not later than the clock where a row is eligible.
@@ -34,14 +33,12 @@ fn first_of_fours(places: &[u32], q: usize, clock: u32) -> u32
     ensures { (result ≤ clock_end) × Waits places.now clock result (4 * q) }
 {
     let mut first = CLOCK_END;
-    let mut j: usize = 0;
-    while j < q {
-        first = least(first, least_of_four(places, 4 * j));
+    for j in 0..q {
+        first = first.min(least_of_four(places, 4 * j));
         // it starts at once: no look at the rows behind it
         if first <= clock {
             return first;
         }
-        j += 1;
     }
     first
 }
@@ -54,12 +51,10 @@ fn wait(places: &[u32], clock: u32) -> u32
     let n = tables::count(places);
     let q = n / 4;
     let mut first = first_of_fours(places, q, clock);
-    let mut i = 4 * q;
-    while i < n {
-        first = least(first, places[PACKET_WIDTH * i + 4]);
-        i += 1;
+    for i in 4 * q..n {
+        first = first.min(places[PACKET_WIDTH * i + 4]);
     }
-    without(first, clock)
+    first.saturating_sub(clock)
 }
 
 // Whether the first packet is eligible. No row is counted for it.
@@ -76,31 +71,20 @@ fn first_starts(places: &[u32], clock: u32) -> bool
 // The ticks in which nothing starts and nothing departs, by the line, the places, the notices and who may send early.
 fn quiet_for(h: Hub, members: &[u32], places: &[u32], notices: &[u32]) -> u32
     requires { (places.now ≡ written_places (rows places.now)) × (length places.now ≡ places_length) × (length members.now ≡ members_length) }
-    ensures { result ≡ quiet_for h.to_go h.silent (rows places.now) (notices_in notices.now) (first_early (early_in h.link members.now) (rows places.now)) h.clock }
+    ensures { result ≡ quiet_for h.wire.to_go h.wire.silent (rows places.now) (notices_in notices.now) (first_early (early_in h.link members.now) (rows places.now)) h.clock }
 {
-    let w = line::on_wire(h.serving, h.to_go, h.silent);
-    if !line::quiet::awaits(w, notices) {
-        return line::quiet::taken_for(w);
+    if !line::quiet::awaits(h.wire, notices) {
+        return line::quiet::taken_for(h.wire);
     }
     // the first packet starts at once, where it is eligible
     if first_starts(places, h.clock) {
         return 0;
     }
     // and so does one that stands by
-    if stand_by(h.link, members, places).found {
+    if stand_by(h.link, members, places).is_some() {
         return 0;
     }
     wait(places, h.clock)
-}
-
-// The smaller of a number and one of 64 bits.
-fn least_wide(a: u32, b: u64) -> u32
-    ensures { result ≡ min a b }
-{
-    if b < a as u64 {
-        return b as u32;
-    }
-    a
 }
 
 // The ticks in which no charge ends: up to the one before the earliest end.
@@ -114,11 +98,7 @@ fn charged_for(h: Hub, members: &[u32]) -> u64
     }
     let time = connections::closing::charge_time(h.link);
     let end = first as u64 + time as u64;
-    let reached = h.clock as u64 + 2;
-    if end < reached {
-        return 0;
-    }
-    end - reached
+    end.saturating_sub(h.clock as u64 + 2)
 }
 
 // Of `left` ticks those that can be passed over at once.
@@ -129,9 +109,9 @@ pub fn quiet_ticks(h: Hub, members: &[u32], places: &[u32], notices: &[u32], lef
     if h.link.levels == 0 {
         return 0;
     }
-    let still = least(quiet_for(h, members, places, notices), CLOCK_END - h.clock);
-    let rest = least_wide(still, charged_for(h, members));
-    least_short(rest, left)
+    let still = quiet_for(h, members, places, notices).min(CLOCK_END - h.clock);
+    let rest = charged_for(h, members).min(still as u64);
+    rest.min(left as u64) as u16
 }
 
 // The hub k ticks on, where nothing starts and nothing departs in them.
@@ -139,10 +119,5 @@ pub fn pass_over(h: Hub, k: u16) -> Hub
     requires { h.clock + k ≤ clock_end }
     ensures { (t : Tables) → result ≡ hub_of (passed (view h t) k) }
 {
-    let w = line::quiet::passed(line::on_wire(h.serving, h.to_go, h.silent), k);
-    let mut later = h;
-    later.clock = h.clock + k as u32;
-    later.to_go = w.to_go;
-    later.silent = w.silent;
-    later
+    line::quiet::pass_over(h, k)
 }

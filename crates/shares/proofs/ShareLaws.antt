@@ -6,7 +6,6 @@ use mathlib.Core.List.{List, [], ◌∷◌, ◌++◌}
 use Prim.Native.Nat.{ℕ, zero, suc, ◌+◌, ◌*◌, ◌-◌, ◌≤◌, ◌<◌}
 use native.Mathlib.Nat.{add-zero}
 use native.Mathlib.Omega.{arith}
-use native.Mathlib.Numerals.{add-one}
 use lib.Dec.{ltb}
 use borrow.Author.Tests.{lt-ltb, le-ltb, eq-eqb, ne_eqb}
 use lib.ListN.{length, get_or, drop, length-map, get_or-eq_default}
@@ -130,16 +129,20 @@ joined t n x f e h =
 
 -- ---- the sum of a number of each: of all r, of all p
 
-module _ (g : Share → ℕ) (t : List ℕ) where
-  pub sum_next : (c total : ℕ) {x : Share} → c < length (shares_in t) → x ≡ share_at t c → total ≡ sum c (λ i. g (nth (shares_in t) i))
-      → total + g x ≡ sum (c + 1) (λ i. g (nth (shares_in t) i))
-  sum_next c total {x} l is s =
-      ap (λ (n : ℕ). n + g x) s
-      ∙ ap (λ (n : ℕ). sum c (λ i. g (nth (shares_in t) i)) + n) (ap g (is ∙ sym (share_is t c l)))
-      ∙ sym (ap (λ (k : ℕ). sum k (λ i. g (nth (shares_in t) i))) (add-one c))
+module _ (t : List ℕ) (f : shares_formed t ≡ true) where
+  pub all_units_are : (n : ℕ) → n ≡ length (shares_in t) → sum n (λ c. get_or t (2 * c + 0) 0) ≡ sum (length (shares_in t)) (λ c. (nth (shares_in t) c).units)
+  all_units_are n e = go n ∙ ap (λ (k : ℕ). sum k (λ c. (nth (shares_in t) c).units)) e
+    where
+      go : (n : ℕ) → sum n (λ c. get_or t (2 * c + 0) 0) ≡ sum n (λ c. (nth (shares_in t) c).units)
+      go zero = refl
+      go (suc n) = rw (go n, ← figures_are t f n, add-zero (2 * n)) refl
 
-  pub sum_done : (c total : ℕ) → c ≡ length (shares_in t) → total ≡ sum c (λ i. g (nth (shares_in t) i)) → total ≡ sum (length (shares_in t)) (λ i. g (nth (shares_in t) i))
-  sum_done c total e s = s ∙ ap (λ (k : ℕ). sum k (λ i. g (nth (shares_in t) i))) e
+  pub all_places_are : (n : ℕ) → n ≡ length (shares_in t) → sum n (λ c. get_or t (2 * c + 1) 0) ≡ sum (length (shares_in t)) (λ c. (nth (shares_in t) c).places)
+  all_places_are n e = go n ∙ ap (λ (k : ℕ). sum k (λ c. (nth (shares_in t) c).places)) e
+    where
+      go : (n : ℕ) → sum n (λ c. get_or t (2 * c + 1) 0) ≡ sum n (λ c. (nth (shares_in t) c).places)
+      go zero = refl
+      go (suc n) = rw (go n, ← figures_are t f n) refl
 
 -- ---- READING WHAT IS WRITTEN gives it back, and its table is formed
 

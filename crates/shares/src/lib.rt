@@ -1,7 +1,10 @@
 // The lent table of connections of the second discipline: r and p to a row.
 #![tactic(auto)]
 
-ghost use Rattle.std.specs.Prelude.{◌≡◌, true, [], ◌∷◌, ◌++◌, ◌+◌, ◌*◌, ◌<◌, ◌≤◌, length};
+pub mod counted; // counted.rt: its rows, counted once
+
+ghost use Rattle.std.specs.Prelude.{◌≡◌, true, [], ◌∷◌, ◌++◌, ◌+◌, ◌*◌, ◌<◌, ◌≤◌, length, get_or};
+ghost use Rattle.rules.specs.Words.{sum};
 ghost use Rattle.rules.specs.Limits.{max_connections};
 ghost use Rattle.frames.specs.Model.{nth};
 ghost use Rattle.frames.specs.Admission.{stands, all_places};
@@ -14,10 +17,7 @@ use limits::{MAX_CONNECTIONS, SHARE_WIDTH};
 pub fn no_share() -> Share
     ensures { result ≡ no_share }
 {
-    Share {
-        units: 0,
-        places: 0,
-    }
+    Share::default()
 }
 
 // Row c.
@@ -81,19 +81,24 @@ pub fn join(shares: &mut [u32], standing: usize, x: Share)
     put_share(shares, standing, x);
 }
 
-// The sum of all r, in 64 bits, where it fits whatever the table has.
+// The sum of one number of each of the first rows, in 64 bits, where it fits whatever the table has.
+fn column(shares: &[u32], standing: usize, at: usize) -> u64
+    requires { (standing ≤ max_connections) × (2 * standing ≤ length shares.now) × (at < 2) }
+    ensures { result ≡ sum standing (λ c. get_or shares.now (2 * c + at) 0) }
+{
+    let mut total: u64 = 0;
+    for c in 0..standing {
+        total += shares[SHARE_WIDTH * c + at] as u64;
+    }
+    total
+}
+
+// The sum of all r.
 pub fn units_of_all(shares: &[u32], standing: usize) -> u64
     requires { (shares_formed shares.now ≡ true) × (standing ≡ length (shares_in shares.now)) }
     ensures { result ≡ all_units (shares_in shares.now) }
 {
-    let mut total: u64 = 0;
-    let mut c: usize = 0;
-    while c < standing {
-        let x = share_at(shares, c);
-        total += x.units as u64;
-        c += 1;
-    }
-    total
+    column(shares, standing, 0)
 }
 
 // The sum of all p.
@@ -101,12 +106,5 @@ pub fn places_of_all(shares: &[u32], standing: usize) -> u64
     requires { (shares_formed shares.now ≡ true) × (standing ≡ length (shares_in shares.now)) }
     ensures { result ≡ all_places (shares_in shares.now) }
 {
-    let mut total: u64 = 0;
-    let mut c: usize = 0;
-    while c < standing {
-        let x = share_at(shares, c);
-        total += x.places as u64;
-        c += 1;
-    }
-    total
+    column(shares, standing, 1)
 }

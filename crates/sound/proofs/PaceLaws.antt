@@ -9,8 +9,8 @@ use mathlib.Core.Logic.{◌⊎◌, inl, inr}
 use mathlib.Core.List.{List, [], ◌∷◌, ◌++◌, map}
 use mathlib.Core.Option.{Option, none, some}
 use lib.Dec.{leb, ltb, eqb}
-use lib.ListN.{length, get_or, set, take, drop, replicate, length-set, length-map, length-take, length-drop, drop_of_length-le}
-use lib.Seq.{sets, get_or-set_same, get_or-set_other, take-length, drop-cons, ext_get_or}
+use lib.ListN.{length, get_or, set, take, drop, length-set, length-map, length-take, length-drop, drop_of_length-le}
+use lib.Seq.{get_or-set_same, get_or-set_other, take-length, drop-cons, ext_get_or}
 use borrow.Author.Tests.{le-leb, lt-leb, eq-eqb, ne_eqb, lt-ltb, le-ltb}
 use Rattle.rules.specs.declared.Link.{Link}
 use Rattle.rules.specs.declared.Connection.{Connection}
@@ -37,16 +37,16 @@ use Rattle.tables.specs.Table.{row_in}
 use Rattle.tables.specs.Places.{rows, row_at, no_packet}
 use Rattle.tables.proofs.PlacesLaws.{row_is, rows_from}
 use Rattle.connections.specs.declared.Member.{Member}
-use Rattle.connections.specs.Members.{member_width, members_length, connections_in, pasts_in, closed_in, used_in, first_in, member_formed, rows_formed}
+use Rattle.connections.specs.Members.{member_width, connections_in, pasts_in, closed_in, used_in, first_in, member_formed, rows_formed}
 use Rattle.connections.specs.Rows.{connection_of, past_of, written_table}
 use Rattle.connections.specs.Within.{Within}
 use Rattle.connections.proofs.FigureLaws.{reservation_free, entry_limits}
-use Rattle.connections.proofs.MemberLaws.{copied_over, closed_is, connections_length, pasts_length, closed_length}
+use Rattle.connections.proofs.MemberLaws.{closed_is, connections_length, pasts_length, closed_length}
 use Rattle.connections.proofs.RegulatorLaws.{at_some, at_none}
-use Rattle.connections.proofs.WrittenLaws.{Few, formed_parts, pasts_few, rows_length, table_written, connections_back, pasts_back, closed_back, used_back, first_back, table_formed}
+use Rattle.connections.proofs.WrittenLaws.{Few, formed_parts, pasts_few, table_written, connections_back, pasts_back, closed_back, used_back, first_back, table_formed}
 use Rattle.line_tests.specs.Counts.{Counts}
 use Rattle.line_tests.proofs.CountLaws.{rows_next}
-use Rattle.state.specs.declared.Hub.{Hub}
+use Rattle.state.specs.View.{Hub}
 use Rattle.state.specs.View.{Tables, view}
 use Rattle.sound.specs.Pace.{past_in, with_past, Remembers, past_with, Names, left_with, closed_with, Reserves}
 use Rattle.sound.proofs.PartLaws.{both_ways, stops, passes_on}
@@ -192,9 +192,6 @@ pub forgotten_all : (t u : List ℕ) (seen : List ℕ) (c : ℕ) → c ≡ max_c
 forgotten_all t u seen c e R = remembers_as t u (forgotten t seen c) (λ k. drop (get_or seen k 0) (past_in t k)) (λ k l. cond_is (drop (get_or seen k 0) (past_in t k)) (past_in t k) (lt-ltb k c (omega arith))) R
 
 -- the table that the pass begins with: a copy of the one that was handed in
-pub whole_copy : (t u : List ℕ) → rows_formed t ≡ true → u ≡ sets (replicate members_length 0) 0 t → u ≡ t
-whole_copy t u f e = e ∙ copied_over t members_length (rows_length t f)
-
 pub forgotten_of : (members t u seen : List ℕ) → t ≡ members → Remembers t u (λ c. drop (get_or seen c 0) (past_in t c)) → Remembers members u (λ c. drop (get_or seen c 0) (past_in members c))
 forgotten_of members t u seen e R = subst (λ (m : List ℕ). Remembers m u (λ c. drop (get_or seen c 0) (past_in m c))) e R
 

@@ -2,13 +2,13 @@
 use Prim.Native.Nat.{ℕ, zero, suc, ◌+◌, ◌*◌, ◌/◌, ◌%◌, ◌≤◌, ◌<◌}
 use native.Mathlib.Omega.{arith}
 use mathlib.Core.Path.{◌≡◌, refl, sym, ap, ◌∙◌}
-use mathlib.Core.Bool.{Bool, true, false, cond, not, ◌&&◌}
+use mathlib.Core.Bool.{Bool, true, false, not, ◌&&◌}
 use mathlib.Core.Logic.{◌⊎◌, inl, inr, ⊎_elim}
-use mathlib.Core.List.{List, ◌∷◌}
+use mathlib.Core.List.{List}
 use lib.Dec.{leb, eqb}
-use lib.ListN.{length, get_or, take, drop, length-map, length-take, length-drop, drop_of_length-le}
-use lib.Seq.{drop-cons, get_or-drop}
-use borrow.Author.Tests.{not-true, not-false, eqb-true, eq-eqb, ne_eqb}
+use lib.ListN.{length, get_or, take, drop, length-map, length-take, length-drop}
+use lib.Seq.{get_or-drop}
+use borrow.Author.Tests.{not-true, not-false, eqb-true, eq-eqb}
 use Rattle.rules.specs.declared.Connection.{Connection}
 use Rattle.rules.specs.declared.Packet.{Packet}
 use Rattle.rules.specs.Words.{within, every, each}
@@ -31,46 +31,22 @@ use Rattle.tables.specs.Places.{rows, row_at}
 use Rattle.tables.specs.Notices.{notice_of}
 use Rattle.tables.proofs.TableLaws.{numbers_all, length_row, number_in}
 use Rattle.connections.specs.declared.Member.{Member}
-use Rattle.connections.specs.Members.{member_width, member_of, no_member, member_in, members_in, connections_in, pasts_in, closed_in, used_by, used_in, earlier, first_in, member_formed, rows_formed, members_formed}
+use Rattle.connections.specs.Members.{member_width, member_of, connections_in, pasts_in, closed_in, used_by, used_in, first_in, member_formed, rows_formed, members_formed}
 use Rattle.connections.specs.Rows.{member_head, connection_of, past_of, closed_of}
 use Rattle.connections.specs.Rows.{rows_end as rows_stop}
 use Rattle.connections.specs.Within.{Within}
-use Rattle.connections.proofs.MemberLaws.{length_members, member_is, connections_length, pasts_length, closed_length, connection_is, connection_none, past_is, closed_is, closed_none}
+use Rattle.connections.proofs.MemberLaws.{connections_length, pasts_length, closed_length, connection_is, connection_none, past_is, closed_is, closed_none}
 use Rattle.connections.proofs.WrittenLaws.{formed_parts, member_formed_at, rows_length, members_rows, members_long, used_is, first_is}
 use Rattle.connections.proofs.OwnerLaws.{used_le}
-use Rattle.connections.proofs.ClosingLaws.{earlier_some, used_least, first_among, first_none as none_charged}
-pub use Rattle.line_tests.proofs.LineLaws.{holds, falls, stops, passes_on, each_stop, each_pass, each_end, row_stops, row_passes, rows_done, row_holds, counted}
-use Rattle.state.specs.declared.Hub.{Hub}
+use Rattle.connections.proofs.ClosingLaws.{used_least, first_none as none_charged}
+pub use Rattle.line_tests.proofs.LineLaws.{holds, falls, stops, passes_on, both_stop, both_go, row_holds, places_few, notices_few}
+use Rattle.state.specs.View.{Hub}
 use Rattle.state.specs.View.{Tables, view, tables_formed}
 use Rattle.state.proofs.SoundLaws.{shapes}
 use Rattle.sound.specs.Parts.{unused}
 use Rattle.sound.specs.Pace.{past_in, Names}
 
--- ---- the rows of the table of connections, and the two numbers behind them
-
-pub members_from : (t : List ℕ) (i : ℕ) → i < max_connections → drop i (members_in t) ≡ member_in t i ∷ drop (suc i) (members_in t)
-members_from t i h = drop-cons (members_in t) i no_member (omega (arith, length_members t)) ∙ ap (λ (m : Member). m ∷ drop (suc i) (members_in t)) (member_is t i h)
-
--- one row taken in: it is not closed, or the first, or sooner than the others, or not
-pub first_open : (mark last first : ℕ) → mark ≡ 0 → first ≡ cond (eqb mark 0) first (earlier (suc last) first)
-first_open mark last first z = sym (cond_is first (earlier (suc last) first) (eq-eqb mark 0 z))
-
-module _ (mark last first own : ℕ) (e : own ≡ suc last) (n : mark ≡ 0 → ⊥) where
-  taken : cond (eqb mark 0) first (earlier (suc last) first) ≡ earlier own first
-  taken = cond_is first (earlier (suc last) first) (ne_eqb mark 0 n) ∙ ap (λ (a : ℕ). earlier a first) (sym e)
-
-  pub first_alone : first ≡ 0 → own ≡ cond (eqb mark 0) first (earlier (suc last) first)
-  first_alone z = sym (taken ∙ ap (earlier own) z)
-
-  pub first_sooner : (first ≡ 0 → ⊥) → own < first → own ≡ cond (eqb mark 0) first (earlier (suc last) first)
-  first_sooner z l = sym (taken ∙ earlier_some own first (omega (arith, z)) ∙ omega arith)
-
-  pub first_later : (first ≡ 0 → ⊥) → first ≤ own → first ≡ cond (eqb mark 0) first (earlier (suc last) first)
-  first_later z l = sym (taken ∙ earlier_some own first (omega (arith, z)) ∙ omega arith)
-
--- from the last row down to the first
-pub first_end : (t : List ℕ) → 0 ≡ first_among (drop max_connections (members_in t))
-first_end t = ap first_among (sym (drop_of_length-le (members_in t) {i = max_connections} (omega (arith, length_members t))))
+-- ---- the two numbers behind the rows of the table of connections
 
 -- how many rows there are up to the last owner's
 pub used_facts : (t : List ℕ) → members_formed t ≡ true → {n : ℕ} → n ≡ used_in t → (used_by (connections_in t) ≤ n) × (n ≤ max_connections)
@@ -238,8 +214,8 @@ unused_read h t f {held} {waiting} b c =
     rw (b, c, entries h t, length-map (rows t.notices) notice_of)
     (in_order (all_zero h.link) (eqb h.clock 0)
     (zeros t.members) (eqb (length (rows t.places)) 0) (eqb (length (rows t.notices)) 0)
-    (eqb h.serving 0) (eqb h.to_go 0) (eqb h.silent 0)
-    ∙ ap (λ (n : Bool). all_zero h.link && (n && (eqb h.clock 0 && (eqb (length (rows t.places)) 0 && (eqb (length (rows t.notices)) 0 && (eqb h.serving 0 && (eqb h.to_go 0 && eqb h.silent 0)))))))
+    (eqb h.wire.serving 0) (eqb h.wire.to_go 0) (eqb h.wire.silent 0)
+    ∙ ap (λ (n : Bool). all_zero h.link && (n && (eqb h.clock 0 && (eqb (length (rows t.places)) 0 && (eqb (length (rows t.notices)) 0 && (eqb h.wire.serving 0 && (eqb h.wire.to_go 0 && eqb h.wire.silent 0)))))))
     (all_free t.members (shapes t f).members_shape))
 
 -- ---- link, connections, tests and reservations: of what is read in a table the other clause holds, an entry for each number
@@ -311,7 +287,7 @@ rows_owned members places clock h k i =
 
 -- ---- the notices and the line
 
-pub line_read : (h : Hub) (t : Tables) {early : Bool} → early ≡ goes_early h.link (nth (connections_in t.members) h.serving)
+pub line_read : (h : Hub) (t : Tables) {early : Bool} → early ≡ goes_early h.link (nth (connections_in t.members) h.wire.serving)
     → wire_sound (λ _. early) h.link.largest h.link.silence h.clock (wire (view h t)) ≡ (notices_sound (view h t) && line_sound (view h t))
 unfolding wire_sound notices_sound line_sound
 line_read h t e = ap (λ (b : Bool). wire_sound (λ _. b) h.link.largest h.link.silence h.clock (wire (view h t))) e

@@ -12,7 +12,7 @@ use Rattle.rules.specs.SoundTest.{left_sound}
 use Rattle.tables.specs.Places.{rows, row_at}
 use Rattle.connections.specs.Members.{connections_in, pasts_in, closed_in, used_in, first_in, rows_formed}
 use Rattle.connections.specs.Rows.{written_table}
-use Rattle.state.specs.declared.Hub.{Hub}
+use Rattle.state.specs.View.{Hub}
 
 -- ---- a table of connections
 

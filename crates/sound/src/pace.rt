@@ -15,14 +15,14 @@ ghost use Rattle.state.specs.View.{tables, view};
 ghost use Rattle.line_tests.specs.Counts.{Counts};
 ghost use Rattle.sound.specs.Pace.{past_in, with_past, Remembers, past_with, Names, left_with, closed_with, Reserves};
 
-use super::wide;
 use connections::Member;
 use connections::closing::{charge_over, charge_time};
-use connections::regulator::{after_nth, earliest_behind, greatest};
+use connections::regulator::{after_nth, earliest_behind};
 use connections::stand_by::{distance, goes_early, settles};
 use limits::{MAX_CONNECTIONS, MEMBERS};
 use rules::{Connection, Link, Packet};
 use state::Hub;
+use tables::rows::Rows;
 
 // ---- before the pass: what has left
 
@@ -42,10 +42,8 @@ fn forget_rows(table: &mut [u32], seen: &[u32])
     requires { (rows_formed table.old ≡ true) × (length seen.now ≡ max_connections) }
     ensures { Remembers table.old table.new (λ c. drop (get_or seen.now c 0) (past_in table.old c)) }
 {
-    let mut c: usize = 0;
-    while c < MAX_CONNECTIONS {
+    for c in 0..MAX_CONNECTIONS {
         forget_some(table, c, seen[c]);
-        c += 1;
     }
 }
 
@@ -55,9 +53,9 @@ fn last_left(l: Link, x: Connection, clock: u32) -> u64
     ensures { result ≡ clock + margin (ahead l x) }
 {
     if goes_early(l, x) {
-        return wide(clock) + distance(l, x);
+        return u64::from(clock) + distance(l, x);
     }
-    wide(clock)
+    u64::from(clock)
 }
 
 // What is remembered keeps the spacing, and lies at or before the tick `last`.
@@ -65,16 +63,14 @@ fn left_in_time(m: Member, last: u64) -> bool
     requires { (member_formed m ≡ true) × (burst (connection_of m) ≤ max_remembered) }
     ensures { result ≡ left_in_time (connection_of m) last (past_of m) }
 {
-    let mut k: u32 = 0;
-    while k < m.known {
-        let e = wide(connections::regulator::tick_at(m, k));
+    for k in 0..m.known {
+        let e = u64::from(connections::regulator::tick_at(m, k));
         if e < earliest_behind(m, k + 1) {
             return false;
         }
         if last < e {
             return false;
         }
-        k += 1;
     }
     true
 }
@@ -88,7 +84,7 @@ fn left_ok(h: Hub, table: &[u32], c: usize, n: u32) -> bool
     if x.level == 0 {
         return true;
     }
-    if connections::reserve(h.link, x) < wide(n) {
+    if connections::reserve(h.link, x) < u64::from(n) {
         return false;
     }
     let m = connections::member_at(table, c);
@@ -100,14 +96,7 @@ fn each_left_ok(h: Hub, table: &[u32], seen: &[u32]) -> bool
     requires { (rows_formed table.now ≡ true) × (length seen.now ≡ max_connections) × Within h.link (connections_in table.now) }
     ensures { result ≡ every max_connections (λ c. left_with h table.now (get_or seen.now c 0) c) }
 {
-    let mut c: usize = 0;
-    while c < MAX_CONNECTIONS {
-        if !left_ok(h, table, c, seen[c]) {
-            return false;
-        }
-        c += 1;
-    }
-    true
+    (0..MAX_CONNECTIONS).all(|c| left_ok(h, table, c, seen[c]))
 }
 
 // ---- the pass
@@ -121,12 +110,12 @@ fn latest_by_gap(m: Member, clock: u32) -> u64
     let by_gap = after_nth(m, 0, 1, x.gap);
     let n = connections::packets_in(x.window, x.average);
     if n == 0 {
-        return greatest(by_gap, wide(clock) + wide(x.gap));
+        return by_gap.max(u64::from(clock) + u64::from(x.gap));
     }
     if m.known < n {
-        return greatest(by_gap, wide(clock) + wide(x.window));
+        return by_gap.max(u64::from(clock) + u64::from(x.window));
     }
-    greatest(by_gap, after_nth(m, 0, n, x.window))
+    by_gap.max(after_nth(m, 0, n, x.window))
 }
 
 // How late the next eligibility may be: by stamps, the allowance past the clock.
@@ -135,7 +124,7 @@ fn latest_of(m: Member, clock: u32) -> u64
     ensures { result ≡ latest (connection_of m) clock (past_of m) }
 {
     if connections::stamps::is_stamped(m.figures) {
-        return wide(clock) + wide(m.figures.allowance);
+        return u64::from(clock) + u64::from(m.figures.allowance);
     }
     latest_by_gap(m, clock)
 }
@@ -146,11 +135,11 @@ fn latest_early(l: Link, m: Member, clock: u32) -> u64
     requires { (m.known ≤ max_remembered) × (burst (connection_of m) ≤ max_remembered) × Reserves l (connection_of m) }
     ensures { result ≡ latest_early (connection_of m) (distance l (connection_of m)) clock (past_of m) }
 {
-    let farthest = wide(clock) + distance(l, m.figures);
+    let farthest = u64::from(clock) + distance(l, m.figures);
     if !settles(m, clock) {
         return farthest;
     }
-    let settled = greatest(wide(clock), earliest_behind(m, 0));
+    let settled = u64::from(clock).max(earliest_behind(m, 0));
     if farthest < settled {
         return farthest;
     }
@@ -165,7 +154,7 @@ fn last_tick(l: Link, m: Member, clock: u32) -> u64
     if goes_early(l, m.figures) {
         return latest_early(l, m, clock);
     }
-    greatest(wide(clock), latest_of(m, clock))
+    u64::from(clock).max(latest_of(m, clock))
 }
 
 // Whether the eligibility e keeps the pace behind those that are remembered.
@@ -173,7 +162,7 @@ fn in_pace(l: Link, m: Member, clock: u32, e: u32) -> bool
     requires { (m.known ≤ max_remembered) × (burst (connection_of m) ≤ max_remembered) × Reserves l (connection_of m) }
     ensures { result ≡ in_pace (connection_of m) (ahead l (connection_of m)) clock (past_of m) e }
 {
-    let at = wide(e);
+    let at = u64::from(e);
     (earliest_behind(m, 0) <= at) & (at <= last_tick(l, m, clock))
 }
 
@@ -193,34 +182,32 @@ fn pass_row(h: Hub, table: &mut [u32], p: Packet) -> bool
 }
 
 // Whether each row keeps its pace; if so, all rows are remembered.
-fn scan(h: Hub, table: &mut [u32], places: &[u32], held: usize) -> bool
-    requires { (held ≡ length (rows places.now)) × (rows_formed table.old ≡ true) × Names table.old places.now × Within h.link (connections_in table.old) }
-    ensures value { result ≡ paced h.link (connections_in table.old) h.clock (past_in table.old) [] (rows places.now) }
-    ensures remembers { result ≡ true → Remembers table.old table.new (past_with table.old (rows places.now)) }
+fn scan(h: Hub, table: &mut [u32], places: Rows) -> bool
+    requires { (rows_formed table.old ≡ true) × Names table.old places.table.now × Within h.link (connections_in table.old) }
+    ensures value { result ≡ paced h.link (connections_in table.old) h.clock (past_in table.old) [] (rows places.entry.table.now) }
+    ensures remembers { result ≡ true → Remembers table.old table.new (past_with table.old (rows places.entry.table.now)) }
 {
-    let mut i: usize = 0;
-    while i < held {
-        if !pass_row(h, table, tables::row(places, i)) {
+    for i in 0..places.len() {
+        if !pass_row(h, table, places.at(i)) {
             return false;
         }
-        i += 1;
     }
     true
 }
 
 // Whether what has left of each connection and its rows keep their pace, none holds more than its reservation, and what is remembered are these.
-fn queues_ok(h: Hub, members: &[u32], places: &[u32], held: usize, seen: &[u32]) -> bool
-    requires held_value { (held ≡ length (rows places.now)) × Counts length seen.now (rows places.now) }
-    requires members_value { (rows_formed members.now ≡ true) × Names members.now places.now × Within h.link (connections_in members.now) }
-    ensures { (q : List ℕ) → result ≡ queues_sound (view h (tables members.now places.now q)) }
+fn queues_ok(h: Hub, members: &[u32], places: Rows, seen: &[u32]) -> bool
+    requires seen_value { Counts length seen.now (rows places.table.now) }
+    requires members_value { (rows_formed members.now ≡ true) × Names members.now places.table.now × Within h.link (connections_in members.now) }
+    ensures { (q : List ℕ) → result ≡ queues_sound (view h (tables members.now places.entry.table.now q)) }
 {
     let mut table = [0u32; MEMBERS];
-    tables::copy(&mut table, 0, members);
+    table.copy_from_slice(members);
     forget_rows(&mut table, seen);
     if !each_left_ok(h, &table, seen) {
         return false;
     }
-    if !scan(h, &mut table, places, held) {
+    if !scan(h, &mut table, places) {
         return false;
     }
     tables::same(members, &table)
@@ -248,28 +235,18 @@ fn each_closed_ok(h: Hub, members: &[u32], seen: &[u32]) -> bool
     requires { (rows_formed members.now ≡ true) × (length seen.now ≡ max_connections) × (charge_time h.link < beyond_32_bits) }
     ensures { result ≡ every max_connections (λ c. closed_with h members.now (get_or seen.now c 0) c) }
 {
-    let mut c: usize = 0;
-    while c < MAX_CONNECTIONS {
-        if !closed_ok(h, members, c, seen[c]) {
-            return false;
-        }
-        c += 1;
-    }
-    true
+    (0..MAX_CONNECTIONS).all(|c| closed_ok(h, members, c, seen[c]))
 }
 
 // ---- the whole
 
 // Whether rows and memory of each connection keep the rules, and those of each that is closed.
-pub(crate) fn paced_ok(h: Hub, members: &[u32], places: &[u32], held: usize) -> bool
-    requires held_value { (held ≡ length (rows places.now)) × (held ≤ max_reserved) }
-    requires members_value { (rows_formed members.now ≡ true) × Names members.now places.now × Within h.link (connections_in members.now) }
-    ensures { (q : List ℕ) → result ≡ (queues_sound (view h (tables members.now places.now q)) && every max_connections (closed_sound (view h (tables members.now places.now q)))) }
+pub(crate) fn paced_ok(h: Hub, members: &[u32], places: Rows) -> bool
+    requires held_value { length (rows places.table.now) ≤ max_reserved }
+    requires members_value { (rows_formed members.now ≡ true) × Names members.now places.table.now × Within h.link (connections_in members.now) }
+    ensures { (q : List ℕ) → result ≡ (queues_sound (view h (tables members.now places.entry.table.now q)) && every max_connections (closed_sound (view h (tables members.now places.entry.table.now q)))) }
 {
     let mut seen = [0u32; MAX_CONNECTIONS];
-    line_tests::count_rows(places, held, &mut seen);
-    if !queues_ok(h, members, places, held, &seen) {
-        return false;
-    }
-    each_closed_ok(h, members, &seen)
+    line_tests::count_rows(places, &mut seen);
+    queues_ok(h, members, places, &seen) && each_closed_ok(h, members, &seen)
 }

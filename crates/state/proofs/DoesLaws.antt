@@ -1,20 +1,17 @@
 -- The laws of the discipline of levels, as the shared proofs ask for them; how a refusal and a call done meet the contract.
 use mathlib.Core.Path.{refl}
-use mathlib.Core.Bool.{false}
+use Rattle.std.specs.Prelude.{None}
 use Rattle.rules.specs.Model.{State, Call}
 use Rattle.rules.specs.SoundState.{Sound}
 use Rattle.rules.specs.Calls.{verdict, refused_number, refused_short, settle, answer}
 use Rattle.rules.proofs.SoundKept.{kept}
 use Rattle.rules.proofs.Results.{refusals_change_nothing, verdict_1_exactly}
-use Rattle.tables.specs.Places.{no_packet}
 use Rattle.tables.proofs.CallLaws.{Ruled}
 use Rattle.faces.proofs.Discipline.{Discipline}
 use Rattle.faces.proofs.CallLaws as C
-use Rattle.faces.proofs.Results.{departed_back}
-use Rattle.state.specs.declared.Hub.{Hub}
-use Rattle.state.specs.declared.Told.{Told}
-use Rattle.state.specs.View.{Tables, view, hub_of, written, sound_hub}
-use Rattle.state.specs.Told.{told_of, refusal}
+use Rattle.faces.proofs.Results.{option_back}
+use Rattle.state.specs.View.{Hub, Tables, view, hub_of, written, sound_hub}
+use Rattle.state.specs.Told.{Told, told_of, refusal}
 use Rattle.state.specs.Does.{tells, leaves}
 use Rattle.state.proofs.WrittenLaws.{writable, read_written, written_sound}
 use Rattle.state.proofs.SoundLaws.{is_sound, tables_kept}
@@ -33,12 +30,11 @@ levels = record {
   refused_number = refused_number;
   Kept = Hub;
   Told = Told;
-  verdict = Told.verdict;
-  number = Told.number;
-  short = Told.short;
-  gone = Told.gone;
-  packet = Told.packet;
-  kept = Told.hub;
+  verdict = λ r. r.verdict;
+  number = λ r. r.number;
+  short = λ r. r.short;
+  departed = λ r. r.departed;
+  kept = λ r. r.kept;
   view = view;
   kept_of = hub_of;
   written = written;
@@ -48,7 +44,7 @@ levels = record {
   tells = tells;
   leaves = leaves;
   ruled = ruled;
-  told_back = λ a. (refl, refl, refl, departed_back a.departed);
+  told_back = λ a. (refl, refl, refl, option_back a.departed);
   kept_told = λ a. refl;
   kept_back = λ h t. refl;
   refused_as = λ h v n. (refl, refl, refl, refl);
@@ -65,7 +61,7 @@ abbrev pub settled : C.Settled levels
 settled = record {
   rule = verdict;
   settle = settle;
-  refusal_short = λ h verdict number short. record { verdict = verdict; number = number; short = short; gone = false; packet = no_packet; hub = h };
+  refusal_short = λ h verdict number short. record { verdict = verdict; number = number; short = short; departed = None; kept = h };
   refused_short = refused_short;
   answer_is = λ k s. refl;
   told_is = λ k h t w. refl;

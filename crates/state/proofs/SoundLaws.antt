@@ -24,8 +24,7 @@ use Rattle.connections.specs.Members.{members_length, connections_in, members_fo
 use Rattle.connections.specs.Within.{Within}
 use Rattle.connections.proofs.MemberLaws.{connection_none}
 use Rattle.connections.proofs.WrittenLaws.{members_written, members_long}
-use Rattle.state.specs.declared.Hub.{Hub}
-use Rattle.state.specs.View.{Tables, view, written, tables_formed, sound_hub}
+use Rattle.state.specs.View.{Hub, Tables, view, written, tables_formed, sound_hub}
 
 -- ---- formed tables
 

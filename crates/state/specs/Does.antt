@@ -3,10 +3,8 @@ use Rattle.std.specs.Prelude.{cond}
 use Rattle.rules.specs.Model.{Call}
 use Rattle.rules.specs.Calls.{refused_number, answer}
 use Rattle.tables.specs.Calls.{DoesBy}
-use Rattle.state.specs.declared.Hub.{Hub}
-use Rattle.state.specs.declared.Told.{Told}
-use Rattle.state.specs.View.{Tables, view, written, sound_hub}
-use Rattle.state.specs.Told.{told_of, refusal}
+use Rattle.state.specs.View.{Hub, Tables, view, written, sound_hub}
+use Rattle.state.specs.Told.{Told, told_of, refusal}
 
 -- what a call answers, and the tables that it leaves: number 1 and nothing changed ("Verdict numbers"), or what the rules' answer says, written back
 unfoldable pub tells : Call → Hub → Tables → Told

@@ -6,8 +6,14 @@ use Rattle.tables.specs.Places.{places_length, rows, table_of}
 use Rattle.tables.specs.Notices.{notices_length, notices_in, written_notices}
 use Rattle.tables.specs.Lent.{formed_with}
 pub use Rattle.tables.specs.Lent.{Tables, tables}
+use Rattle.line.specs.Wires.{on_wire}
 use Rattle.connections.specs.Members.{members_length, connections_in, pasts_in, closed_in, written_members, members_formed}
-use Rattle.state.specs.declared.Hub.{Hub}
+use Rattle.rules.specs.declared.Link.{Link}
+use Rattle.line.specs.declared.Hub as line
+
+-- the part of the state that no table holds
+abbrev pub Hub : Type 0
+Hub = line.Hub Link
 
 -- as every hub starts
 abbrev pub zero_tables : Tables
@@ -23,14 +29,14 @@ view h t = record {
   clock = h.clock;
   held = rows t.places;
   notices = notices_in t.notices;
-  serving = h.serving;
-  to_go = h.to_go;
-  silent = h.silent;
+  serving = h.wire.serving;
+  to_go = h.wire.to_go;
+  silent = h.wire.silent;
 }
 
 -- a state written back: the part that no table holds, and the tables
 abbrev pub hub_of : State → Hub
-hub_of s = record { link = s.link; clock = s.clock; serving = s.serving; to_go = s.to_go; silent = s.silent }
+hub_of s = record { link = s.link; clock = s.clock; wire = on_wire s.serving s.to_go s.silent }
 
 abbrev pub written : State → Tables
 written s = tables (written_members s.connections s.pasts s.closed) (table_of places_length s.held) (written_notices s.notices)

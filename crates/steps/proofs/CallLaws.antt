@@ -1,8 +1,8 @@
 -- How a call made, and each kind of step of a `TK`, meet the contract of a step.
 use Prim.Native.Nat.{ℕ, ◌+◌, ◌-◌, ◌%◌, ◌<◌}
 use mathlib.Core.Path.{◌≡◌, refl, sym, ap, ◌∙◌, subst}
-use mathlib.Core.Bool.{Bool, true, false, cond}
-use mathlib.Core.List.{List, []}
+use mathlib.Core.Bool.{Bool, true, false}
+use mathlib.Core.List.{List}
 use mathlib.Core.Option.{Option, none, some}
 use lib.ListN.{length}
 use borrow.Author.Tests.{eq-eqb, ne_eqb}
@@ -10,13 +10,13 @@ use Rattle.rules.specs.declared.Packet.{Packet}
 use Rattle.rules.specs.Limits.{beyond_32_bits}
 use Rattle.either_line.specs.Line.{Line, Request, tick, Reply as LineReply, clock_of, respond}
 use Rattle.either_line.proofs.Results.{answers_fit}
-use Rattle.tables.specs.Places.{is_some, packet_or_unused}
+use Rattle.tables.specs.Options.{option_of}
+use Rattle.std.specs.Prelude as code
 use Rattle.tables.specs.Lent.{Tables}
 use Rattle.both.specs.declared.Kept.{Kept}
-use Rattle.both.specs.declared.Replied.{Replied}
 use Rattle.both.specs.View.{view, kept_of, sound_kept, kept_clock, has_link}
 use Rattle.both.specs.Quiet.{passed, quiet_ticks}
-use Rattle.both.specs.Replied.{replied_of}
+use Rattle.both.specs.Replied.{Replied, replied_of}
 use Rattle.both.specs.Does.{Does}
 use Rattle.both.proofs.SoundLaws.{is_sound, sound_view, set_seen, tables_kept, kept_back}
 use Rattle.both.proofs.DoesLaws.{told_as, left_as}
@@ -36,7 +36,7 @@ use Rattle.steps.specs.declared.Stepped.{Stepped}
 use Rattle.steps.specs.declared.asking.Wanted.{Wanted}
 use Rattle.steps.specs.Wants.{asks_as}
 use Rattle.steps.specs.Steps.{point, goes, asked_next, one_tick, tick_next}
-use Rattle.steps.specs.Tie.{cursor_at, link_answer, admission_answer, close_answer, offer_answer, notice_answer, told_log, Makes}
+use Rattle.steps.specs.Tie.{cursor_at, link_answer, admission_answer, close_answer, offer_answer, notice_answer, departure_log, told_log, Makes}
 
 -- ---- a call whose answer is written
 
@@ -103,19 +103,14 @@ as_asked q w k at s a t o o' e d = subst (λ (x : Asked). Makes (asked_next x k 
 pub told_is_logged : (a : LineReply) → told_log (replied_of a) ≡ tick_log a
 told_is_logged a = go a.departed
   where
-    go : (o : Option Packet)
-        → cond (is_some o) (answer_bytes (Departed (packet_or_unused o).connection (packet_or_unused o).tag (packet_or_unused o).arrival (packet_or_unused o).eligibility (clock_of a.next))) []
-        ≡ departure o (clock_of a.next)
+    go : (o : Option Packet) → departure_log (option_of o) (clock_of a.next) ≡ departure o (clock_of a.next)
     go none = refl
     go (some p) = refl
 
-pub none_told : (told : Replied) → told.gone ≡ false → told_log told ≡ []
-none_told told e = rw e
-
-pub some_told : (told : Replied) (v finish : ℕ) → told.gone ≡ true → v ≡ told.packet.connection % 256 → finish ≡ kept_clock told.kept
-    → answer_bytes (Departed v told.packet.tag told.packet.arrival told.packet.eligibility finish) ≡ told_log told
-some_told told v finish g e f =
-    rw (g, f) (departed_low v told.packet.connection told.packet.tag told.packet.arrival told.packet.eligibility (kept_clock told.kept) e)
+pub some_told : (told : Replied) (p : Packet) (v finish : ℕ) → told.departed ≡ code.Some p → v ≡ p.connection % 256 → finish ≡ kept_clock told.kept
+    → answer_bytes (Departed v p.tag p.arrival p.eligibility finish) ≡ told_log told
+some_told told p v finish g e f =
+    rw (g, f) (departed_low v p.connection p.tag p.arrival p.eligibility (kept_clock told.kept) e)
 
 module _ (at asked left : ℕ) (h : Kept) (t : Tables) (ok : sound_kept h t ≡ true) where
   -- all ticks are done

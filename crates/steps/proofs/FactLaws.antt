@@ -19,7 +19,7 @@ use Rattle.traces.specs.Trace.{longest_record}
 use Rattle.answers.specs.declared.Reply.TheVariants.{Linked, Admitted, Closed, Offered, Noticed, Departed, Ticked, Broken}
 use Rattle.answers.specs.Answers.{answer_bytes, longest_answer}
 use Rattle.answers.proofs.WriteLaws.{answer_short}
-use Rattle.answer_log.specs.Log.{trace_limit, Asked, one_call, some_ticks, unread, asks, call_log, departure, tick_log, read_at, all_done_verdict}
+use Rattle.answer_log.specs.Log.{trace_limit, Asked, one_call, some_ticks, unread, call_log, departure, tick_log, read_at, all_done_verdict, asks_read, taken}
 use Rattle.answer_log.proofs.ReadLaws.{read_lies}
 use Rattle.tables.specs.Lent.{Tables}
 use Rattle.steps.specs.declared.Phase.{Phase}
@@ -94,7 +94,7 @@ read_goes at s w last =
     (λ _. waits_go at Reading Finished s (length w) last 1 Done (omega arith) (λ e. never cc) (λ e. never cc))
     (λ _. cond_by (Goes at Reading (length w) last 1) (not last && ltb (length w) longest_record) _ _
     (λ e. waits_go at Reading Reading s (length w) last 1 MoreBytes (omega arith) (λ i. never cc) (λ _. not-true last (and_true (not last) (ltb (length w) longest_record) e).0))
-    (λ _. asked_goes (asks (read_at at w).what) (read_at at w).taken at s (length w) last (λ z. ap asks ((read_lies at w).no_byte z)) (read_lies at w).fits (read_lies at w).in_limit))
+    (λ _. asked_goes (asks_read (read_at at w)) (taken (read_at at w)) at s (length w) last (λ z. ap asks_read ((read_lies at w).no_byte z)) (read_lies at w).fits (read_lies at w).in_limit))
 
 -- a tick
 ticks_go : (at asked left : ℕ) (p : Phase) (s : Line) (bs : List ℕ) (len : ℕ) (last : Bool) → weight p ≤ left → length bs ≤ longest_answer
@@ -188,7 +188,7 @@ module _ (at : ℕ) (s : Line) (w : List ℕ) (last : Bool) where
       go false d = rw d
 
   pub next_found : (last && eqb (length w) 0) ≡ false → (not last && ltb (length w) longest_record) ≡ false
-      → read_next at s w last ≡ asked_next (asks (read_at at w).what) (read_at at w).taken at s
+      → read_next at s w last ≡ asked_next (asks_read (read_at at w)) (taken (read_at at w)) at s
   unfolding read_next
   next_found e f = rw (e, f)
 
@@ -218,7 +218,7 @@ read_rests at s w last =
     cond_by (Rests w last) (last && eqb (length w) 0) _ _ (λ _. record { stays = λ _. refl })
     (λ _. cond_by (Rests w last) (not last && ltb (length w) longest_record) _ _
     (λ e. record { stays = λ _. next_more at s w last e })
-    (λ _. asked_rests (asks (read_at at w).what) (read_at at w).taken at s w last))
+    (λ _. asked_rests (asks_read (read_at at w)) (taken (read_at at w)) at s w last))
 
 tick_rests : (at asked left : ℕ) (s : Line) (w : List ℕ) (last : Bool) → Rests w last (tick_next at asked left s)
 unfolding tick_next

@@ -4,3 +4,4 @@ pub mod OutcomeLaws
 pub mod CallLaws
 pub mod FactLaws
 pub mod MalformedLaws
+pub mod LentLaws

@@ -13,7 +13,7 @@ use Rattle.either_line.specs.Line.{Line, tick, respond}
 use Rattle.both.specs.Quiet.{quiet_ticks}
 use Rattle.fields.proofs.NumberLaws.{cond_by}
 use Rattle.traces.specs.Trace.{longest_record}
-use Rattle.answer_log.specs.Log.{Asked, one_call, some_ticks, unread, asks, read_at}
+use Rattle.answer_log.specs.Log.{Asked, one_call, some_ticks, unread, read_at, asks_read, taken}
 use Rattle.answer_log.specs.Bad.{first_bad}
 use Rattle.answer_log.proofs.ReadLaws.{read_lies, read_onward}
 use Rattle.answer_log.proofs.LogLaws.{asked_from}
@@ -59,9 +59,9 @@ module _ (b : Option ℕ) (s : Line) where
   asked_tells (some_ticks x) k at w u h l e = e ∙ ap (bad_from (at + k)) (drop-append-le k w u l)
   asked_tells unread k at w u h l e = (rw (ne_eqb (length w) 0 (omega arith)) e, λ z. absurd (omega arith))
 
-  found_tells : (at : ℕ) (w u : List ℕ) → 0 < length w → read_at at (w ++ u) ≡ read_at at w → b ≡ bad_from at (w ++ u) → TellsThen b w u (asked_next (asks (read_at at w).what) (read_at at w).taken at s)
+  found_tells : (at : ℕ) (w u : List ℕ) → 0 < length w → read_at at (w ++ u) ≡ read_at at w → b ≡ bad_from at (w ++ u) → TellsThen b w u (asked_next (asks_read (read_at at w)) (taken (read_at at w)) at s)
   found_tells at w u h e T =
-      asked_tells (asks (read_at at w).what) (read_at at w).taken at w u h (read_lies at w).fits
+      asked_tells (asks_read (read_at at w)) (taken (read_at at w)) at w u h (read_lies at w).fits
       (T ∙ bad_of_some at (w ++ u) (simp length-append (omega arith)) ∙ rw e)
 
   read_tells : (at : ℕ) (w u : List ℕ) (last : Bool) → (last ≡ true → u ≡ []) → b ≡ bad_from at (w ++ u) → TellsThen b w u (read_next at s w last)

@@ -13,7 +13,7 @@ use Rattle.either_line.proofs.Results.{sound_is_kept}
 use Rattle.both.specs.Quiet.{quiet_ticks}
 use Rattle.fields.proofs.NumberLaws.{cond_by}
 use Rattle.traces.specs.Trace.{longest_record}
-use Rattle.answer_log.specs.Log.{Asked, one_call, some_ticks, unread, asks, read_at}
+use Rattle.answer_log.specs.Log.{Asked, one_call, some_ticks, unread, read_at, asks_read, taken}
 use Rattle.steps.specs.declared.Phase.{Phase}
 use Rattle.steps.specs.declared.Phase.TheVariants.{Reading, Ticking, Finished}
 use Rattle.steps.specs.declared.Status.TheVariants.{GoOn, MoreBytes, MoreRoom, NotSound, Done}
@@ -50,7 +50,7 @@ module _ (s : Line) (S : SoundLine s) where
       cond_by (EndsWell w) (last && eqb (length w) 0) _ _ (λ _. done_well w _ S refl refl)
       (λ _. cond_by (EndsWell w) (not last && ltb (length w) longest_record) _ _
       (λ e. wants_well w _ S refl (ltb-true _ _ (and_true (not last) (ltb (length w) longest_record) e).1))
-      (λ _. asked_ends w (asks (read_at at w).what) (read_at at w).taken at))
+      (λ _. asked_ends w (asks_read (read_at at w)) (taken (read_at at w)) at))
 
   one_tick_ends_well : (w : List ℕ) (at asked left : ℕ) → EndsWell w (one_tick at asked left s)
   unfolding one_tick

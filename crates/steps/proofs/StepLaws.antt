@@ -14,7 +14,7 @@ use Rattle.fields.proofs.NumberLaws.{cond_by}
 use Rattle.traces.specs.Trace.{longest_record}
 use Rattle.answers.specs.declared.Reply.TheVariants.{Ticked, Broken}
 use Rattle.answers.specs.Answers.{answer_bytes}
-use Rattle.answer_log.specs.Log.{Asked, one_call, some_ticks, unread, asks, asked_log, read_at, tick_log, all_done_verdict, ticks_run}
+use Rattle.answer_log.specs.Log.{Asked, one_call, some_ticks, unread, asked_log, read_at, tick_log, all_done_verdict, ticks_run, asks_read, taken}
 use Rattle.answer_log.proofs.ReadLaws.{read_lies, read_onward}
 use Rattle.answer_log.proofs.LogLaws.{asked_from, log_from, ticks_log, ticks_end, done_log, done_end, refused_log, refused_end, log_of_none, log_of_some}
 use Rattle.steps.specs.declared.Phase.{Phase}
@@ -44,10 +44,10 @@ asked_keeps unread k at s w u e = sym (append-nil (answer_bytes (Broken at)))
 
 -- the record at the start of the window is that at the start of what is left of the trace
 found_keeps : (at : ℕ) (s : Line) (w u : List ℕ) → 0 < length w → read_at at (w ++ u) ≡ read_at at w
-    → Keeps (point at Reading s) w u (asked_next (asks (read_at at w).what) (read_at at w).taken at s)
+    → Keeps (point at Reading s) w u (asked_next (asks_read (read_at at w)) (taken (read_at at w)) at s)
 found_keeps at s w u p e =
     log_of_some at s (w ++ u) (simp length-append (omega arith))
-    ∙ rw e (asked_keeps (asks (read_at at w).what) (read_at at w).taken at s w u (read_lies at w).fits)
+    ∙ rw e (asked_keeps (asks_read (read_at at w)) (taken (read_at at w)) at s w u (read_lies at w).fits)
 
 read_keeps : (at : ℕ) (s : Line) (w u : List ℕ) (last : Bool) → (last ≡ true → u ≡ []) → Keeps (point at Reading s) w u (read_next at s w last)
 unfolding read_next

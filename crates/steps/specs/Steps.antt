@@ -5,7 +5,7 @@ use Rattle.both.specs.Quiet.{passed, quiet_ticks}
 use Rattle.traces.specs.Trace.{longest_record}
 use Rattle.answers.specs.declared.Reply.TheVariants.{Ticked, Broken}
 use Rattle.answers.specs.Answers.{answer_bytes}
-use Rattle.answer_log.specs.Log.{trace_limit, Asked, one_call, some_ticks, unread, asks, call_log, read_at, tick_log, all_done_verdict}
+use Rattle.answer_log.specs.Log.{trace_limit, Asked, one_call, some_ticks, unread, call_log, read_at, tick_log, all_done_verdict, asks_read, taken}
 use Rattle.steps.specs.declared.Phase.{Phase}
 use Rattle.steps.specs.declared.Phase.TheVariants.{Reading, Ticking, Finished}
 use Rattle.steps.specs.declared.Status.{Status}
@@ -50,7 +50,7 @@ unfoldable pub read_next : ℕ → Line → List ℕ → Bool → Next
 read_next at s w last =
     cond (last && eqb (length w) 0) (still (point at Finished s) Done)
     (cond (not last && ltb (length w) longest_record) (still (point at Reading s) MoreBytes)
-    (asked_next (asks (read_at at w).what) (read_at at w).taken at s))
+    (asked_next (asks_read (read_at at w)) (taken (read_at at w)) at s))
 
 -- ---- a step of a `TK`
 

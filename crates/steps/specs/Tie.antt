@@ -1,19 +1,29 @@
 -- THE CONTRACT of a step's code: what the rules' step does, written back. Document 01, "Trace and answer records".
-use Rattle.std.specs.Prelude.{ℕ, ◌%◌, ◌≡◌, true, false, cond, List, [], ◌++◌, length, take, drop}
-use Rattle.tables.specs.Lent.{Tables}
+use Rattle.std.specs.Prelude.{ℕ, ◌%◌, ◌≡◌, true, false, List, [], Option, Some, None, ◌++◌, length, take, drop}
+use Rattle.rules.specs.declared.Packet.{Packet}
+use Rattle.tables.specs.Lent.{Tables, tables}
 use Rattle.both.specs.declared.Kept.{Kept}
-use Rattle.both.specs.declared.Replied.{Replied}
+use Rattle.both.specs.Replied.{Replied}
 use Rattle.both.specs.View.{view, kept_of, written, sound_kept, kept_clock}
 use Rattle.fields.specs.Formats.{over}
 use Rattle.answers.specs.declared.Reply.{Reply}
 use Rattle.answers.specs.declared.Reply.TheVariants.{Linked, Admitted, Closed, Offered, Noticed, Departed}
 use Rattle.answers.specs.Answers.{answer_bytes}
+use Rattle.steps.specs.declared.Lent.{Lent}
 use Rattle.steps.specs.declared.Phase.{Phase}
 use Rattle.steps.specs.declared.Cursor.{Cursor}
 use Rattle.steps.specs.declared.Status.{Status}
 use Rattle.steps.specs.declared.Status.TheVariants.{NotSound}
 use Rattle.steps.specs.declared.Stepped.{Stepped}
 use Rattle.steps.specs.Steps.{Point, point, Next}
+
+-- the three tables that are lent
+abbrev pub lent : Lent → Tables
+lent t = tables t.members.now t.places.now t.notices.now
+
+-- the same three slices are lent: what is in them at the end is what their owner has then
+abbrev pub SameSlices : Lent → Lent → Type 0
+SameSlices t u = (t.members.ghost_name ≡ u.members.ghost_name) × (t.places.ghost_name ≡ u.places.ghost_name) × (t.notices.ghost_name ≡ u.notices.ghost_name)
 
 -- the point that a cursor and the three tables stand for, and the part of a point that no table holds
 abbrev pub point_of : Cursor → Tables → Point
@@ -59,6 +69,9 @@ abbrev pub notice_answer : Replied → Reply
 notice_answer r = Noticed (r.verdict % 256) r.number
 
 -- the departure that an answer tells, as it is written; its finish is the clock then
+abbrev pub departure_log : Option Packet → ℕ → List ℕ
+departure_log None finish = []
+departure_log (Some p) finish = answer_bytes (Departed p.connection p.tag p.arrival p.eligibility finish)
+
 abbrev pub told_log : Replied → List ℕ
-told_log r =
-    cond r.gone (answer_bytes (Departed r.packet.connection r.packet.tag r.packet.arrival r.packet.eligibility (kept_clock r.kept))) []
+told_log r = departure_log r.departed (kept_clock r.kept)

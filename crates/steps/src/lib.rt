@@ -6,17 +6,24 @@ mod reading; // reading.rt: a record is read, and its call is made or its ticks 
 mod ticking; // ticking.rt: the ticks of a `TK`
 
 ghost use Rattle.std.specs.Prelude.{◌≡◌, true, ◌≤◌, length};
-ghost use Rattle.tables.specs.Lent.{tables};
 ghost use Rattle.both.specs.View.{sound_kept};
 ghost use Rattle.fields.specs.Formats.{over};
 ghost use Rattle.answers.specs.Answers.{answer_bytes, longest_answer};
 ghost use Rattle.steps.specs.declared.Phase.TheVariants.{Reading};
 ghost use Rattle.steps.specs.declared.Status.TheVariants.{GoOn};
 ghost use Rattle.steps.specs.Steps.{next};
-ghost use Rattle.steps.specs.Tie.{point_of, Makes, cursor_at, nothing_done};
+ghost use Rattle.steps.specs.Tie.{lent, SameSlices, point_of, Makes, cursor_at, nothing_done};
 
 use answers::Reply;
 use both::Kept;
+
+// The three tables, of connections, of places and of notices, lent together.
+#[derive(Drop)]
+pub struct Lent<'a> {
+    pub members: &'a mut [u32],
+    pub places: &'a mut [u32],
+    pub notices: &'a mut [u32],
+}
 
 // What comes next: a record is read; a tick of a `TK` is run, of which `left` of `asked` are still to run; or nothing.
 #[derive(Clone, Copy)]
@@ -59,15 +66,15 @@ pub(crate) fn answered(at: u32, line: Kept, used: usize, reply: Reply, out: &mut
     requires { longest_answer ≤ length out.old }
     ensures { (result ≡ record { cursor = cursor_at at Reading line; used = used; wrote = length (answer_bytes reply); status = GoOn }) × (out.new ≡ over (answer_bytes reply) out.old) }
 {
-    let wrote = answers::write(reply, out);
+    let wrote = answers::write(Some(reply), out);
     Stepped {
         cursor: Cursor {
-            at: at,
+            at,
             phase: Phase::Reading,
-            line: line,
+            line,
         },
-        used: used,
-        wrote: wrote,
+        used,
+        wrote,
         status: Status::GoOn,
     }
 }
@@ -77,38 +84,26 @@ pub(crate) fn waits(at: u32, phase: Phase, h: Kept, status: Status) -> Stepped
     ensures { result ≡ nothing_done (cursor_at at phase h) status }
 {
     Stepped {
-        cursor: Cursor {
-            at: at,
-            phase: phase,
-            line: h,
-        },
+        cursor: Cursor { at, phase, line: h },
         used: 0,
         wrote: 0,
-        status: status,
+        status,
     }
 }
 
 // One step on a line and tables that are sound, with room for an answer.
-pub fn step_tested(
-    c: Cursor,
-    members: &mut [u32],
-    places: &mut [u32],
-    notices: &mut [u32],
-    window: &[u8],
-    last: bool,
-    out: &mut [u8],
-) -> Stepped
-    requires { (sound_kept c.line (tables members.old places.old notices.old) ≡ true) × (longest_answer ≤ length out.old) }
-    ensures { Makes (next (point_of c (tables members.old places.old notices.old)) window.now last) result (tables members.new places.new notices.new) 0 out.old out.new }
+// kept: the new form is no plainer: the line stands in the cursor, which each step answers anew, so a type that says `sound_kept` of line and tables would hold the line twice
+pub fn step_tested(c: Cursor, t: &mut Lent, window: &[u8], last: bool, out: &mut [u8]) -> Stepped
+    requires { (sound_kept c.line (lent t.old) ≡ true) × (longest_answer ≤ length out.old) }
+    ensures makes { Makes (next (point_of c (lent t.old)) window.now last) result (lent t.new) 0 out.old out.new }
+    ensures same_slices { SameSlices t.new t.old }
 {
     let at = c.at;
     let h = c.line;
     let p = c.phase;
     match p {
-        Phase::Reading => reading::read_step(at, h, members, places, notices, window, last, out),
-        Phase::Ticking { asked, left } => ticking::tick_step(
-            at, h, asked, left, members, places, notices, out,
-        ),
+        Phase::Reading => reading::read_step(at, h, t, window, last, out),
+        Phase::Ticking { asked, left } => ticking::tick_step(at, h, asked, left, t, out),
         Phase::Finished => waits(at, Phase::Finished, h, Status::Done),
     }
 }

@@ -3,10 +3,11 @@ ghost use Rattle.std.specs.Prelude.{◌≡◌, ◌<◌, ◌≤◌, length, take,
 ghost use Rattle.streams.specs.Moves.{IsPrefixLen, WritesNumber};
 ghost use Rattle.streams.specs.Digits.{hex_digit_ascii, last_digits, IsDigitCount};
 
-use crate::write_all;
+use crate::{WriteError, write_all};
 use std::io::Write;
 
 // Puts n's decimal digits at the front of a room of twenty, and tells how many there are.
+// kept: what may not change, the clauses of `decimal`, which cannot fail: std's `write!` answers a `Result`, and no contract of it rules an `Err` out or tells what it leaves
 pub fn decimal(n: u64, out: &mut [u8; 20]) -> usize
     ensures in_bounds { IsPrefixLen result out.new }
     ensures len { IsDigitCount 10 1 n result }
@@ -19,7 +20,7 @@ pub fn decimal(n: u64, out: &mut [u8; 20]) -> usize
 }
 
 // Writes n as `decimal` puts it, and tells what `write_all` does.
-pub fn print_decimal<W: Write>(to: &mut W, n: u64) -> bool
+pub fn print_decimal<W: Write>(to: &mut W, n: u64) -> Result<(), WriteError>
     ensures { WritesNumber (W.contents to.old) (W.contents to.new) result n }
 {
     let mut text = [0u8; 20];
@@ -31,13 +32,10 @@ pub fn print_decimal<W: Write>(to: &mut W, n: u64) -> bool
 fn digit_count(n: u64) -> usize
     ensures { IsDigitCount 10 1 n result }
 {
-    let mut k: usize = 1;
-    let mut rest = n / 10;
-    while rest > 0 {
-        rest /= 10;
-        k += 1;
+    match n.checked_ilog10() {
+        Some(log) => log as usize + 1,
+        None => 1,
     }
-    k
 }
 
 // Puts the last k decimal digits of n at the front of a room.
@@ -46,10 +44,8 @@ fn write_digits(n: u64, k: usize, out: &mut [u8])
     ensures digits { take k out.new ≡ last_digits 10 k n }
     ensures rest { drop k out.new ≡ drop k out.old }
 {
-    let mut i = k;
     let mut rest = n;
-    while i > 0 {
-        i -= 1;
+    for i in (0..k).rev() {
         out[i] = digit_ascii(rest % 10);
         rest /= 10;
     }

@@ -7,11 +7,10 @@ use mathlib.Core.Option.{none, some}
 use Prim.Native.Nat.{ℕ, zero, suc, ◌+◌, ◌*◌, ◌-◌, ◌≤◌, ◌<◌}
 use native.Mathlib.Nat.{le_of_suc-le-suc, add-zero}
 use native.Mathlib.Omega.{arith}
-use native.Mathlib.Numerals.{add-one}
 use lib.Dec.{ltb, eqb}
 use borrow.Author.Tests.{ltb-true, ltb-false, eq-eqb, ne_eqb}
-use lib.ListN.{length, get_or, set, take, drop, replicate, length-drop, length-map}
-use lib.Seq.{sets-eq, drop-cons, drop-length, get_or-drop, paste-zero, paste-suc, take-paste, drop-paste, length-paste, drop-drop, take_at, drop_at}
+use lib.ListN.{length, get_or, take, drop, replicate, length-drop, length-map}
+use lib.Seq.{sets-eq, drop-cons, get_or-drop, take-paste, drop-paste, length-paste, drop-drop, take_at, drop_at}
 use Rattle.rules.specs.declared.Packet.{Packet}
 use Rattle.rules.specs.Words.{All}
 use Rattle.rules.specs.Limits.{max_reserved}
@@ -158,30 +157,6 @@ rows_more t i l z h = let k = held_more packet_width t (omega arith) i (omega ar
 -- the rows from i on are row i and those behind it
 pub rows_from : (t : List ℕ) (i : ℕ) → i < length (rows t) → drop i (rows t) ≡ row_at t i ∷ drop (suc i) (rows t)
 rows_from t i h = drop-cons (rows t) i no_packet h ∙ ap (λ (p : Packet). p ∷ drop (suc i) (rows t)) (row_is t i h)
-
-module _ (c : ℕ) (t : List ℕ) (i : ℕ) (h : i < length (rows t)) where
-  pub place_here : (row_at t i).connection ≡ c → place c (drop i (rows t)) ≡ 0
-  place_here e = rw (rows_from t i h, eq-eqb (row_at t i).connection c e)
-
-  pub place_next : ((row_at t i).connection ≡ c → ⊥) → place c (drop i (rows t)) ≡ suc (place c (drop (i + 1) (rows t)))
-  place_next e = rw (add-one i, rows_from t i h, ne_eqb (row_at t i).connection c e)
-
-pub place_end : (c : ℕ) (t : List ℕ) → place c (drop (length (rows t)) (rows t)) ≡ 0
-place_end c t = rw (drop-length (rows t))
-
--- ---- shifting
-
-pub shift_none : (t : List ℕ) (k : ℕ) → t ≡ shifted t k 0
-shift_none t k = paste-zero t k (drop (k + 5) t)
-
-shifted_beyond : (t : List ℕ) (k j : ℕ) → k + 5 + j < length t → get_or (shifted t k j) (k + 5 + j) 0 ≡ get_or (drop (k + 5) t) j 0
-shifted_beyond t k j h =
-    let e : k + 5 + j ≡ k + j + 5 = omega arith in
-    let d : drop (k + j) (shifted t k j) ≡ drop (k + j) t = drop-paste t k (drop (k + 5) t) j (omega arith) (simp length-drop (omega arith)) in
-    rw (get_or-drop, e) (sym (get_or-drop (k + j) (shifted t k j) 5 0) ∙ ap (λ (l : List ℕ). get_or l 5 0) d ∙ get_or-drop (k + j) t 5 0)
-
-pub shift_step : (t : List ℕ) (k j : ℕ) → k + 5 + j < length t → set (shifted t k j) (k + j) (get_or (shifted t k j) (k + 5 + j) 0) ≡ shifted t k (j + 1)
-shift_step t k j h = rw (add-one, shifted_beyond t k j h) (paste-suc t k (drop (k + 5) t) j 0 (omega arith) (simp length-drop (omega arith)))
 
 -- ---- the shape of the table
 

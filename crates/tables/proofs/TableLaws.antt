@@ -1,6 +1,6 @@
 -- Laws of reading and writing a table, for rows of any width.
 use mathlib.Core.Path.{◌≡◌, refl, sym, ap, ◌∙◌}
-use mathlib.Core.Bool.{Bool, true, false, cond, ◌&&◌}
+use mathlib.Core.Bool.{Bool, true, false, cond}
 use mathlib.Core.Logic.{◌⊎◌, inl, inr}
 use mathlib.Core.List.{List, [], ◌∷◌, ◌++◌, map, append_assoc, append-nil}
 use Prim.Native.Nat.{ℕ, zero, suc, ◌+◌, ◌*◌, ◌-◌, ◌/◌, ◌≤◌, ◌<◌, suc-le-suc}
@@ -8,15 +8,13 @@ use native.Mathlib.Nat.{le_of_suc-le-suc, mul-zero, mul-suc, mul-le-mul_left, mu
 use native.Mathlib.Omega.{arith}
 use lib.Dec.{eqb}
 use borrow.Author.Tests.{eqb-true, eq-eqb, ne_eqb}
-use lib.ListN.{length, get_or, set, take, drop, replicate, length-append, length-drop, length-map, length-replicate, take-append-drop, drop_of_length-le, get_or-map}
+use lib.ListN.{length, get_or, set, take, drop, replicate, length-append, length-drop, length-map, length-replicate, take-append-drop, get_or-map}
 use lib.Seq.{paste, sets, sets-eq, set_split, take-length, take_at, drop_at, drop-drop, drop-cons, length-take-le, get_or-take, get_or-drop}
 use Rattle.rules.specs.Words.{All, each}
-use Rattle.rules.specs.SoundTest.{same_numbers}
 use Rattle.rules.proofs.Lists.{all_every}
 use Rattle.rules.proofs.Tests.{never, and_true, and_intro}
 use Rattle.rules.proofs.Sums.{split, cond_is}
 use Rattle.limits.specs.Zeros.{zeros}
-use Rattle.limits.proofs.ChainLaws.{and_false}
 use Rattle.limits.proofs.ZeroLaws.{zeros_are, zeros_rep, zero_at, zeros_left, drop_zeros, zeros_parts}
 use Rattle.tables.specs.Table.{row_in, rows_in, numbers, until, used, read, formed, write, padded}
 
@@ -73,27 +71,6 @@ numbers_again (suc k) (suc n) (x ∷ l) e z = ap (λ (r : List ℕ). x ∷ r) (n
 pub copied : (t s : List ℕ) (at : ℕ) → at + length s ≤ length t → paste t at s (length s) ≡ sets t at s
 copied t s at h = ap (λ (l : List ℕ). take at t ++ l ++ drop (at + length s) t) (take-length s) ∙ sym (sets-eq s t at h)
 
--- ---- two tables, compared from the start
-
-pub longer_differs : (xs ys : List ℕ) → (length xs ≡ length ys → ⊥) → false ≡ same_numbers xs ys
-longer_differs [] [] n = absurd (n refl)
-longer_differs [] (y ∷ ys) n = refl
-longer_differs (x ∷ xs) [] n = refl
-longer_differs (x ∷ xs) (y ∷ ys) n = sym (and_false (eqb x y) (same_numbers xs ys) (sym (longer_differs xs ys (λ e. n (ap suc e)))))
-
-module _ (xs ys : List ℕ) (i : ℕ) (h : i < length xs) (k : i < length ys) where
-  same_here : same_numbers (drop i xs) (drop i ys) ≡ (eqb (get_or xs i 0) (get_or ys i 0) && same_numbers (drop (suc i) xs) (drop (suc i) ys))
-  same_here = rw (drop-cons xs i 0 h, drop-cons ys i 0 k)
-
-  pub differs_here : (get_or xs i 0 ≡ get_or ys i 0 → ⊥) → false ≡ same_numbers (drop i xs) (drop i ys)
-  differs_here n = sym (same_here ∙ ap (λ (b : Bool). b && same_numbers (drop (suc i) xs) (drop (suc i) ys)) (ne_eqb (get_or xs i 0) (get_or ys i 0) n))
-
-  pub same_next : get_or xs i 0 ≡ get_or ys i 0 → same_numbers (drop (suc i) xs) (drop (suc i) ys) ≡ same_numbers (drop i xs) (drop i ys)
-  same_next e = sym (same_here ∙ ap (λ (b : Bool). b && same_numbers (drop (suc i) xs) (drop (suc i) ys)) (eq-eqb (get_or xs i 0) (get_or ys i 0) e))
-
-pub same_end : (xs ys : List ℕ) (i : ℕ) → length xs ≤ i → length xs ≡ length ys → true ≡ same_numbers (drop i xs) (drop i ys)
-same_end xs ys i h e = rw (drop_of_length-le xs {i = i} h, drop_of_length-le ys {i = i} (omega arith)) refl
-
 -- ---- rows of a table
 
 module _ (w : ℕ) where
@@ -105,10 +82,10 @@ module _ (w : ℕ) where
   length_rows (suc n) t = ap suc (length_rows n (drop w t))
 
   -- a row lies where its number says
-  rows_in_at : (n : ℕ) (t : List ℕ) (i : ℕ) → i < n → get_or (rows_in w n t) i [] ≡ row_in w t i
-  rows_in_at zero t i h = absurd (omega arith)
-  rows_in_at (suc n) t zero h = ap (λ (k : ℕ). take w (drop k t)) (sym (mul-zero w))
-  rows_in_at (suc n) t (suc i) h = rows_in_at n (drop w t) i (le_of_suc-le-suc h) ∙ ap (take w) (next_row i t)
+  pub rows_in_at : (n : ℕ) (t : List ℕ) (i : ℕ) (d : List ℕ) → i < n → get_or (rows_in w n t) i d ≡ row_in w t i
+  rows_in_at zero t i d h = absurd (omega arith)
+  rows_in_at (suc n) t zero d h = ap (λ (k : ℕ). take w (drop k t)) (sym (mul-zero w))
+  rows_in_at (suc n) t (suc i) d h = rows_in_at n (drop w t) i d (le_of_suc-le-suc h) ∙ ap (take w) (next_row i t)
 
   zero_rows : (n : ℕ) (t : List ℕ) → zeros t ≡ true → each zeros (rows_in w n t) ≡ true
   zero_rows zero t h = refl
@@ -134,7 +111,7 @@ module _ (w : ℕ) where
 
 -- .. and so does what is read of it
 pub made_at : {A : Type 0} (w n : ℕ) (make : List ℕ → A) (t : List ℕ) (i : ℕ) → i < n → get_or (map make (rows_in w n t)) i (make []) ≡ make (row_in w t i)
-made_at w n make t i h = get_or-map make (rows_in w n t) i [] ∙ ap make (rows_in_at w n t i h)
+made_at w n make t i h = get_or-map make (rows_in w n t) i [] ∙ ap make (rows_in_at w n t i [] h)
 
 -- ---- the rows in use
 
@@ -202,7 +179,7 @@ module _ (w : ℕ) (t : List ℕ) (wide : 2 ≤ w) where
   ends_here : (i : ℕ) → i < length t / w → ends (drop i (whole w t)) ≡ eqb (get_or t (w * i + 1) 0) 0
   ends_here i h =
       ap ends (drop-cons (whole w t) i [] (omega (arith, length_rows w (length t / w) t)))
-      ∙ ap (λ (r : List ℕ). eqb (get_or r 1 0) 0) (rows_in_at w (length t / w) t i h)
+      ∙ ap (λ (r : List ℕ). eqb (get_or r 1 0) 0) (rows_in_at w (length t / w) t i [] h)
       ∙ ap (λ (n : ℕ). eqb n 0) (number_in w t i 1 (omega arith))
 
   pub held_stop : (i : ℕ) → i ≤ length (used w t) → get_or t (w * i + 1) 0 ≡ 0 → length (used w t) ≡ i

@@ -4,3 +4,4 @@ pub mod Places
 pub mod Notices
 pub mod Lent
 pub mod Calls
+pub mod Options

@@ -1,6 +1,8 @@
 // Lent tables of packets, five numbers to a row: the places table of held packets and the table of notices.
 #![tactic(auto)]
 
+pub mod rows; // rows.rt: the rows of a table, counted once
+
 ghost use Rattle.std.specs.Prelude.{◌≡◌, [], ◌∷◌, ◌++◌, ℕ, ◌+◌, ◌*◌, ◌-◌, ◌<◌, ◌≤◌, eqb, length};
 ghost use Rattle.std.proofs.lemmas.List.Edits.{sets};
 ghost use Rattle.rules.specs.SoundTest.{same_numbers};
@@ -14,13 +16,7 @@ use rules::Packet;
 pub fn no_packet() -> Packet
     ensures { result ≡ no_packet }
 {
-    Packet {
-        connection: 0,
-        len: 0,
-        tag: 0,
-        arrival: 0,
-        eligibility: 0,
-    }
+    Packet::default()
 }
 
 // The packet in row i.
@@ -56,40 +52,15 @@ fn shift(table: &mut [u32], from: usize, n: usize)
     requires { from + 5 + n ≤ length table.old }
     ensures { table.new ≡ shifted table.old from n }
 {
-    let mut j: usize = 0;
-    while j < n {
-        table[from + j] = table[from + PACKET_WIDTH + j];
-        j += 1;
-    }
-}
-
-// The numbers of `from`, over those of the table from `at` on.
-pub fn copy(table: &mut [u32], at: usize, from: &[u32])
-    requires { at + length from.now ≤ length table.old }
-    ensures { table.new ≡ sets table.old at from.now }
-{
-    let mut j: usize = 0;
-    while j < from.len() {
-        table[at + j] = from[j];
-        j += 1;
-    }
+    let behind = from + PACKET_WIDTH;
+    table.copy_within(behind..behind + n, from);
 }
 
 // Two tables have the same numbers.
 pub fn same(a: &[u32], b: &[u32]) -> bool
     ensures { result ≡ same_numbers a.now b.now }
 {
-    if a.len() != b.len() {
-        return false;
-    }
-    let mut i: usize = 0;
-    while i < a.len() {
-        if a[i] != b[i] {
-            return false;
-        }
-        i += 1;
-    }
-    true
+    a == b
 }
 
 // The number of rows in use, in any table, of `width` numbers to a row.
@@ -98,14 +69,12 @@ pub fn in_use(table: &[u32], width: usize) -> usize
     ensures { result ≡ length (used width table.now) }
 {
     let n = table.len() / width;
-    let mut i: usize = 0;
-    while i < n {
+    for i in 0..n {
         if table[width * i + 1] == 0 {
             return i;
         }
-        i += 1;
     }
-    i
+    n
 }
 
 // The number of rows.
@@ -125,38 +94,13 @@ pub fn none(table: &[u32]) -> bool
     table[1] == 0
 }
 
-// A number that the rows of a table with zeros behind them do not pass, by doubling: few rows are found quickly.
-fn reach(table: &[u32]) -> usize
-    requires { table.now ≡ table_of (length table.now) (rows table.now) }
-    ensures { (length (rows table.now) ≤ result) × (5 * result ≤ length table.now) }
-{
-    let all = table.len() / PACKET_WIDTH;
-    let mut high: usize = 1;
-    while high < all {
-        if table[PACKET_WIDTH * high + 1] == 0 {
-            return high;
-        }
-        high = high + high;
-    }
-    all
-}
-
-// The number of rows of a table with zeros behind them, by doubling and halving.
+// The number of rows of a table with zeros behind them, by halving.
 pub fn count(table: &[u32]) -> usize
     requires { table.now ≡ table_of (length table.now) (rows table.now) }
     ensures { result ≡ length (rows table.now) }
 {
-    let mut low: usize = 0;
-    let mut high = reach(table);
-    while low < high {
-        let mid = low + (high - low) / 2;
-        if table[PACKET_WIDTH * mid + 1] == 0 {
-            high = mid;
-        } else {
-            low = mid + 1;
-        }
-    }
-    low
+    let (rows, _) = table.as_chunks::<PACKET_WIDTH>();
+    rows.partition_point(|row| row[1] != 0)
 }
 
 // Row i of the held rows goes, the later ones move up, the last becomes zero.
@@ -168,20 +112,15 @@ pub fn remove(table: &mut [u32], held: usize, i: usize)
     put_row(table, held - 1, no_packet());
 }
 
-// The place of the first row of connection c.
+// The place of the first row of connection c, or the number of rows; `Rows::find` answers an Option.
+// kept: what may not change: the equality with `place`, by which `line::depart` takes out a row that it knows to be held
 pub fn find(table: &[u32], held: usize, c: u32) -> usize
     requires { held ≡ length (rows table.now) }
     ensures { result ≡ place c (rows table.now) }
 {
-    let mut i: usize = 0;
-    while i < held {
-        let p = row(table, i);
-        if p.connection == c {
-            return i;
-        }
-        i += 1;
-    }
-    i
+    (0..held)
+        .position(|i| row(table, i).connection == c)
+        .unwrap_or(held)
 }
 
 // p behind the held rows.

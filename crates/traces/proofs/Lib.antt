@@ -1,4 +1,3 @@
 pub mod LinkLaws
-pub mod MarkNumbers
 pub mod TraceLaws
 pub mod Laws

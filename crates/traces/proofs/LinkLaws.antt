@@ -1,28 +1,23 @@
--- The bytes of an `LK`, of an `LE` and of an `LW`: how many bounds there are, and windows, is one of their numbers.
+-- Links: how many bounds there are, and windows, is one of their numbers.
+use Rattle.std.specs.Prelude.{None}
 use mathlib.Core.Path.{◌≡◌, refl, sym, ap, ◌∙◌, subst}
 use mathlib.Core.Bool.{Bool, true, false, cond, ◌&&◌, ◌||◌}
-use mathlib.Core.List.{List, [], ◌∷◌, ◌++◌}
-use mathlib.Core.Option.{some, none}
+use mathlib.Core.List.{List, [], ◌∷◌, ◌++◌, append_assoc}
 use Prim.Native.Nat.{ℕ, zero, suc, ◌+◌, ◌*◌, ◌-◌, ◌<◌, ◌≤◌}
 use native.Mathlib.Omega.{arith}
-use borrow.Author.Tests.{le-leb, lt-leb, ne_eqb, eq-eqb, leb-true, eqb-true}
-use lib.ListN.{length, get_or, take, drop, replicate, length-replicate, length-append, drop_of_length-le, get_or-append}
-use lib.Seq.{drop-cons, get_or-append-add, length-take-le}
+use borrow.Author.Tests.{le-leb, lt-leb, leb-true, ltb-true, ltb-false}
+use lib.ListN.{length, get_or, take, drop, replicate, length-replicate, length-append}
 use native.Mathlib.Numerals.{add-one}
 use lib.Dec.{leb, ltb, eqb}
+use Rattle.std.specs.List.{list_all}
 use Rattle.fields.specs.Numbers.{little, number, put_fields, get_fields, sum, none_lost}
-use Rattle.traces.specs.Kinds.{levels, LK, LE, LW}
+use Rattle.traces.specs.Kinds.{levels, eight, LK, LE, LW}
 use Rattle.traces.specs.declared.Record.{Record}
-use Rattle.fields.specs.Kinds.{Kind}
-use Rattle.fields.specs.declared.Draft.{Draft}
-use Rattle.fields.specs.Drafts.{longest, held, Holds, AddsAll}
-use Rattle.fields.specs.Formats.{read_kind, laid}
-use Rattle.traces.specs.Links.{link_written, windowed}
+use Rattle.traces.specs.declared.Record.TheVariants.{Link, LinkStandBy, LinkWindows}
+use Rattle.fields.specs.Formats.{read_kind}
 use Rattle.fields.proofs.Parts.{whole}
-use Rattle.fields.proofs.DraftLaws.{drafted_behind, put_both}
 use Rattle.fields.proofs.MarkLaws.{both}
-use Rattle.fields.proofs.FormatLaws.{laid_is}
-use Rattle.fields.proofs.NumberLaws.{one_byte, length_get, get_both, sum_both, sum_pairs}
+use Rattle.fields.proofs.NumberLaws.{one_byte, length_get, get_both, sum_both, sum_pairs, pair_within, pair_past}
 
 abbrev pub levels_allowed : ℕ → Bool
 levels_allowed n = leb 1 n && leb n 8
@@ -81,8 +76,30 @@ padded_same [] (suc m) (suc i) = padded_same [] m i
 padded_same (x ∷ xs) m zero = refl
 padded_same (x ∷ xs) m (suc i) = padded_same xs m i
 
-level_got : (n : ℕ) (bs : List ℕ) (at i : ℕ) → get_or (get_fields (levels n) bs at) i 0 ≡ get_or (get_fields (replicate n 2) bs at) i 0
-level_got n bs at i = ap (λ l. get_or l i 0) (levels_got n bs at) ∙ padded_same (get_fields (replicate n 2) bs at) (8 - n) i
+-- .. as the code has them: the k-th, where it is one of the first n
+abbrev pub level : ℕ → List ℕ → ℕ → ℕ → ℕ
+level n bs at k = cond (ltb k n) (number 2 bs (at + 2 * k)) 0
+
+level_got : (n : ℕ) (bs : List ℕ) (at k : ℕ) → get_or (get_fields (levels n) bs at) k 0 ≡ level n bs at k
+level_got n bs at k =
+    ap (λ l. get_or l k 0) (levels_got n bs at) ∙ padded_same (get_fields (replicate n 2) bs at) (8 - n) k ∙ go (ltb k n) refl
+  where
+    go : (b : Bool) → ltb k n ≡ b → get_or (get_fields (replicate n 2) bs at) k 0 ≡ cond b (number 2 bs (at + 2 * k)) 0
+    go true e = pair_within n k bs at (ltb-true k n e)
+    go false e = pair_past n k bs at (ltb-false k n e)
+
+eight_got : (n : ℕ) (bs : List ℕ) (at : ℕ) → eight 0 (level n bs at) ≡ eight 0 (λ k. get_or (get_fields (levels n) bs at) k 0)
+eight_got n bs at =
+    rw (
+      level_got n bs at 0,
+      level_got n bs at 1,
+      level_got n bs at 2,
+      level_got n bs at 3,
+      level_got n bs at 4,
+      level_got n bs at 5,
+      level_got n bs at 6,
+      level_got n bs at 7,
+    )
 
 -- There are eight levels.
 count_levels : (n : ℕ) → n ≤ 8 → length (levels n) ≡ 8
@@ -124,45 +141,29 @@ pub sixteen_of : (xs : List ℕ) → length xs ≡ 16
 unfolding spread
 sixteen_of xs e = ap (λ n. spread n 0 xs) (sym e) ∙ spread_all xs
 
+-- The first eight of sixteen numbers, and the last.
+pub first_eight : (xs ys : List ℕ) → length xs ≡ 8 → eight 0 (λ k. get_or (xs ++ ys) k 0) ≡ eight 0 (λ k. get_or xs k 0)
+first_eight xs ys e = subst (λ l. eight 0 (λ k. get_or (l ++ ys) k 0) ≡ eight 0 (λ k. get_or l k 0)) (eight_of xs e) refl
+
+pub last_eight : (xs ys : List ℕ) → length xs ≡ 8 → eight 8 (λ k. get_or (xs ++ ys) k 0) ≡ eight 0 (λ k. get_or ys k 0)
+last_eight xs ys e = subst (λ l. eight 8 (λ k. get_or (l ++ ys) k 0) ≡ eight 0 (λ k. get_or ys k 0)) (eight_of xs e) refl
+
 -- What is read of each.
 pub link_read : (bs : List ℕ) (n : ℕ) → n ≡ number 1 bs 2
-    → cond (levels_allowed n) (whole (6 + 2 * n) (LK.make (λ i. get_or (n ∷ number 2 bs 3 ∷ number 1 bs 5 ∷ get_fields (replicate n 2) bs 6) i 0)) bs) none
+    → cond (levels_allowed n) (whole (6 + 2 * n) (Link n (number 2 bs 3) (number 1 bs 5) (eight 0 (level n bs 6))) bs) None
     ≡ read_kind LK (get_or bs 2 0) bs
 unfolding read_kind get_fields
 link_read bs n e =
-    let same : (i : ℕ) → get_or (get_fields (levels n) bs 6) i 0 ≡ get_or (get_fields (replicate n 2) bs 6) i 0 = level_got n bs 6 in
-    rw (← one_byte bs 2, ← e, sum_link n, same 0, same 1, same 2, same 3, same 4, same 5, same 6, same 7)
+    rw (← one_byte bs 2, ← e, sum_link n)
+    (ap (λ ds. cond (levels_allowed n) (whole (6 + 2 * n) (Link n (number 2 bs 3) (number 1 bs 5) ds) bs) None) (eight_got n bs 6))
 
 pub stand_by_read : (bs : List ℕ) (n : ℕ) → n ≡ number 1 bs 2
-    → cond (levels_allowed n)
-    (whole (7 + 2 * n) (LE.make (λ i. get_or (n ∷ number 2 bs 3 ∷ number 1 bs 5 ∷ number 1 bs 6 ∷ get_fields (replicate n 2) bs 7) i 0)) bs) none
+    → cond (levels_allowed n) (whole (7 + 2 * n) (LinkStandBy n (number 2 bs 3) (number 1 bs 5) (number 1 bs 6) (eight 0 (level n bs 7))) bs) None
     ≡ read_kind LE (get_or bs 2 0) bs
 unfolding read_kind get_fields
 stand_by_read bs n e =
-    let same : (i : ℕ) → get_or (get_fields (levels n) bs 7) i 0 ≡ get_or (get_fields (replicate n 2) bs 7) i 0 = level_got n bs 7 in
-    rw (← one_byte bs 2, ← e, sum_stand_by n, same 0, same 1, same 2, same 3, same 4, same 5, same 6, same 7)
-
-windowed_same : (n s silence early : ℕ) (d e w v : ℕ → ℕ) → ((k : ℕ) → k < 8 → d k ≡ e k) → ((k : ℕ) → w k ≡ v k)
-    → windowed n s silence early d w ≡ windowed n s silence early e v
-windowed_same n s silence early d e w v f g =
-    rw (
-      f 0 (omega arith),
-      f 1 (omega arith),
-      f 2 (omega arith),
-      f 3 (omega arith),
-      f 4 (omega arith),
-      f 5 (omega arith),
-      f 6 (omega arith),
-      f 7 (omega arith),
-      g 0,
-      g 1,
-      g 2,
-      g 3,
-      g 4,
-      g 5,
-      g 6,
-      g 7,
-    )
+    rw (← one_byte bs 2, ← e, sum_stand_by n)
+    (ap (λ ds. cond (levels_allowed n) (whole (7 + 2 * n) (LinkStandBy n (number 2 bs 3) (number 1 bs 5) (number 1 bs 6) ds) bs) None) (eight_got n bs 7))
 
 module _ (bs : List ℕ) (n : ℕ) (few : n ≤ 8) where
   abbrev xs : List ℕ
@@ -171,117 +172,51 @@ module _ (bs : List ℕ) (n : ℕ) (few : n ≤ 8) where
   abbrev ys : List ℕ
   ys = get_fields (levels n) bs (7 + 2 * n)
 
-  both_got : get_fields (levels n ++ levels n) bs 7 ≡ xs ++ ys
-  both_got = get_both (levels n) (levels n) bs 7 ∙ ap (λ m. xs ++ get_fields (levels n) bs (7 + m)) (sum_levels n)
+  both_got : xs ++ ys ≡ get_fields (levels n ++ levels n) bs 7
+  both_got = sym (get_both (levels n) (levels n) bs 7 ∙ ap (λ m. xs ++ get_fields (levels n) bs (7 + m)) (sum_levels n))
 
-  eight : length xs ≡ 8
-  eight = length_get (levels n) bs 7 ∙ count_levels n few
+  eight_first : length xs ≡ 8
+  eight_first = length_get (levels n) bs 7 ∙ count_levels n few
 
-  bound_got : (k : ℕ) → k < 8 → get_or (get_fields (replicate n 2) bs 7) k 0 ≡ get_or (get_fields (levels n ++ levels n) bs 7) k 0
-  bound_got k h = sym (ap (λ l. get_or l k 0) both_got ∙ get_or-append xs ys 0 k (omega (arith, eight)) ∙ level_got n bs 7 k)
+  bounds_got : eight 0 (level n bs 7) ≡ eight 0 (λ k. get_or (get_fields (levels n ++ levels n) bs 7) k 0)
+  bounds_got = eight_got n bs 7 ∙ sym (first_eight xs ys eight_first) ∙ ap (λ l. eight 0 (λ k. get_or l k 0)) both_got
 
-  window_got : (k : ℕ) → get_or (get_fields (replicate n 2) bs (7 + 2 * n)) k 0 ≡ get_or (get_fields (levels n ++ levels n) bs 7) (8 + k) 0
-  window_got k =
-      sym
-      (ap (λ l. get_or l (8 + k) 0) both_got
-      ∙ ap (λ m. get_or (xs ++ ys) (m + k) 0) (sym eight)
-      ∙ get_or-append-add xs ys k 0
-      ∙ level_got n bs (7 + 2 * n) k)
+  windows_got : eight 0 (level n bs (7 + 2 * n)) ≡ eight 8 (λ k. get_or (get_fields (levels n ++ levels n) bs 7) k 0)
+  windows_got = eight_got n bs (7 + 2 * n) ∙ sym (last_eight xs ys eight_first) ∙ ap (λ l. eight 8 (λ k. get_or l k 0)) both_got
 
 pub windows_read : (bs : List ℕ) (n : ℕ) → n ≡ number 1 bs 2
     → cond (levels_allowed n)
     (whole (7 + 2 * n + 2 * n)
-    (windowed n (number 2 bs 3) (number 1 bs 5) (number 1 bs 6) (λ k. get_or (get_fields (replicate n 2) bs 7) k 0)
-    (λ k. get_or (get_fields (replicate n 2) bs (7 + 2 * n)) k 0)) bs) none
+    (LinkWindows n (number 2 bs 3) (number 1 bs 5) (number 1 bs 6) (eight 0 (level n bs 7)) (eight 0 (level n bs (7 + 2 * n)))) bs) None
     ≡ read_kind LW (get_or bs 2 0) bs
 unfolding read_kind get_fields
 windows_read bs n e =
     let four : 7 + 2 * n + 2 * n ≡ 7 + 4 * n = omega arith in
     rw (← one_byte bs 2, ← e, sum_windows n, four) (go (levels_allowed n) refl)
   where
-    made : List ℕ → Record
-    made l = LW.make (λ i. get_or (n ∷ number 2 bs 3 ∷ number 1 bs 5 ∷ number 1 bs 6 ∷ l) i 0)
+    made : List ℕ → List ℕ → Record
+    made ds ws = LinkWindows n (number 2 bs 3) (number 1 bs 5) (number 1 bs 6) ds ws
 
-    told : Record
-    told =
-        windowed n (number 2 bs 3) (number 1 bs 5) (number 1 bs 6) (λ k. get_or (get_fields (replicate n 2) bs 7) k 0)
-        (λ k. get_or (get_fields (replicate n 2) bs (7 + 2 * n)) k 0)
+    both : List ℕ
+    both = get_fields (levels n ++ levels n) bs 7
 
     go : (t : Bool) → levels_allowed n ≡ t
-        → cond t (whole (7 + 4 * n) told bs) none ≡ cond t (whole (7 + 4 * n) (made (get_fields (levels n ++ levels n) bs 7)) bs) none
+        → cond t (whole (7 + 4 * n) (made (eight 0 (level n bs 7)) (eight 0 (level n bs (7 + 2 * n)))) bs) None
+        ≡ cond t (whole (7 + 4 * n) (made (eight 0 (λ k. get_or both k 0)) (eight 8 (λ k. get_or both k 0))) bs) None
     go false a = refl
-    go true a =
-        let few = (allowed_range n a).1 in
-        ap (λ r. whole (7 + 4 * n) r bs)
-        (windowed_same n (number 2 bs 3) (number 1 bs 5) (number 1 bs 6) _ (λ k. get_or (get_fields (levels n ++ levels n) bs 7) k 0) _
-        (λ k. get_or (get_fields (levels n ++ levels n) bs 7) (8 + k) 0) (bound_got bs n few) (window_got bs n few))
+    go true a = let few = (allowed_range n a).1 in rw (bounds_got bs n few, windows_got bs n few)
 
--- One bound more of a test of all those from a place on: they are 0 where their sum is.
-pub zeros_stop : (ds : List ℕ) (i : ℕ) → i < length ds → (get_or ds i 0 ≡ 0 → ⊥) → eqb (sum (drop i ds)) 0 ≡ false
-unfolding sum
-zeros_stop ds i h k = rw (drop-cons ds i 0 h) (ne_eqb (get_or ds i 0 + sum (drop (suc i) ds)) 0 (λ e. k (omega arith)))
-
-pub zeros_on : (ds : List ℕ) (i : ℕ) → i < length ds → get_or ds i 0 ≡ 0 → eqb (sum (drop i ds)) 0 ≡ eqb (sum (drop (i + 1) ds)) 0
-unfolding sum
-zeros_on ds i h k =
-    let e : get_or ds i 0 + sum (drop (suc i) ds) ≡ sum (drop (suc i) ds) = omega arith in
-    rw (add-one i, drop-cons ds i 0 h, e)
-
-pub zeros_end : (ds : List ℕ) (i : ℕ) → length ds ≤ i → eqb (sum (drop i ds)) 0 ≡ true
-unfolding sum
-zeros_end ds i h = rw (drop_of_length-le ds {i = i} h)
-
--- When a link is written, and as which numbers.
-pub zero_unwritten : (past : List ℕ) → link_written 0 past ≡ false
-unfolding link_written
-zero_unwritten past = refl
-
-pub large_unwritten : (n : ℕ) (past : List ℕ) → 8 < n → link_written n past ≡ false
-unfolding link_written
-large_unwritten n past h = rw (le-leb 1 n (omega arith), lt-leb n 8 h)
-
-pub zeros_decide : (n : ℕ) (past : List ℕ) → 1 ≤ n → n ≤ 8 → link_written n past ≡ eqb (sum past) 0
-unfolding link_written
-zeros_decide n past h k = rw (le-leb 1 n h, le-leb n 8 k)
-
-pub written_in_range : (n : ℕ) (past : List ℕ) → link_written n past ≡ true → (1 ≤ n) × (n ≤ 8) × (sum past ≡ 0)
-unfolding link_written
-written_in_range n past h =
-    let t = both (levels_allowed n) (eqb (sum past) 0) h in
-    let r = allowed_range n t.0 in
-    (r.0, r.1, eqb-true (sum past) 0 t.1)
-
--- The same of two parts of what is past n: both are 0 where all are.
-pub both_zero : (ps qs : List ℕ) → sum (ps ++ qs) ≡ 0 → (sum ps ≡ 0) × (sum qs ≡ 0)
-both_zero ps qs z = let e = sum_both ps qs in (omega arith, omega arith)
-
-pub each_written : (n : ℕ) (ps qs : List ℕ) → link_written n (ps ++ qs) ≡ true → (link_written n ps ≡ true) × (link_written n qs ≡ true)
-each_written n ps qs h =
-    let w = written_in_range n (ps ++ qs) h in
-    let z = both_zero ps qs w.2 in
-    (zeros_decide n ps w.0 w.1 ∙ eq-eqb (sum ps) 0 z.0, zeros_decide n qs w.0 w.1 ∙ eq-eqb (sum qs) 0 z.1)
-
-pub both_written : (n : ℕ) (ps qs : List ℕ) → link_written n ps ≡ true → link_written n qs ≡ true → link_written n (ps ++ qs) ≡ true
-both_written n ps qs f g =
-    let a = written_in_range n ps f in
-    let b = written_in_range n qs g in
-    let e = sum_both ps qs in
-    zeros_decide n (ps ++ qs) a.0 a.1 ∙ eq-eqb (sum (ps ++ qs)) 0 (omega arith)
-
--- Of the levels the numbers past n have no byte: they are 0 where their sum is, and nothing is put of them.
-zeros_lost : (ds : List ℕ) → none_lost (replicate (length ds) 0) ds ≡ eqb (sum ds) 0
-unfolding none_lost sum
-zeros_lost [] = refl
-zeros_lost (zero ∷ ds) = let z : 0 + sum ds ≡ sum ds = omega arith in rw z (zeros_lost ds)
-zeros_lost (suc d ∷ ds) = rw (ne_eqb (suc d) 0 (λ e. absurd (omega (arith, e))), ne_eqb (suc d + sum ds) 0 (λ e. absurd (omega (arith, e))))
-
-split_lost : (n m : ℕ) (ds : List ℕ) → length ds ≡ n + m → none_lost (replicate n 2 ++ replicate m 0) ds ≡ eqb (sum (drop n ds)) 0
+-- Of the levels the numbers past n have no byte: none of them is lost where all are 0, and nothing is put of them.
+split_lost : (n m : ℕ) (ds : List ℕ) → length ds ≡ n + m → none_lost (replicate n 2 ++ replicate m 0) ds ≡ list_all (λ d. eqb d 0) (drop n ds)
 unfolding none_lost
-split_lost zero m ds e = let l : m ≡ length ds = omega arith in ap (λ j. none_lost (replicate j 0) ds) l ∙ zeros_lost ds
+split_lost zero zero [] e = refl
+split_lost zero zero (d ∷ ds) e = absurd (omega arith)
+split_lost zero (suc m) [] e = absurd (omega arith)
+split_lost zero (suc m) (d ∷ ds) e = ap (λ t. eqb d 0 && t) (split_lost zero m ds (omega arith))
 split_lost (suc n) m [] e = absurd (omega arith)
 split_lost (suc n) m (d ∷ ds) e = split_lost n m ds (omega arith)
 
-pub levels_lost : (n : ℕ) (ds : List ℕ) → length ds ≡ 8 → n ≤ 8 → none_lost (levels n) ds ≡ eqb (sum (drop n ds)) 0
+pub levels_lost : (n : ℕ) (ds : List ℕ) → length ds ≡ 8 → n ≤ 8 → none_lost (levels n) ds ≡ list_all (λ d. eqb d 0) (drop n ds)
 levels_lost n ds e few = split_lost n (8 - n) ds (omega arith)
 
 and_assoc : (a b c : Bool) → (a && (b && c)) ≡ ((a && b) && c)
@@ -296,17 +231,15 @@ lost_both (w ∷ ws) vs [] ys e = absurd (omega arith)
 lost_both (w ∷ ws) vs (x ∷ xs) ys e =
     ap (λ t. (ltb 0 w || eqb x 0) && t) (lost_both ws vs xs ys (omega arith)) ∙ and_assoc (ltb 0 w || eqb x 0) (none_lost ws xs) (none_lost vs ys)
 
-zeros_both : (ps qs : List ℕ) → (eqb (sum ps) 0 && eqb (sum qs) 0) ≡ eqb (sum (ps ++ qs)) 0
-zeros_both ps qs = go (sum ps) (sum qs) (sum_both ps qs)
+-- What is tested of an `LW` is what is tested of its bounds, and of its windows.
+pub both_tested : (n : ℕ) (ds ws : List ℕ) → length ds ≡ 8
+    → (levels_allowed n && none_lost (levels n ++ levels n) (ds ++ ws)) ≡ ((levels_allowed n && none_lost (levels n) ds) && (levels_allowed n && none_lost (levels n) ws))
+both_tested n ds ws e = go (levels_allowed n) refl
   where
-    go : (a b : ℕ) → sum (ps ++ qs) ≡ a + b → (eqb a 0 && eqb b 0) ≡ eqb (sum (ps ++ qs)) 0
-    go zero b e = let z : sum (ps ++ qs) ≡ b = omega arith in rw z
-    go (suc a) b e = rw (ne_eqb (suc a) 0 (λ z. absurd (omega (arith, z))), ne_eqb (sum (ps ++ qs)) 0 (λ z. absurd (omega (arith, z, e))))
-
-pub both_lost : (n : ℕ) (ds ws : List ℕ) → length ds ≡ 8 → length ws ≡ 8 → n ≤ 8 → none_lost (levels n ++ levels n) (ds ++ ws) ≡ eqb (sum (drop n ds ++ drop n ws)) 0
-both_lost n ds ws ed ew few =
-    lost_both (levels n) (levels n) ds ws (ed ∙ sym (count_levels n few))
-    ∙ rw (levels_lost n ds ed few, levels_lost n ws ew few) (zeros_both (drop n ds) (drop n ws))
+    go : (t : Bool) → levels_allowed n ≡ t
+        → (t && none_lost (levels n ++ levels n) (ds ++ ws)) ≡ ((t && none_lost (levels n) ds) && (t && none_lost (levels n) ws))
+    go true a = lost_both (levels n) (levels n) ds ws (e ∙ sym (count_levels n (allowed_range n a).1))
+    go false a = refl
 
 put_zeros : (m : ℕ) (ds : List ℕ) → put_fields (replicate m 0) ds ≡ []
 unfolding put_fields little
@@ -319,59 +252,26 @@ put_split zero m ds h = put_zeros m ds
 put_split (suc n) m [] h = absurd (omega arith)
 put_split (suc n) m (d ∷ ds) h = ap (λ l. little 2 d ++ l) (put_split n m ds (omega arith))
 
-pub all_levels : {d r : Draft} (n : ℕ) (ds : List ℕ) → length ds ≡ 8 → n ≤ 8 → AddsAll d r (replicate n 2) (take n ds) → AddsAll d r (levels n) ds
-all_levels {d} {r} n ds e few f =
-    record {
-      bytes = f.bytes ∙ ap (λ l. held d ++ l) (sym (put_split n (8 - n) ds (omega arith)));
-      count = omega (arith, f.count, sum_levels n, sum_pairs n);
-    }
+put_both : (ws xs vs ys : List ℕ) → length xs ≡ length ws → put_fields (ws ++ vs) (xs ++ ys) ≡ put_fields ws xs ++ put_fields vs ys
+unfolding put_fields
+put_both [] [] vs ys e = refl
+put_both [] (x ∷ xs) vs ys e = absurd (omega arith)
+put_both (w ∷ ws) [] vs ys e = absurd (omega arith)
+put_both (w ∷ ws) (x ∷ xs) vs ys e =
+    ap (λ l. little w x ++ l) (put_both ws xs vs ys (omega arith)) ∙ sym (append_assoc (little w x) (put_fields ws xs) (put_fields vs ys))
 
-pub all_both : {d r : Draft} (n : ℕ) (ds ws : List ℕ) → length ds ≡ 8 → length ws ≡ 8 → n ≤ 8
-    → AddsAll d r (replicate n 2 ++ replicate n 2) (take n ds ++ take n ws)
-    → AddsAll d r (levels n ++ levels n) (ds ++ ws)
-all_both {d} {r} n ds ws ed ew few f =
-    record {
-      bytes =
-          f.bytes
-          ∙ ap (λ l. held d ++ l)
-          (put_both (replicate n 2) (take n ds) (replicate n 2) (take n ws) (length-take-le n ds (omega arith) ∙ sym (length-replicate n 2))
-          ∙ sym
-          (put_both (levels n) ds (levels n) ws (ed ∙ sym (count_levels n few))
-          ∙ ap (λ l. l ++ put_fields (levels n) ws) (put_split n (8 - n) ds (omega arith))
-          ∙ ap (λ l. put_fields (replicate n 2) (take n ds) ++ l) (put_split n (8 - n) ws (omega arith))));
-      count =
-          omega (arith, f.count, sum_both (levels n) (levels n), sum_levels n, sum_both (replicate n 2) (replicate n 2), sum_pairs n);
-    }
+-- The numbers of the levels, put behind one another.
+pub levels_put : (n : ℕ) (ds : List ℕ) → length ds ≡ 8 → n ≤ 8 → put_fields (levels n) ds ≡ put_fields (replicate n 2) (take n ds)
+levels_put n ds e few = put_split n (8 - n) ds (omega arith)
 
-unlaid : (k : Kind Record) (xs : List ℕ) → (k.allows (get_or xs 0 0) && none_lost (k.widths (get_or xs 0 0)) xs) ≡ false → laid (some (k, xs)) ≡ []
-unfolding laid
-unlaid k xs h = rw h
+pub both_put : (n : ℕ) (ds ws : List ℕ) → length ds ≡ 8 → length ws ≡ 8 → n ≤ 8
+    → put_fields (levels n ++ levels n) (ds ++ ws) ≡ put_fields (replicate n 2) (take n ds) ++ put_fields (replicate n 2) (take n ws)
+both_put n ds ws e f few =
+    put_both (levels n) ds (levels n) ws (e ∙ sym (count_levels n few)) ∙ rw (levels_put n ds e few, levels_put n ws f few)
 
--- The test of a link's numbers is the code's.
-test_is : (n : ℕ) (t : Bool) (past : List ℕ) → (n ≤ 8 → t ≡ eqb (sum past) 0) → (levels_allowed n && t) ≡ link_written n past
-unfolding link_written
-test_is n t past f = go (levels_allowed n) refl
-  where
-    go : (b : Bool) → levels_allowed n ≡ b → (b && t) ≡ (b && eqb (sum past) 0)
-    go true a = f (allowed_range n a).1
-    go false a = refl
+-- Bytes behind one another.
+pub in_order : (m a b c d : List ℕ) → (((m ++ a) ++ b) ++ c) ++ d ≡ m ++ (a ++ (b ++ (c ++ d)))
+in_order m a b c d = simp append_assoc
 
--- The bytes of a link put together: its numbers up to the bounds, and the bounds where it is written.
-pub link_drafted : {d r : Draft} {ws : List ℕ} (k : Kind Record) (n : ℕ) (numbers past : List ℕ) → n < 256 → k.widths n ≡ 1 ∷ ws → k.allows n ≡ levels_allowed n
-    → (n ≤ 8 → none_lost (k.widths n) (n ∷ numbers) ≡ eqb (sum past) 0)
-    → Holds d (k.mark ++ n ∷ [])
-    → (n ≤ 8 → link_written n past ≡ true → AddsAll d r ws numbers)
-    → (link_written n past ≡ false → Holds r [])
-    → (n ≤ 8 → length k.mark + (1 + sum ws) ≤ longest)
-    → Holds r (laid (some (k, n ∷ numbers)))
-link_drafted {d} {r} {ws} k n numbers past small e a lost h f g l = go (link_written n past) refl
-  where
-    test : (k.allows n && none_lost (k.widths n) (n ∷ numbers)) ≡ link_written n past
-    test = ap (λ t. t && none_lost (k.widths n) (n ∷ numbers)) a ∙ test_is n (none_lost (k.widths n) (n ∷ numbers)) past lost
-
-    go : (t : Bool) → link_written n past ≡ t → Holds r (laid (some (k, n ∷ numbers)))
-    go true w =
-        let b = both (k.allows n) (none_lost (k.widths n) (n ∷ numbers)) (test ∙ w) in
-        let few = (written_in_range n past w).1 in
-        subst (Holds r) (sym (laid_is k (n ∷ numbers) b.0 b.1)) (drafted_behind k n numbers small e h (f few w) (l few))
-    go false w = subst (Holds r) (sym (unlaid k (n ∷ numbers) (test ∙ w))) (g w)
+pub behind : (m a b c d x y : List ℕ) → (m ++ (a ++ (b ++ (c ++ (d ++ x))))) ++ y ≡ m ++ (a ++ (b ++ (c ++ (d ++ (x ++ y)))))
+behind m a b c d x y = simp append_assoc

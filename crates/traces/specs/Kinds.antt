@@ -1,6 +1,6 @@
 -- Document 01, "Trace and answer records": the trace kinds of its table, in its order; and those of document 02, R-11, R-12 and R-13 behind `LK`, R-9, R-13 and R-8
 -- behind `CN`, R-9 and R-1 behind `PK`. `LK` as R-4 has it, `CN` as R-6. Each with the record that its numbers make.
-use Rattle.std.specs.Prelude.{◌&&◌, List, [], ◌∷◌, ◌++◌, ℕ, ◌-◌, replicate, leb}
+use Rattle.std.specs.Prelude.{◌&&◌, List, [], ◌∷◌, ◌++◌, ℕ, ◌+◌, ◌-◌, replicate, leb}
 use Rattle.fields.specs.Kinds.{Kind, plain}
 use Rattle.traces.specs.declared.Record.{Record}
 use Rattle.traces.specs.declared.Record.TheVariants.{Link, LinkStandBy, LinkWindows, LinkFrames, Admit, AdmitStamped, AdmitShare, Close, Offer, OfferStamped, Notice, Ticks}
@@ -13,19 +13,21 @@ link_kind mark widths make = record { mark = mark; allows = λ n. leb 1 n && leb
 abbrev pub levels : ℕ → List ℕ
 levels n = replicate n 2 ++ replicate (8 - n) 0
 
+-- eight numbers from the k-th on
+abbrev pub eight : ℕ → (ℕ → ℕ) → List ℕ
+eight k x = x k ∷ x (k + 1) ∷ x (k + 2) ∷ x (k + 3) ∷ x (k + 4) ∷ x (k + 5) ∷ x (k + 6) ∷ x (k + 7) ∷ []
+
 -- document 02, R-4, as docs/RULES.md lays it out: "n (1), S (2), silence (1), n bounds (2 each)"
 abbrev pub LK : Kind Record
-LK = link_kind (0x4C ∷ 0x4B ∷ []) (λ n. 1 ∷ 2 ∷ 1 ∷ levels n) (λ x. Link (x 0) (x 1) (x 2) (x 3) (x 4) (x 5) (x 6) (x 7) (x 8) (x 9) (x 10))
+LK = link_kind (0x4C ∷ 0x4B ∷ []) (λ n. 1 ∷ 2 ∷ 1 ∷ levels n) (λ x. Link (x 0) (x 1) (x 2) (eight 3 x))
 
 -- document 02, R-11, as docs/RULES.md lays it out: "n (1), S (2), silence (1), setting (1), n bounds (2 each)"
 abbrev pub LE : Kind Record
-LE = link_kind (0x4C ∷ 0x45 ∷ []) (λ n. 1 ∷ 2 ∷ 1 ∷ 1 ∷ levels n) (λ x. LinkStandBy (x 0) (x 1) (x 2) (x 3) (x 4) (x 5) (x 6) (x 7) (x 8) (x 9) (x 10) (x 11))
+LE = link_kind (0x4C ∷ 0x45 ∷ []) (λ n. 1 ∷ 2 ∷ 1 ∷ 1 ∷ levels n) (λ x. LinkStandBy (x 0) (x 1) (x 2) (x 3) (eight 4 x))
 
 -- document 02, R-12, as docs/RULES.md lays it out: "n (1), S (2), silence (1), setting (1), n bounds (2 each), n windows (2 each)"
 abbrev pub LW : Kind Record
-LW =
-    link_kind (0x4C ∷ 0x57 ∷ []) (λ n. 1 ∷ 2 ∷ 1 ∷ 1 ∷ levels n ++ levels n)
-    (λ x. LinkWindows (x 0) (x 1) (x 2) (x 3) (x 4) (x 5) (x 6) (x 7) (x 8) (x 9) (x 10) (x 11) (x 12) (x 13) (x 14) (x 15) (x 16) (x 17) (x 18) (x 19))
+LW = link_kind (0x4C ∷ 0x57 ∷ []) (λ n. 1 ∷ 2 ∷ 1 ∷ 1 ∷ levels n ++ levels n) (λ x. LinkWindows (x 0) (x 1) (x 2) (x 3) (eight 4 x) (eight 12 x))
 
 -- document 02, R-13, as docs/RULES.md lays it out: "T (2), S (2), silence (1)"
 abbrev pub LF : Kind Record

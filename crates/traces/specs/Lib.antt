@@ -1,4 +1,3 @@
--- Read in this order: Kinds, Trace. Links is of the code alone.
+-- Read in this order: Kinds, Trace.
 pub mod Kinds
 pub mod Trace
-pub mod Links

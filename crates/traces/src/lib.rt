@@ -1,20 +1,17 @@
 // The trace records of document 01, "Trace and answer records", and of document 02, R-1, R-4, R-6, R-8, R-9, R-11, R-12 and R-13: their kinds as values, read and written.
-#![tactic(auto)]
+#![tactic(auto, using(std::proofs::lemmas::Grind::common_steps, fields::proofs::NumberLaws::length_little), unfolding(fields::specs::Formats::starts, fields::specs::Formats::read_kinds, fields::specs::Formats::read_kind, fields::specs::Formats::laid, fields::specs::Numbers::get_fields, fields::specs::Numbers::sum))]
 
 mod link; // link.rt: links, of which one number says how many follow
 
-ghost use Rattle.std.specs.Prelude.{◌≡◌, cond, ltb, length, drop};
-ghost use Rattle.std.proofs.Math.Option.{some, none};
-ghost use Rattle.fields.specs.Numbers.{number};
-ghost use Rattle.fields.specs.Formats.{mark_among, laid, fitting, over};
-ghost use Rattle.fields.specs.Drafts.{Holds};
-ghost use Rattle.traces.specs.declared.Record.TheVariants.{LinkFrames, AdmitStamped, AdmitShare, OfferStamped};
-ghost use Rattle.traces.specs.Trace.{trace_layout, trace_kinds, found, read_trace};
+ghost use Rattle.std.specs.Prelude.{◌≡◌, length, get_or, drop, option_and_then};
+ghost use Rattle.fields.specs.Formats.{read_kind, laid, fitting, over};
+ghost use Rattle.traces.specs.Kinds.{LF as LF_kind, CN as CN_kind, CS as CS_kind, CF as CF_kind, CL as CL_kind, PK as PK_kind, PS as PS_kind, NQ as NQ_kind, TK as TK_kind};
+ghost use Rattle.traces.specs.Trace.{trace_layout, read_trace};
 
 use fields::Draft;
-use fields::read::{four, one, two};
+use fields::read::{four, one, two, whole_of};
 
-// The marks of the tables, as they are written; `read` has them as numbers.
+// The marks of the tables.
 const LK: [u8; 2] = *b"LK";
 
 const LE: [u8; 2] = *b"LE";
@@ -42,57 +39,29 @@ const TK: [u8; 2] = *b"TK";
 // The bytes of the longest trace record, which no record of another format passes.
 pub const LONGEST_RECORD: usize = fields::LONGEST;
 
-// A trace record with its numbers, or malformed. Bounds and windows past `levels` are 0.
+// A trace record with its numbers. Bounds and windows past `levels` are 0.
 #[derive(Clone, Copy)]
 pub enum Record {
     Link {
         levels: u8,
         largest: u16,
         silence: u8,
-        d1: u16,
-        d2: u16,
-        d3: u16,
-        d4: u16,
-        d5: u16,
-        d6: u16,
-        d7: u16,
-        d8: u16,
+        bounds: [u16; 8],
     },
     LinkStandBy {
         levels: u8,
         largest: u16,
         silence: u8,
         early: u8,
-        d1: u16,
-        d2: u16,
-        d3: u16,
-        d4: u16,
-        d5: u16,
-        d6: u16,
-        d7: u16,
-        d8: u16,
+        bounds: [u16; 8],
     },
     LinkWindows {
         levels: u8,
         largest: u16,
         silence: u8,
         early: u8,
-        d1: u16,
-        d2: u16,
-        d3: u16,
-        d4: u16,
-        d5: u16,
-        d6: u16,
-        d7: u16,
-        d8: u16,
-        w1: u16,
-        w2: u16,
-        w3: u16,
-        w4: u16,
-        w5: u16,
-        w6: u16,
-        w7: u16,
-        w8: u16,
+        bounds: [u16; 8],
+        windows: [u16; 8],
     },
     LinkFrames {
         frame: u16,
@@ -137,230 +106,173 @@ pub enum Record {
     Ticks {
         ticks: u16,
     },
-    Malformed,
 }
 
-// What reading found, and how many bytes it took: none where it is malformed.
-#[derive(Clone, Copy)]
-pub struct Found {
-    pub what: Record,
-    pub taken: usize,
-}
-
-// No record, and no byte taken.
-pub(crate) fn nothing() -> Found
-    ensures { result ≡ found none }
+// An `LF`.
+fn link_frames(s: &[u8]) -> Option<(Record, usize)>
+    ensures { result ≡ read_kind LF_kind (get_or s.now 2 0) s.now }
 {
-    Found {
-        what: Record::Malformed,
-        taken: 0,
-    }
-}
-
-// A record of so many bytes, where they are all there.
-pub(crate) fn whole_of(s: &[u8], size: usize, what: Record) -> Found
-    ensures { result ≡ found (cond (ltb (length s.now) size) none (some (what, size))) }
-{
-    if s.len() < size {
-        return nothing();
-    }
-    Found {
-        what: what,
-        taken: size,
-    }
-}
-
-// The mark that the bytes start with, as a number, its first letter low; 0 where it is none of LK, LE, LW, LF, CN, CS, CF, CL, PK, PS,
-// NQ and TK.
-fn mark_of(s: &[u8]) -> u16
-    ensures { result ≡ mark_among trace_kinds s.now }
-{
-    let mark = two(s, 0);
-    match mark {
-        0x4B4C
-        | 0x454C
-        | 0x574C
-        | 0x464C
-        | 0x4E43
-        | 0x5343
-        | 0x4643
-        | 0x4C43
-        | 0x4B50
-        | 0x5350
-        | 0x514E
-        | 0x4B54 => mark,
-        _ => 0,
-    }
-}
-
-// The numbers of an `LF`.
-fn link_frames(s: &[u8]) -> Record
-    ensures { result ≡ LinkFrames (number 2 s.now 2) (number 2 s.now 4) (number 1 s.now 6) }
-{
-    Record::LinkFrames {
+    let link_frames = Record::LinkFrames {
         frame: two(s, 2),
         largest: two(s, 4),
         silence: one(s, 6),
-    }
+    };
+    whole_of(s, 7, link_frames)
 }
 
-// The numbers of a `CS`.
-fn admit_stamped(s: &[u8]) -> Record
-    ensures { result ≡ AdmitStamped (number 1 s.now 2) (number 2 s.now 3) (number 2 s.now 5) (number 2 s.now 7) }
+// A `CN`.
+fn admit(s: &[u8]) -> Option<(Record, usize)>
+    ensures { result ≡ read_kind CN_kind (get_or s.now 2 0) s.now }
 {
-    Record::AdmitStamped {
+    let admit = Record::Admit {
+        level: one(s, 2),
+        gap: two(s, 3),
+        size: two(s, 5),
+        window: two(s, 7),
+        average: two(s, 9),
+    };
+    whole_of(s, 11, admit)
+}
+
+// A `CS`.
+fn admit_stamped(s: &[u8]) -> Option<(Record, usize)>
+    ensures { result ≡ read_kind CS_kind (get_or s.now 2 0) s.now }
+{
+    let admit_stamped = Record::AdmitStamped {
         level: one(s, 2),
         gap: two(s, 3),
         size: two(s, 5),
         allowance: two(s, 7),
-    }
+    };
+    whole_of(s, 9, admit_stamped)
 }
 
-// The numbers of a `CF`.
-fn admit_share(s: &[u8]) -> Record
-    ensures { result ≡ AdmitShare (number 2 s.now 2) (number 2 s.now 4) }
+// A `CF`.
+fn admit_share(s: &[u8]) -> Option<(Record, usize)>
+    ensures { result ≡ read_kind CF_kind (get_or s.now 2 0) s.now }
 {
-    Record::AdmitShare {
+    let admit_share = Record::AdmitShare {
         units: two(s, 2),
         places: two(s, 4),
-    }
+    };
+    whole_of(s, 6, admit_share)
 }
 
-// The numbers of a `PS`.
-fn offer_stamped(s: &[u8]) -> Record
-    ensures { result ≡ OfferStamped (number 1 s.now 2) (number 2 s.now 3) (number 4 s.now 5) (number 4 s.now 9) }
+// A `CL`.
+fn close(s: &[u8]) -> Option<(Record, usize)>
+    ensures { result ≡ read_kind CL_kind (get_or s.now 2 0) s.now }
 {
-    Record::OfferStamped {
+    whole_of(
+        s,
+        3,
+        Record::Close {
+            connection: one(s, 2),
+        },
+    )
+}
+
+// A `PK`.
+fn offer(s: &[u8]) -> Option<(Record, usize)>
+    ensures { result ≡ read_kind PK_kind (get_or s.now 2 0) s.now }
+{
+    let offer = Record::Offer {
+        connection: one(s, 2),
+        len: two(s, 3),
+        tag: four(s, 5),
+    };
+    whole_of(s, 9, offer)
+}
+
+// A `PS`.
+fn offer_stamped(s: &[u8]) -> Option<(Record, usize)>
+    ensures { result ≡ read_kind PS_kind (get_or s.now 2 0) s.now }
+{
+    let offer_stamped = Record::OfferStamped {
         connection: one(s, 2),
         len: two(s, 3),
         tag: four(s, 5),
         stamp: four(s, 9),
-    }
+    };
+    whole_of(s, 13, offer_stamped)
 }
 
-// The record that the bytes start with: the marks are LK, LE, LW, LF, CN, CS, CF, CL, PK, PS, NQ and TK as numbers.
-pub fn read(s: &[u8]) -> Found
+// An `NQ`.
+fn notice(s: &[u8]) -> Option<(Record, usize)>
+    ensures { result ≡ read_kind NQ_kind (get_or s.now 2 0) s.now }
+{
+    let notice = Record::Notice {
+        len: two(s, 2),
+        tag: four(s, 4),
+    };
+    whole_of(s, 8, notice)
+}
+
+// A `TK`.
+fn ticks(s: &[u8]) -> Option<(Record, usize)>
+    ensures { result ≡ read_kind TK_kind (get_or s.now 2 0) s.now }
+{
+    whole_of(s, 4, Record::Ticks { ticks: two(s, 2) })
+}
+
+// The record that the bytes start with, and how many bytes it takes; none where it is malformed.
+#[tactic(auto, unfolding(fields::specs::Formats::starts, fields::specs::Formats::read_kinds, fields::specs::Numbers::number))]
+pub fn read(s: &[u8]) -> Option<(Record, usize)>
     ensures { result ≡ read_trace s.now }
 {
-    let mark = mark_of(s);
-    let first = one(s, 2);
-    match mark {
-        0x4B4C => link::read(s),
-        0x454C => link::read_stand_by(s),
-        0x574C => link::read_windows(s),
-        0x464C => whole_of(s, 7, link_frames(s)),
-        0x4E43 => {
-            let admit = Record::Admit {
-                level: first,
-                gap: two(s, 3),
-                size: two(s, 5),
-                window: two(s, 7),
-                average: two(s, 9),
-            };
-            whole_of(s, 11, admit)
-        }
-        0x5343 => whole_of(s, 9, admit_stamped(s)),
-        0x4643 => whole_of(s, 6, admit_share(s)),
-        0x4C43 => whole_of(s, 3, Record::Close { connection: first }),
-        0x4B50 => {
-            let offer = Record::Offer {
-                connection: first,
-                len: two(s, 3),
-                tag: four(s, 5),
-            };
-            whole_of(s, 9, offer)
-        }
-        0x5350 => whole_of(s, 13, offer_stamped(s)),
-        0x514E => {
-            let notice = Record::Notice {
-                len: two(s, 2),
-                tag: four(s, 4),
-            };
-            whole_of(s, 8, notice)
-        }
-        0x4B54 => whole_of(s, 4, Record::Ticks { ticks: two(s, 2) }),
-        _ => nothing(),
+    match [one(s, 0), one(s, 1)] {
+        LK => link::read(s),
+        LE => link::read_stand_by(s),
+        LW => link::read_windows(s),
+        LF => link_frames(s),
+        CN => admit(s),
+        CS => admit_stamped(s),
+        CF => admit_share(s),
+        CL => close(s),
+        PK => offer(s),
+        PS => offer_stamped(s),
+        NQ => notice(s),
+        TK => ticks(s),
+        _ => None,
     }
 }
 
 // The record that starts at a place of a buffer.
-pub fn read_at(buf: &[u8], at: usize) -> Found
+pub fn read_at(buf: &[u8], at: usize) -> Option<(Record, usize)>
     ensures { result ≡ read_trace (drop at buf.now) }
 {
     if buf.len() < at {
-        return nothing();
+        return None;
     }
-    let rest = &buf[at..];
-    read(rest)
+    read(&buf[at..])
 }
 
 // The bytes of a record; none where it is not written.
+#[tactic(auto, using(std::proofs::lemmas::Grind::common_steps, fields::proofs::NumberLaws::length_little), unfolding(fields::specs::Formats::laid, fields::specs::Numbers::put_fields, fields::specs::Numbers::none_lost))]
 fn draft(r: Record) -> Draft
-    ensures { Holds result (laid (trace_layout r)) }
+    ensures { result ≡ laid (trace_layout r) }
 {
     match r {
         Record::Link {
             levels,
             largest,
             silence,
-            d1,
-            d2,
-            d3,
-            d4,
-            d5,
-            d6,
-            d7,
-            d8,
-        } => link::draft(levels, largest, silence, [d1, d2, d3, d4, d5, d6, d7, d8]),
+            bounds,
+        } => link::draft(levels, largest, silence, &bounds),
         Record::LinkStandBy {
             levels,
             largest,
             silence,
             early,
-            d1,
-            d2,
-            d3,
-            d4,
-            d5,
-            d6,
-            d7,
-            d8,
-        } => link::draft_stand_by(
-            levels,
-            largest,
-            silence,
-            early,
-            [d1, d2, d3, d4, d5, d6, d7, d8],
-        ),
+            bounds,
+        } => link::draft_stand_by(levels, largest, silence, early, &bounds),
         Record::LinkWindows {
             levels,
             largest,
             silence,
             early,
-            d1,
-            d2,
-            d3,
-            d4,
-            d5,
-            d6,
-            d7,
-            d8,
-            w1,
-            w2,
-            w3,
-            w4,
-            w5,
-            w6,
-            w7,
-            w8,
-        } => link::draft_windows(
-            levels,
-            largest,
-            silence,
-            early,
-            [d1, d2, d3, d4, d5, d6, d7, d8],
-            [w1, w2, w3, w4, w5, w6, w7, w8],
-        ),
+            bounds,
+            windows,
+        } => link::draft_windows(levels, largest, silence, early, &bounds, &windows),
         Record::LinkFrames {
             frame,
             largest,
@@ -398,13 +310,17 @@ fn draft(r: Record) -> Draft
         } => Draft::headed(PS, connection).two(len).four(tag).four(stamp),
         Record::Notice { len, tag } => Draft::marked(NQ).two(len).four(tag),
         Record::Ticks { ticks } => Draft::marked(TK).two(ticks),
-        Record::Malformed => Draft::empty(),
     }
 }
 
-// Writes a record at the start of the room lent, and answers its length: 0, with no byte changed, where it is not written or does not fit.
-pub fn write(r: Record, room: &mut [u8]) -> usize
-    ensures { (result ≡ length (fitting (laid (trace_layout r)) room.old)) × (room.new ≡ over (fitting (laid (trace_layout r)) room.old) room.old) }
+// Writes a record at the start of the room lent, where there is one, and answers how many bytes were written: none, with no byte changed, where it is malformed, is not
+// written or does not fit.
+// kept: the number of bytes written is a count, which the callers add to their own, and no mark: `steps::Stepped` has 0 too where nothing was to be written.
+pub fn write(r: Option<Record>, room: &mut [u8]) -> usize
+    ensures { (result ≡ length (fitting (laid (option_and_then trace_layout r)) room.old)) × (room.new ≡ over (fitting (laid (option_and_then trace_layout r)) room.old) room.old) }
 {
-    draft(r).into_room(room)
+    match r {
+        Some(r) => draft(r).into_room(room),
+        None => 0,
+    }
 }

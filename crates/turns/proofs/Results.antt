@@ -6,8 +6,8 @@ use mathlib.Core.Bool.{Bool, true, false}
 use mathlib.Core.List.{List, [], ◌∷◌, ◌++◌, append_assoc}
 use mathlib.Core.Logic.{inl, inr, ⊎_elim}
 use mathlib.Core.Option.{none as no_offset, some}
+use Rattle.std.specs.Prelude.{Some}
 use lib.ListN.{length}
-use lib.Signed.{non_neg}
 use borrow.Author.Tests.{eqb-true}
 use Rattle.rules.proofs.Tests.{never}
 use Rattle.tables.specs.Lent.{Tables}
@@ -18,7 +18,7 @@ use Rattle.replay.specs.Promises.{AtAnyTime}
 use Rattle.replay.proofs.Results.{every_session}
 use Rattle.turns.specs.declared.End.TheVariants.{Whole, Malformed, ReadFailed, NotTaken}
 use Rattle.turns.specs.declared.Turn.{Turn}
-use Rattle.turns.specs.Turns.{EndsLog, first_turn, turns_left}
+use Rattle.turns.specs.Turns.{EndsLog, has_failed, first_turn, turns_left}
 use Rattle.turns.specs.Runs.{Turns}
 use Rattle.turns.specs.Runs.Turns.{none, turn}
 use Rattle.turns.specs.Promises.{AllTurns}
@@ -38,7 +38,7 @@ writes_it (turn {given} {wrote} {v} {t} {w} S d o l r t2 o2 w2 T) then g e =
     rw append_assoc (turn_ends (given ++ (T.follows.got ++ then)) wrote v.cursor t w (T.follows.got ++ then) (going S (T.follows.got ++ then) h) v.last h o r t2 o2 w2 T e)
 
 tells_it : {given wrote : List ℕ} {v : Turn} {t : Tables} {w : List ℕ} → Turns given wrote v t w → (then : List ℕ) → (v.last ≡ true → then ≡ [])
-    → (v.end ≡ Whole → bad_at (given ++ then) ≡ no_offset) × (v.end ≡ Malformed → bad_at (given ++ then) ≡ some v.cursor.at)
+    → (v.end ≡ Some Whole → bad_at (given ++ then) ≡ no_offset) × (v.end ≡ Some Malformed → bad_at (given ++ then) ≡ some v.cursor.at)
 tells_it none then g = (λ e. never cc, λ e. never cc)
 tells_it (turn S d o l r t2 o2 w2 T) then g =
     let k = ended_tells S d o l r t2 o2 w2 T then g in (
@@ -46,7 +46,7 @@ tells_it (turn S d o l r t2 o2 w2 T) then g =
       λ e. let m = k (inr e) in m.1.0 ∙ rw (m.0.1 e),
     )
 
-ends_whole : {given wrote : List ℕ} {v : Turn} {t : Tables} {w : List ℕ} → Turns given wrote v t w → v.end ≡ Whole → v.last ≡ true
+ends_whole : {given wrote : List ℕ} {v : Turn} {t : Tables} {w : List ℕ} → Turns given wrote v t w → v.end ≡ Some Whole → v.last ≡ true
 ends_whole none e = never cc
 ends_whole (turn S d o l r t2 o2 w2 T) e = go r.last refl
   where
@@ -58,7 +58,7 @@ ends_whole (turn S d o l r t2 o2 w2 T) e = go r.last refl
         never cc
 
 ends_so : {given wrote : List ℕ} {v : Turn} {t : Tables} {w : List ℕ} → Turns given wrote v t w
-    → (v.end ≡ NotTaken → v.taken ≡ false) × (v.end ≡ ReadFailed → non_neg v.read ≡ false)
+    → (v.end ≡ Some NotTaken → v.taken ≡ false) × (v.end ≡ Some ReadFailed → has_failed v.read ≡ true)
 ends_so none = (λ e. never cc, λ e. never cc)
 ends_so (turn {given} {wrote} {v} {t} {w} S d o l r t2 o2 w2 T) =
     let n = ((so_far S [] (λ _. refl)).answers (length o / longest_answer) v.last (λ _. refl) o T.answer t2 o2 T.pumps).never_refused l in

@@ -1,20 +1,18 @@
 -- What one turn of a program's loop needs: the measure, the window, what follows it, and that it goes on with a session.
-use Prim.Native.Nat.{ℕ, zero, suc, ◌+◌, ◌-◌, ◌/◌, ◌^◌, ◌<◌, ◌≤◌}
+use Prim.Native.Nat.{ℕ, zero, suc, ◌+◌, ◌-◌, ◌/◌, ◌<◌, ◌≤◌}
 use native.Mathlib.Omega.{arith}
 use mathlib.Core.Path.{◌≡◌, refl, sym, ap, ◌∙◌, subst}
 use mathlib.Core.Bool.{Bool, true, false, cond}
 use mathlib.Core.List.{List, [], ◌∷◌, ◌++◌, append-nil}
 use mathlib.Core.Logic.{inl, inr}
-use lib.IntN.{ℤ, pos, negsuc, nat_abs}
+use Rattle.std.specs.Prelude.{Option, Some, None, Result, Ok, Err}
 use lib.ListN.{length, take, drop, length-drop}
 use lib.Seq.{length-take-le, take-append-add, take-nil, drop-drop}
-use lib.Dec.{T, eqb}
-use lib.Signed.{mag, lt_z, non_neg}
-use mir.Syntax.{w64}
-use mir.Val.{Fits, hbits}
+use lib.Dec.{eqb}
 use borrow.Author.Tests.{le-ltb, eq-eqb, ne_eqb, eqb-true, eqb-false}
 use Rattle.rules.proofs.Tests.{never}
-use Rattle.streams.specs.Moves.{Moved}
+use Rattle.std.specs.Io.{ReadsAtMost}
+use Rattle.streams.specs.declared.ReadError.{ReadError}
 use Rattle.tables.specs.Lent.{Tables}
 use Rattle.steps.specs.declared.Phase.TheVariants.{Finished}
 use Rattle.steps.specs.declared.Cursor.{Cursor}
@@ -32,7 +30,7 @@ use Rattle.replay.specs.Sessions.Session.{more, call}
 use Rattle.replay.proofs.SlideLaws.{take_slid}
 use Rattle.replay.proofs.Results.{every_session}
 use Rattle.turns.specs.declared.End.{End}
-use Rattle.turns.specs.declared.End.TheVariants.{On, Whole, Malformed, ReadFailed, NotTaken}
+use Rattle.turns.specs.declared.End.TheVariants.{Whole, Malformed, ReadFailed, NotTaken}
 use Rattle.turns.specs.declared.Turn.{Turn}
 use Rattle.turns.specs.Turns.{EndsLog, given_by, is_end, heard, reads, after_steps, read_turn, still_turn, Right, Better, window, Refilled, Followed, Onward, Turned}
 
@@ -55,26 +53,11 @@ go_less w v a b l k from to u d p q h = let e : b + (to - (from + u)) ≡ a + (t
 more_less : (x w v a b l from to u : ℕ) → b ≡ a + u → v ≤ w → u ≤ to - from → from ≤ to → x < v + (l - (b + (to - (from + u)))) + 1 → x < w + (l - (a + (to - from))) + 1
 more_less x w v a b l from to u d p q h m = let e : b + (to - (from + u)) ≡ a + (to - from) = omega arith in let n = rw e at m in omega arith
 
--- ---- what `read` answers
+-- ---- what a read answers
 
-pub given_fits : (n : ℕ) (z : ℤ) → Moved n z → given_by z ≤ n
-given_fits n (pos k) h = h
-given_fits n (negsuc k) h = omega arith
-
-pub below_0 : (c : Cursor) (n : ℕ) (z : ℤ) → lt_z z (pos 0) ≡ true
-    → record { cursor = c; from = 0; to = n; last = false; taken = true; read = z; end = ReadFailed } ≡ read_turn c n z
-below_0 c n (pos k) e = never (sym (le-ltb k 0 (omega arith)) ∙ e)
-below_0 c n (negsuc k) e = let d : n + 0 ≡ n = omega arith in rw d
-
--- what is not below 0 is the number itself, and fits
-pub not_below : (z : ℤ) → mag z < 2 ^ hbits w64 → lt_z z (pos 0) ≡ false → (T (non_neg z) × Fits w64 (nat_abs z)) × (nat_abs z ≡ given_by z)
-not_below (pos n) l e = ((tt, record { fits = omega arith }), refl)
-not_below (negsuc n) l e = never (sym e)
-
-pub some_read : (c : Cursor) (n : ℕ) (z : ℤ) → lt_z z (pos 0) ≡ false
-    → record { cursor = c; from = 0; to = n + given_by z; last = eqb (given_by z) 0; taken = true; read = z; end = On } ≡ read_turn c n z
-some_read c n (pos k) e = refl
-some_read c n (negsuc k) e = never (sym e)
+pub given_fits : (z : Result ℕ ReadError) (room : List ℕ) → ReadsAtMost z room → given_by (Some z) ≤ length room
+given_fits (Ok k) room h = h.0
+given_fits (Err e) room h = omega arith
 
 pub reads_only : (b : Bool) (k : Status) → reads b k ≡ true → (b ≡ true) × (k ≡ MoreBytes)
 reads_only b GoOn e = never e
@@ -87,11 +70,11 @@ not_reads : (b : Bool) (k : Status) → reads b k ≡ false → b ≡ true → k
 not_reads b k e f g = never (sym e ∙ rw (f, g))
 
 -- where no read follows the next turn, some step was made
-not_on : (e : Bool) → cond e Whole Malformed ≡ On → ⊥
+not_on : (e : Bool) → cond e (Some Whole) (Some Malformed) ≡ None → ⊥
 not_on true f = never cc
 not_on false f = never cc
 
-goes : (b : Bool) (k : Status) (e : Bool) → reads b k ≡ false → after_steps b k e ≡ On → k ≡ GoOn
+goes : (b : Bool) (k : Status) (e : Bool) → reads b k ≡ false → after_steps b k e ≡ None → k ≡ GoOn
 goes false k e r f = never cc
 goes true GoOn e r f = refl
 goes true MoreBytes e r f = never (sym r)
@@ -100,25 +83,25 @@ goes true NotSound e r f = never cc
 goes true Done e r f = absurd (not_on e f)
 
 module _ (N : ℕ) (c : Cursor) (from to : ℕ) (R : Right N c from to) where
-  pub refill_better : (n : ℕ) (z : ℤ) → n ≡ to - from → n + given_by z ≤ N → heard z ≡ On → Better N c from to false (read_turn c n z)
-  refill_better n (pos zero) e q o =
+  pub refill_better : (n : ℕ) (z : Result ℕ ReadError) → n ≡ to - from → n + given_by (Some z) ≤ N → heard (Some z) ≡ None → Better N c from to false (read_turn c n z)
+  refill_better n (Ok zero) e q o =
       let k : n + 0 ≡ n = omega arith in
       record {
         right = record { order = omega arith; inside = q; place = R.place };
         less = rw (k, ← e) (none_less (work c.at c.phase) c.at n (trace_limit + N));
       }
-  refill_better n (pos (suc g)) e q o =
+  refill_better n (Ok (suc g)) e q o =
       record {
         right = record { order = omega arith; inside = q; place = R.place };
         less = rw (ne_eqb (suc g) 0 (omega arith), ← e) (some_less (work c.at c.phase) c.at n (suc g) (trace_limit + N) (omega arith) (omega (arith, R.place)));
       }
-  refill_better n (negsuc g) e q o = never cc
+  refill_better n (Err g) e q o = never cc
 
   module _ (last : Bool) (r : ℕ) (a : Stepped) (F : Facts c (to - from) last r a) where
     pub wanted : Right N a.cursor (from + a.used) to
     wanted = record { order = omega (arith, R.order, F.used); inside = R.inside; place = F.within R.place }
 
-    pub still_better : (b i : Bool) → reads b a.status ≡ false → after_steps b a.status i ≡ On → Better N c from to last (still_turn a from to last b i)
+    pub still_better : (b i : Bool) → reads b a.status ≡ false → after_steps b a.status i ≡ None → Better N c from to last (still_turn a from to last b i)
     still_better b i e o =
         record {
           right = wanted;
@@ -169,12 +152,15 @@ module _ (b S ys : List ℕ) (from to n : ℕ) (h : from ≤ to) (k : to ≤ len
   behind : (g : ℕ) → window (take n S ++ (ys ++ drop (length S - n) (drop n S))) 0 (n + g) ≡ window b from to ++ take g ys
   behind g = rw (part_back n S ys ys refl, f, e) (refilled b from to ys g h k)
 
-  pub refill_reads : (c : Cursor) (z : ℤ) → given_by z ≤ length ys
-      → Refilled c (window b from to) (read_turn c n z) (window (take n S ++ (ys ++ drop (length S - n) (drop n S))) 0 (n + given_by z))
+  pub refill_reads : (c : Cursor) (z : Result ℕ ReadError) → given_by (Some z) ≤ length ys
+      → Refilled c (window b from to) (read_turn c n z) (window (take n S ++ (ys ++ drop (length S - n) (drop n S))) 0 (n + given_by (Some z)))
   refill_reads c z l =
-      record { turn = ap (λ i. read_turn c i z) (e ∙ sym (length_window b from to h k)); got = take (given_by z) ys; count = length-take-le (given_by z) ys l; rest = behind (given_by z) }
+      record { answer = z; turn = ap (λ i. read_turn c i z) (e ∙ sym (length_window b from to h k)); got = take (given_by (Some z)) ys; count = length-take-le (given_by (Some z)) ys l; rest = behind (given_by (Some z)) }
 
 -- ---- what follows the steps, from what its calls ensure
+
+some_none : {z : Result ℕ ReadError} → Some z ≡ None → ⊥
+some_none e = never cc
 
 module _ (a : Stepped) (w : List ℕ) (last : Bool) (w2 : List ℕ) (b : Bool) where
   pub followed_still : (from to : ℕ) (i : Bool) → reads b a.status ≡ false → i ≡ eqb (length (drop a.used w)) 0 → w2 ≡ drop a.used w
@@ -198,16 +184,21 @@ module _ (a : Stepped) (w : List ℕ) (last : Bool) (w2 : List ℕ) (b : Bool) w
         got = F.got;
         count = F.count;
         rest = F.rest;
-        where_read = λ _ _. (wants k.1, ap (λ (x : Turn). x.last) F.turn, ap (λ (x : Turn). x.end) F.turn);
+        where_read = λ _ _. (
+          wants k.1,
+          ap (λ (x : Turn). x.last) F.turn ∙ ap is_end (sym (ap (λ (x : Turn). x.read) F.turn)),
+          ap (λ (x : Turn). x.end) F.turn ∙ ap heard (sym (ap (λ (x : Turn). x.read) F.turn)),
+          λ n. absurd (some_none (sym (ap (λ (x : Turn). x.read) F.turn) ∙ n)),
+        );
         where_not = λ n. absurd (n (ap (λ (x : Turn). x.taken) F.turn) k.1);
       }
 
 -- .. and the other way
 module _ {a : Stepped} {w : List ℕ} {last : Bool} {v : Turn} {w2 : List ℕ} (F : Followed a w last v w2) where
-  pub where_reads : reads v.taken a.status ≡ true → (last ≡ false) × (v.last ≡ is_end v.read) × (v.end ≡ heard v.read)
+  pub where_reads : reads v.taken a.status ≡ true → (last ≡ false) × (v.last ≡ is_end v.read) × (v.end ≡ heard v.read) × (v.read ≡ None → ⊥)
   where_reads e = let k = reads_only v.taken a.status e in F.where_read k.0 k.1
 
-  pub where_stays : reads v.taken a.status ≡ false → (v.read ≡ pos 0) × (v.last ≡ last) × (v.end ≡ after_steps v.taken a.status (eqb (length (drop a.used w)) 0))
+  pub where_stays : reads v.taken a.status ≡ false → (v.read ≡ None) × (v.last ≡ last) × (v.end ≡ after_steps v.taken a.status (eqb (length (drop a.used w)) 0))
   where_stays e = F.where_not (not_reads v.taken a.status e)
 
 -- ---- a turn: a call of `pump`, and what follows it
@@ -218,7 +209,7 @@ module _ (c : Cursor) (t : Tables) (w : List ℕ) (last : Bool) (o : List ℕ) (
 
 -- .. that is followed by another leaves less to do
 pub turn_better : (N : ℕ) (c : Cursor) (from to : ℕ) → Right N c from to → (last : Bool) (r : ℕ) (a : Stepped) → Facts c (to - from) last r a → (b : Bool) (v : Turn)
-    → Onward N a from to last b v → v.end ≡ On → Better N c from to last v
+    → Onward N a from to last b v → v.end ≡ None → Better N c from to last v
 turn_better N c from to R last r a F b v O o = go (reads b a.status) refl
   where
     go : (d : Bool) → reads b a.status ≡ d → Better N c from to last v
@@ -229,20 +220,21 @@ turn_better N c from to R last r a F b v O o = go (reads b a.status) refl
         (still_better N c from to R last r a F b (eqb (from + a.used) to) e (ap (λ (x : Turn). x.end) (sym s) ∙ o))
 
 -- what the end of a turn says of its calls
-abbrev pub ends_log : End → Bool
-ends_log On = false
-ends_log Whole = true
-ends_log Malformed = true
-ends_log ReadFailed = false
-ends_log NotTaken = false
+abbrev pub ends_log : Option End → Bool
+ends_log None = false
+ends_log (Some Whole) = true
+ends_log (Some Malformed) = true
+ends_log (Some ReadFailed) = false
+ends_log (Some NotTaken) = false
 
-ends_it : (e : End) → EndsLog e → ends_log e ≡ true
+ends_it : (e : Option End) → EndsLog e → ends_log e ≡ true
 ends_it e (inl f) = ap ends_log f
 ends_it e (inr f) = ap ends_log f
 
-heard_ends : (z : ℤ) → ends_log (heard z) ≡ true → ⊥
-heard_ends (pos n) e = never e
-heard_ends (negsuc n) e = never e
+heard_ends : (z : Option (Result ℕ ReadError)) → ends_log (heard z) ≡ true → ⊥
+heard_ends None e = never e
+heard_ends (Some (Ok n)) e = never e
+heard_ends (Some (Err n)) e = never e
 
 after_ends : (b : Bool) (k : Status) (i : Bool) → ends_log (after_steps b k i) ≡ true → (b ≡ true) × (k ≡ Done)
 after_ends false k i e = never e

@@ -1,6 +1,6 @@
 -- What a turn does: a call of `pump`, whose bytes are taken or not, and then a read or none.
-use Rattle.std.specs.Prelude.{ℕ, ◌+◌, ◌-◌, ◌/◌, ◌<◌, ◌≤◌, ◌≡◌, Bool, true, false, cond, ◌&&◌, ◌⊎◌, List, ◌++◌, eqb, ℤ, pos, negsuc, length, take, drop}
-use Rattle.std.specs.Int.Signed.{non_neg}
+use Rattle.std.specs.Prelude.{ℕ, ◌+◌, ◌-◌, ◌/◌, ◌<◌, ◌≤◌, ◌≡◌, Bool, true, false, cond, ◌⊎◌, List, ◌++◌, eqb, length, take, drop, Option, Some, None, Result, Ok, Err}
+use Rattle.streams.specs.declared.ReadError.{ReadError}
 use Rattle.tables.specs.Lent.{Tables}
 use Rattle.steps.specs.declared.Cursor.{Cursor}
 use Rattle.steps.specs.declared.Status.{Status}
@@ -12,36 +12,48 @@ use Rattle.steps.specs.Steps.{beginning, work}
 use Rattle.steps.specs.Tie.{cursor_of}
 use Rattle.replay.specs.Sessions.{Steps}
 use Rattle.turns.specs.declared.End.{End}
-use Rattle.turns.specs.declared.End.TheVariants.{On, Whole, Malformed, ReadFailed, NotTaken}
+use Rattle.turns.specs.declared.End.TheVariants.{Whole, Malformed, ReadFailed, NotTaken}
 use Rattle.turns.specs.declared.Turn.{Turn}
 
 -- ---- what follows a turn
 
 -- the log is taken to its end
-abbrev pub EndsLog : End → Type 0
-EndsLog e = (e ≡ Whole) ⊎ (e ≡ Malformed)
+abbrev pub EndsLog : Option End → Type 0
+EndsLog e = (e ≡ Some Whole) ⊎ (e ≡ Some Malformed)
 
--- what `read` answers: -1 where it failed, else how many bytes it gave, 0 at the end of the input
-abbrev pub given_by : ℤ → ℕ
-given_by (pos n) = n
-given_by (negsuc n) = 0
+-- of a read: none was made; it failed; or how many bytes it gave, 0 at the end of the input
+abbrev pub given_by : Option (Result ℕ ReadError) → ℕ
+given_by None = 0
+given_by (Some (Ok n)) = n
+given_by (Some (Err e)) = 0
 
-abbrev pub is_end : ℤ → Bool
-is_end z = non_neg z && eqb (given_by z) 0
+abbrev pub has_failed : Option (Result ℕ ReadError) → Bool
+has_failed None = false
+has_failed (Some (Ok n)) = false
+has_failed (Some (Err e)) = true
+
+abbrev pub is_end : Option (Result ℕ ReadError) → Bool
+is_end None = false
+is_end (Some (Ok n)) = eqb n 0
+is_end (Some (Err e)) = false
+
+-- what follows a read
+abbrev pub heard : Option (Result ℕ ReadError) → Option End
+heard z = cond (has_failed z) (Some ReadFailed) None
 
 -- what follows a turn that does not read, where the window is used up or not: a malformed record stays in it. MoreRoom and NotSound never come:
 -- `it_ends_for_no_other_reason`
-abbrev pub after_steps : Bool → Status → Bool → End
-after_steps false k emptied = NotTaken
-after_steps true GoOn emptied = On
-after_steps true MoreBytes emptied = On
-after_steps true MoreRoom emptied = NotTaken
-after_steps true NotSound emptied = NotTaken
-after_steps true Done emptied = cond emptied Whole Malformed
+abbrev pub after_steps : Bool → Status → Bool → Option End
+after_steps false k emptied = Some NotTaken
+after_steps true GoOn emptied = None
+after_steps true MoreBytes emptied = None
+after_steps true MoreRoom emptied = Some NotTaken
+after_steps true NotSound emptied = Some NotTaken
+after_steps true Done emptied = cond emptied (Some Whole) (Some Malformed)
 
 -- before any turn
 abbrev pub first_turn : Turn
-first_turn = record { cursor = cursor_of beginning; from = 0; to = 0; last = false; taken = true; read = pos 0; end = On }
+first_turn = record { cursor = cursor_of beginning; from = 0; to = 0; last = false; taken = true; read = None; end = None }
 
 -- ---- a turn
 
@@ -51,9 +63,9 @@ pub record Followed (a : Stepped) (w : List ℕ) (last : Bool) (r : Turn) (w2 : 
   pub got : List ℕ
   pub count : length got ≡ given_by r.read
   pub rest : w2 ≡ drop a.used w ++ got
-  pub where_read : r.taken ≡ true → a.status ≡ MoreBytes → (last ≡ false) × (r.last ≡ is_end r.read) × (r.end ≡ cond (non_neg r.read) On ReadFailed)
+  pub where_read : r.taken ≡ true → a.status ≡ MoreBytes → (last ≡ false) × (r.last ≡ is_end r.read) × (r.end ≡ heard r.read) × (r.read ≡ None → ⊥)
   pub where_not : (r.taken ≡ true → a.status ≡ MoreBytes → ⊥)
-      → (r.read ≡ pos 0) × (r.last ≡ last) × (r.end ≡ after_steps r.taken a.status (eqb (length (drop a.used w)) 0))
+      → (r.read ≡ None) × (r.last ≡ last) × (r.end ≡ after_steps r.taken a.status (eqb (length (drop a.used w)) 0))
 
 -- A TURN: a call of `pump` on the window w with the room o, which gave `answer`; the first bytes of the room o2 were taken or not; what follows it
 pub record Turned (c : Cursor) (t : Tables) (w : List ℕ) (last : Bool) (o : List ℕ) (r : Turn) (t2 : Tables) (o2 w2 : List ℕ) : Type 0 where
@@ -62,16 +74,6 @@ pub record Turned (c : Cursor) (t : Tables) (w : List ℕ) (last : Bool) (o : Li
   pub follows : Followed answer w last r w2
 
 -- ---- what the functions inside a turn say of themselves
-
-abbrev pub is_on : End → Bool
-is_on On = true
-is_on Whole = false
-is_on Malformed = false
-is_on ReadFailed = false
-is_on NotTaken = false
-
-abbrev pub heard : ℤ → End
-heard z = cond (non_neg z) On ReadFailed
 
 -- whether a turn reads, where all that its steps wrote was taken or not, and they ended with a status
 abbrev pub reads : Bool → Status → Bool
@@ -82,8 +84,8 @@ reads taken NotSound = false
 reads taken Done = false
 
 -- a turn that ends with a read behind n bytes of the window, which answered z
-abbrev pub read_turn : Cursor → ℕ → ℤ → Turn
-read_turn c n z = record { cursor = c; from = 0; to = n + given_by z; last = is_end z; taken = true; read = z; end = heard z }
+abbrev pub read_turn : Cursor → ℕ → Result ℕ ReadError → Turn
+read_turn c n z = record { cursor = c; from = 0; to = n + given_by (Some z); last = is_end (Some z); taken = true; read = Some z; end = heard (Some z) }
 
 -- the window of a buffer from `from` to `to`
 abbrev pub window : List ℕ → ℕ → ℕ → List ℕ
@@ -91,7 +93,8 @@ window b from to = take (to - from) (drop from b)
 
 -- a read behind the window w: `got` is what it gave, and w2 the window then
 pub record Refilled (c : Cursor) (w : List ℕ) (r : Turn) (w2 : List ℕ) : Type 0 where
-  pub turn : r ≡ read_turn c (length w) r.read
+  pub answer : Result ℕ ReadError
+  pub turn : r ≡ read_turn c (length w) answer
   pub got : List ℕ
   pub count : length got ≡ given_by r.read
   pub rest : w2 ≡ w ++ got
@@ -111,7 +114,7 @@ pub record Right (n : ℕ) (c : Cursor) (from to : ℕ) : Type 0 where
 -- a turn that does not read
 abbrev pub still_turn : Stepped → ℕ → ℕ → Bool → Bool → Bool → Turn
 still_turn a from to last taken emptied =
-    record { cursor = a.cursor; from = from + a.used; to = to; last = last; taken = taken; read = pos 0; end = after_steps taken a.status emptied }
+    record { cursor = a.cursor; from = from + a.used; to = to; last = last; taken = taken; read = None; end = after_steps taken a.status emptied }
 
 -- a turn that is followed by another leaves less to do
 pub record Better (n : ℕ) (c : Cursor) (from to : ℕ) (last : Bool) (r : Turn) : Type 0 where
@@ -120,5 +123,5 @@ pub record Better (n : ℕ) (c : Cursor) (from to : ℕ) (last : Bool) (r : Turn
 
 -- what is left after a call of `pump` that answered a: less than before a read, and the turn itself where none follows
 pub record Onward (n : ℕ) (a : Stepped) (from to : ℕ) (last taken : Bool) (r : Turn) : Type 0 where
-  pub where_read : reads taken a.status ≡ true → r.end ≡ On → Better n a.cursor (from + a.used) to false r
+  pub where_read : reads taken a.status ≡ true → r.end ≡ None → Better n a.cursor (from + a.used) to false r
   pub where_not : reads taken a.status ≡ false → r ≡ still_turn a from to last taken (eqb (from + a.used) to)

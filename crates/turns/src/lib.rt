@@ -4,17 +4,16 @@
 
 ghost use Rattle.std.specs.Prelude.{◌≡◌, true, false, ◌+◌, ◌^◌, ◌<◌, length};
 ghost use Rattle.steps.specs.declared.Status.TheVariants.{MoreBytes};
-ghost use Rattle.turns.specs.declared.End.TheVariants.{On};
-ghost use Rattle.turns.specs.Turns.{is_on, given_by, reads, after_steps, first_turn, read_turn, window, Right, Better, Refilled, Followed, Onward};
+ghost use Rattle.turns.specs.Turns.{given_by, reads, after_steps, first_turn, read_turn, window, Right, Better, Refilled, Followed, Onward};
 
 use std::io::Read;
 use steps::{Cursor, Status, Stepped};
+use streams::ReadError;
 
-// What follows a turn. On: the next turn. The turns end after any other. Whole: the log is taken to its end, and every record was well formed. Malformed: it is
-// taken to its end, with the `ER` of the cursor's offset. ReadFailed: `read` refused. NotTaken: what the steps wrote was not all taken.
+// Why no turn follows. Whole: the log is taken to its end, and every record was well formed. Malformed: it is taken to its end, with the `ER` of the cursor's offset.
+// ReadFailed: a read failed. NotTaken: what the steps wrote was not all taken.
 #[derive(Clone, Copy)]
 pub enum End {
-    On,
     Whole,
     Malformed,
     ReadFailed,
@@ -22,108 +21,78 @@ pub enum End {
 }
 
 // A turn: the cursor and the window of the buffer after it, whether that window is the last, whether all that the steps wrote was
-// taken, what `read` answered (0 where nothing was read), and what follows.
+// taken, what a read answered, where one was made, and the end, where no turn follows.
 #[derive(Clone, Copy)]
 pub struct Turn {
     pub cursor: Cursor,
+    // kept: the new form is no plainer: what holds of `from` and `to` (`Right`) is of the buffer's length and the cursor too, and each slice stays `&buf[w.from..w.to]`
     pub from: usize,
     pub to: usize,
     pub last: bool,
     pub taken: bool,
-    pub read: isize,
-    pub end: End,
+    pub read: Option<Result<usize, ReadError>>,
+    pub end: Option<End>,
 }
 
 // Where the turns begin: nothing is read, and nothing written.
 pub fn first() -> Turn
     ensures { result ≡ first_turn }
 {
-    let c = replay::start();
-    let last = false;
     Turn {
-        cursor: c,
+        cursor: replay::start(),
         from: 0,
         to: 0,
-        last: last,
+        last: false,
         taken: true,
-        read: 0,
-        end: End::On,
-    }
-}
-
-// Whether the next turn follows.
-pub fn goes_on(e: End) -> bool
-    ensures { result ≡ is_on e }
-{
-    match e {
-        End::On => true,
-        End::Whole => false,
-        End::Malformed => false,
-        End::ReadFailed => false,
-        End::NotTaken => false,
+        read: None,
+        end: None,
     }
 }
 
 // The turn that ends with a read behind n bytes, which answered `read`.
-fn heard(c: Cursor, n: usize, read: isize) -> Turn
-    requires { n + given_by read < 2 ^ 64 }
-    ensures { result ≡ read_turn c n read }
+fn heard(cursor: Cursor, n: usize, read: Result<usize, ReadError>) -> Turn
+    requires { n + given_by (Some read) < 2 ^ 64 }
+    ensures { result ≡ read_turn cursor n read }
 {
-    if read < 0 {
-        return Turn {
-            cursor: c,
+    match read {
+        Ok(got) => Turn {
+            cursor,
+            from: 0,
+            to: n + got,
+            last: got == 0,
+            taken: true,
+            read: Some(read),
+            end: None,
+        },
+        Err(_) => Turn {
+            cursor,
             from: 0,
             to: n,
             last: false,
             taken: true,
-            read: read,
-            end: End::ReadFailed,
-        };
-    }
-    let got = read as usize;
-    let last = got == 0;
-    Turn {
-        cursor: c,
-        from: 0,
-        to: n + got,
-        last: last,
-        taken: true,
-        read: read,
-        end: End::On,
+            read: Some(read),
+            end: Some(End::ReadFailed),
+        },
     }
 }
 
 // Whether a turn reads: all that the steps wrote was taken, and the steps want more bytes.
-fn reads(taken: bool, k: Status) -> bool
-    ensures { result ≡ reads taken k }
+fn reads(taken: bool, status: Status) -> bool
+    ensures { result ≡ reads taken status }
 {
-    match k {
-        Status::GoOn => false,
-        Status::MoreBytes => taken,
-        Status::MoreRoom => false,
-        Status::NotSound => false,
-        Status::Done => false,
-    }
+    taken && matches!(status, Status::MoreBytes)
 }
 
 // What follows a turn that does not read; `emptied`: nothing of the window is left, in which a malformed record stays. MoreRoom and NotSound never come.
-fn after_steps(taken: bool, k: Status, emptied: bool) -> End
-    ensures { result ≡ after_steps taken k emptied }
+fn after_steps(taken: bool, status: Status, emptied: bool) -> Option<End>
+    ensures { result ≡ after_steps taken status emptied }
 {
-    if !taken {
-        return End::NotTaken;
-    }
-    match k {
-        Status::GoOn => End::On,
-        Status::MoreBytes => End::On,
-        Status::MoreRoom => End::NotTaken,
-        Status::NotSound => End::NotTaken,
-        Status::Done => {
-            if emptied {
-                return End::Whole;
-            }
-            End::Malformed
-        }
+    match status {
+        _ if !taken => Some(End::NotTaken),
+        Status::GoOn | Status::MoreBytes => None,
+        Status::MoreRoom | Status::NotSound => Some(End::NotTaken),
+        Status::Done if emptied => Some(End::Whole),
+        Status::Done => Some(End::Malformed),
     }
 }
 
@@ -131,7 +100,7 @@ fn after_steps(taken: bool, k: Status, emptied: bool) -> End
 fn refill<R: Read>(c: Cursor, buf: &mut [u8], from: usize, to: usize, input: &mut R) -> Turn
     requires { Right (length buf.old) c from to }
     ensures refilled { Refilled c (window buf.old from to) result (window buf.new result.from result.to) }
-    ensures better { result.end ≡ On → Better (length buf.old) c from to false result }
+    ensures better { result.end ≡ None → Better (length buf.old) c from to false result }
 {
     let n = replay::slide(buf, from, to);
     let read = streams::read(input, &mut buf[n..]);
@@ -153,21 +122,17 @@ pub fn follow<R: Read>(
     ensures onward { Onward (length buf.old) r from to last taken result }
     ensures taken_value { result.taken ≡ taken }
 {
-    let then = r.cursor;
     let next = from + r.used;
-    let k = r.status;
-    if reads(taken, k) {
-        return refill(then, buf, next, to, input);
+    if reads(taken, r.status) {
+        return refill(r.cursor, buf, next, to, input);
     }
-    let emptied = next == to;
-    let end = after_steps(taken, k, emptied);
     Turn {
-        cursor: then,
+        cursor: r.cursor,
         from: next,
-        to: to,
-        last: last,
-        taken: taken,
-        read: 0,
-        end: end,
+        to,
+        last,
+        taken,
+        read: None,
+        end: after_steps(taken, r.status, next == to),
     }
 }

@@ -1,11 +1,9 @@
--- `answers::write` meets its contract: what was put together goes into the room.
-use mathlib.Core.Path.{ap, ◌∙◌}
-use Rattle.fields.specs.Formats.{fitting, over}
-use lib.ListN.{length}
+-- `answers::write` meets its contract: nothing is written of what is malformed.
+use Rattle.std.proofs.Common.{arith, []}
+use Rattle.fields.specs.Formats.{laid}
+use Rattle.fields.proofs.DraftLaws.{room_enough}
 use Rattle.answers.proofs.write.Goals as goal
 
-pub returns : goal.returns
-returns c =
-    let room = c.args.room.now in
-    let e = c.draft.ensures.bytes in
-    (c.into_room.ensures.0 ∙ ap (λ bs. length (fitting bs room)) e, c.into_room.ensures.1 ∙ ap (λ bs. over (fitting bs room) room) e)
+pub returns-in-None : goal.returns-in-None
+unfolding laid
+returns-in-None c = rw c.in-None.is (room_enough [] c.args.room.now (omega arith))

@@ -10,7 +10,7 @@ use Rattle.both.proofs.admit_share.Goals as goal
 pub returns-then-h-eq0 : goal.returns-then-h-eq0
 returns-then-h-eq0 c =
     let t = tables c.args.members.now c.args.places.now c.args.notices.now in
-    share_refused c.args.h t c.requires (none_set c.args.h c.if-h-eq0.true) c.args.x _ c.refuse.ensures
+    share_refused c.args.h t c.requires (none_set c.args.h c.if-h-eq0.true) c.args.x _ c.say.ensures
 
 pub slice_bounds-admit_tested-end : goal.slice_bounds-admit_tested-end
 slice_bounds-admit_tested-end c =

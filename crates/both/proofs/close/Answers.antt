@@ -19,4 +19,4 @@ returns-then-h-eq0 c =
 pub returns : goal.returns
 returns c =
     let t = tables c.args.members.now c.args.places.now c.args.notices.now in
-    close_refused c.args.h t c.requires (are_set c.args.h c.if-h-eq0.false) c.args.c _ c.refuse.ensures
+    close_refused c.args.h t c.requires (are_set c.args.h c.if-h-eq0.false) c.args.c _ c.say.ensures

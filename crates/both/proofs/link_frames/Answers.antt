@@ -6,7 +6,7 @@ use Rattle.both.proofs.link_frames.Goals as goal
 pub returns-then-h-ne0 : goal.returns-then-h-ne0
 returns-then-h-ne0 c =
     let t = tables c.args.members.now c.args.places.now c.args.notices.now in
-    frames_refused c.args.h t c.requires c.if-h-ne0.true c.args.l _ c.refuse.ensures
+    frames_refused c.args.h t c.requires c.if-h-ne0.true c.args.l _ c.say.ensures
 
 pub slice_bounds-link_tested-end : goal.slice_bounds-link_tested-end
 slice_bounds-link_tested-end c =

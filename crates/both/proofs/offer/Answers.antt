@@ -1,6 +1,6 @@
 use Rattle.tables.specs.Lent.{tables}
-use mathlib.Core.Path.{refl}
-use Rattle.connections.specs.Stamps.{stamp_if}
+use mathlib.Core.Path.{refl, sym, ◌∙◌}
+use Rattle.tables.specs.Options.{option_in}
 use Rattle.rules.specs.Model.{offer as level_offer}
 use Rattle.frames.specs.Model.{offer as frame_offer}
 use Rattle.either_line.specs.Line.{offer}
@@ -17,13 +17,13 @@ offer_tested-told-requires c =
 pub returns-then-h-eq0 : goal.returns-then-h-eq0
 returns-then-h-eq0 c =
     let t = tables c.args.members.now c.args.places.now c.args.notices.now in
-    by_told (offer c.args.c c.args.len c.args.tag (stamp_if c.args.brings c.args.stamp)) c.args.h t c.requires (none_set c.args.h c.if-h-eq0.true)
-    (level_offer c.args.c c.args.len c.args.tag (stamp_if c.args.brings c.args.stamp)) refl _ _ c.offer_tested-told.ensures _ c.by_levels.ensures
+    by_told (offer c.args.c c.args.len c.args.tag (option_in c.args.stamp)) c.args.h t c.requires (none_set c.args.h c.if-h-eq0.true)
+    (level_offer c.args.c c.args.len c.args.tag (option_in c.args.stamp)) refl _ _ c.offer_tested-told.ensures _ c.by_levels.ensures
 
-pub returns-then-brings : goal.returns-then-brings
-returns-then-brings c =
+pub returns-then-is_some : goal.returns-then-is_some
+returns-then-is_some c =
     let t = tables c.args.members.now c.args.places.now c.args.notices.now in
-    stamp_refused c.args.h t c.requires (are_set c.args.h c.if-h-eq0.false) c.args.c c.args.len c.args.tag c.args.brings c.args.stamp c.if-brings.true _ c.refuse.ensures
+    stamp_refused c.args.h t c.requires (are_set c.args.h c.if-h-eq0.false) c.args.c c.args.len c.args.tag c.args.stamp (sym c.is_some.ensures ∙ c.if-is_some.true) _ c.say.ensures
 
 pub slice_bounds-offer_tested-end : goal.slice_bounds-offer_tested-end
 slice_bounds-offer_tested-end c =
@@ -44,6 +44,6 @@ pub returns : goal.returns
 returns c =
     let t = tables c.args.members.now c.args.places.now c.args.notices.now in
     let f = are_set c.args.h c.if-h-eq0.false in
-    by_said (offer c.args.c c.args.len c.args.tag (stamp_if c.args.brings c.args.stamp)) c.args.h t c.requires f (frame_offer c.args.c c.args.len c.args.tag)
-    (unstamped c.args.c c.args.len c.args.tag c.args.brings c.args.stamp c.if-brings.false) _ _ c.offer_tested-said.ensures _ _ c.by_frames.ensures
+    by_said (offer c.args.c c.args.len c.args.tag (option_in c.args.stamp)) c.args.h t c.requires f (frame_offer c.args.c c.args.len c.args.tag)
+    (unstamped c.args.c c.args.len c.args.tag c.args.stamp (sym c.is_some.ensures ∙ c.if-is_some.false)) _ _ c.offer_tested-said.ensures _ _ c.by_frames.ensures
     (same_members c.args.members.now (shares_inside c.args.h t c.requires f) _ _)

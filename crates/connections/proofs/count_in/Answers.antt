@@ -13,4 +13,4 @@ average_in-requires c = let a = c.args in (search rules, c.packets_in-n.ensures 
 pub returns : goal.returns
 returns c =
     let a = c.args in
-    (c.least.ensures ∙ L.count_by_both a.x a.w _ _ _ c.quotient_up-most.ensures.0 c.average_in.ensures (c.packets_in-n.ensures ∙ L.burst_is a.x) c.if-n-eq0.false, omega (arith, c.least.ensures, c.quotient_up-most.ensures.1))
+    (c.min.ensures ∙ L.count_by_both a.x a.w _ _ _ c.quotient_up-most.ensures.0 c.average_in.ensures (c.packets_in-n.ensures ∙ L.burst_is a.x) c.if-n-eq0.false, omega (arith, c.min.ensures, c.quotient_up-most.ensures.1))

@@ -14,14 +14,6 @@ returns-then-x-eq0 c =
 pub returns-then-m-x : goal.returns-then-m-x
 returns-then-m-x c = let a = c.args in (L.share_none a.l a.m a.w a.x (search rules), search rules)
 
-pub count_in-requires : goal.count_in-requires
-count_in-requires c = c.requires.1 c.if-x-eq0.false
-
-pub overflow_mul-result : goal.overflow_mul-result
-overflow_mul-result c =
-    let k = L.share_fits c.count_in.result c.cost_of.result (omega arith) (omega arith) in
-    omega arith
-
 pub returns : goal.returns
 returns c =
     let a = c.args in

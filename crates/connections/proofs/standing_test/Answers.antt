@@ -1,14 +1,10 @@
 use Rattle.connections.proofs.FigureLaws as F
 use native.Mathlib.Omega.{arith}
 use Rattle.connections.specs.Members.{connections_in}
-use borrow.Author.Rules.{rules}
 use Rattle.connections.proofs.standing_test.Goals as goal
 
 pub overflow_add-nobody : goal.overflow_add-nobody
 overflow_add-nobody c = omega (arith, (F.link_limits c.args.l c.requires.3.link_in).levels_le)
-
-pub level_test-requires : goal.level_test-requires
-level_test-requires c = (search rules, search rules, search rules, search rules, search rules, search rules, c.requires.3)
 
 pub returns : goal.returns
 returns c =

@@ -1,5 +1,5 @@
 -- `framed_calls::notice_tested` meets its contract: what the table of notices and the link decide is told.
-use mathlib.Core.Path.{◌∙◌, ap}
+use mathlib.Core.Path.{ap, ◌∙◌}
 use mathlib.Core.Bool.{Bool}
 use Rattle.frames.specs.Model.{notice}
 use Rattle.tables.specs.Notices.{notices_in}
@@ -10,15 +10,23 @@ use Rattle.framed_calls.proofs.ActLaws as A
 use Rattle.framed_calls.proofs.VerdictLaws as W
 use Rattle.framed_calls.proofs.notice_tested.Goals as goal
 
-pub take_notice-x-requires : goal.take_notice-x-requires
-take_notice-x-requires c =
+pub take_notice-requires : goal.take_notice-requires
+take_notice-requires c =
     let t = tables c.args.shares.now c.args.places.now c.args.notices.now in
     (S.shapes t (S.formed_tables c.args.h t c.requires)).notices_shape
 
-pub returns : goal.returns
-returns c =
+pub returns-in-Ok : goal.returns-in-Ok
+returns-in-Ok c =
     let a = c.args in
     let t = tables a.shares.now a.places.now a.notices.now in
     let v = ap (λ (b : Bool). notice_verdict b a.h.link.largest a.h.clock (notices_in a.notices.now) a.len) c.unset-unset.ensures in
-    A.notice_does a.h t c.requires a.len a.tag _ (v ∙ W.by_causes (notice a.len a.tag) (view a.h t) (S.sound_view a.h t c.requires))
-    _ _ _ c.take_notice-x.ensures c.say.ensures
+    A.notice_done a.h t c.requires a.len a.tag _ (v ∙ W.by_causes (notice a.len a.tag) (view a.h t) (S.sound_view a.h t c.requires))
+    c.in-Ok.eligibility _ _ c.in-Ok.ensures c.say.ensures
+
+pub returns-in-Err : goal.returns-in-Err
+returns-in-Err c =
+    let a = c.args in
+    let t = tables a.shares.now a.places.now a.notices.now in
+    let v = ap (λ (b : Bool). notice_verdict b a.h.link.largest a.h.clock (notices_in a.notices.now) a.len) c.unset-unset.ensures in
+    A.notice_refused a.h t c.requires a.len a.tag c.in-Err.why _ _ _
+    (c.in-Err.ensures.0 ∙ v ∙ W.by_causes (notice a.len a.tag) (view a.h t) (S.sound_view a.h t c.requires)) _ c.in-Err.ensures c.number.ensures c.say-in-Err.ensures

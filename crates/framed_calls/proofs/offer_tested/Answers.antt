@@ -1,16 +1,10 @@
 use mathlib.Core.Path.{refl}
-use native.Mathlib.Omega.{arith}
 use Rattle.frames.specs.Model.{offer}
-use Rattle.causes.proofs.CauseLaws.{zero_then}
 use Rattle.framed_state.specs.View.{tables}
 use Rattle.framed_calls.proofs.ActLaws as A
 use Rattle.framed_calls.proofs.offer_tested.Goals as goal
 
-pub returns-then-v-ne0 : goal.returns-then-v-ne0
-returns-then-v-ne0 c =
+pub returns-in-Err : goal.returns-in-Err
+returns-in-Err c =
     let t = tables c.args.shares.now c.args.places.now c.args.notices.now in
-    A.refused c.args.h t c.requires (offer c.args.c c.args.len c.args.tag) _ 0 _ (c.offer_verdict-v.ensures c.args.tag) c.if-v-ne0.true refl refl c.say.ensures
-
-pub accept-requires : goal.accept-requires
-accept-requires c =
-    (c.requires, zero_then _ _ (c.offer_verdict-v.ensures c.args.tag) (omega (arith, c.if-v-ne0.false)))
+    A.refused c.args.h t c.requires (offer c.args.c c.args.len c.args.tag) c.in-Err.why _ 0 _ (c.in-Err.ensures c.args.tag) c.number.ensures refl refl c.say.ensures

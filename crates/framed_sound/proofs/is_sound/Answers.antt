@@ -1,32 +1,4 @@
-use mathlib.Core.Path.{◌∙◌}
-use Rattle.frames.specs.SoundTest.{nothing_used, sound}
-use Rattle.framed_state.specs.View.{tables, view, sound_frames}
-use Rattle.framed_state.proofs.SoundLaws.{shapes}
-use Rattle.framed_sound.specs.Parts.{linked_sound}
-use Rattle.framed_sound.proofs.PartLaws as L
-use Rattle.line_tests.proofs.LineLaws as S
-use mathlib.Core.Path.{ap}
-use mathlib.Core.Bool.{not}
 use Rattle.framed_sound.proofs.is_sound.Goals as goal
 
-pub returns-then-not-tables_formed : goal.returns-then-not-tables_formed
-unfolding sound_frames
-returns-then-not-tables_formed c = S.stops _ c.tables_formed.ensures (ap not c.if-not-tables_formed.true)
-
-pub returns-then-h-eq0 : goal.returns-then-h-eq0
-unfolding sound_frames sound
-returns-then-h-eq0 c =
-    let t = tables c.args.shares.now c.args.places.now c.args.notices.now in
-    let read = L.unused_read c.args.h t c.standing-standing.ensures c.held-held.ensures c.held-waiting.ensures in
-    S.passes_on c.tables_formed.ensures (ap not c.if-not-tables_formed.false)
-    (S.without_link c.args.h.link.frame (nothing_used (view c.args.h t)) (linked_sound (view c.args.h t)) c.if-h-eq0.true (c.unused_ok.ensures ∙ read))
-
-pub linked_ok-requires : goal.linked_ok-requires
-linked_ok-requires c = let shape = S.holds c.tables_formed.ensures (ap not c.if-not-tables_formed.false) in let f = shapes (tables c.args.shares.now c.args.places.now c.args.notices.now) shape in let k = S.counted c.args.places.now c.args.notices.now f.places_shape f.notices_shape c.held-held.ensures c.held-waiting.ensures in (k.0, k.1, f.members_shape, c.standing-standing.ensures)
-
 pub returns : goal.returns
-unfolding sound_frames sound
-returns c =
-    let t = tables c.args.shares.now c.args.places.now c.args.notices.now in
-    S.passes_on c.tables_formed.ensures (ap not c.if-not-tables_formed.false)
-    (S.with_link c.args.h.link.frame (nothing_used (view c.args.h t)) (linked_sound (view c.args.h t)) c.if-h-eq0.false c.linked_ok.ensures)
+returns c = rw (← c.of.ensures, ← c.of-2.ensures, ← c.of-3.ensures) c.counted_ok.ensures

@@ -1,17 +1,11 @@
-use native.Mathlib.Omega.{arith}
-use mathlib.Core.Path.{◌∙◌}
+use Rattle.std.proofs.Common.{rules, ◌∙◌}
+use borrow.Author.Tests.{ne_eqb}
 use Rattle.shares.proofs.ShareLaws as H
-use borrow.Author.Rules.{rules}
 use Rattle.framed_sound.proofs.table_formed.Goals as goal
 
-pub returns-then-shares-ne-SHARES : goal.returns-then-shares-ne-SHARES
-returns-then-shares-ne-SHARES c = H.not_formed c.args.shares.now c.if-shares-ne-SHARES.true
+pub returns-then-table-eq-SHARES : goal.returns-then-table-eq-SHARES
+returns-then-table-eq-SHARES c =
+    (rw c.table-table.ensures at c.zero_from.ensures) ∙ H.formed_by c.args.shares.table.now c.len.result (search rules) c.len.ensures
 
-pub overflow_mul-standing : goal.overflow_mul-standing
-overflow_mul-standing c = omega (arith, H.shares_end c.args.shares.now)
-
-pub zero_from-requires : goal.zero_from-requires
-zero_from-requires c = omega (arith, H.shares_end c.args.shares.now)
-
-pub returns : goal.returns
-returns c = c.zero_from.ensures ∙ H.formed_by c.args.shares.now c.args.standing (search rules) c.requires
+pub returns-else-table-eq-SHARES : goal.returns-else-table-eq-SHARES
+returns-else-table-eq-SHARES c = ne_eqb _ _ c.if-table-eq-SHARES.false ∙ H.not_formed c.args.shares.table.now (search rules)

@@ -1,19 +1,25 @@
+use Rattle.std.proofs.Common.{ap, ◌≡◌, ◌∙◌, sym, eqb}
+use borrow.Author.Tests.{tests}
+use borrow.Author.Rules.{rules}
+use Rattle.std.proofs.lemmas.Iterator.{YieldsList-from_slice}
+use Rattle.std.proofs.lemmas.Iterator.Search.{all_from_yields_List}
+use Rattle.std.specs.List.{list_all}
+use Rattle.limits.specs.Zeros.{zeros}
 use Rattle.limits.proofs.ZeroLaws as L
-use mathlib.Core.Path.{sym, ◌∙◌}
-use native.Mathlib.Omega.{arith}
 use Rattle.limits.proofs.zero_from.Goals as goal
 
-pub returns-then-not-sixteen_zero : goal.returns-then-not-sixteen_zero
-returns-then-not-sixteen_zero c =
+pub returns-then-all : goal.returns-then-all
+returns-then-all c =
     let a = c.args in
-    let i = c.loop-i.i in
-    L.block_stop a.t.now i 16 (sym c.sixteen_zero.ensures ∙ c.if-not-sixteen_zero.true) ∙ c.loop-i.invariant.1
+    let blocks : c.all.result ≡ list_all zeros c.as_chunks.result.0.now =
+    all_from_yields_List zeros _ _ c.all.result c.all.ensures.ran (YieldsList-from_slice c.as_chunks.result.0.now cc) (λ x b q k. search (rules, tests)) in
+    let rest : c.all-then-all.result ≡ zeros c.as_chunks.result.1.now =
+    all_from_yields_List (λ x. eqb x 0) _ _ c.all-then-all.result c.all-then-all.ensures.ran (YieldsList-from_slice c.as_chunks.result.1.now cc) (λ x b q k. search (rules, tests)) in
+    rest ∙ ap zeros c.as_chunks.ensures.back ∙ L.blocks_zero a.t.now a.from _ (ap (list_all zeros) (sym c.as_chunks.ensures.front) ∙ sym blocks ∙ c.if-all.true)
 
-pub loop-i-preserved : goal.loop-i-preserved
-loop-i-preserved c =
+pub returns-else-all : goal.returns-else-all
+returns-else-all c =
     let a = c.args in
-    let i = c.loop-i.i in
-    (omega arith, L.block_next a.t.now i 16 (sym c.sixteen_zero.ensures ∙ c.if-not-sixteen_zero.false) ∙ c.loop-i.invariant.1)
-
-pub returns : goal.returns
-returns c = c.zero_one_by_one.ensures ∙ c.loop-i.invariant.1
+    let blocks : c.all.result ≡ list_all zeros c.as_chunks.result.0.now =
+    all_from_yields_List zeros _ _ c.all.result c.all.ensures.ran (YieldsList-from_slice c.as_chunks.result.0.now cc) (λ x b q k. search (rules, tests)) in
+    c.if-all.false ∙ L.block_stop a.t.now a.from _ (ap (list_all zeros) (sym c.as_chunks.ensures.front) ∙ sym blocks ∙ c.if-all.false)

@@ -12,7 +12,7 @@ pub returns-then-w-eq0 : goal.returns-then-w-eq0
 returns-then-w-eq0 c =
     let a = c.args in
     let k = L.still a.silence a.w a.places.now a.notices.now c.requires.table c.requires.notices (search rules) in
-    let f = c.free.ensures ∙ ap (λ (d : ℕ). wire_of (free_line [] [] d)) c.without.ensures in
+    let f = c.free.ensures ∙ ap (λ (d : ℕ). wire_of (free_line [] [] d)) c.saturating_sub.ensures in
     (c.none_gone.ensures ∙ ap L.none_gone f ∙ k.0, k.1, k.2)
 
 pub returns-then-w-eq-NOTICE_NUMBER : goal.returns-then-w-eq-NOTICE_NUMBER

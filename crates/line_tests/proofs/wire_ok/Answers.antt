@@ -1,15 +1,11 @@
 use Rattle.rules.specs.SoundLine.{wire_sound}
 use Rattle.line_tests.proofs.LineLaws as S
-use mathlib.Core.Path.{ap}
-use mathlib.Core.Bool.{not}
 use Rattle.line_tests.proofs.wire_ok.Goals as goal
 
-pub returns-then-not-notices_ok : goal.returns-then-not-notices_ok
+pub returns-then-notices_ok : goal.returns-then-notices_ok
 unfolding wire_sound
-returns-then-not-notices_ok c =
-    S.stops _ (S.notices_all c.args.notices.now c.requires.1 c.notices_ok.ensures) (ap not c.if-not-notices_ok.true)
+returns-then-notices_ok c = S.both_go (S.notices_all c.args.notices.table.now c.requires c.notices_ok.ensures) c.if-notices_ok.true c.line_ok.ensures
 
-pub returns : goal.returns
+pub returns-else-notices_ok : goal.returns-else-notices_ok
 unfolding wire_sound
-returns c =
-    S.passes_on (S.notices_all c.args.notices.now c.requires.1 c.notices_ok.ensures) (ap not c.if-not-notices_ok.false) c.line_ok.ensures
+returns-else-notices_ok c = S.both_stop _ (S.notices_all c.args.notices.table.now c.requires c.notices_ok.ensures) c.if-notices_ok.false

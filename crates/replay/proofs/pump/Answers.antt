@@ -1,25 +1,19 @@
-use Rattle.tables.specs.Lent.{tables}
+use Rattle.steps.specs.Tie.{lent}
+use mathlib.Core.Path.{refl, sym, ◌∙◌}
 use Rattle.replay.proofs.Standing.{may_go, does_nothing, does_all}
 use Rattle.replay.proofs.pump.Goals as goal
 
-pub returns-then-not-goes_on : goal.returns-then-not-goes_on
-returns-then-not-goes_on c =
+pub returns-in-Some : goal.returns-in-Some
+returns-in-Some c =
     let a = c.args in
-    let r = c.ready-k.ensures in
-    let g = c.goes_on.ensures in
-    does_nothing a.c (tables a.members.now a.places.now a.notices.now) a.out.now r g _ (c.if-not-goes_on.true)
+    record { steps = does_nothing a.c (lent a.t.now) a.out.now _ _ (sym c.in-Some.is ∙ c.refused.ensures); same_slices = (refl, refl, refl) }
 
 pub run-requires : goal.run-requires
 run-requires c =
     let a = c.args in
-    let r = c.ready-k.ensures in
-    let g = c.goes_on.ensures in
-    may_go a.c (tables a.members.now a.places.now a.notices.now) a.out.now r g (c.if-not-goes_on.false)
+    may_go a.c (lent a.t.now) a.out.now (sym c.in-None.is ∙ c.refused.ensures)
 
-pub returns : goal.returns
-returns c =
+pub returns-in-None : goal.returns-in-None
+returns-in-None c =
     let a = c.args in
-    let r = c.ready-k.ensures in
-    let g = c.goes_on.ensures in
-    let s = c.run.ensures in
-    does_all a.c (tables a.members.now a.places.now a.notices.now) a.out.now r g (c.if-not-goes_on.false) s
+    record { steps = does_all a.c (lent a.t.now) a.out.now _ _ _ _ (sym c.in-None.is ∙ c.refused.ensures) c.run.ensures.makes; same_slices = c.run.ensures.same_slices }

@@ -4,15 +4,17 @@ use Rattle.tables.proofs.PlacesLaws as P
 use Prim.Native.Nat.{◌+◌}
 use native.Mathlib.Omega.{arith}
 use mathlib.Core.Path.{refl, sym, ap, ◌∙◌}
-use mathlib.Core.Bool.{true, false}
+use mathlib.Core.Option.{none}
 use borrow.Author.Rules.{rules}
-use borrow.Author.Tests.{not-true, not-false}
+use Rattle.std.specs.Prelude.{Option, Some}
 use Rattle.rules.specs.declared.Packet.{Packet}
-use Rattle.tables.specs.Places.{row_at, no_packet}
+use Rattle.tables.specs.Places.{row_at}
+use Rattle.tables.specs.Options.{option_of}
+use Rattle.service.specs.declared.Lead.{Lead}
 use Rattle.tables.proofs.PlacesLaws.{rows_end}
 use Rattle.service.specs.Candidates.{level_in, named}
 use Rattle.service.proofs.ChoiceLaws as L
-use Rattle.service.proofs.LeadLaws.{named_one, named_none, nothing_leads}
+use Rattle.service.proofs.LeadLaws.{leads_none}
 use Rattle.service.proofs.choose.Goals as goal
 
 pub count-n-requires : goal.count-n-requires
@@ -25,8 +27,7 @@ pub loop-i-init : goal.loop-i-init
 loop-i-init c =
     let a = c.args in
     let r = c.passed_over-i.ensures in
-    let w = L.walk_start (level_in a.members.now) a.clock a.places.now no_packet refl in
-    (r.1, L.pass (level_in a.members.now) a.clock a.places.now 0 c.passed_over-i.result _ r.0 (omega (arith, r.1, c.count-n.ensures)) r.2 w, nothing_leads a.members.now a.places.now)
+    (r.1, L.pass (level_in a.members.now) a.clock a.places.now 0 c.passed_over-i.result none r.0 (omega (arith, r.1, c.count-n.ensures)) r.2 refl, leads_none a.members.now a.places.now)
 
 pub lead_with-lead-requires : goal.lead_with-lead-requires
 lead_with-lead-requires c =
@@ -49,21 +50,20 @@ loop-i-preserved c =
     let w = L.walk (level_in a.members.now) a.clock a.places.now l.i (named a.places.now l.lead) (named a.places.now r.result) (row_at a.places.now l.i) (omega (arith, n)) refl r.ensures.0 l.invariant.1 in
     (p.1, L.pass (level_in a.members.now) a.clock a.places.now (l.i + 1) c.passed_over-i-in-loop-i.result (named a.places.now r.result) p.0 (omega (arith, p.1, n)) p.2 w, r.ensures.1)
 
-pub returns-then-not-lead : goal.returns-then-not-lead
-returns-then-not-lead c =
-    let a = c.args in
-    let l = c.loop-i in
-    ap (λ (q : Packet). record { found = false; packet = q }) c.no_packet.ensures
-    ∙ sym (named_none a.places.now l.lead (not-true _ c.if-not-lead.true))
-    ∙ L.walked (level_in a.members.now) a.clock a.places.now l.i (named a.places.now l.lead) (omega (arith, c.count-n.ensures, l.invariant.0)) l.invariant.1
-
 pub row-requires : goal.row-requires
-row-requires c = c.loop-i.invariant.2.inside (not-false _ c.if-not-lead.false)
+row-requires c = (c.loop-i.invariant.2 c.in-Some.best c.in-Some.is).inside
 
-pub returns : goal.returns
-returns c =
+pub returns-in-Some : goal.returns-in-Some
+returns-in-Some c =
     let a = c.args in
     let l = c.loop-i in
-    ap (λ (q : Packet). record { found = true; packet = q }) c.row.ensures
-    ∙ sym (named_one a.places.now l.lead (not-false _ c.if-not-lead.false))
-    ∙ L.walked (level_in a.members.now) a.clock a.places.now l.i (named a.places.now l.lead) (omega (arith, c.count-n.ensures, l.invariant.0)) l.invariant.1
+    ap (λ (q : Packet). Some q) c.row.ensures
+    ∙ ap (λ (o : Option Lead). option_of (named a.places.now o)) (sym c.in-Some.is)
+    ∙ ap option_of (L.walked (level_in a.members.now) a.clock a.places.now l.i (named a.places.now l.lead) (omega (arith, c.count-n.ensures, l.invariant.0)) l.invariant.1)
+
+pub returns-in-None : goal.returns-in-None
+returns-in-None c =
+    let a = c.args in
+    let l = c.loop-i in
+    ap (λ (o : Option Lead). option_of (named a.places.now o)) (sym c.in-None.is)
+    ∙ ap option_of (L.walked (level_in a.members.now) a.clock a.places.now l.i (named a.places.now l.lead) (omega (arith, c.count-n.ensures, l.invariant.0)) l.invariant.1)

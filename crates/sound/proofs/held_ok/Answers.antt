@@ -14,7 +14,7 @@ unfolding rows_sound
 returns-then-h-gt-CLOCK_END c = λ q. C.fails _ _ (lt-leb c.args.h.clock clock_end (search rules))
 
 pub rows_ok-requires : goal.rows_ok-requires
-rows_ok-requires c = (W.members_long c.args.members.now c.requires.1, c.requires.0.count)
+rows_ok-requires c = W.members_long c.args.members.now c.requires.1
 
 pub returns-then-not-rows_ok : goal.returns-then-not-rows_ok
 unfolding rows_sound
@@ -24,8 +24,8 @@ returns-then-not-rows_ok c =
 
 pub paced_ok-requires : goal.paced_ok-requires
 paced_ok-requires c =
-    let owners = S.rows_owned c.args.members.now c.args.places.now c.args.h.clock (S.holds c.rows_ok.ensures (ap not c.if-not-rows_ok.false)) in
-    record { held_value = (c.requires.0.count, c.requires.0.few); members_value = (W.members_rows c.args.members.now c.requires.1, owners, c.requires.2) }
+    let owners = S.rows_owned c.args.members.now c.args.places.table.now c.args.h.clock (S.holds c.rows_ok.ensures (ap not c.if-not-rows_ok.false)) in
+    record { held_value = c.requires.0; members_value = (W.members_rows c.args.members.now c.requires.1, owners, c.requires.2) }
 
 pub returns : goal.returns
 unfolding rows_sound

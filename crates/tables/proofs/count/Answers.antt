@@ -1,16 +1,17 @@
-use Prim.Native.Nat.{◌+◌, ◌-◌, ◌/◌}
-use native.Mathlib.Omega.{arith}
-use Rattle.tables.proofs.PlacesLaws.{used_below, unused_above}
+use Rattle.std.proofs.Common.{◌≡◌, sym, subst, List, ℕ, length, ◌≤◌, true, false}
+use borrow.Author.Rules.{rules}
+use borrow.Author.Tests.{tests}
+use Rattle.std.proofs.lemmas.List.Sorted.{IsPartitionPoint-from_clause}
+use Rattle.std.specs.List.Sorted.{IsPartitionedBy, IsPartitionPoint}
+use Rattle.tables.proofs.RowsLaws as L
 use Rattle.tables.proofs.count.Goals as goal
 
-pub loop-low-init : goal.loop-low-init
-loop-low-init c = (omega arith, c.reach-high.ensures.0, c.reach-high.ensures.1)
-
-pub loop-low-preserved-then-table-mid-eq0 : goal.loop-low-preserved-then-table-mid-eq0
-loop-low-preserved-then-table-mid-eq0 c = let l = c.loop-low in (l.invariant.0, used_below c.args.table.now (l.low + (l.high - l.low) / 2) c.if-table-mid-eq0.true, omega (arith, l.invariant.2))
-
-pub loop-low-preserved : goal.loop-low-preserved
-loop-low-preserved c = let l = c.loop-low in let k = unused_above c.args.table.now (l.low + (l.high - l.low) / 2) c.requires c.if-table-mid-eq0.false in (omega arith, l.invariant.1, l.invariant.2)
-
 pub returns : goal.returns
-returns c = let l = c.loop-low in omega (arith, l.invariant.0, l.invariant.1)
+returns c =
+    let t = c.args.table.now in
+    let front = c.as_chunks.ensures.front in
+    let P : List (List ℕ) → Type 0 = λ xs. IsPartitionedBy L.is_used xs in
+    let at = IsPartitionPoint-from_clause L.is_used c.as_chunks.result.0.now c.partition_point.result c.partition_point.ensures.partitioned (subst P (sym front) (L.parted t c.requires)) (λ a r f k. search (rules, tests)) in
+    let Q : List (List ℕ) → Type 0 = λ xs. IsPartitionPoint (λ y. L.is_used y ≡ true) (λ y. L.is_used y ≡ false) xs c.partition_point.result in
+    let inside : List (List ℕ) → Type 0 = λ xs. c.partition_point.result ≤ length xs in
+    L.point_is t c.requires c.partition_point.result (subst inside front c.partition_point.ensures.bound) (subst Q front at)

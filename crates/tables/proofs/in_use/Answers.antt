@@ -1,7 +1,5 @@
 -- `tables::in_use` meets its contract: up to the first row whose second number is 0.
 use Rattle.tables.proofs.TableLaws as L
-use lib.ListN.{length}
-use native.Mathlib.Nat.{div-le_self}
 use native.Mathlib.Omega.{arith}
 use mathlib.Core.Path.{sym}
 use borrow.Author.Rules.{rules}
@@ -25,17 +23,11 @@ returns-then-table-width-eq0 c =
     let a = c.args in
     sym (L.held_stop a.width a.table.now (omega arith) c.loop-i.i (search rules) c.if-table-width-eq0.true)
 
-pub overflow_add-i : goal.overflow_add-i
-overflow_add-i c =
-    let a = c.args in
-    let k = div-le_self (length a.table.now) a.width in
-    search rules
-
 pub loop-i-preserved : goal.loop-i-preserved
 loop-i-preserved c =
     let a = c.args in
-    let k = L.held_more a.width a.table.now (omega arith) c.loop-i.i (omega arith) c.if-table-width-eq0.false (search rules) in
-    (omega arith, search rules)
+    let k = L.held_more a.width a.table.now (omega arith) c.loop-i.i (omega arith) c.if-table-width-eq0.false c.loop-i.invariant in
+    omega arith
 
 pub returns : goal.returns
 returns c = let a = c.args in omega (arith, L.used_le a.width a.table.now)

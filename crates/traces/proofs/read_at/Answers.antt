@@ -10,12 +10,9 @@ use Rattle.traces.proofs.read_at.Goals as goal
 
 pub returns-then-buf-at : goal.returns-then-buf-at
 unfolding read_kinds starts
-returns-then-buf-at c =
-    let a = c.args in
-    rw (drop_of_length-le a.buf.now {i = a.at} (omega arith)) c.nothing.ensures
+returns-then-buf-at c = let a = c.args in rw (drop_of_length-le a.buf.now {i = a.at} (omega arith))
 
 pub returns : goal.returns
 returns c =
     let a = c.args in
-    let e = take_all (length a.buf.now - a.at) (drop a.at a.buf.now) (simp length-drop (omega arith)) in
-    c.read.ensures ∙ ap read_trace e
+    c.read.ensures ∙ ap read_trace (take_all (length a.buf.now - a.at) (drop a.at a.buf.now) (simp length-drop (omega arith)))

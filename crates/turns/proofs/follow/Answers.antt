@@ -26,7 +26,7 @@ returns g c =
     let P = c.requires in
     let d = sym c.reads.ensures ∙ c.if-reads.false in
     let h : a.from ≤ a.to = omega (arith, P.0.order) in
-    rw c.after_steps-end.ensures (record {
+    rw c.after_steps.ensures (record {
       followed = followed_still a.r (window a.buf.now a.from a.to) a.last _ a.taken a.from a.to _ d
           (used_up a.buf.now a.from a.to a.r.used h P.0.inside (omega (arith, P.0.order)))
           (window_drop a.buf.now a.from a.to a.r.used h);

@@ -4,7 +4,7 @@ use mathlib.Core.Path.{sym, subst}
 use Rattle.rules.specs.declared.Connection.{Connection}
 use Rattle.rules.specs.Limits.{beyond_32_bits}
 use Rattle.rules.specs.Admission.{distance}
-use Rattle.connections.specs.Stamps.{stamp_if}
+use Rattle.tables.specs.Options.{option_in}
 use Rattle.connections.proofs.WrittenLaws.{rows_length}
 use Rattle.connections.proofs.FigureLaws.{entry_limits}
 use Rattle.connections.proofs.RegulatorLaws.{member_facts}
@@ -14,7 +14,7 @@ use Rattle.calls.proofs.verdicts.too_far.Goals as goal
 pub returns-then-not-is_on : goal.returns-then-not-is_on
 returns-then-not-is_on c =
     let a = c.args in
-    W.far_off a.l a.members.now a.c a.clock (stamp_if a.brings a.stamp) c.is_on.result c.is_on.ensures (c.if-not-is_on.true)
+    W.far_off a.l a.members.now a.c a.clock (option_in a.stamp) c.is_on.result c.is_on.ensures (c.if-not-is_on.true)
 
 pub member_at-m-requires : goal.member_at-m-requires
 member_at-m-requires c = omega (arith, c.requires.1, rows_length c.args.members.now c.requires.0)
@@ -35,4 +35,4 @@ returns c =
     let a = c.args in
     let m = member_facts a.l a.members.now a.c c.member_at-m.result c.requires.0 c.requires.1 c.requires.3 c.member_at-m.ensures in
     let on = c.is_on in
-    W.far_on a.l a.members.now a.c a.clock (stamp_if a.brings a.stamp) on.result on.ensures (c.if-not-is_on.false) c.member_at-m.result m c.farthest.result c.eligibility_by-e.result c.farthest.ensures c.eligibility_by-e.ensures
+    W.far_on a.l a.members.now a.c a.clock (option_in a.stamp) on.result on.ensures (c.if-not-is_on.false) c.member_at-m.result m c.farthest.result c.eligibility_by-e.result c.farthest.ensures c.eligibility_by-e.ensures

@@ -7,7 +7,7 @@ use mathlib.Core.Bool.{true}
 use mathlib.Core.List.{List}
 use mathlib.Core.Path.{◌≡◌, sym, ap, subst, ◌∙◌}
 use Prim.Native.Nat.{ℕ}
-use lib.ListN.{length, get_or, set}
+use lib.ListN.{get_or, set}
 use Rattle.connections.specs.Closing.{freed}
 use Rattle.connections.specs.Members.{no_member, members_in, used_in, first_in, written_rows, rows_formed}
 use Rattle.connections.proofs.closing.clear_each.Goals as goal
@@ -29,13 +29,6 @@ loop-i-preserved c =
           ∙ ap (S.rows_freed a.members.now a.time a.clock) (sym (add-one i)),
       omega arith,
     )
-
-pub shape_of-members : goal.shape_of-members
-shape_of-members c =
-    let t = c.args.members.now in
-    ap length c.loop-i.invariant.0
-    ∙ W.rows_length (S.rows_freed t c.args.time c.args.clock c.loop-i.i) (S.rows_freed_formed t c.requires.0 c.args.time c.args.clock c.loop-i.i)
-    ∙ sym (W.rows_length t c.requires.0)
 
 pub returns : goal.returns
 returns c =

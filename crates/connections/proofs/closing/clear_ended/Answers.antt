@@ -1,3 +1,4 @@
+use Rattle.connections.proofs.MemberLaws as M
 use Rattle.connections.proofs.SweepLaws as S
 use Rattle.connections.proofs.WrittenLaws as W
 use native.Mathlib.Omega.{arith}
@@ -7,6 +8,7 @@ use Rattle.rules.specs.Service.{charge_over}
 use Rattle.connections.specs.Members.{put_member, member_formed}
 use Rattle.connections.specs.Rows.{past_of}
 use Rattle.connections.specs.declared.Member.{Member}
+use borrow.Author.Rules.{rules}
 use Rattle.connections.proofs.closing.clear_ended.Goals as goal
 
 pub number-requires : goal.number-requires
@@ -32,7 +34,7 @@ returns-then-charge_over c =
     let t = c.args.members.now in
     let e = S.ended_by_charge t c.args.time c.args.clock c.args.i (λ z. c.if-number-eq0.false (c.number.ensures ∙ z)) in
     c.put_member.ensures
-    ∙ ap (put_member t c.args.i) c.no_member.ensures
+    ∙ ap (put_member t c.args.i) (M.blank c.default.result (search rules) (search rules) (search rules) (search rules))
     ∙ S.row_goes t c.requires.0 c.args.time c.args.clock c.args.i c.requires.1
     (e ∙ ap (λ (m : Member). charge_over c.args.time c.args.clock (past_of m)) (sym c.member_at.ensures) ∙ sym c.charge_over.ensures ∙ c.if-charge_over.true)
 

@@ -7,7 +7,7 @@ pub returns-then-number-ne0 : goal.returns-then-number-ne0
 returns-then-number-ne0 c =
     let a = c.args in
     let k = c.loop-k.k in
-    L.owners_end a.members.now k (search rules) (search rules) (search rules) c.number.result c.number.ensures c.if-number-ne0.true
+    omega (arith, L.owners_end a.members.now k (search rules) (search rules) (search rules) c.number.result c.number.ensures c.if-number-ne0.true)
 
 pub loop-k-preserved : goal.loop-k-preserved
 loop-k-preserved c =

@@ -5,6 +5,3 @@ use Rattle.connections.proofs.closing.owners_up_to.Given as goal
 
 abbrev pub invariant-loop-k : goal.invariant-loop-k
 invariant-loop-k l = (used_by (connections_in l.members) ≤ l.k) × (l.k ≤ max_connections)
-
-abbrev pub decreases-loop-k : goal.decreases-loop-k
-decreases-loop-k l = l.k

@@ -13,4 +13,4 @@ pub returns : goal.returns
 returns c =
     let a = c.args in
     let n : length a.m.ticks ≡ max_remembered = search rules in
-    R.before_some a.m a.k a.n a.x c.if-n-eq0.false (search rules) (omega (arith, n)) _ _ c.wide.ensures.0 c.wide-2.ensures.0
+    R.before_some a.m a.k a.n a.x c.if-n-eq0.false (search rules) (omega (arith, n)) _ _ c.from.ensures c.from-2.ensures

@@ -10,4 +10,4 @@ pub after_nth-requires-2 : goal.after_nth-requires-2
 after_nth-requires-2 c = let a = c.args in (search rules, search rules, omega (arith, c.packets_in-n.ensures, L.burst_is (connection_of a.m)))
 
 pub returns : goal.returns
-returns c = let a = c.args in c.greatest.ensures ∙ R.earliest_of a.m a.k _ _ _ c.packets_in-n.ensures c.after_nth.ensures c.after_nth-2.ensures
+returns c = let a = c.args in c.max.ensures ∙ R.earliest_of a.m a.k _ _ _ c.packets_in-n.ensures c.after_nth.ensures c.after_nth-2.ensures

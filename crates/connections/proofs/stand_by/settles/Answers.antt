@@ -9,7 +9,7 @@ use Rattle.connections.proofs.stand_by.settles.Goals as goal
 pub returns-then-n-eq0 : goal.returns-then-n-eq0
 returns-then-n-eq0 c =
     let a = c.args in
-    S.settled_without a.m a.now c.packets_in-n.result c.packets_in-n.ensures c.if-n-eq0.true _ _ c.wide.ensures.0 c.after_nth.ensures
+    S.settled_without a.m a.now c.packets_in-n.result c.packets_in-n.ensures c.if-n-eq0.true _ _ c.from.ensures c.after_nth.ensures
 
 pub returns : goal.returns
 returns c =

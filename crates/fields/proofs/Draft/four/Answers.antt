@@ -1,7 +1,9 @@
--- `fields::Draft::four` meets its contract: the halves of a number are its pairs of bytes.
-use Rattle.fields.proofs.DraftLaws.{halves, little_four}
-use borrow.Author.Rules.{rules}
+-- `fields::Draft::four` meets its contract: byte by byte, from the low one on.
+use Rattle.std.proofs.Common.{ap, ◌++◌, append_assoc}
+use Rattle.fields.proofs.DraftLaws.{four_bytes}
 use Rattle.fields.proofs.Draft.four.Goals as goal
 
 pub returns : goal.returns
-returns c = let v = c.args.v in halves v (search rules) c.two.ensures c.two-2.ensures (little_four v (search rules))
+returns c =
+    rw (c.one-4.ensures, c.one-3.ensures, c.one-2.ensures, c.one.ensures, c.to_le_bytes-bytes.ensures)
+    (simp append_assoc (ap (λ l. c.args.self ++ l) (simp append_assoc at (four_bytes c.args.v))))

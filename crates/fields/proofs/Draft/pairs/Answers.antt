@@ -1,35 +1,24 @@
 -- `fields::Draft::pairs` meets its contract: the draft holds the numbers passed so far.
-use Rattle.fields.proofs.NumberLaws.{sum_pairs}
-use Prim.Native.Nat.{◌<◌}
-use lib.ListN.{length, take, replicate, get_or}
-use native.Mathlib.Numerals.{add-one}
-use mathlib.Core.List.{append-nil, append_assoc}
-use mathlib.Core.Path.{◌≡◌, sym}
-use Rattle.fields.specs.Drafts.{held}
+use Rattle.std.proofs.Common.{arith, rules, sym, ap, ◌∙◌, length, take, replicate, get_or, append_assoc, append-nil, add-one, length-append}
 use Rattle.fields.specs.Numbers.{little, put_fields}
+use Rattle.fields.proofs.NumberLaws.{length_put, sum_pairs}
 use Rattle.fields.proofs.DraftLaws.{put_snoc}
-use native.Mathlib.Omega.{arith}
-use borrow.Author.Rules.{rules}
 use Rattle.fields.proofs.Draft.pairs.Goals as goal
 
-pub loop-i-init : goal.loop-i-init
+pub loop-number-init : goal.loop-number-init
 unfolding put_fields
-loop-i-init c = (search rules, search rules, search rules, sym (append-nil _))
+loop-number-init c = sym (append-nil c.args.self)
 
-pub loop-i-preserved : goal.loop-i-preserved
-loop-i-preserved c =
-    let i = c.loop-i.i in
-    let d = c.loop-i.draft in
-    let xs = c.args.numbers in
-    let h : i < length xs = search rules in (
-      search rules,
-      search rules,
-      omega (arith, c.two-draft.ensures.count),
-      rw (add-one i, put_snoc i xs h, c.two-draft.ensures.bytes, c.loop-i.invariant.3) (append_assoc (held c.args.self) (put_fields (replicate i 2) (take i xs)) (little 2 (get_or xs i 0))),
-    )
+pub two-draft-requires : goal.two-draft-requires
+two-draft-requires c =
+    let i = c.loop-number.number-index in
+    let xs = take i c.args.numbers.now in
+    let e = ap length c.loop-number.invariant ∙ length-append c.args.self (put_fields (replicate i 2) xs) in
+    omega (arith, e, length_put (replicate i 2) xs, sum_pairs i)
 
-pub returns : goal.returns
-returns c =
-    let n = c.args.n in
-    let e : c.loop-i.i ≡ n = omega arith in
-    record { bytes = rw e at c.loop-i.invariant.3; count = omega (arith, sum_pairs n) }
+pub loop-number-preserved : goal.loop-number-preserved
+loop-number-preserved c =
+    let i = c.loop-number.number-index in
+    let xs = c.args.numbers.now in
+    rw (add-one i, put_snoc i xs (search rules), c.two-draft.ensures, c.loop-number.invariant)
+    (append_assoc c.args.self (put_fields (replicate i 2) (take i xs)) (little 2 (get_or xs i 0)))

@@ -1,13 +1,6 @@
-use Prim.Native.Nat.{◌≤◌, ◌+◌, ◌-◌, ◌*◌}
-use lib.ListN.{length, take, replicate}
-use mathlib.Core.List.{◌++◌}
-use mathlib.Core.Path.{◌≡◌}
-use Rattle.fields.specs.Drafts.{held}
+use Rattle.std.proofs.Common.{◌≡◌, ◌++◌, take, replicate}
 use Rattle.fields.specs.Numbers.{put_fields}
 use Rattle.fields.proofs.Draft.pairs.Given as goal
 
-abbrev pub invariant-loop-i : goal.invariant-loop-i
-invariant-loop-i l = (l.i ≤ l.n) × (length l.numbers ≡ 8) × (l.draft.len ≡ l.initial.draft.len + 2 * l.i) × (held l.draft ≡ held l.initial.draft ++ put_fields (replicate l.i 2) (take l.i l.numbers))
-
-abbrev pub decreases-loop-i : goal.decreases-loop-i
-decreases-loop-i l = l.n - l.i
+abbrev pub invariant-loop-number : goal.invariant-loop-number
+invariant-loop-number l = l.draft ≡ l.initial.draft ++ put_fields (replicate l.number-index 2) (take l.number-index l.numbers)

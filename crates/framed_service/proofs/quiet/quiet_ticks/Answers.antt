@@ -22,4 +22,4 @@ pub returns : goal.returns
 returns c =
     let t = tables c.args.shares.now c.args.places.now c.args.notices.now in
     some_quiet (view c.args.h t) (sound_view c.args.h t c.requires) c.args.left c.if-h-eq0.false _ _ _
-    c.quiet_for.ensures c.least-rest.ensures c.least_short.ensures
+    c.quiet_for.ensures c.min-rest.ensures c.min.ensures

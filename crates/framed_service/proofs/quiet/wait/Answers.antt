@@ -2,21 +2,12 @@
 use Prim.Native.Nat.{ℕ, ◌-◌, min}
 use native.Mathlib.Omega.{arith}
 use mathlib.Core.Path.{sym, ap, ◌∙◌}
-use lib.ListN.{length}
-use borrow.Author.Tests.{eqb-true}
 use Rattle.rules.specs.declared.Packet.{Packet}
 use Rattle.rules.specs.Limits.{clock_end}
-use Rattle.tables.specs.Places.{rows}
 use Rattle.tables.proofs.PlacesLaws.{rows_end}
 use Rattle.line.proofs.LineLaws.{some_waits}
-use Rattle.framed_service.proofs.QuietCases.{no_row, first_row}
+use Rattle.framed_service.proofs.QuietCases.{first_row}
 use Rattle.framed_service.proofs.quiet.wait.Goals as goal
-
-pub returns-then-none : goal.returns-then-none
-returns-then-none c =
-    let a = c.args in
-    c.without.ensures
-    ∙ ap (λ (k : ℕ). k - a.clock) (no_row a.places.now (eqb-true (length (rows a.places.now)) 0 (sym c.none.ensures ∙ c.if-none.true)))
 
 pub row-first-requires : goal.row-first-requires
 row-first-requires c =
@@ -26,8 +17,8 @@ row-first-requires c =
 pub returns : goal.returns
 returns c =
     let a = c.args in
-    c.without-2.ensures
+    c.saturating_sub-2.ensures
     ∙ ap (λ (k : ℕ). k - a.clock)
-    (c.least.ensures
+    (c.min.ensures
     ∙ ap (λ (p : Packet). min p.eligibility clock_end) c.row-first.ensures
     ∙ first_row a.places.now (some_waits a.places.now (sym c.none.ensures ∙ c.if-none.false)) c.requires)

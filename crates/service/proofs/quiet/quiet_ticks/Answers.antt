@@ -30,5 +30,5 @@ pub returns : goal.returns
 returns c =
     let a = c.args in
     some_quiet (view a.h (tables a.members.now a.places.now a.notices.now)) c.requires.0 a.left c.if-h-eq0.false _
-    (quiet_parts _ _ _ _ _ _ _ a.left _ c.quiet_for.ensures c.least-still.ensures
-    (c.charged_for.ensures ∙ ap (λ (f : ℕ). charged_for f (charge_time a.h.link) a.h.clock) (first_is a.members.now c.requires.3)) c.least_wide-rest.ensures c.least_short.ensures)
+    (quiet_parts _ _ _ _ _ _ _ a.left _ c.quiet_for.ensures c.min-still.ensures
+    (c.charged_for.ensures ∙ ap (λ (f : ℕ). charged_for f (charge_time a.h.link) a.h.clock) (first_is a.members.now c.requires.3)) c.min-rest.ensures c.min.ensures)

@@ -12,10 +12,10 @@ pub first_of_fours-first-requires : goal.first_of_fours-first-requires
 first_of_fours-first-requires c = omega (arith, c.count-n.ensures)
 
 pub loop-i-init : goal.loop-i-init
-loop-i-init c = let r = c.first_of_fours-first.ensures in (omega arith, r.0, r.1)
+loop-i-init c = c.first_of_fours-first.ensures
 
-pub overflow_mul-i-in-loop-i : goal.overflow_mul-i-in-loop-i
-overflow_mul-i-in-loop-i c = let k = rows_end c.args.places.now in let e = c.count-n.ensures in search rules
+pub overflow_mul-i : goal.overflow_mul-i
+overflow_mul-i c = let k = rows_end c.args.places.now in let e = c.count-n.ensures in search rules
 
 pub overflow_add-i : goal.overflow_add-i
 overflow_add-i c = let k = rows_end c.args.places.now in let e = c.count-n.ensures in search rules
@@ -30,11 +30,11 @@ pub loop-i-preserved : goal.loop-i-preserved
 loop-i-preserved c =
     let a = c.args in
     let l = c.loop-i in
-    let e = c.least-first.ensures in
-    (search rules, omega (arith, e, l.invariant.1), rw e (waits_more a.places.now a.clock l.i l.first (omega (arith, c.count-n.ensures)) l.invariant.2))
+    let e = c.min-first.ensures in
+    (omega (arith, e, l.invariant.0), rw e (waits_more a.places.now a.clock l.i l.first (omega (arith, c.count-n.ensures)) l.invariant.1))
 
 pub returns : goal.returns
 returns c =
     let a = c.args in
     let l = c.loop-i in
-    rw (← waits_all a.places.now a.clock l.first l.i l.invariant.1 (omega (arith, c.count-n.ensures, l.invariant.0)) l.invariant.2) c.without.ensures
+    rw (← waits_all a.places.now a.clock l.first l.i l.invariant.0 (omega (arith, c.count-n.ensures)) l.invariant.1) c.saturating_sub.ensures

@@ -1,10 +1,7 @@
-use Prim.Native.Nat.{◌≤◌, ◌-◌}
+use Prim.Native.Nat.{◌≤◌}
 use Rattle.rules.specs.Limits.{clock_end}
 use Rattle.service.specs.Quiet.{Waits}
 use Rattle.service.proofs.quiet.wait.Given as goal
 
 abbrev pub invariant-loop-i : goal.invariant-loop-i
-invariant-loop-i l = (l.i ≤ l.n) × (l.first ≤ clock_end) × Waits l.places l.clock l.first l.i
-
-abbrev pub decreases-loop-i : goal.decreases-loop-i
-decreases-loop-i l = l.n - l.i
+invariant-loop-i l = (l.first ≤ clock_end) × Waits l.places l.clock l.first l.i

@@ -14,14 +14,14 @@ overflow_add-result c =
     let a = c.args in
     let g : a.x.gap < beyond_32_bits = search rules in
     let t : a.clock < beyond_32_bits = search rules in
-    omega (arith, c.wide.ensures, c.distance.ensures, L.distance_room a.l a.x c.requires g a.clock t)
+    omega (arith, c.from.ensures, c.distance.ensures, L.distance_room a.l a.x c.requires g a.clock t)
 
 pub returns-then-goes_early : goal.returns-then-goes_early
 returns-then-goes_early c =
     let a = c.args in
-    L.left_past a.l a.x (sym c.goes_early.ensures ∙ c.if-goes_early.true) a.clock _ _ c.wide.ensures c.distance.ensures
+    L.left_past a.l a.x (sym c.goes_early.ensures ∙ c.if-goes_early.true) a.clock _ _ c.from.ensures c.distance.ensures
 
 pub returns : goal.returns
 returns c =
     let a = c.args in
-    L.left_by_now a.l a.x (sym c.goes_early.ensures ∙ c.if-goes_early.false) a.clock _ c.wide-2.ensures
+    L.left_by_now a.l a.x (sym c.goes_early.ensures ∙ c.if-goes_early.false) a.clock _ c.from-2.ensures

@@ -14,6 +14,6 @@ returns-then-goes_early c =
 pub returns : goal.returns
 returns c =
     let a = c.args in
-    c.greatest.ensures
-    ∙ rw (c.wide.ensures, c.latest_of.ensures)
+    c.max.ensures
+    ∙ rw (c.from.ensures, c.latest_of.ensures)
     (L.last_eligible a.l (connection_of a.m) a.clock (past_of a.m) (sym c.goes_early.ensures ∙ c.if-goes_early.false))

@@ -6,7 +6,7 @@ use Rattle.sound.proofs.pace.latest_of.Goals as goal
 pub returns-then-is_stamped : goal.returns-then-is_stamped
 returns-then-is_stamped c =
     let a = c.args in
-    rw (c.wide.ensures, c.wide-then-is_stamped.ensures) (L.latest_stamped (connection_of a.m) a.clock (past_of a.m) (sym c.is_stamped.ensures ∙ c.if-is_stamped.true))
+    rw (c.from.ensures, c.from-then-is_stamped.ensures) (L.latest_stamped (connection_of a.m) a.clock (past_of a.m) (sym c.is_stamped.ensures ∙ c.if-is_stamped.true))
 
 pub returns : goal.returns
 returns c =

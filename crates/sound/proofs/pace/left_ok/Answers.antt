@@ -15,9 +15,9 @@ pub reserve-requires : goal.reserve-requires
 reserve-requires c =
     L.reserves c.args.h.link (connections_in c.args.table.now) c.requires.2 c.args.c _ c.connection_at-x.ensures
 
-pub returns-then-reserve-wide : goal.returns-then-reserve-wide
-returns-then-reserve-wide c =
-    L.too_many c.args.h c.args.table.now c.args.c c.args.n _ c.connection_at-x.ensures c.if-x-eq0.false _ c.reserve.ensures.0 (omega (arith, c.wide.ensures))
+pub returns-then-reserve-from : goal.returns-then-reserve-from
+returns-then-reserve-from c =
+    L.too_many c.args.h c.args.table.now c.args.c c.args.n _ c.connection_at-x.ensures c.if-x-eq0.false _ c.reserve.ensures.0 (omega (arith, c.from.ensures))
 
 pub member_at-m-requires : goal.member_at-m-requires
 member_at-m-requires c = omega (arith, W.rows_length c.args.table.now c.requires.0, c.requires.1)
@@ -34,4 +34,4 @@ left_in_time-requires c =
 pub returns : goal.returns
 returns c =
     let m = G.member_facts c.args.h.link c.args.table.now c.args.c _ c.requires.0 c.requires.1 c.requires.2 c.member_at-m.ensures in
-    L.not_too_many c.args.h c.args.table.now c.args.c c.args.n _ c.connection_at-x.ensures c.if-x-eq0.false _ c.reserve.ensures.0 (omega (arith, c.wide.ensures)) _ c.last_left.ensures _ _ m.figures m.past _ c.left_in_time.ensures
+    L.not_too_many c.args.h c.args.table.now c.args.c c.args.n _ c.connection_at-x.ensures c.if-x-eq0.false _ c.reserve.ensures.0 (omega (arith, c.from.ensures)) _ c.last_left.ensures _ _ m.figures m.past _ c.left_in_time.ensures

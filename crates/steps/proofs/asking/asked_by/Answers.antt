@@ -1,13 +1,13 @@
 use Rattle.steps.proofs.asking.asked_by.Goals as goal
 
 pub returns-in-Link : goal.returns-in-Link
-returns-in-Link c = rw (c.in-Link.is, c.without_windows.ensures)
+returns-in-Link c = rw (c.in-Link.is, c.link_named.ensures)
 
 pub returns-in-LinkStandBy : goal.returns-in-LinkStandBy
-returns-in-LinkStandBy c = rw (c.in-LinkStandBy.is, c.without_windows-in-LinkStandBy.ensures)
+returns-in-LinkStandBy c = rw (c.in-LinkStandBy.is, c.stand_by_named.ensures)
 
 pub returns-in-LinkWindows : goal.returns-in-LinkWindows
-returns-in-LinkWindows c = rw c.in-LinkWindows.is
+returns-in-LinkWindows c = rw (c.in-LinkWindows.is, c.windows_named.ensures)
 
 pub returns-in-LinkFrames : goal.returns-in-LinkFrames
 returns-in-LinkFrames c = rw (c.in-LinkFrames.is, c.framing_named.ensures)
@@ -35,6 +35,3 @@ returns-in-Notice c = rw c.in-Notice.is
 
 pub returns-in-Ticks : goal.returns-in-Ticks
 returns-in-Ticks c = rw c.in-Ticks.is
-
-pub returns-in-Malformed : goal.returns-in-Malformed
-returns-in-Malformed c = rw c.in-Malformed.is

@@ -1,12 +1,8 @@
-use Rattle.tables.specs.Lent.{tables}
+use Rattle.steps.specs.Tie.{lent}
+use mathlib.Core.Path.{refl}
 use Rattle.steps.proofs.CallLaws.{did_refused, did_tick}
-use native.Mathlib.Omega.{arith}
 use borrow.Author.Rules.{rules}
 use Rattle.steps.proofs.ticking.one_tick.Goals as goal
-
-pub overflow_cast-done : goal.overflow_cast-done
-overflow_cast-done c =
-    omega (arith, c.without-done.ensures, c.ranges.asked)
 
 pub answered-requires : goal.answered-requires
 answered-requires c = c.requires.1
@@ -16,8 +12,8 @@ returns-then-told-ne0 c =
     let a = c.args in
     let k = c.answered.ensures in
     let w = c.tick-told in
-    let n = c.without-done in
-    did_refused a.at a.asked a.left a.h (tables a.members.now a.places.now a.notices.now) c.requires.0 w.result _ w.ensures _ _ _ c.if-told-ne0.true c.low.result n.result c.low.ensures n.ensures k.0 k.1
+    let n = c.saturating_sub in
+    record { makes = did_refused a.at a.asked a.left a.h (lent a.t.now) c.requires.0 w.result _ w.ensures _ _ _ c.if-told-ne0.true c.low.result n.result c.low.ensures n.ensures k.0 k.1; same_slices = (refl, refl, refl) }
 
 pub put_departure-wrote-requires : goal.put_departure-wrote-requires
 put_departure-wrote-requires c = c.requires.1
@@ -30,4 +26,4 @@ returns c =
     let a = c.args in
     let k = c.put_departure-wrote.ensures in
     let w = c.tick-told in
-    did_tick a.at a.asked a.left a.h (tables a.members.now a.places.now a.notices.now) c.requires.0 w.result _ w.ensures _ _ _ c.if-told-ne0.false (rw k.0) k.1
+    record { makes = did_tick a.at a.asked a.left a.h (lent a.t.now) c.requires.0 w.result _ w.ensures _ _ _ c.if-told-ne0.false (rw k.0) k.1; same_slices = (refl, refl, refl) }

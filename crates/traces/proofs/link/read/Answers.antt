@@ -1,17 +1,6 @@
 -- `traces::link::read` meets its contract: the byte behind the mark is n.
-use Prim.Native.Nat.{◌+◌, ◌*◌}
-use mathlib.Core.Bool.{cond}
-use mathlib.Core.Option.{none}
-use mathlib.Core.Path.{ap, ◌∙◌}
-use Rattle.fields.proofs.Parts.{whole}
-use Rattle.traces.specs.Trace.{found}
-use Rattle.traces.proofs.LinkLaws.{levels_allowed, link_read}
+use Rattle.traces.proofs.LinkLaws.{link_read}
 use Rattle.traces.proofs.link.read.Goals as goal
 
 pub returns : goal.returns
-returns c =
-    let s = c.args.s.now in
-    let n = c.one-levels.result in
-    c.levelled.ensures
-    ∙ ap (λ r. found (cond (levels_allowed n) (whole (6 + 2 * n) r s) none)) c.link_of.ensures
-    ∙ ap found (link_read s n c.one-levels.ensures)
+returns c = rw (c.levelled.ensures, c.two.ensures, c.one.ensures, c.eight.ensures) (link_read c.args.s.now c.one-levels.result c.one-levels.ensures)

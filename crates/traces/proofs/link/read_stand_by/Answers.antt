@@ -1,17 +1,6 @@
 -- `traces::link::read_stand_by` meets its contract: the byte behind the mark is n.
-use Prim.Native.Nat.{◌+◌, ◌*◌}
-use mathlib.Core.Bool.{cond}
-use mathlib.Core.Option.{none}
-use mathlib.Core.Path.{ap, ◌∙◌}
-use Rattle.fields.proofs.Parts.{whole}
-use Rattle.traces.specs.Trace.{found}
-use Rattle.traces.proofs.LinkLaws.{levels_allowed, stand_by_read}
+use Rattle.traces.proofs.LinkLaws.{stand_by_read}
 use Rattle.traces.proofs.link.read_stand_by.Goals as goal
 
 pub returns : goal.returns
-returns c =
-    let s = c.args.s.now in
-    let n = c.one-levels.result in
-    c.levelled.ensures
-    ∙ ap (λ r. found (cond (levels_allowed n) (whole (7 + 2 * n) r s) none)) c.stand_by_of.ensures
-    ∙ ap found (stand_by_read s n c.one-levels.ensures)
+returns c = rw (c.levelled.ensures, c.two.ensures, c.one.ensures, c.one-2.ensures, c.eight.ensures) (stand_by_read c.args.s.now c.one-levels.result c.one-levels.ensures)
