@@ -1,6 +1,7 @@
 -- The laws of the answer kinds: what is their own.
 use Rattle.std.specs.Prelude.{Some}
 use mathlib.Core.Path.{◌≡◌, refl, sym, ap, ◌∙◌}
+use mathlib.Core.Bool.{true}
 use mathlib.Core.List.{[], ◌∷◌}
 use native.Mathlib.Omega.{arith}
 use borrow.Author.Tests.{eqb-true}
@@ -15,8 +16,14 @@ use Rattle.answers.specs.Answers.{answer_kinds, answer_table, answer_layout, lon
 use Rattle.answers.specs.declared.Reply.{Reply}
 use Rattle.answers.specs.declared.Reply.TheVariants.{Linked, Admitted, Closed, Offered, Noticed, Departed, Ticked, Broken}
 use Rattle.fields.proofs.NumberLaws.{one_byte}
+use Rattle.fields.proofs.MarkLaws.{distinct, absent}
 use Rattle.fields.proofs.WindowLaws.{AllWithin}
 use Rattle.fields.proofs.FormatLaws.{ReadsBack, AllFair, two_letters, plain_fair, kind_back, length_laid}
+
+-- No two kinds have one mark, and none has the mark 0.
+pub answer_marks : distinct answer_kinds ≡ true
+unfolding distinct absent number
+answer_marks = refl
 
 pub answer_back : ReadsBack answer_kinds answer_layout
 unfolding read_kinds starts laid none_lost bytes put_fields little

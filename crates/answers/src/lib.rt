@@ -186,12 +186,13 @@ pub fn read(s: &[u8]) -> Option<(Reply, usize)>
     }
 }
 
-// The bytes of an answer.
-fn draft(r: Reply) -> Draft
-    ensures { result ≡ answer_bytes r }
+// Writes an answer at the start of the room lent. Each kind goes into the room by itself, since its draft has a length that is known there.
+#[inline(always)]
+fn put(r: Reply, room: &mut [u8]) -> usize
+    ensures { (result ≡ length (fitting (answer_bytes r) room.old)) × (room.new ≡ over (fitting (answer_bytes r) room.old) room.old) }
 {
     match r {
-        Reply::Linked { verdict } => Draft::headed(LA, verdict),
+        Reply::Linked { verdict } => Draft::headed(LA, verdict).into_room(room),
         Reply::Admitted {
             verdict,
             connection,
@@ -200,16 +201,17 @@ fn draft(r: Reply) -> Draft
         } => Draft::headed(CA, verdict)
             .one(connection)
             .one(level)
-            .four(units),
-        Reply::Closed { verdict } => Draft::headed(CD, verdict),
+            .four(units)
+            .into_room(room),
+        Reply::Closed { verdict } => Draft::headed(CD, verdict).into_room(room),
         Reply::Offered {
             verdict,
             eligibility,
-        } => Draft::headed(PA, verdict).four(eligibility),
+        } => Draft::headed(PA, verdict).four(eligibility).into_room(room),
         Reply::Noticed {
             verdict,
             eligibility,
-        } => Draft::headed(NA, verdict).four(eligibility),
+        } => Draft::headed(NA, verdict).four(eligibility).into_room(room),
         Reply::Departed {
             connection,
             tag,
@@ -220,20 +222,22 @@ fn draft(r: Reply) -> Draft
             .four(tag)
             .four(arrival)
             .four(eligibility)
-            .four(finish),
-        Reply::Ticked { verdict, ticks } => Draft::headed(TA, verdict).two(ticks),
-        Reply::Broken { offset } => Draft::headed(ER, 14).four(offset),
+            .four(finish)
+            .into_room(room),
+        Reply::Ticked { verdict, ticks } => Draft::headed(TA, verdict).two(ticks).into_room(room),
+        Reply::Broken { offset } => Draft::headed(ER, 14).four(offset).into_room(room),
     }
 }
 
 // Writes an answer at the start of the room lent, where there is one, and answers how many bytes were written: none, with no byte changed, where it is malformed or does
 // not fit.
 // kept: the number of bytes written is a count, which callers add to their own (`steps::Stepped` has 0 too where nothing was to be written), and no mark of a refusal.
+#[inline(always)]
 pub fn write(r: Option<Reply>, room: &mut [u8]) -> usize
     ensures { (result ≡ length (fitting (laid (option_and_then answer_layout r)) room.old)) × (room.new ≡ over (fitting (laid (option_and_then answer_layout r)) room.old) room.old) }
 {
     match r {
-        Some(r) => draft(r).into_room(room),
+        Some(r) => put(r, room),
         None => 0,
     }
 }

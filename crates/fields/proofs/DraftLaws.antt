@@ -1,6 +1,6 @@
 -- Laws of drafts: the bytes that each number adds, and what of them is written.
-use Rattle.std.proofs.Common.{◌≡◌, refl, sym, ap, ◌∙◌, List, [], ◌∷◌, ◌++◌, ℕ, suc, zero, ◌/◌, ◌%◌, ◌<◌, ◌≤◌, length, get_or, take, replicate, append_assoc, append-nil, arith}
-use Rattle.std.proofs.Math.Seq.{length-take-le}
+use Rattle.std.proofs.Common.{◌≡◌, refl, sym, ap, ◌∙◌, List, [], ◌∷◌, ◌++◌, ℕ, suc, zero, ◌+◌, ◌-◌, ◌/◌, ◌%◌, ◌<◌, ◌≤◌, length, get_or, set, take, drop, replicate, append_assoc, append-nil, length-take-le, arith}
+use Rattle.std.proofs.lemmas.List.{drop-set-lt, drop-drop, drop-replicate}
 use borrow.Author.Tests.{lt-ltb, le-ltb}
 use Rattle.fields.specs.Numbers.{little, put_fields}
 use Rattle.fields.specs.Formats.{fitting, over}
@@ -41,6 +41,12 @@ put_snoc zero (x ∷ xs) h = append-nil (little 2 x)
 put_snoc (suc k) (x ∷ xs) h =
     ap (λ l. little 2 x ++ l) (put_snoc k xs (omega arith))
     ∙ sym (append_assoc (little 2 x) (put_fields (replicate k 2) (take k xs)) (little 2 (get_or xs k 0)))
+
+-- Behind one byte more is one 0 less.
+pub zeros_behind : (n at v : ℕ) (bytes : List ℕ) → drop at bytes ≡ replicate (n - at) 0 → drop (at + 1) (set bytes at v) ≡ replicate (n - (at + 1)) 0
+zeros_behind n at v bytes zeros =
+    let e : n - at - 1 ≡ n - (at + 1) = omega arith in
+    rw (drop-set-lt (at + 1) bytes at v (omega arith), ← drop-drop 1 at bytes, zeros, drop-replicate {X = ℕ} 1 (n - at) 0, e)
 
 -- The bytes of a draft are as many as it says.
 pub count_held : (n : ℕ) (bytes held : List ℕ) → take n bytes ≡ held → n ≤ length bytes → length held ≡ n

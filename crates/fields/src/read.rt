@@ -1,4 +1,4 @@
-// The marks and the numbers of a record, read from bytes. A byte past the end counts as 0, so that a cut record needs one test of its length.
+// The numbers of a record, read from bytes, and whether its bytes are all there. A byte past the end counts as 0, so that a cut record needs one test of its length.
 ghost use Rattle.std.specs.Prelude.{◌≡◌, cond, ltb, length, ◌<◌, Some, None};
 ghost use Rattle.fields.specs.Numbers.{number};
 

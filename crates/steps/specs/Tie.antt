@@ -21,9 +21,15 @@ use Rattle.steps.specs.Steps.{Point, point, Next}
 abbrev pub lent : Lent → Tables
 lent t = tables t.members.now t.places.now t.notices.now
 
--- the same three slices are lent: what is in them at the end is what their owner has then
+-- the same three slices are lent, each as long as it was: what is in them at the end is what their owner has then
 abbrev pub SameSlices : Lent → Lent → Type 0
-SameSlices t u = (t.members.ghost_name ≡ u.members.ghost_name) × (t.places.ghost_name ≡ u.places.ghost_name) × (t.notices.ghost_name ≡ u.notices.ghost_name)
+SameSlices t u =
+    (t.members.ghost_name ≡ u.members.ghost_name)
+    × (t.places.ghost_name ≡ u.places.ghost_name)
+    × (t.notices.ghost_name ≡ u.notices.ghost_name)
+    × (length t.members.now ≡ length u.members.now)
+    × (length t.places.now ≡ length u.places.now)
+    × (length t.notices.now ≡ length u.notices.now)
 
 -- the point that a cursor and the three tables stand for, and the part of a point that no table holds
 abbrev pub point_of : Cursor → Tables → Point

@@ -62,6 +62,7 @@ pub struct Stepped {
 }
 
 // A step with an answer: it is written, and a record is read next.
+#[inline(always)]
 pub(crate) fn answered(at: u32, line: Kept, used: usize, reply: Reply, out: &mut [u8]) -> Stepped
     requires { longest_answer ≤ length out.old }
     ensures { (result ≡ record { cursor = cursor_at at Reading line; used = used; wrote = length (answer_bytes reply); status = GoOn }) × (out.new ≡ over (answer_bytes reply) out.old) }

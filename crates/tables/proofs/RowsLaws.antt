@@ -8,8 +8,8 @@ use lib.Dec.{ltb}
 use Rattle.rules.specs.declared.Packet.{Packet}
 use Rattle.tables.specs.Places.{rows, row_at, no_packet, place}
 use Rattle.std.specs.Option.{unwrap_or}
-use Rattle.tables.proofs.PlacesLaws.{row_is, place_le, used_below, unused_above, rows_used}
-use Rattle.tables.proofs.TableLaws.{rows_in_at, number_in, length_rows, used_le}
+use Rattle.tables.proofs.PlacesLaws.{row_is, place_le, used_below, unused_above}
+use Rattle.tables.proofs.TableLaws.{rows_in_at, number_in, length_rows}
 use Rattle.rules.proofs.Sums.{same, split}
 use mathlib.Core.Logic.{◌⊎◌, inl, inr}
 use borrow.Author.Tests.{eq-eqb, ne_eqb, le-ltb, lt-ltb}
@@ -22,7 +22,8 @@ use Rattle.rules.specs.Words.{each}
 use Rattle.std.specs.List.{prefix_len, list_all}
 use Rattle.std.proofs.Common.{not, get_or, map, [], ◌∷◌}
 use Rattle.std.proofs.lemmas.List.FromFn.{length-map-range_with_len, get_or-map-range_with_len}
-use Rattle.std.proofs.lemmas.List.{ext_get_or}
+use Rattle.std.proofs.lemmas.List.{ext_get_or, get_or-take, length-take-le}
+use Rattle.std.proofs.Common.{take}
 
 -- the rows, read one by one by their places
 pub listed : (t : List ℕ) → map (row_at t) (range_with_len 0 (length (rows t))) ≡ rows t
@@ -96,25 +97,33 @@ module _ (t : List ℕ) (e : t ≡ table_of (length t) (rows t)) where
       go (inl z) = rw (eq-eqb (get_or t (5 * i + 1) 0) 0 z) (sym (le-ltb i (length (rows t)) (used_below t i z)))
       go (inr n) = rw (ne_eqb (get_or t (5 * i + 1) 0) 0 n) (sym (lt-ltb i (length (rows t)) (unused_above t i e n)))
 
-  pub parted : IsPartitionedBy is_used arrays
-  parted i j d l h p =
-      let n = length_rows 5 (length t / 5) t in
-      let k : j < length (rows t) = ltb-true _ _ (sym (used_tells j d (omega (arith, n))) ∙ p) in
-      used_tells i d (omega (arith, n)) ∙ lt-ltb i (length (rows t)) (omega arith)
+  -- of those before h, the number of rows is where the used ones end, if h is no less
+  module _ (h : ℕ) (inside : h ≤ length t / 5) (reached : length (rows t) ≤ h) where
+    abbrev pub front : List (List ℕ)
+    front = take h arrays
 
-  pub point_is : (r : ℕ) → r ≤ length arrays → IsPartitionPoint (λ y. is_used y ≡ true) (λ y. is_used y ≡ false) arrays r → r ≡ length (rows t)
-  point_is r h p =
-      let n : length arrays ≡ length t / 5 = length_rows 5 (length t / 5) t in
-      let m : length (rows t) ≤ length t / 5 = omega (arith, used_le 5 t, rows_used t) in
-      go n m (split r (length (rows t)))
-    where
-      go : length arrays ≡ length t / 5 → length (rows t) ≤ length t / 5 → (r ≤ length (rows t)) ⊎ (length (rows t) < r) → r ≡ length (rows t)
-      go n m (inr l) = never (sym (le-ltb k k (omega arith)) ∙ sym (used_tells k [] (omega arith)) ∙ p.0 k [] (omega arith) l)
-        where
-          k : ℕ
-          k = length (rows t)
-      go n m (inl l) = low (split (length (rows t)) r)
-        where
-          low : (length (rows t) ≤ r) ⊎ (r < length (rows t)) → r ≡ length (rows t)
-          low (inl g) = omega arith
-          low (inr g) = never (sym (p.1 r [] (omega arith) (omega arith)) ∙ used_tells r [] (omega arith) ∙ lt-ltb r (length (rows t)) g)
+    length_front : length front ≡ h
+    length_front = let n = length_rows 5 (length t / 5) t in length-take-le h arrays (omega arith)
+
+    front_tells : (i : ℕ) (d : List ℕ) → i < h → is_used (get_or front i d) ≡ ltb i (length (rows t))
+    front_tells i d l = ap is_used (get_or-take h arrays i d l) ∙ used_tells i d (omega arith)
+
+    pub parted : IsPartitionedBy is_used front
+    parted i j d l k p =
+        let n = length_front in
+        let q : j < length (rows t) = ltb-true _ _ (sym (front_tells j d (omega arith)) ∙ p) in
+        front_tells i d (omega arith) ∙ lt-ltb i (length (rows t)) (omega arith)
+
+    pub point_is : (r : ℕ) → r ≤ length front → IsPartitionPoint (λ y. is_used y ≡ true) (λ y. is_used y ≡ false) front r → r ≡ length (rows t)
+    point_is r l p = let n = length_front in go n (split r (length (rows t)))
+      where
+        go : length front ≡ h → (r ≤ length (rows t)) ⊎ (length (rows t) < r) → r ≡ length (rows t)
+        go n (inr k) = never (sym (le-ltb m m (omega arith)) ∙ sym (front_tells m [] (omega arith)) ∙ p.0 m [] (omega arith) k)
+          where
+            m : ℕ
+            m = length (rows t)
+        go n (inl k) = low (split (length (rows t)) r)
+          where
+            low : (length (rows t) ≤ r) ⊎ (r < length (rows t)) → r ≡ length (rows t)
+            low (inl g) = omega arith
+            low (inr g) = never (sym (p.1 r [] (omega arith) (omega arith)) ∙ front_tells r [] (omega arith) ∙ lt-ltb r (length (rows t)) g)

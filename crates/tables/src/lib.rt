@@ -94,13 +94,29 @@ pub fn none(table: &[u32]) -> bool
     table[1] == 0
 }
 
-// The number of rows of a table with zeros behind them, by halving.
+// A number that the rows of a table do not pass: the first of 1, 4, 16, 64 and so on whose row is not in use, or that of all rows.
+fn reach(table: &[u32]) -> usize
+    ensures { (length (rows table.now) ≤ result) × (5 * result ≤ length table.now) }
+{
+    let all = table.len() / PACKET_WIDTH;
+    let mut high: usize = 1;
+    // kept: without the leaps a table with no row costs as many reads as a full one
+    while high < all {
+        if table[PACKET_WIDTH * high + 1] == 0 {
+            return high;
+        }
+        high *= 4;
+    }
+    all
+}
+
+// The number of rows of a table with zeros behind them, by leaps and then halving: few rows are found quickly.
 pub fn count(table: &[u32]) -> usize
     requires { table.now ≡ table_of (length table.now) (rows table.now) }
     ensures { result ≡ length (rows table.now) }
 {
     let (rows, _) = table.as_chunks::<PACKET_WIDTH>();
-    rows.partition_point(|row| row[1] != 0)
+    rows[..reach(table)].partition_point(|row| row[1] != 0)
 }
 
 // Row i of the held rows goes, the later ones move up, the last becomes zero.

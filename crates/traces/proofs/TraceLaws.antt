@@ -19,8 +19,14 @@ use Rattle.traces.specs.declared.Record.{Record}
 use Rattle.traces.specs.declared.Record.TheVariants.{Link, LinkStandBy, LinkWindows, LinkFrames, Admit, AdmitStamped, AdmitShare, Close, Offer, OfferStamped, Notice, Ticks}
 use Rattle.fields.proofs.NumberLaws.{one_byte}
 use Rattle.fields.proofs.FormatLaws.{made_of, ReadsBack, Fair, AllFair, two_letters, plain_fair, kind_back, written_laid, length_laid}
+use Rattle.fields.proofs.MarkLaws.{distinct, absent}
 use Rattle.fields.proofs.WindowLaws.{AllWithin}
 use Rattle.traces.proofs.LinkLaws.{sum_link, sum_stand_by, sum_windows, allowed_range, eight_of, sixteen_of, first_eight, last_eight, length_levels, length_both}
+
+-- No two kinds have one mark, and none has the mark 0.
+pub trace_marks : distinct trace_kinds ≡ true
+unfolding distinct absent number
+trace_marks = refl
 
 -- A link of kind k that is written is read back: its mark has two letters, it allows no n past 8, and its bytes are read as of its kind.
 link_told : (k : Kind Record) (n : ℕ) (numbers rest : List ℕ)

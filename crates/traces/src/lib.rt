@@ -246,10 +246,10 @@ pub fn read_at(buf: &[u8], at: usize) -> Option<(Record, usize)>
     read(&buf[at..])
 }
 
-// The bytes of a record; none where it is not written.
+// Writes a record at the start of the room lent, if it is written. Each kind goes into the room by itself, since its draft has a length that is known there, but for links.
 #[tactic(auto, using(std::proofs::lemmas::Grind::common_steps, fields::proofs::NumberLaws::length_little), unfolding(fields::specs::Formats::laid, fields::specs::Numbers::put_fields, fields::specs::Numbers::none_lost))]
-fn draft(r: Record) -> Draft
-    ensures { result ≡ laid (trace_layout r) }
+fn put(r: Record, room: &mut [u8]) -> usize
+    ensures { (result ≡ length (fitting (laid (trace_layout r)) room.old)) × (room.new ≡ over (fitting (laid (trace_layout r)) room.old) room.old) }
 {
     match r {
         Record::Link {
@@ -257,14 +257,14 @@ fn draft(r: Record) -> Draft
             largest,
             silence,
             bounds,
-        } => link::draft(levels, largest, silence, &bounds),
+        } => link::draft(levels, largest, silence, &bounds).into_room(room),
         Record::LinkStandBy {
             levels,
             largest,
             silence,
             early,
             bounds,
-        } => link::draft_stand_by(levels, largest, silence, early, &bounds),
+        } => link::draft_stand_by(levels, largest, silence, early, &bounds).into_room(room),
         Record::LinkWindows {
             levels,
             largest,
@@ -272,12 +272,18 @@ fn draft(r: Record) -> Draft
             early,
             bounds,
             windows,
-        } => link::draft_windows(levels, largest, silence, early, &bounds, &windows),
+        } => link::draft_windows(levels, largest, silence, early, &bounds, &windows).into_room(
+            room,
+        ),
         Record::LinkFrames {
             frame,
             largest,
             silence,
-        } => Draft::marked(LF).two(frame).two(largest).one(silence),
+        } => Draft::marked(LF)
+            .two(frame)
+            .two(largest)
+            .one(silence)
+            .into_room(room),
         Record::Admit {
             level,
             gap,
@@ -288,28 +294,42 @@ fn draft(r: Record) -> Draft
             .two(gap)
             .two(size)
             .two(window)
-            .two(average),
+            .two(average)
+            .into_room(room),
         Record::AdmitStamped {
             level,
             gap,
             size,
             allowance,
-        } => Draft::headed(CS, level).two(gap).two(size).two(allowance),
-        Record::AdmitShare { units, places } => Draft::marked(CF).two(units).two(places),
-        Record::Close { connection } => Draft::headed(CL, connection),
+        } => {
+            let stamped = Draft::headed(CS, level).two(gap).two(size).two(allowance);
+            stamped.into_room(room)
+        }
+        Record::AdmitShare { units, places } => Draft::marked(CF)
+            .two(units)
+            .two(places)
+            .into_room(room),
+        Record::Close { connection } => Draft::headed(CL, connection).into_room(room),
         Record::Offer {
             connection,
             len,
             tag,
-        } => Draft::headed(PK, connection).two(len).four(tag),
+        } => Draft::headed(PK, connection)
+            .two(len)
+            .four(tag)
+            .into_room(room),
         Record::OfferStamped {
             connection,
             len,
             tag,
             stamp,
-        } => Draft::headed(PS, connection).two(len).four(tag).four(stamp),
-        Record::Notice { len, tag } => Draft::marked(NQ).two(len).four(tag),
-        Record::Ticks { ticks } => Draft::marked(TK).two(ticks),
+        } => Draft::headed(PS, connection)
+            .two(len)
+            .four(tag)
+            .four(stamp)
+            .into_room(room),
+        Record::Notice { len, tag } => Draft::marked(NQ).two(len).four(tag).into_room(room),
+        Record::Ticks { ticks } => Draft::marked(TK).two(ticks).into_room(room),
     }
 }
 
@@ -320,7 +340,7 @@ pub fn write(r: Option<Record>, room: &mut [u8]) -> usize
     ensures { (result ≡ length (fitting (laid (option_and_then trace_layout r)) room.old)) × (room.new ≡ over (fitting (laid (option_and_then trace_layout r)) room.old) room.old) }
 {
     match r {
-        Some(r) => draft(r).into_room(room),
+        Some(r) => put(r, room),
         None => 0,
     }
 }

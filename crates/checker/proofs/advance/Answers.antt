@@ -19,7 +19,7 @@ returns-then-c g c =
     let n = length_window a.out.now a.c.met a.c.wrote F.expected.order F.expected.inside in
     let r = c.compare in
     let m = length_window a.out.now r.result.met r.result.wrote r.ensures.inside.0.order r.ensures.inside.0.inside in
-    let h : 0 < length (window a.out.now a.c.met a.c.wrote) = omega (arith, n, c.if-c.true) in record { advances = by_comparing a.c _ _ _ _ r.result _ _ _ h r.ensures.compares (ap (λ (v : Turn). window a.buf.now v.from v.to) r.ensures.compares.turn); same_slices = (refl, refl, refl); nearer = λ o. compares_nearer (length a.buf.now) (length a.out.now) (length a.log.now) a.c F r.result _ _ _ _ n m h r.ensures.compares r.ensures.inside.0 r.ensures.inside.1 o }
+    let h : 0 < length (window a.out.now a.c.met a.c.wrote) = omega (arith, n, c.if-c.true) in record { advances = by_comparing a.c _ _ _ _ r.result _ _ _ h r.ensures.compares (ap (λ (v : Turn). window a.buf.now v.from v.to) r.ensures.compares.turn); same_slices = (refl, refl, refl, refl, refl, refl); nearer = λ o. compares_nearer (length a.buf.now) (length a.out.now) (length a.log.now) a.c F r.result _ _ _ _ n m h r.ensures.compares r.ensures.inside.0 r.ensures.inside.1 o }
 
 pub steps-requires : goal.steps-requires
 steps-requires g c = c.requires.trace c.in-None.is
@@ -36,25 +36,25 @@ returns-in-Some-Whole g c =
     let a = c.args in
     let F = c.requires in
     let n = length_window a.out.now a.c.met a.c.wrote F.expected.order F.expected.inside in
-    let r = c.close in record { advances = by_closing a.c _ _ _ _ r.result _ _ _ (omega (arith, n, c.if-c.false)) (inl (some_is c.in-Some-Whole.field-0 Whole c.in-Some-Whole.is (rw c.in-Some-Whole.is at c.in-Some-Whole.field-0-is))) r.ensures (ap (λ (v : Turn). window a.buf.now v.from v.to) r.ensures.turn) (rw (r.ensures.expected.0, r.ensures.expected.1)); same_slices = (refl, refl, refl); nearer = λ o. absurd (end_on a.c _ r.result _ r.ensures o) }
+    let r = c.close in record { advances = by_closing a.c _ _ _ _ r.result _ _ _ (omega (arith, n, c.if-c.false)) (inl (some_is c.in-Some-Whole.field-0 Whole c.in-Some-Whole.is (rw c.in-Some-Whole.is at c.in-Some-Whole.field-0-is))) r.ensures (ap (λ (v : Turn). window a.buf.now v.from v.to) r.ensures.turn) (rw (r.ensures.expected.0, r.ensures.expected.1)); same_slices = (refl, refl, refl, refl, refl, refl); nearer = λ o. absurd (end_on a.c _ r.result _ r.ensures o) }
 
 pub returns-in-Some-Malformed : goal.returns-in-Some-Malformed
 returns-in-Some-Malformed g c =
     let a = c.args in
     let F = c.requires in
     let n = length_window a.out.now a.c.met a.c.wrote F.expected.order F.expected.inside in
-    let r = c.close-in-Some-Malformed in record { advances = by_closing a.c _ _ _ _ r.result _ _ _ (omega (arith, n, c.if-c.false)) (inr (some_is c.in-Some-Malformed.field-0 Malformed c.in-Some-Malformed.is (rw c.in-Some-Malformed.is at c.in-Some-Malformed.field-0-is))) r.ensures (ap (λ (v : Turn). window a.buf.now v.from v.to) r.ensures.turn) (rw (r.ensures.expected.0, r.ensures.expected.1)); same_slices = (refl, refl, refl); nearer = λ o. absurd (end_on a.c _ r.result _ r.ensures o) }
+    let r = c.close-in-Some-Malformed in record { advances = by_closing a.c _ _ _ _ r.result _ _ _ (omega (arith, n, c.if-c.false)) (inr (some_is c.in-Some-Malformed.field-0 Malformed c.in-Some-Malformed.is (rw c.in-Some-Malformed.is at c.in-Some-Malformed.field-0-is))) r.ensures (ap (λ (v : Turn). window a.buf.now v.from v.to) r.ensures.turn) (rw (r.ensures.expected.0, r.ensures.expected.1)); same_slices = (refl, refl, refl, refl, refl, refl); nearer = λ o. absurd (end_on a.c _ r.result _ r.ensures o) }
 
 pub returns-in-Some-ReadFailed : goal.returns-in-Some-ReadFailed
 returns-in-Some-ReadFailed g c =
     let a = c.args in
     let F = c.requires in
     let n = length_window a.out.now a.c.met a.c.wrote F.expected.order F.expected.inside in
-    rw c.fail.ensures (record { advances = by_failing a.c _ _ _ _ (omega (arith, n, c.if-c.false)) (inl (some_is c.in-Some-ReadFailed.field-0 ReadFailed c.in-Some-ReadFailed.is (rw c.in-Some-ReadFailed.is at c.in-Some-ReadFailed.field-0-is))); same_slices = (refl, refl, refl); nearer = λ o. never cc })
+    rw c.fail.ensures (record { advances = by_failing a.c _ _ _ _ (omega (arith, n, c.if-c.false)) (inl (some_is c.in-Some-ReadFailed.field-0 ReadFailed c.in-Some-ReadFailed.is (rw c.in-Some-ReadFailed.is at c.in-Some-ReadFailed.field-0-is))); same_slices = (refl, refl, refl, refl, refl, refl); nearer = λ o. never cc })
 
 pub returns-in-Some-NotTaken : goal.returns-in-Some-NotTaken
 returns-in-Some-NotTaken g c =
     let a = c.args in
     let F = c.requires in
     let n = length_window a.out.now a.c.met a.c.wrote F.expected.order F.expected.inside in
-    rw c.fail-in-Some-NotTaken.ensures (record { advances = by_failing a.c _ _ _ _ (omega (arith, n, c.if-c.false)) (inr (some_is c.in-Some-NotTaken.field-0 NotTaken c.in-Some-NotTaken.is (rw c.in-Some-NotTaken.is at c.in-Some-NotTaken.field-0-is))); same_slices = (refl, refl, refl); nearer = λ o. never cc })
+    rw c.fail-in-Some-NotTaken.ensures (record { advances = by_failing a.c _ _ _ _ (omega (arith, n, c.if-c.false)) (inr (some_is c.in-Some-NotTaken.field-0 NotTaken c.in-Some-NotTaken.is (rw c.in-Some-NotTaken.is at c.in-Some-NotTaken.field-0-is))); same_slices = (refl, refl, refl, refl, refl, refl); nearer = λ o. never cc })

@@ -9,7 +9,7 @@ pub loop-r-init : goal.loop-r-init
 loop-r-init g c =
     let s = c.requires in
     rw c.first-c.ensures
-    ((refl, refl, refl), search rules, search rules, search rules, search rules, first_fit _ _ _ s.longest_record_in_bounds.1 s.longest_answer_in_bounds.0 s.longest_answer_in_bounds.1 s.log_nonzero, made_none _ s.notices_value)
+    ((refl, refl, refl, refl, refl, refl), search rules, search rules, search rules, search rules, first_fit _ _ _ s.longest_record_in_bounds.1 s.longest_answer_in_bounds.0 s.longest_answer_in_bounds.1 s.log_nonzero, made_none _ s.notices_value)
 
 pub advance-r-requires : goal.advance-r-requires
 advance-r-requires g c =

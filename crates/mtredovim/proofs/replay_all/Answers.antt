@@ -8,7 +8,7 @@ pub loop-r-init : goal.loop-r-init
 loop-r-init g c =
     let s = c.requires in
     rw c.first-v.ensures
-    ((refl, refl, refl), search rules, search rules, search rules, search rules, record { order = search rules; inside = search rules; place = search rules }, made_none _ s.notices_value)
+    ((refl, refl, refl, refl, refl, refl), search rules, search rules, search rules, search rules, record { order = search rules; inside = search rules; place = search rules }, made_none _ s.notices_value)
 
 pub advance-r-requires : goal.advance-r-requires
 advance-r-requires g c =

@@ -6,7 +6,7 @@ use Rattle.replay.proofs.pump.Goals as goal
 pub returns-in-Some : goal.returns-in-Some
 returns-in-Some c =
     let a = c.args in
-    record { steps = does_nothing a.c (lent a.t.now) a.out.now _ _ (sym c.in-Some.is ∙ c.refused.ensures); same_slices = (refl, refl, refl) }
+    record { steps = does_nothing a.c (lent a.t.now) a.out.now _ _ (sym c.in-Some.is ∙ c.refused.ensures); same_slices = (refl, refl, refl, refl, refl, refl) }
 
 pub run-requires : goal.run-requires
 run-requires c =

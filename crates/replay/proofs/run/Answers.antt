@@ -13,7 +13,7 @@ use Rattle.replay.proofs.run.Goals.{in-GoOn, in_default}
 pub loop-i-init : goal.loop-i-init
 loop-i-init c =
     let a = c.args in
-    (refl, (refl, refl, refl), made_none a.c (lent a.t.now) a.window.now a.last a.out.now c.requires.0)
+    (refl, (refl, refl, refl, refl, refl, refl), made_none a.c (lent a.t.now) a.window.now a.last a.out.now c.requires.0)
 
 pub step_at-s-requires : goal.step_at-s-requires
 step_at-s-requires c =

@@ -7,7 +7,7 @@ use Rattle.replay.proofs.step.Goals as goal
 pub returns-in-Some : goal.returns-in-Some
 returns-in-Some c =
     let a = c.args in
-    record { steps = does_nothing a.c (lent a.t.now) a.out.now _ _ (sym c.in-Some.is ∙ c.refused.ensures); same_slices = (refl, refl, refl) }
+    record { steps = does_nothing a.c (lent a.t.now) a.out.now _ _ (sym c.in-Some.is ∙ c.refused.ensures); same_slices = (refl, refl, refl, refl, refl, refl) }
 
 pub step_tested-requires : goal.step_tested-requires
 step_tested-requires c =

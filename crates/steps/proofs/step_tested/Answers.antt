@@ -26,5 +26,5 @@ returns-in-Finished c =
     record {
       makes = rw (next_phase a.c (lent a.t.now) a.window.now a.last c.in-Finished.is)
           (did_kept a.c.line (lent a.t.now) c.requires.0 a.c.at Finished 0 [] Done w.result _ _ w.ensures refl);
-      same_slices = (refl, refl, refl);
+      same_slices = (refl, refl, refl, refl, refl, refl);
     }

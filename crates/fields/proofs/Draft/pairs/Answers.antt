@@ -9,8 +9,8 @@ pub loop-number-init : goal.loop-number-init
 unfolding put_fields
 loop-number-init c = sym (append-nil c.args.self)
 
-pub two-draft-requires : goal.two-draft-requires
-two-draft-requires c =
+pub push_two-requires : goal.push_two-requires
+push_two-requires c =
     let i = c.loop-number.number-index in
     let xs = take i c.args.numbers.now in
     let e = ap length c.loop-number.invariant ∙ length-append c.args.self (put_fields (replicate i 2) xs) in
@@ -20,5 +20,5 @@ pub loop-number-preserved : goal.loop-number-preserved
 loop-number-preserved c =
     let i = c.loop-number.number-index in
     let xs = c.args.numbers.now in
-    rw (add-one i, put_snoc i xs (search rules), c.two-draft.ensures, c.loop-number.invariant)
+    rw (add-one i, put_snoc i xs (search rules), c.push_two.ensures, c.loop-number.invariant)
     (append_assoc c.args.self (put_fields (replicate i 2) (take i xs)) (little 2 (get_or xs i 0)))

@@ -16,7 +16,7 @@ returns-then-ends c =
     record {
       makes = rw (next_end a.at (view a.h (lent a.t.now)) a.window.now a.last e)
           (did_kept a.h (lent a.t.now) c.requires.0 a.at Finished 0 [] Done w.result _ _ w.ensures refl);
-      same_slices = (refl, refl, refl);
+      same_slices = (refl, refl, refl, refl, refl, refl);
     }
 
 pub returns-then-lacks : goal.returns-then-lacks
@@ -28,7 +28,7 @@ returns-then-lacks c =
     record {
       makes = rw (next_more a.at v a.window.now a.last e)
           (did_kept a.h (lent a.t.now) c.requires.0 a.at Reading 0 [] MoreBytes w.result _ _ w.ensures refl);
-      same_slices = (refl, refl, refl);
+      same_slices = (refl, refl, refl, refl, refl, refl);
     }
 
 pub returns-in-Some : goal.returns-in-Some
@@ -55,5 +55,5 @@ returns-in-None c =
         sym c.read_at.ensures.0 ∙ c.in-None.is,
       )
           (did_kept a.h t c.requires.0 a.at Finished 0 _ Done k.result _ _ k.ensures.0 k.ensures.1);
-      same_slices = (refl, refl, refl);
+      same_slices = (refl, refl, refl, refl, refl, refl);
     }

@@ -13,7 +13,7 @@ returns-then-told-ne0 c =
     let k = c.answered.ensures in
     let w = c.tick-told in
     let n = c.saturating_sub in
-    record { makes = did_refused a.at a.asked a.left a.h (lent a.t.now) c.requires.0 w.result _ w.ensures _ _ _ c.if-told-ne0.true c.low.result n.result c.low.ensures n.ensures k.0 k.1; same_slices = (refl, refl, refl) }
+    record { makes = did_refused a.at a.asked a.left a.h (lent a.t.now) c.requires.0 w.result _ w.ensures _ _ _ c.if-told-ne0.true c.low.result n.result c.low.ensures n.ensures k.0 k.1; same_slices = (refl, refl, refl, w.auto.members, w.auto.places, w.auto.notices) }
 
 pub put_departure-wrote-requires : goal.put_departure-wrote-requires
 put_departure-wrote-requires c = c.requires.1
@@ -26,4 +26,4 @@ returns c =
     let a = c.args in
     let k = c.put_departure-wrote.ensures in
     let w = c.tick-told in
-    record { makes = did_tick a.at a.asked a.left a.h (lent a.t.now) c.requires.0 w.result _ w.ensures _ _ _ c.if-told-ne0.false (rw k.0) k.1; same_slices = (refl, refl, refl) }
+    record { makes = did_tick a.at a.asked a.left a.h (lent a.t.now) c.requires.0 w.result _ w.ensures _ _ _ c.if-told-ne0.false (rw k.0) k.1; same_slices = (refl, refl, refl, w.auto.members, w.auto.places, w.auto.notices) }

@@ -9,7 +9,7 @@ returns-then-left-eq0 c =
     let a = c.args in
     let k = c.answered.ensures in
     let v = c.all_done_verdict in
-    record { makes = did_all a.at a.asked a.left a.h (lent a.t.now) c.requires.0 c.if-left-eq0.true v.result _ _ _ v.ensures k.0 k.1; same_slices = (refl, refl, refl) }
+    record { makes = did_all a.at a.asked a.left a.h (lent a.t.now) c.requires.0 c.if-left-eq0.true v.result _ _ _ v.ensures k.0 k.1; same_slices = (refl, refl, refl, refl, refl, refl) }
 
 pub pass_over-requires : goal.pass_over-requires
 pass_over-requires c =
@@ -20,7 +20,7 @@ pub returns-then-k-ne0 : goal.returns-then-k-ne0
 returns-then-k-ne0 c =
     let a = c.args in
     let w = c.quiet_left-k in
-    record { makes = did_quiet a.at a.asked a.left a.h (lent a.t.now) c.requires.0 c.if-left-eq0.false w.result w.ensures c.if-k-ne0.true _ _ (c.pass_over.ensures (lent a.t.now)); same_slices = (refl, refl, refl) }
+    record { makes = did_quiet a.at a.asked a.left a.h (lent a.t.now) c.requires.0 c.if-left-eq0.false w.result w.ensures c.if-k-ne0.true _ _ (c.pass_over.ensures (lent a.t.now)); same_slices = (refl, refl, refl, refl, refl, refl) }
 
 pub returns : goal.returns
 returns c =
